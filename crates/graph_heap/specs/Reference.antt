@@ -1,0 +1,12 @@
+-- The slow heap, as a graph heap.
+use Rattle.std.specs.Prelude.{◌≡◌, map, length}
+use Rattle.graph_heap.specs.declared.reference.Reference.TheInside.{Inside}
+use Rattle.graph_heap.specs.Graph.{Graph, root_cells}
+use Rattle.graph_heap.specs.Stored.{object_in}
+
+abbrev pub graph_in : Inside → Graph
+graph_in a = record { limits = a.limits; objects = map object_in a.objects.items; roots = a.roots.items }
+
+-- the row of roots has its length
+pub record IsRow (a : Inside) : Type 0 where
+  pub row : length a.roots.items ≡ root_cells a.limits

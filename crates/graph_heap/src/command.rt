@@ -1,0 +1,191 @@
+//! What a mutator may ask, and what it is told.
+
+/// The shape of an object: how many cells of each kind it has.
+#[derive(Clone, Copy, Debug, PartialEq, Eq)]
+pub enum Shape {
+    /// Reference cells and word cells, together at most 252.
+    Plain { refs: u32, words: u32 },
+    /// An array of so many reference cells, at most 63504.
+    RefArray(u32),
+    /// An array of so many word cells, at most 63504.
+    WordArray(u32),
+}
+
+/// A command of a mutator. The fields `dst`, `obj`, `src`, `expect`, `a` and `b`, and `new` of
+/// `CompareStore` and `CompareStatic`, are slots of that mutator; `k` is a static; `i` counts the
+/// cells of the kind that the command is about, from 0.
+#[derive(Clone, Copy, Debug, PartialEq, Eq)]
+pub enum Command {
+    /// A new object, with null references and zero words, into slot dst.
+    New {
+        dst: u32,
+        shape: Shape,
+    },
+    /// A reference cell into slot dst.
+    Load {
+        dst: u32,
+        obj: u32,
+        i: u32,
+    },
+    /// What slot src holds into a reference cell.
+    Store {
+        obj: u32,
+        i: u32,
+        src: u32,
+    },
+    /// What slot new holds into a reference cell, if that holds what slot expect does.
+    CompareStore {
+        obj: u32,
+        i: u32,
+        expect: u32,
+        new: u32,
+    },
+    /// Reads a word cell.
+    Get {
+        obj: u32,
+        i: u32,
+    },
+    /// Writes a word cell.
+    Put {
+        obj: u32,
+        i: u32,
+        word: u64,
+    },
+    /// Writes a word cell, if that is old.
+    ComparePut {
+        obj: u32,
+        i: u32,
+        old: u64,
+        new: u64,
+    },
+    /// What slot src holds into slot dst.
+    Copy {
+        dst: u32,
+        src: u32,
+    },
+    /// Null into slot dst.
+    Clear {
+        dst: u32,
+    },
+    /// What static k holds into slot dst.
+    LoadStatic {
+        dst: u32,
+        k: u32,
+    },
+    /// What slot src holds into static k.
+    StoreStatic {
+        k: u32,
+        src: u32,
+    },
+    /// What slot new holds into static k, if that holds what slot expect does.
+    CompareStatic {
+        k: u32,
+        expect: u32,
+        new: u32,
+    },
+    /// Whether two slots hold the same identity, or both null.
+    Same {
+        a: u32,
+        b: u32,
+    },
+    /// The identity and the shape of slot a's object.
+    Describe {
+        a: u32,
+    },
+}
+
+/// Why a command was refused. A refusal leaves the heap as it was.
+#[derive(Clone, Copy, Debug, PartialEq, Eq)]
+pub enum Refusal {
+    /// The mutator isn't below `mutators`, or a named slot isn't below `slots`.
+    BadSlot,
+    /// The slot that names the object holds null.
+    NullSlot,
+    /// The object has no cell of that kind at that index.
+    BadIndex,
+    /// A reference command on an array of words, or a word command on an array of references.
+    WrongKind,
+    /// The shape has more cells than an object may have.
+    TooLarge,
+    /// The next identity is over the configured limit.
+    IdentitiesSpent,
+    /// There is no room for the object.
+    NoSpace,
+    /// The named static isn't below `statics`.
+    BadStatic,
+}
+
+impl Refusal {
+    ghost use Rattle.std.specs.Prelude.{◌≡◌};
+    ghost use Rattle.graph_heap.specs.Refusal.{refusal_number};
+
+    /// The number by which replies and histories name the refusal.
+    pub fn number(self) -> u8
+        ensures { result ≡ refusal_number self }
+    {
+        match self {
+            Refusal::BadSlot => 1,
+            Refusal::NullSlot => 2,
+            Refusal::BadIndex => 3,
+            Refusal::WrongKind => 4,
+            Refusal::TooLarge => 5,
+            Refusal::IdentitiesSpent => 6,
+            Refusal::NoSpace => 7,
+            Refusal::BadStatic => 8,
+        }
+    }
+}
+
+/// The answer to a command. Where it names an object, 0 is null.
+#[derive(Clone, Copy, Debug, PartialEq, Eq)]
+pub enum Reply {
+    /// The identity of the new object.
+    Made(u64),
+    /// The identity that was loaded.
+    Ref(u64),
+    /// The word that was read.
+    Word(u64),
+    Done,
+    /// The comparison held, and the cell was written.
+    Stored,
+    /// The comparison failed: the identity that the cell holds.
+    Kept(u64),
+    /// The comparison failed: the word that the cell holds.
+    KeptWord(u64),
+    Is(bool),
+    /// An identity and its shape.
+    Described(u64, Shape),
+    Refused(Refusal),
+}
+
+/// An entry of a history: a command, whose it was, and its reply.
+#[derive(Clone, Copy, Debug, PartialEq, Eq)]
+pub struct Entry {
+    pub mutator: u32,
+    pub command: Command,
+    pub reply: Reply,
+}
+
+/// What bounds a heap: mutators, slots of each, statics, and the greatest identity.
+#[derive(Clone, Copy, Debug, PartialEq, Eq)]
+pub struct Limits {
+    pub mutators: u32,
+    pub slots: u32,
+    pub statics: u32,
+    pub identities: u64,
+}
+
+/// What a command changes. Roots are numbered in one row: the slots of mutator 0, of mutator 1 and so
+/// on, and then the statics.
+#[derive(Clone, Copy, Debug, PartialEq, Eq)]
+pub enum Change {
+    Nothing,
+    /// A root gets an identity.
+    Root { cell: usize, id: u64 },
+    /// A reference cell of an object gets an identity.
+    Ref { id: u64, i: u32, value: u64 },
+    /// A word cell of an object gets a word.
+    Word { id: u64, i: u32, value: u64 },
+    /// An object is made, and a root gets its identity.
+    New { cell: usize, id: u64, shape: Shape },
+}

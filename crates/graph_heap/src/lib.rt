@@ -1,0 +1,14 @@
+//! The graph heap: what mutators may ask of a heap, what they are told, and a slow, plain heap that
+//! never moves or frees an object. All other crates are proved against it.
+#![tactic(auto)]
+
+pub mod command;
+mod laws;
+pub mod no_memory;
+pub mod reference;
+mod stored;
+
+pub use command::{Change, Command, Entry, Limits, Refusal, Reply, Shape};
+pub use laws::{one_more, one_step, shapes_stand};
+pub use no_memory::NoMemory;
+pub use reference::Reference;

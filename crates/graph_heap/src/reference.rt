@@ -1,0 +1,422 @@
+//! A slow heap, which replies as the graph heap does.
+ghost use Rattle.std.specs.Prelude.{true, ◌≡◌, ◌<◌, ◌+◌, ◌*◌, ◌^◌, ◌≤◌, ◌↔◌, length, slice_set, IfOk, IsOkAnd, OnOk, OnErr, IsTrue};
+ghost use Rattle.graph_heap.specs.Shape as shapes;
+ghost use Rattle.graph_heap.specs.Graph.{root_cells, new_object, changed, opening};
+ghost use Rattle.graph_heap.specs.Effect as effect;
+ghost use Rattle.graph_heap.specs.Effect.{slot_at, static_at, effect_of, fitting, reply_of, next_of};
+ghost use Rattle.graph_heap.specs.Stored.{object_in};
+ghost use Rattle.graph_heap.specs.History as history;
+ghost use Rattle.graph_heap.specs.History.{IsEntryOf, after_entry};
+
+use crate::command::{Change, Command, Entry, Limits, Refusal, Reply, Shape};
+use crate::no_memory::NoMemory;
+use crate::stored::{StoredObject, object_of, ref_of, set_ref_of, set_word_of, word_of};
+use std::alloc::Global;
+use std::marker::Model;
+
+/// The slow heap: objects in a vector by their identity, which never move or go, and the row of
+/// roots. Contracts see it as the graph heap.
+#[derive(Drop)]
+pub struct Reference {
+    limits: Limits,
+    objects: Vec<StoredObject>,
+    roots: Vec<u64>,
+    alloc: Global,
+}
+
+impl Model for Reference {
+    ghost use Rattle.graph_heap.specs.Graph.{Graph};
+    ghost use Rattle.graph_heap.specs.Reference.{graph_in, IsRow};
+
+    ghost Value = { Graph };
+
+    ghost view = { graph_in };
+
+    ghost invariant = { IsRow };
+}
+
+/// Where a slot stands in the row of roots.
+fn slot_of(limits: &Limits, mutator: u32, slot: u32) -> Result<usize, Refusal>
+    ensures place { result ≡ slot_at limits.now mutator slot }
+    ensures within { IfOk result (λ i. i < root_cells limits.now) }
+{
+    if mutator < limits.mutators && slot < limits.slots {
+        Ok(mutator as usize * limits.slots as usize + slot as usize)
+    } else {
+        Err(Refusal::BadSlot)
+    }
+}
+
+/// Where a static stands in the row of roots.
+fn static_of(limits: &Limits, k: u32) -> Result<usize, Refusal>
+    ensures place { result ≡ static_at limits.now k }
+    ensures within { IfOk result (λ i. i < root_cells limits.now) }
+{
+    if k < limits.statics {
+        Ok(limits.mutators as usize * limits.slots as usize + k as usize)
+    } else {
+        Err(Refusal::BadStatic)
+    }
+}
+
+fn fits(shape: Shape) -> bool
+    ensures { result ≡ shapes.fits shape }
+{
+    match shape {
+        Shape::Plain { refs, words } => refs as u64 + words as u64 <= 252,
+        Shape::RefArray(n) => n <= 63504,
+        Shape::WordArray(n) => n <= 63504,
+    }
+}
+
+fn fitting_of(shape: Shape) -> Result<Shape, Refusal>
+    ensures { result ≡ fitting shape }
+{
+    if fits(shape) {
+        Ok(shape)
+    } else {
+        Err(Refusal::TooLarge)
+    }
+}
+
+fn ref_cells(shape: Shape) -> u32
+    ensures { result ≡ shapes.ref_cells shape }
+{
+    match shape {
+        Shape::Plain { refs, .. } => refs,
+        Shape::RefArray(n) => n,
+        Shape::WordArray(_) => 0,
+    }
+}
+
+fn word_cells(shape: Shape) -> u32
+    ensures { result ≡ shapes.word_cells shape }
+{
+    match shape {
+        Shape::Plain { words, .. } => words,
+        Shape::RefArray(_) => 0,
+        Shape::WordArray(n) => n,
+    }
+}
+
+/// A new object, with null references and zero words.
+fn made_of(alloc: Global, shape: Shape) -> Result<StoredObject, NoMemory>
+    ensures { IfOk result (λ o. object_in o ≡ new_object shape) }
+{
+    let refs = vec![in alloc; 0; ref_cells(shape) as usize]?;
+    let words = vec![in alloc; 0; word_cells(shape) as usize]?;
+    Ok(StoredObject { shape, refs, words })
+}
+
+impl Reference {
+    fn next_identity(&self) -> Result<u64, Refusal>
+        ensures next { result ≡ effect.next_identity self.now }
+    {
+        let count = self.objects.len() as u64;
+        if count < self.limits.identities {
+            Ok(count + 1)
+        } else {
+            Err(Refusal::IdentitiesSpent)
+        }
+    }
+
+    /// Does a change. Memory is got first.
+    fn apply(&mut self, change: &Change) -> Result<(), NoMemory>
+        ensures ok { OnOk result (self.new ≡ changed self.old change.now) }
+        ensures err { OnErr result (self.new ≡ self.old) }
+    {
+        match *change {
+            Change::Nothing => {}
+            Change::Root { cell, id } => set_cell(self.roots.as_mut_slice(), cell, id),
+            Change::Ref { id, i, value } => {
+                set_ref_of(self.objects.as_mut_slice(), id, i, value)
+            }
+            Change::Word { id, i, value } => {
+                set_word_of(self.objects.as_mut_slice(), id, i, value)
+            }
+            Change::New { cell, id, shape } => {
+                let object = made_of(self.alloc, shape)?;
+                self.objects.push(object)?;
+                set_cell(self.roots.as_mut_slice(), cell, id);
+            }
+        }
+        Ok(())
+    }
+
+    /// What the graph heap does.
+    fn plan(&self, room: bool, mutator: u32, command: &Command) -> Result<(Reply, Change), Refusal>
+        ensures { result ≡ effect_of room self.now mutator command.now }
+    {
+        match *command {
+            Command::New { dst, shape } => self.make(room, mutator, dst, shape),
+            Command::Load { dst, obj, i } => self.load(mutator, dst, obj, i),
+            Command::Store { obj, i, src } => self.store(mutator, obj, i, src),
+            Command::CompareStore {
+                obj,
+                i,
+                expect,
+                new,
+            } => self.compare_store(mutator, obj, i, expect, new),
+            Command::Get { obj, i } => self.get(mutator, obj, i),
+            Command::Put { obj, i, word } => self.put(mutator, obj, i, word),
+            Command::ComparePut { obj, i, old, new } => self.compare_put(mutator, obj, i, old, new),
+            Command::Copy { dst, src } => self.copy(mutator, dst, src),
+            Command::Clear { dst } => self.clear(mutator, dst),
+            Command::LoadStatic { dst, k } => self.load_static(mutator, dst, k),
+            Command::StoreStatic { k, src } => self.store_static(mutator, k, src),
+            Command::CompareStatic { k, expect, new } => self.compare_static(
+                mutator, k, expect, new,
+            ),
+            Command::Same { a, b } => self.same(mutator, a, b),
+            Command::Describe { a } => self.describe(mutator, a),
+        }
+    }
+
+    /// The reply, and what changes.
+    #[tactic(auto, unfolding(crate::specs::Effect::reply_of, crate::specs::Effect::next_of))]
+    fn settle(&self, room: bool, mutator: u32, command: &Command) -> (Reply, Change)
+        ensures reply { result.0 ≡ reply_of room self.now mutator command.now }
+        ensures change { changed self.now result.1 ≡ next_of room self.now mutator command.now }
+    {
+        match self.plan(room, mutator, command) {
+            Ok(x) => x,
+            Err(n) => (Reply::Refused(n), Change::Nothing),
+        }
+    }
+
+    fn make(
+        &self,
+        room: bool,
+        mutator: u32,
+        dst: u32,
+        shape: Shape,
+    ) -> Result<(Reply, Change), Refusal>
+        ensures { result ≡ effect_of room self.now mutator (Command.New dst shape) }
+    {
+        let cell = slot_of(&self.limits, mutator, dst)?;
+        fitting_of(shape)?;
+        let id = self.next_identity()?;
+        if !room {
+            return Err(Refusal::NoSpace);
+        }
+        Ok((Reply::Made(id), Change::New { cell, id, shape }))
+    }
+
+    fn load(&self, mutator: u32, dst: u32, obj: u32, i: u32) -> Result<(Reply, Change), Refusal>
+        ensures { result ≡ effect_of true self.now mutator (Command.Load dst obj i) }
+    {
+        let cell = slot_of(&self.limits, mutator, dst)?;
+        let at = slot_of(&self.limits, mutator, obj)?;
+        let id = ref_of(self.objects.as_slice(), self.roots[at], i)?;
+        Ok((Reply::Ref(id), Change::Root { cell, id }))
+    }
+
+    fn store(&self, mutator: u32, obj: u32, i: u32, src: u32) -> Result<(Reply, Change), Refusal>
+        ensures { result ≡ effect_of true self.now mutator (Command.Store obj i src) }
+    {
+        let at = slot_of(&self.limits, mutator, obj)?;
+        let from = slot_of(&self.limits, mutator, src)?;
+        let id = self.roots[at];
+        ref_of(self.objects.as_slice(), id, i)?;
+        let value = self.roots[from];
+        Ok((Reply::Done, Change::Ref { id, i, value }))
+    }
+
+    fn compare_store(
+        &self,
+        mutator: u32,
+        obj: u32,
+        i: u32,
+        expect: u32,
+        new: u32,
+    ) -> Result<(Reply, Change), Refusal>
+        ensures { result ≡ effect_of true self.now mutator (Command.CompareStore obj i expect new) }
+    {
+        let at = slot_of(&self.limits, mutator, obj)?;
+        let expected = slot_of(&self.limits, mutator, expect)?;
+        let from = slot_of(&self.limits, mutator, new)?;
+        let id = self.roots[at];
+        let held = ref_of(self.objects.as_slice(), id, i)?;
+        let value = self.roots[from];
+        if held == self.roots[expected] {
+            Ok((Reply::Stored, Change::Ref { id, i, value }))
+        } else {
+            Ok((Reply::Kept(held), Change::Nothing))
+        }
+    }
+
+    fn get(&self, mutator: u32, obj: u32, i: u32) -> Result<(Reply, Change), Refusal>
+        ensures { result ≡ effect_of true self.now mutator (Command.Get obj i) }
+    {
+        let at = slot_of(&self.limits, mutator, obj)?;
+        let value = word_of(self.objects.as_slice(), self.roots[at], i)?;
+        Ok((Reply::Word(value), Change::Nothing))
+    }
+
+    fn put(&self, mutator: u32, obj: u32, i: u32, word: u64) -> Result<(Reply, Change), Refusal>
+        ensures { result ≡ effect_of true self.now mutator (Command.Put obj i word) }
+    {
+        let at = slot_of(&self.limits, mutator, obj)?;
+        let id = self.roots[at];
+        word_of(self.objects.as_slice(), id, i)?;
+        Ok((Reply::Done, Change::Word { id, i, value: word }))
+    }
+
+    fn compare_put(
+        &self,
+        mutator: u32,
+        obj: u32,
+        i: u32,
+        old: u64,
+        new: u64,
+    ) -> Result<(Reply, Change), Refusal>
+        ensures { result ≡ effect_of true self.now mutator (Command.ComparePut obj i old new) }
+    {
+        let at = slot_of(&self.limits, mutator, obj)?;
+        let id = self.roots[at];
+        let found = word_of(self.objects.as_slice(), id, i)?;
+        if found == old {
+            Ok((Reply::Stored, Change::Word { id, i, value: new }))
+        } else {
+            Ok((Reply::KeptWord(found), Change::Nothing))
+        }
+    }
+
+    fn copy(&self, mutator: u32, dst: u32, src: u32) -> Result<(Reply, Change), Refusal>
+        ensures { result ≡ effect_of true self.now mutator (Command.Copy dst src) }
+    {
+        let cell = slot_of(&self.limits, mutator, dst)?;
+        let from = slot_of(&self.limits, mutator, src)?;
+        let id = self.roots[from];
+        Ok((Reply::Done, Change::Root { cell, id }))
+    }
+
+    fn clear(&self, mutator: u32, dst: u32) -> Result<(Reply, Change), Refusal>
+        ensures { result ≡ effect_of true self.now mutator (Command.Clear dst) }
+    {
+        let cell = slot_of(&self.limits, mutator, dst)?;
+        Ok((Reply::Done, Change::Root { cell, id: 0 }))
+    }
+
+    fn load_static(&self, mutator: u32, dst: u32, k: u32) -> Result<(Reply, Change), Refusal>
+        ensures { result ≡ effect_of true self.now mutator (Command.LoadStatic dst k) }
+    {
+        let cell = slot_of(&self.limits, mutator, dst)?;
+        let from = static_of(&self.limits, k)?;
+        let id = self.roots[from];
+        Ok((Reply::Ref(id), Change::Root { cell, id }))
+    }
+
+    fn store_static(&self, mutator: u32, k: u32, src: u32) -> Result<(Reply, Change), Refusal>
+        ensures { result ≡ effect_of true self.now mutator (Command.StoreStatic k src) }
+    {
+        let from = slot_of(&self.limits, mutator, src)?;
+        let cell = static_of(&self.limits, k)?;
+        let id = self.roots[from];
+        Ok((Reply::Done, Change::Root { cell, id }))
+    }
+
+    fn compare_static(
+        &self,
+        mutator: u32,
+        k: u32,
+        expect: u32,
+        new: u32,
+    ) -> Result<(Reply, Change), Refusal>
+        ensures { result ≡ effect_of true self.now mutator (Command.CompareStatic k expect new) }
+    {
+        let expected = slot_of(&self.limits, mutator, expect)?;
+        let from = slot_of(&self.limits, mutator, new)?;
+        let cell = static_of(&self.limits, k)?;
+        let held = self.roots[cell];
+        let id = self.roots[from];
+        if held == self.roots[expected] {
+            Ok((Reply::Stored, Change::Root { cell, id }))
+        } else {
+            Ok((Reply::Kept(held), Change::Nothing))
+        }
+    }
+
+    fn same(&self, mutator: u32, a: u32, b: u32) -> Result<(Reply, Change), Refusal>
+        ensures { result ≡ effect_of true self.now mutator (Command.Same a b) }
+    {
+        let first = slot_of(&self.limits, mutator, a)?;
+        let second = slot_of(&self.limits, mutator, b)?;
+        Ok((
+            Reply::Is(self.roots[first] == self.roots[second]),
+            Change::Nothing,
+        ))
+    }
+
+    fn describe(&self, mutator: u32, a: u32) -> Result<(Reply, Change), Refusal>
+        ensures { result ≡ effect_of true self.now mutator (Command.Describe a) }
+    {
+        let at = slot_of(&self.limits, mutator, a)?;
+        let id = self.roots[at];
+        let object = object_of(self.objects.as_slice(), id)?;
+        Ok((Reply::Described(id, object.shape), Change::Nothing))
+    }
+}
+
+/// Whether a reply tells of room.
+fn had_room_of(reply: &Reply) -> bool
+    ensures { result ≡ history.had_room reply.now }
+{
+    match *reply {
+        Reply::Refused(Refusal::NoSpace) => false,
+        _ => true,
+    }
+}
+
+/// Writes a root, if it is there.
+fn set_cell(cells: &mut [u64], cell: usize, id: u64)
+    ensures { cells.new ≡ slice_set cells.old cell id }
+{
+    if cell < cells.len() {
+        cells[cell] = id;
+    }
+}
+
+impl Reference {
+    /// A heap with no object and null roots.
+    pub fn new(alloc: Global, limits: &Limits) -> Result<Reference, NoMemory>
+        ensures { IfOk result (λ r. r ≡ opening limits.now) }
+    {
+        let count = limits.mutators as usize * limits.slots as usize + limits.statics as usize;
+        let roots = vec![in alloc; 0; count]?;
+        Ok(Reference {
+            limits: *limits,
+            objects: Vec::new(alloc),
+            roots,
+            alloc,
+        })
+    }
+
+    /// The reply of the graph heap, which has room.
+    pub fn reply(&mut self, mutator: u32, command: &Command) -> Result<Reply, NoMemory>
+        ensures reply { IfOk result (λ r. r ≡ reply_of true self.old mutator command.now) }
+        ensures ok { OnOk result (self.new ≡ next_of true self.old mutator command.now) }
+        ensures err { OnErr result (self.new ≡ self.old) }
+    {
+        let (reply, change) = self.settle(true, mutator, command);
+        self.apply(&change)?;
+        Ok(reply)
+    }
+
+    /// Whether the entry is a step. Where it is, the step is done.
+    pub fn accepts(&mut self, entry: &Entry) -> Result<bool, NoMemory>
+        ensures exact { IfOk result (λ yes. IsTrue yes ↔ IsEntryOf self.old entry.now) }
+        ensures yes { IsOkAnd result (λ yes. IsTrue yes) → self.new ≡ after_entry self.old entry.now }
+        ensures no { IsOkAnd result (λ yes. ¬ IsTrue yes) → self.new ≡ self.old }
+        ensures err { OnErr result (self.new ≡ self.old) }
+    {
+        let room = had_room_of(&entry.reply);
+        let (reply, change) = self.settle(room, entry.mutator, &entry.command);
+        if reply == entry.reply {
+            self.apply(&change)?;
+            Ok(true)
+        } else {
+            Ok(false)
+        }
+    }
+}

@@ -1,0 +1,4 @@
+pub mod Sizes
+pub mod Parts
+pub mod Need
+pub mod Config

@@ -1,0 +1,18 @@
+-- The blocks that an object needs.
+use Rattle.std.specs.Prelude.{ℕ, zero, suc, ◌+◌, ◌==◌, if◌then◌else◌, Option, Some, None, Bool, false}
+use Rattle.graph_heap.specs.declared.command.Shape.{Shape}
+use Rattle.size_classes.specs.Sizes.{class_for}
+use Rattle.size_classes.specs.Parts.{cells_of, parts_in, part_words}
+
+abbrev pub is_class : ℕ → Option ℕ → Bool
+is_class class None = false
+is_class class (Some c) = c == class
+
+-- how many of the first parts of an object of so many cells stand in blocks of a class
+abbrev pub blocks_needed : ℕ → ℕ → ℕ → ℕ
+blocks_needed cells zero class = 0
+blocks_needed cells (suc parts) class = blocks_needed cells parts class + (if is_class class (class_for (part_words cells parts)) then 1 else 0)
+
+-- how many blocks of a class an object of a shape needs
+abbrev pub needed : Shape → ℕ → ℕ
+needed shape class = blocks_needed (cells_of shape) (parts_in (cells_of shape)) class

@@ -1,0 +1,5 @@
+pub mod Fields
+pub mod Frames
+pub mod Fresh
+pub mod Packed
+pub mod Written

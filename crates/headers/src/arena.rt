@@ -1,0 +1,168 @@
+//! The arena of words, block by block.
+ghost use Rattle.std.specs.Prelude.{◌≡◌, ◌+◌, ◌-◌, ◌<◌, ◌≤◌, ◌*◌, ◌∷◌, IfOk, length, replicate, slice_index, slice_set};
+ghost use Rattle.heap_model.specs.Header.{Header, header_in, header_word, shape_in, recoloured, ShapeFits};
+ghost use Rattle.heap_model.specs.Block.{spliced};
+
+use crate::header::{colour_of, pack, part_of, recolour, shape_of};
+use graph_heap::{NoMemory, Shape};
+use std::alloc::Global;
+use std::marker::Model;
+
+/// The words of a heap. A block has four words of header: the address to which it forwards (Brooks,
+/// 1984), the shape with the part's number and the colour, the identity, and a link; its cells
+/// follow. Addresses count words. Contracts see the list of the words; each write is one change of
+/// that list.
+#[derive(Drop)]
+pub struct Arena {
+    words: Vec<u64>,
+}
+
+impl Model for Arena {
+    ghost use Rattle.std.specs.Prelude.{List, ℕ};
+
+    ghost Value = { List ℕ };
+
+    ghost view = { λ a. a.words.items };
+}
+
+impl Arena {
+    /// The arena of so many pages of 2048 words, all 0. Only want of memory is refused.
+    pub fn new(alloc: Global, pages: u32) -> Result<Arena, NoMemory>
+        ensures { IfOk result (λ a. a ≡ replicate (2048 * pages) 0) }
+    {
+        let words = vec![in alloc; 0; 2048 * pages as usize]?;
+        Ok(Arena { words })
+    }
+
+    /// The address to which a block forwards: its own, or that of the copy that was moved.
+    pub fn forward_of(&self, block: usize) -> u64
+        requires { block < length self.now }
+        ensures { result ≡ slice_index self.now block }
+    {
+        self.words[block]
+    }
+
+    /// Lets a block forward to an address.
+    pub fn set_forward(&mut self, block: usize, to: u64)
+        requires { block < length self.old }
+        ensures { self.new ≡ slice_set self.old block to }
+    {
+        self.words[block] = to;
+    }
+
+    /// The shape of the whole object of which a block holds a part.
+    pub fn shape(&self, block: usize) -> Shape
+        requires { block + 1 < length self.now }
+        ensures says { result ≡ (header_in (slice_index self.now (block + 1))).shape }
+        ensures fits { ShapeFits result }
+    {
+        shape_of(self.words[block + 1])
+    }
+
+    /// The number of the part that a block holds, from 0.
+    pub fn part(&self, block: usize) -> u32
+        requires { block + 1 < length self.now }
+        ensures says { result ≡ (header_in (slice_index self.now (block + 1))).part }
+        ensures within { result < 65536 }
+    {
+        part_of(self.words[block + 1])
+    }
+
+    /// The colour of a block.
+    pub fn colour(&self, block: usize) -> bool
+        requires { block + 1 < length self.now }
+        ensures { result ≡ (header_in (slice_index self.now (block + 1))).colour }
+    {
+        colour_of(self.words[block + 1])
+    }
+
+    /// Gives a block a colour. The other bits of its header stay.
+    pub fn set_colour(&mut self, block: usize, colour: bool)
+        requires { block + 1 < length self.old }
+        ensures { self.new ≡ slice_set self.old (block + 1) (recoloured (slice_index self.old (block + 1)) colour) }
+    {
+        let word = self.words[block + 1];
+        self.words[block + 1] = recolour(word, colour);
+    }
+
+    /// The identity of the object of which a block holds a part.
+    pub fn identity(&self, block: usize) -> u64
+        requires { block + 2 < length self.now }
+        ensures { result ≡ slice_index self.now (block + 2) }
+    {
+        self.words[block + 2]
+    }
+
+    /// The link of a block in a list of blocks.
+    pub fn link(&self, block: usize) -> u64
+        requires { block + 3 < length self.now }
+        ensures { result ≡ slice_index self.now (block + 3) }
+    {
+        self.words[block + 3]
+    }
+
+    /// Links a block.
+    pub fn set_link(&mut self, block: usize, link: u64)
+        requires { block + 3 < length self.old }
+        ensures { self.new ≡ slice_set self.old (block + 3) link }
+    {
+        self.words[block + 3] = link;
+    }
+
+    /// What cell i of a block holds: a word, or a reference (address plus one, 0 for null).
+    pub fn cell(&self, block: usize, i: usize) -> u64
+        requires { block + (4 + i) < length self.now }
+        ensures { result ≡ slice_index self.now (block + (4 + i)) }
+    {
+        self.words[block + (4 + i)]
+    }
+
+    /// Writes cell i of a block.
+    pub fn set_cell(&mut self, block: usize, i: usize, value: u64)
+        requires { block + (4 + i) < length self.old }
+        ensures { self.new ≡ slice_set self.old (block + (4 + i)) value }
+    {
+        self.words[block + (4 + i)] = value;
+    }
+
+    /// Makes a part in a block: its header, forwarding to itself, and so many cells of 0.
+    pub fn begin(
+        &mut self,
+        block: usize,
+        shape: Shape,
+        part: u32,
+        colour: bool,
+        identity: u64,
+        cells: usize,
+    )
+        requires room { block + (4 + cells) ≤ length self.old }
+        requires shape { ShapeFits shape }
+        requires part { part < 65536 }
+        ensures { self.new ≡ spliced self.old block (block ∷ header_word (record { shape = shape; part = part; colour = colour }) ∷ identity ∷ 0 ∷ replicate cells 0) }
+    {
+        let header = pack(shape, part, colour);
+        begin_block(self.words.as_mut_slice(), block, header, identity, cells);
+    }
+}
+
+fn begin_block(words: &mut [u64], at: usize, header: u64, identity: u64, cells: usize)
+    requires { at + (4 + cells) ≤ length words.old }
+    ensures { words.new ≡ spliced words.old at (at ∷ header ∷ identity ∷ 0 ∷ replicate cells 0) }
+{
+    begin_words(
+        &mut words[at..at + (4 + cells)],
+        at as u64,
+        header,
+        identity,
+    );
+}
+
+fn begin_words(block: &mut [u64], at: u64, header: u64, identity: u64)
+    requires { 4 ≤ length block.old }
+    ensures { block.new ≡ at ∷ header ∷ identity ∷ 0 ∷ replicate (length block.old - 4) 0 }
+{
+    block.fill(0);
+    block[0] = at;
+    block[1] = header;
+    block[2] = identity;
+}

@@ -1,0 +1,12 @@
+//! The arena: the words of a heap, and the record that stands in each block.
+#![tactic(auto)]
+
+pub mod arena;
+mod header;
+mod laws;
+
+pub use arena::Arena;
+pub use laws::{
+    cell_written, colour_written, forward_written, header_packed, link_written, new_block,
+    other_blocks,
+};

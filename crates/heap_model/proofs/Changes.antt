@@ -1,0 +1,277 @@
+-- A change of the graph heap is a change of its part graph.
+use Rattle.std.proofs.Common.{◌≡◌, ℕ, ◌+◌, ◌-◌, ◌*◌, ◌/◌, ◌%◌, ◌<◌, ◌≤◌, ◌≢◌, ◌⊎◌, inl, inr, Bool, true, false, List, [], ◌∷◌, ◌++◌, length, get_or, set, take, drop, replicate, arith, refl, ap, sym, ◌∙◌, ◌==◌, ◌&&◌, if◌then◌else◌, length-set, get_or-set_other, nat_lt}
+use Rattle.std.proofs.lemmas.List.{get_or_past, get_or-replicate, get_or_push, length-replicate, get_or_append_left, take-set-le, drop-set-lt, drop-set-add}
+use Rattle.std.proofs.lemmas.Grind.{get_or-set_at, length_at_push}
+use Rattle.std.proofs.Math.Path.{fun_ext}
+use Rattle.std.proofs.Math.Seq.{take-set-lt}
+use Rattle.graph_heap.specs.declared.command.Shape.{Shape}
+use Rattle.graph_heap.specs.declared.command.Change.TheVariants as changes
+use Rattle.graph_heap.specs.Shape.{ref_cells}
+use Rattle.graph_heap.specs.Graph.{Object, Graph, no_object, object_of, put_object, with_ref, with_word, new_object, changed}
+use Rattle.size_classes.specs.Parts.{pieces_of}
+use Rattle.heap_model.specs.Core.{Name, null, PartGraph, write_root, write_target, write_word}
+use Rattle.heap_model.specs.Made.{AreParts, link_name, made}
+use Rattle.heap_model.specs.Cut.{is_cut, count_of, width_in, width_of, name_of, target_of, words_of, view, part_at, column_at, part_in, column_in, parts_of}
+
+put_some : (xs : List Object) (id : ℕ) (o : Object) → 0 < id → put_object xs id o ≡ set xs (id - 1) o
+put_some xs id o p = grind arith
+
+pub object-put_same : (xs : List Object) (id : ℕ) (o : Object) → 0 < id → id ≤ length xs → object_of (put_object xs id o) id ≡ o
+unfolding object_of
+object-put_same xs id o p l =
+    let e = put_some xs id o p in
+    let f : get_or (set xs (id - 1) o) (id - 1) no_object ≡ o = get_or-set_at xs (id - 1) (id - 1) o no_object refl (omega arith) in
+    rw e (grind arith)
+
+pub object-put_other : (xs : List Object) (id : ℕ) (o : Object) (k : ℕ) → 0 < id → k ≢ id → object_of (put_object xs id o) k ≡ object_of xs k
+unfolding object_of
+object-put_other xs id o k p ne = rw (put_some xs id o p) (by_null (k == 0) refl)
+  where
+    by_null : (b : Bool) → (k == 0) ≡ b → (if k == 0 then no_object else get_or (set xs (id - 1) o) (k - 1) no_object) ≡ (if k == 0 then no_object else get_or xs (k - 1) no_object)
+    by_null true e = rw e refl
+    by_null false e = let some : k ≢ 0 = grind arith in rw e (get_or-set_other xs (id - 1) (k - 1) o no_object (omega arith))
+
+pub length-put : (xs : List Object) (id : ℕ) (o : Object) → length (put_object xs id o) ≡ length xs
+length-put xs id o = by_null (id == 0)
+  where
+    by_null : (b : Bool) → length (if b then xs else set xs (id - 1) o) ≡ length xs
+    by_null true = refl
+    by_null false = length-set xs (id - 1) o
+
+pub same_graph : (f g : PartGraph) → f.next ≡ g.next → f.root ≡ g.root → f.count ≡ g.count → f.width ≡ g.width → f.target ≡ g.target → f.words ≡ g.words → f.shape ≡ g.shape → f ≡ g
+same_graph f g a b c d e w s = λ i. record { next = a i; root = b i; count = c i; width = d i; target = e i; words = w i; shape = s i }
+
+-- what a function of an object says after one object was put
+pub put_each : {A : Type 0} (f : Object → A) (xs : List Object) (id : ℕ) (o : Object) → 0 < id → id ≤ length xs → f o ≡ f (object_of xs id) → (k : ℕ) → f (object_of (put_object xs id o) k) ≡ f (object_of xs k)
+put_each f xs id o p l e k = go (k == id) refl
+  where
+    go : (b : Bool) → (k == id) ≡ b → f (object_of (put_object xs id o) k) ≡ f (object_of xs k)
+    go true t = let same : k ≡ id = grind arith in ap (λ z. f (object_of (put_object xs id o) z)) same ∙ ap f (object-put_same xs id o p l) ∙ e ∙ ap (λ z. f (object_of xs z)) (sym same)
+    go false t = let ne : k ≢ id = grind arith in ap f (object-put_other xs id o k p ne)
+
+-- an object with one reference written
+ref_count : (o : Object) (i v : ℕ) → count_of (with_ref o i v) ≡ count_of o
+unfolding count_of
+ref_count o i v = rw length-set refl
+
+ref_width : (o : Object) (i v p : ℕ) → width_of (with_ref o i v) p ≡ width_of o p
+ref_width o i v p = rw length-set refl
+
+ref_words : (o : Object) (i v p : ℕ) → words_of (with_ref o i v) p ≡ words_of o p
+unfolding words_of
+ref_words o i v p = rw length-set refl
+
+pub read-set : (xs : List ℕ) (i v j : ℕ) → i < length xs → get_or (set xs i v) j 0 ≡ (if j == i then v else get_or xs j 0)
+read-set xs i v j l = grind (arith, get_or-set_at, get_or-set_other)
+
+in_piece : (i p c : ℕ) → 0 < p → c < 252 → 252 * (p - 1) + c ≡ i → (p ≡ i / 252 + 1) × (c ≡ i % 252)
+in_piece i p c k l e = grind arith
+
+of_piece : (i p c : ℕ) → p ≡ i / 252 + 1 → c ≡ i % 252 → 252 * (p - 1) + c ≡ i
+of_piece i p c e f = grind arith
+
+large_target : (identity ps : ℕ) (refs : List ℕ) (i v p c : ℕ) → i < length refs →
+    (if p == 0 then (if nat_lt c ps then record { identity = identity; part = c + 1 } else null) else (if nat_lt c 252 then name_of (get_or (set refs i v) (252 * (p - 1) + c) 0) else null))
+    ≡ (if (p == i / 252 + 1) && (c == i % 252) then name_of v else (if p == 0 then (if nat_lt c ps then record { identity = identity; part = c + 1 } else null) else (if nat_lt c 252 then name_of (get_or refs (252 * (p - 1) + c) 0) else null)))
+large_target identity ps refs i v p c l = let e = read-set refs i v (252 * (p - 1) + c) l in let f = in_piece i p c in let g = of_piece i p c in grind arith
+
+small_target : (refs : List ℕ) (i v p c : ℕ) → i < length refs →
+    (if p == 0 then name_of (get_or (set refs i v) c 0) else null) ≡ (if (p == 0) && (c == i) then name_of v else (if p == 0 then name_of (get_or refs c 0) else null))
+small_target refs i v p c l = let e = read-set refs i v c l in grind arith
+
+ref_target : (identity : ℕ) (o : Object) (i v p c : ℕ) → i < length o.refs → target_of identity (with_ref o i v) p c ≡ (if (p == part_at o i) && (c == column_at o i) then name_of v else target_of identity o p c)
+unfolding target_of part_in column_in
+ref_target identity o i v p c l =
+    let ps = pieces_of (length o.refs + length o.words) in
+    rw length-set
+    (elim (is_cut (length o.refs + length o.words)) as (λ b. (if b
+    then (if p == 0 then (if nat_lt c ps then record { identity = identity; part = c + 1 } else null) else (if nat_lt c 252 then name_of (get_or (set o.refs i v) (252 * (p - 1) + c) 0) else null))
+    else (if p == 0 then name_of (get_or (set o.refs i v) c 0) else null)) ≡ (if (p == (if b then i / 252 + 1 else 0)) && (c == (if b then i % 252 else i)) then name_of v else (if b
+    then (if p == 0 then (if nat_lt c ps then record { identity = identity; part = c + 1 } else null) else (if nat_lt c 252 then name_of (get_or o.refs (252 * (p - 1) + c) 0) else null))
+    else (if p == 0 then name_of (get_or o.refs c 0) else null)))) [
+      | true ↦ large_target identity ps o.refs i v p c l
+      | false ↦ small_target o.refs i v p c l
+    ])
+
+put_target : (g : Graph) (id i v : ℕ) → 0 < id → id ≤ length g.objects → i < length (object_of g.objects id).refs → (n : Name) (c : ℕ)
+    → (view (changed g (changes.Ref id i v))).target n c ≡ (write_target (view g) (record { identity = id; part = part_at (object_of g.objects id) i }) (column_at (object_of g.objects id) i) (name_of v)).target n c
+put_target g id i v p l b n c = go (n.identity == id) refl
+  where
+    o : Object
+    o = object_of g.objects id
+
+    go : (t : Bool) → (n.identity == id) ≡ t → (view (changed g (changes.Ref id i v))).target n c ≡ (write_target (view g) (record { identity = id; part = part_at (object_of g.objects id) i }) (column_at (object_of g.objects id) i) (name_of v)).target n c
+    go true t =
+        let same : n.identity ≡ id = grind arith in
+        let e : object_of (put_object g.objects id (with_ref o i v)) n.identity ≡ with_ref o i v = ap (λ z. object_of (put_object g.objects id (with_ref o i v)) z) same ∙ object-put_same g.objects id (with_ref o i v) p l in
+        let f : object_of g.objects n.identity ≡ o = ap (object_of g.objects) same in
+        rw (e, f, t) (ref_target n.identity o i v n.part c b)
+    go false t = let ne : n.identity ≢ id = grind arith in rw (object-put_other g.objects id (with_ref o i v) n.identity p ne, t) refl
+
+-- a reference cell is written
+pub view-ref : (g : Graph) (id i v : ℕ) → 0 < id → id ≤ length g.objects → i < length (object_of g.objects id).refs
+    → view (changed g (changes.Ref id i v)) ≡ write_target (view g) (record { identity = id; part = part_at (object_of g.objects id) i }) (column_at (object_of g.objects id) i) (name_of v)
+view-ref g id i v p l b =
+    let o = object_of g.objects id in
+    same_graph _ _
+    (ap (λ z. z + 1) (length-put g.objects id (with_ref o i v)))
+    refl
+    (fun_ext (λ k. put_each count_of g.objects id (with_ref o i v) p l (ref_count o i v) k))
+    (fun_ext (λ n. put_each (λ z. width_of z n.part) g.objects id (with_ref o i v) p l (ref_width o i v n.part) n.identity))
+    (fun_ext (λ n. fun_ext (λ c. put_target g id i v p l b n c)))
+    (fun_ext (λ n. put_each (λ z. words_of z n.part) g.objects id (with_ref o i v) p l (ref_words o i v n.part) n.identity))
+    (fun_ext (λ n. put_each (λ z. z.shape) g.objects id (with_ref o i v) p l refl n.identity))
+
+-- a root is written
+pub view-root : (g : Graph) (j v : ℕ) → j < length g.roots → view (changed g (changes.Root j v)) ≡ write_root (view g) j (name_of v)
+view-root g j v l = same_graph _ _ refl (fun_ext (λ k. let e = read-set g.roots j v k l in root_at k e)) refl refl refl refl refl
+  where
+    root_at : (k : ℕ) → get_or (set g.roots j v) k 0 ≡ (if k == j then v else get_or g.roots k 0) → name_of (get_or (set g.roots j v) k 0) ≡ (if k == j then name_of v else name_of (get_or g.roots k 0))
+    root_at k e = grind arith
+
+-- a piece of a list with one word written
+piece_before : (ws : List ℕ) (k i w : ℕ) → i < k → take 252 (drop k (set ws i w)) ≡ take 252 (drop k ws)
+piece_before ws k i w l = ap (take 252) (drop-set-lt k ws i w l)
+
+piece_here : (ws : List ℕ) (k i d w : ℕ) → i ≡ k + d → d < 252 → take 252 (drop k (set ws i w)) ≡ set (take 252 (drop k ws)) d w
+piece_here ws k i d w e l = rw e (ap (take 252) (drop-set-add k ws d w) ∙ take-set-lt 252 (drop k ws) d w l)
+
+piece_behind : (ws : List ℕ) (k i d w : ℕ) → i ≡ k + d → 252 ≤ d → take 252 (drop k (set ws i w)) ≡ take 252 (drop k ws)
+piece_behind ws k i d w e l = rw e (ap (take 252) (drop-set-add k ws d w) ∙ take-set-le 252 (drop k ws) d w l)
+
+-- which piece it is, and where in it
+here_place : (i p : ℕ) → 0 < p → p ≡ i / 252 + 1 → (i ≡ 252 * (p - 1) + i % 252) × (i % 252 < 252)
+here_place i p k e = grind arith
+
+other_place : (i p : ℕ) → 0 < p → p ≢ i / 252 + 1 → (i < 252 * (p - 1)) ⊎ ((252 * (p - 1) ≤ i) × (252 ≤ i - 252 * (p - 1)))
+other_place i p k e = grind arith
+
+other_piece : (ws : List ℕ) (i w p : ℕ) → 0 < p → p ≢ i / 252 + 1 → take 252 (drop (252 * (p - 1)) (set ws i w)) ≡ take 252 (drop (252 * (p - 1)) ws)
+other_piece ws i w p k e = elim (other_place i p k e) [ inl l ↦ piece_before ws (252 * (p - 1)) i w l | inr l ↦ piece_behind ws (252 * (p - 1)) i (i - 252 * (p - 1)) w (let l0 = l.0 in omega arith) l.1 ]
+
+this_piece : (ws : List ℕ) (i w p : ℕ) → 0 < p → p ≡ i / 252 + 1 → take 252 (drop (252 * (p - 1)) (set ws i w)) ≡ set (take 252 (drop (252 * (p - 1)) ws)) (i % 252) w
+this_piece ws i w p k e = let h = here_place i p k e in piece_here ws (252 * (p - 1)) i (i % 252) w h.0 h.1
+
+large_words : (ws : List ℕ) (i w p : ℕ) → (if p == 0 then [] else take 252 (drop (252 * (p - 1)) (set ws i w))) ≡ (if p == i / 252 + 1 then set (if p == 0 then [] else take 252 (drop (252 * (p - 1)) ws)) (i % 252) w else (if p == 0 then [] else take 252 (drop (252 * (p - 1)) ws)))
+large_words ws i w p = let a = this_piece ws i w p in let b = other_piece ws i w p in grind arith
+
+small_words : (ws : List ℕ) (i w p : ℕ) → (if p == 0 then set ws i w else []) ≡ (if p == 0 then set (if p == 0 then ws else []) i w else (if p == 0 then ws else []))
+small_words ws i w p = grind arith
+
+-- an object with one word written
+word_count : (o : Object) (i w : ℕ) → count_of (with_word o i w) ≡ count_of o
+unfolding count_of
+word_count o i w = rw length-set refl
+
+word_width : (o : Object) (i w p : ℕ) → width_of (with_word o i w) p ≡ width_of o p
+word_width o i w p = rw length-set refl
+
+word_target : (identity : ℕ) (o : Object) (i w p c : ℕ) → target_of identity (with_word o i w) p c ≡ target_of identity o p c
+unfolding target_of
+word_target identity o i w p c = rw length-set refl
+
+word_words : (o : Object) (i w p : ℕ) → words_of (with_word o i w) p ≡ (if p == part_at o i then set (words_of o p) (column_at o i) w else words_of o p)
+unfolding words_of part_in column_in
+word_words o i w p =
+    rw length-set
+    (elim (is_cut (length o.refs + length o.words)) as (λ b. (if b then (if p == 0 then [] else take 252 (drop (252 * (p - 1)) (set o.words i w))) else (if p == 0 then set o.words i w else []))
+    ≡ (if p == (if b then i / 252 + 1 else 0) then set (if b then (if p == 0 then [] else take 252 (drop (252 * (p - 1)) o.words)) else (if p == 0 then o.words else [])) (if b then i % 252 else i) w
+    else (if b then (if p == 0 then [] else take 252 (drop (252 * (p - 1)) o.words)) else (if p == 0 then o.words else [])))) [
+      | true ↦ large_words o.words i w p
+      | false ↦ small_words o.words i w p
+    ])
+
+-- a word cell is written
+pub view-word : (g : Graph) (id i w : ℕ) → 0 < id → id ≤ length g.objects
+    → view (changed g (changes.Word id i w)) ≡ write_word (view g) (record { identity = id; part = part_at (object_of g.objects id) i }) (column_at (object_of g.objects id) i) w
+view-word g id i w p l =
+    same_graph _ _
+    (ap (λ z. z + 1) (length-put g.objects id o'))
+    refl
+    (fun_ext (λ k. put_each count_of g.objects id o' p l (word_count o i w) k))
+    (fun_ext (λ n. put_each (λ z. width_of z n.part) g.objects id o' p l (word_width o i w n.part) n.identity))
+    (fun_ext (λ n. fun_ext (λ c. put_each (λ z. target_of n.identity z n.part c) g.objects id o' p l (word_target n.identity o i w n.part c) n.identity)))
+    (fun_ext (λ n. words_at n (n.identity == id) refl))
+    (fun_ext (λ n. put_each (λ z. z.shape) g.objects id o' p l refl n.identity))
+  where
+    o : Object
+    o = object_of g.objects id
+
+    o' : Object
+    o' = with_word o i w
+
+    words_at : (n : Name) (t : Bool) → (n.identity == id) ≡ t → words_of (object_of (put_object g.objects id o') n.identity) n.part ≡ (if (n.identity == id) && (n.part == part_at o i) then set (words_of (object_of g.objects n.identity) n.part) (column_at o i) w else words_of (object_of g.objects n.identity) n.part)
+    words_at n true t =
+        let same : n.identity ≡ id = grind arith in
+        let e : object_of (put_object g.objects id o') n.identity ≡ o' = ap (λ z. object_of (put_object g.objects id o') z) same ∙ object-put_same g.objects id o' p l in
+        let f : object_of g.objects n.identity ≡ o = ap (object_of g.objects) same in
+        rw (e, f, t) (word_words o i w n.part)
+    words_at n false t = let ne : n.identity ≢ id = grind arith in rw (object-put_other g.objects id o' n.identity p ne, t) refl
+
+-- an object is made
+push_left : (xs : List Object) (e : Object) (k : ℕ) → k < length xs → get_or (xs ++ e ∷ []) k no_object ≡ get_or xs k no_object
+push_left xs e k l = get_or_append_left xs (e ∷ []) no_object k l
+
+push_here : (xs : List Object) (e : Object) (k : ℕ) → k ≡ length xs → get_or (xs ++ e ∷ []) k no_object ≡ e
+push_here xs e k l = get_or_push xs e no_object k (sym l)
+
+push_past : (xs : List Object) (e : Object) (k : ℕ) → length xs < k → get_or (xs ++ e ∷ []) k no_object ≡ get_or xs k no_object
+push_past xs e k l = get_or_past (xs ++ e ∷ []) k no_object (omega (arith, (length_at_push xs e).1)) ∙ sym (get_or_past xs k no_object (omega arith))
+
+push_each : (xs : List Object) (e : Object) (k : ℕ) → get_or (xs ++ e ∷ []) k no_object ≡ (if k == length xs then e else get_or xs k no_object)
+push_each xs e k = grind (arith, push_left, push_here, push_past)
+
+pub object-append : (xs : List Object) (e : Object) (k : ℕ) → object_of (xs ++ e ∷ []) k ≡ (if k == length xs + 1 then e else object_of xs k)
+unfolding object_of
+object-append xs e k = let p = push_each xs e (k - 1) in grind arith
+
+append_each : {A : Type 0} (f : Object → A) (xs : List Object) (e : Object) (k : ℕ) → f (object_of (xs ++ e ∷ []) k) ≡ (if k == length xs + 1 then f e else f (object_of xs k))
+append_each f xs e k = ap f (object-append xs e k) ∙ pulled (k == length xs + 1)
+  where
+    pulled : (b : Bool) → f (if b then e else object_of xs k) ≡ (if b then f e else f (object_of xs k))
+    pulled true = refl
+    pulled false = refl
+
+pub parts_are : (shape : Shape) → AreParts (parts_of shape)
+unfolding count_of width_in is_cut
+parts_are shape = record { some = grind arith; link = λ p i l k. grind arith }
+
+-- every reference of a new object is null
+pub no_refs : (n i : ℕ) → get_or {A = ℕ} (replicate n 0) i 0 ≡ 0
+no_refs n i = let l = length-replicate {A = ℕ} n 0 in grind (arith, get_or-replicate, get_or_past)
+
+empty_by : (large : Bool) (identity ps : ℕ) (refs : List ℕ) (p i : ℕ) → ((j : ℕ) → get_or refs j 0 ≡ 0) →
+    (if large
+    then (if p == 0 then (if nat_lt i ps then record { identity = identity; part = i + 1 } else null) else (if nat_lt i 252 then name_of (get_or refs (252 * (p - 1) + i) 0) else null))
+    else (if p == 0 then name_of (get_or refs i 0) else null))
+    ≡ link_name identity (if large && ((p == 0) && nat_lt i ps) then i + 1 else 0)
+empty_by large identity ps refs p i none = let a = none i in let b = none (252 * (p - 1) + i) in grind arith
+
+empty_target : (identity : ℕ) (shape : Shape) (p i : ℕ) → target_of identity (new_object shape) p i ≡ link_name identity ((parts_of shape).link p i)
+unfolding target_of
+empty_target identity shape p i = let o = new_object shape in empty_by (is_cut (length o.refs + length o.words)) identity (pieces_of (length o.refs + length o.words)) o.refs p i (no_refs (ref_cells shape))
+
+-- the graph heap with an object that no root names yet
+abbrev pub appended : Graph → Shape → Graph
+appended g shape = record g { objects = g.objects ++ new_object shape ∷ [] }
+
+append_target : (g : Graph) (shape : Shape) (n : Name) (i : ℕ) → (view (appended g shape)).target n i ≡ (made (view g) (parts_of shape)).target n i
+append_target g shape n i = append_each (λ o. target_of n.identity o n.part i) g.objects (new_object shape) n.identity ∙ swapped (n.identity == length g.objects + 1) refl
+  where
+    swapped : (b : Bool) → (n.identity == length g.objects + 1) ≡ b → (if n.identity == length g.objects + 1 then target_of n.identity (new_object shape) n.part i else target_of n.identity (object_of g.objects n.identity) n.part i) ≡ (if n.identity == length g.objects + 1 then link_name (length g.objects + 1) ((parts_of shape).link n.part i) else target_of n.identity (object_of g.objects n.identity) n.part i)
+    swapped true t = let same : n.identity ≡ length g.objects + 1 = grind arith in rw t (empty_target n.identity shape n.part i ∙ ap (λ z. link_name z ((parts_of shape).link n.part i)) same)
+    swapped false t = rw t refl
+
+pub view-appended : (g : Graph) (shape : Shape) → view (appended g shape) ≡ made (view g) (parts_of shape)
+view-appended g shape = same_graph _ _
+    (ap (λ z. z + 1) ((length_at_push g.objects (new_object shape)).1))
+    refl
+    (fun_ext (λ k. append_each count_of g.objects (new_object shape) k))
+    (fun_ext (λ n. append_each (λ o. width_of o n.part) g.objects (new_object shape) n.identity))
+    (fun_ext (λ n. fun_ext (λ i. append_target g shape n i)))
+    (fun_ext (λ n. append_each (λ o. words_of o n.part) g.objects (new_object shape) n.identity))
+    (fun_ext (λ n. append_each (λ o. o.shape) g.objects (new_object shape) n.identity))
+
+pub view-new : (g : Graph) (j shape_id : ℕ) (shape : Shape) → j < length g.roots → shape_id ≡ length g.objects + 1
+    → view (changed g (changes.New j shape_id shape)) ≡ write_root (made (view g) (parts_of shape)) j (record { identity = (view g).next; part = 0 })
+view-new g j id shape l e = rw e (view-root (appended g shape) j (length g.objects + 1) l ∙ ap (λ z. write_root z j (name_of (length g.objects + 1))) (view-appended g shape))

@@ -1,0 +1,109 @@
+-- The opening heap stands for the opening graph heap.
+use Rattle.std.proofs.Common.{◌≡◌, ℕ, ◌-◌, ◌/◌, ◌%◌, ◌<◌, Bool, true, false, [], length, get_or, replicate, refl, ap, subst, sym, ◌∙◌, arith, inl, inr, ◌==◌, if◌then◌else◌}
+use Rattle.std.specs.Prelude.{Option, None}
+use Rattle.std.proofs.lemmas.List.{length-replicate, get_or-replicate, get_or_past}
+use Rattle.graph_heap.specs.declared.command.Limits.{Limits}
+use Rattle.graph_heap.specs.Graph.{Object, no_object, object_of, opening, root_cells}
+use Rattle.heap_model.specs.Pages.{Page, page_at}
+use Rattle.heap_model.specs.Store.{is_held, held_in}
+use Rattle.heap_model.specs.Core.{Name, null, Kept, Base}
+use Rattle.heap_model.specs.Cut.{is_cut, width_in, width_of, words_of, name_of, view}
+use Rattle.heap_model.specs.Collector.{In_idle}
+use Rattle.heap_model.specs.State.{HeapState, seen, collector_of, progress_of}
+use Rattle.heap_model.specs.Agreement.{HasItsCells, Consistent}
+use Rattle.heap_model.specs.Opening.{IsOpening}
+use Rattle.heap_model.proofs.Kept.{kept_null, kept_cases, kept_reach, reach_induction, fresh_none}
+use Rattle.heap_model.proofs.Barrier.{staged}
+use Rattle.heap_model.proofs.Changes.{no_refs}
+
+page_none : (n k : ℕ) → page_at (replicate n None) k ≡ None
+page_none n k = let l = length-replicate {A = Option Page} n None in grind (arith, get_or-replicate, get_or_past)
+
+none_held : (h : HeapState) → IsOpening h → (b : ℕ) → is_held h.store b ≡ false
+unfolding is_held
+none_held h o b = ap (λ p. held_in p (b % 2048)) (ap (λ z. page_at z (b / 2048)) o.pages ∙ page_none (length h.store.pages) (b / 2048))
+
+held_null : (h : HeapState) → IsOpening h → (x : ℕ) → (seen h).held x ≡ true → x ≡ 0
+held_null h o x l = by_null (x == 0) refl l
+  where
+    by_null : (t : Bool) → (x == 0) ≡ t → (if t then true else is_held h.store (x - 1)) ≡ true → x ≡ 0
+    by_null true q l = grind arith
+    by_null false q l = absurd (let e = none_held h o (x - 1) in let f : false ≡ true = sym e ∙ l in cc)
+
+none_there : (k : ℕ) → object_of [] k ≡ no_object
+unfolding object_of
+none_there k = grind arith
+
+none_wide : (p : ℕ) → width_of no_object p ≡ 0
+unfolding width_in is_cut
+none_wide p = grind arith
+
+no_words : words_of no_object 0 ≡ []
+unfolding words_of is_cut
+no_words = grind arith
+
+opening_wide : (l : Limits) (n : Name) → (view (opening l)).width n ≡ 0
+opening_wide l n = ap (λ o. width_of o n.part) (none_there n.identity) ∙ none_wide n.part
+
+opening_kept : (l : Limits) (roots : ℕ) (n : Name) → Kept roots (view (opening l)) (view (opening l)) n → n ≡ null
+opening_kept l roots n k = elim (kept_cases roots (view (opening l)) (view (opening l)) n k) [
+  | inl r ↦ reach_induction roots (view (opening l)) (λ m. m ≡ null) refl (λ j b. ap name_of (no_refs (root_cells l) j)) (λ m i e b. absurd (let w = opening_wide l m in omega arith)) n r
+  | inr f ↦ absurd (fresh_none (view (opening l)) n f)
+]
+
+opening_root : (h : HeapState) → IsOpening h → (j : ℕ) → (seen h).root j ≡ 0
+opening_root h o j = ap (λ z. get_or z j 0) o.roots ∙ no_refs (root_cells h.limits) j
+
+pub opening_stands : (h : HeapState) → IsOpening h → Consistent h (opening h.limits) (opening h.limits)
+opening_stands h o =
+    let g = view (opening h.limits) in
+    let roots = length h.roots in
+    let none = opening_kept h.limits roots in
+    let k0 = kept_null roots g g in
+    let row : length h.roots ≡ root_cells h.limits = ap length o.roots ∙ length-replicate {A = ℕ} (root_cells h.limits) 0 in
+    let row' : length h.roots ≡ length (opening h.limits).roots = row ∙ sym (length-replicate {A = ℕ} (root_cells h.limits) 0) in
+    let held = held_null h o in
+    let root = opening_root h o in
+    let base : Base (seen h) g g (λ n. 0) = record {
+      grows = record {
+        next = omega arith;
+        width = λ n l. refl;
+        count = λ k l. refl;
+        reached = λ n r. let e = none n (kept_reach roots g g n r) in subst (λ (z : Name). z.identity < g.next) (sym e) (omega arith);
+        kept_root = λ j l. subst (λ z. Kept roots g g z) (sym (ap name_of (no_refs (root_cells h.limits) j))) k0;
+        kept_target = λ n i k l. absurd (let w = opening_wide h.limits n in omega arith);
+      };
+      next = o.next;
+      null_held = refl;
+      null_forward = refl;
+      null_name = refl;
+      null_at = refl;
+      null_width = refl;
+      null_words = refl;
+      null_shape = refl;
+      below = λ x l. let e = held x l in subst (λ z. ((seen h).name z).identity < h.next) (sym e) (let p : h.next ≡ 1 = o.next in omega arith);
+      held = λ n k. refl;
+      main = λ n k. refl;
+      name = λ n k. sym (none n k);
+      width = λ n k. sym (opening_wide h.limits n);
+      words = λ n k. let e = none n k in sym (ap (λ z. g.words z) e ∙ ap (λ z. words_of z 0) (none_there 0) ∙ no_words);
+      shape = λ n k. sym (ap (λ (z : Object). z.shape) (none_there n.identity));
+      cell_held = λ n i k l. refl;
+      cell = λ n i k l. refl;
+      root_held = λ j l. ap (seen h).held (root j);
+      root = λ j l. ap (seen h).forward (root j);
+      only = λ x l f k. held x l;
+    } in
+    record {
+      limits = refl;
+      row = row;
+      present_row = row';
+      snapshot_row = row';
+      cells = λ id. subst HasItsCells (sym (none_there id)) (record { refs = refl; words = refl });
+      whole = λ b l. absurd (let e = none_held h o b in let f : false ≡ true = sym e ∙ l in cc);
+      parts = staged (collector_of h) (λ n. 0) g g In_idle (ap (progress_of h.store.pages) o.phase) base (record {
+        marked = λ x l. ap (seen h).marked (held x l);
+        kept = λ x l. subst (λ z. Kept roots g g ((seen h).name z)) (sym (held x l)) k0;
+        forward = λ x l. ap (seen h).forward (held x l);
+      });
+    }

@@ -1,0 +1,57 @@
+use Rattle.std.proofs.Common.{◌≡◌, ℕ, ◌≤◌, Bool, true, arith}
+use Rattle.heap_model.specs.Core.{Name, PartGraph, Heap, Reach, Base, Tracing, Sweeping, Resting, Moving, Left}
+use Rattle.heap_model.specs.Same.{SameBlocks}
+use Rattle.heap_model.proofs.Kept.{kept_reach, kept_fresh}
+use Rattle.heap_model.proofs.Made.{old_target_kept, old_root_kept}
+
+pub same_base : (h h' : Heap) (g s : PartGraph) (at : Name → ℕ) → SameBlocks h h' → Base h g s at → Base h' g s at
+same_base h h' g s at e b = let w = b.grows in record {
+  grows = rw e.roots w;
+  next = grind arith;
+  null_held = grind arith;
+  null_forward = grind arith;
+  null_name = grind arith;
+  null_at = grind arith;
+  null_width = grind arith;
+  null_words = grind arith;
+  null_shape = grind arith;
+  below = grind arith;
+  held = grind arith;
+  main = grind arith;
+  name = grind arith;
+  width = grind arith;
+  words = grind arith;
+  shape = grind arith;
+  cell_held = grind arith;
+  cell = grind arith;
+  root_held = grind arith;
+  root = grind arith;
+  only = grind arith;
+}
+
+pub same_tracing : (h h' : Heap) (g s : PartGraph) (at : Name → ℕ) (done done' : ℕ → ℕ) (place : ℕ) → SameBlocks h h' → Base h g s at → ((x : ℕ) → h.held x ≡ true → Reach h.roots s (h.name x) → done' x ≤ done x) → Tracing h g s at done place → Tracing h' g s at done' place
+same_tracing h h' g s at done done' place e b d t = record {
+  null_marked = grind arith;
+  marked_kept = grind arith;
+  marked_main = grind arith;
+  fresh_marked = grind (arith, kept_fresh);
+  fresh_cell = grind (arith, kept_fresh);
+  open_cell = grind (arith, old_target_kept);
+  done_marked = grind (arith, old_target_kept, kept_reach);
+  done_cell = grind (arith, kept_reach);
+  open_root = grind (arith, old_root_kept);
+  done_root_marked = grind (arith, old_root_kept);
+  done_root = grind arith;
+}
+
+pub same_sweeping : (h h' : Heap) (g s : PartGraph) (at : Name → ℕ) (place : ℕ) → SameBlocks h h' → Base h g s at → Sweeping h g s at place → Sweeping h' g s at place
+same_sweeping h h' g s at place e b t = grind arith
+
+pub same_resting : (h h' : Heap) (g s : PartGraph) (at : Name → ℕ) → SameBlocks h h' → Resting h g s at → Resting h' g s at
+same_resting h h' g s at e t = grind arith
+
+pub same_moving : (h h' : Heap) (receiving : ℕ → Bool) → SameBlocks h h' → Moving h receiving → Moving h' receiving
+same_moving h h' receiving e t = grind arith
+
+pub same_left : (h h' : Heap) (left : ℕ → Bool) → SameBlocks h h' → Left h left → Left h' left
+same_left h h' left e t = grind arith

@@ -1,0 +1,122 @@
+use Rattle.std.proofs.Common.{◌≡◌, ℕ, ◌+◌, ◌<◌, ◌≤◌, inl, false, arith, refl, ◌==◌, if◌then◌else◌}
+use Rattle.heap_model.specs.Core.{Heap, set_cell}
+use Rattle.heap_model.specs.Made.{Parts, AreParts, Makes, MakesFirst, block_made}
+
+-- nothing is made yet
+pub first_none : (h : Heap) (ps : Parts) (a : ℕ → ℕ) → MakesFirst h ps a 0 0 h
+first_none h ps a = record {
+  next = refl;
+  roots = refl;
+  root = λ j l. refl;
+  free = λ p l. absurd (omega arith);
+  still_held = λ x l. l;
+  still_forward = λ x l. refl;
+  still_name = λ x l. refl;
+  still_width = λ x l. refl;
+  still_words = λ x l. refl;
+  still_shape = λ x l. refl;
+  still_marked = λ x l. refl;
+  still_cell = λ x i l w. refl;
+  held = λ p l. absurd (omega arith);
+  forward = λ p l. absurd (omega arith);
+  name = λ p l. absurd (omega arith);
+  width = λ p l. absurd (omega arith);
+  words = λ p l. absurd (omega arith);
+  shape = λ p l. absurd (omega arith);
+  marked = λ p l. absurd (omega arith);
+  apart = λ p q l m e. absurd (omega arith);
+  spine = λ i l m w. absurd (omega arith);
+  rest = λ i l m w. absurd (omega arith);
+  leaf = λ p i l m w. absurd (omega arith);
+  part = λ x. 0;
+  others = λ x l. inl l;
+}
+
+-- one part more
+pub first_more : (h : Heap) (ps : Parts) (a : ℕ → ℕ) (k : ℕ) (h' : Heap) (y : ℕ) → MakesFirst h ps a k 0 h' → h'.held y ≡ false → a k ≡ y
+    → MakesFirst h ps a (k + 1) 0 (block_made h' y (record { identity = h.next; part = k }) ps.shape (ps.width k) (ps.words k))
+first_more h ps a k h' y m free e = record {
+  next = m.next;
+  roots = m.roots;
+  root = m.root;
+  free = grind arith;
+  still_held = grind arith;
+  still_forward = grind arith;
+  still_name = grind arith;
+  still_width = grind arith;
+  still_words = grind arith;
+  still_shape = grind arith;
+  still_marked = grind arith;
+  still_cell = grind arith;
+  held = grind arith;
+  forward = grind arith;
+  name = grind arith;
+  width = grind arith;
+  words = grind arith;
+  shape = grind arith;
+  marked = grind arith;
+  apart = grind arith;
+  spine = λ i l n w. absurd (omega arith);
+  rest = grind arith;
+  leaf = grind arith;
+  part = λ x. if x == y then k else m.part x;
+  others = λ x l. let o = m.others x in grind arith;
+}
+
+-- one cell of the spine
+pub first_link : (h : Heap) (ps : Parts) (a : ℕ → ℕ) (k i : ℕ) (h' : Heap) → MakesFirst h ps a k i h' → 0 < k → i < ps.width 0
+    → MakesFirst h ps a k (i + 1) (set_cell h' (a 0) i (if ps.link 0 i == 0 then 0 else a (ps.link 0 i)))
+first_link h ps a k i h' m some l = record {
+  next = m.next;
+  roots = m.roots;
+  root = m.root;
+  free = m.free;
+  still_held = m.still_held;
+  still_forward = m.still_forward;
+  still_name = m.still_name;
+  still_width = m.still_width;
+  still_words = m.still_words;
+  still_shape = m.still_shape;
+  still_marked = m.still_marked;
+  still_cell = grind arith;
+  held = m.held;
+  forward = m.forward;
+  name = m.name;
+  width = m.width;
+  words = m.words;
+  shape = m.shape;
+  marked = m.marked;
+  apart = m.apart;
+  spine = grind arith;
+  rest = grind arith;
+  leaf = grind arith;
+  part = m.part;
+  others = m.others;
+}
+
+-- all parts, and the whole spine
+pub first_all : (h : Heap) (ps : Parts) (a : ℕ → ℕ) (linked : ℕ) (h' : Heap) → AreParts ps → MakesFirst h ps a ps.count linked h' → ((i : ℕ) → linked ≤ i → ps.link 0 i ≡ 0) → ((p i : ℕ) → 0 < p → ps.link p i ≡ 0) → Makes h ps a (record h' { next = h.next + 1 })
+first_all h ps a linked h' w m rest leaf = record {
+  next = refl;
+  roots = m.roots;
+  root = m.root;
+  free = m.free;
+  still_held = m.still_held;
+  still_forward = m.still_forward;
+  still_name = m.still_name;
+  still_width = m.still_width;
+  still_words = m.still_words;
+  still_shape = m.still_shape;
+  still_marked = m.still_marked;
+  still_cell = m.still_cell;
+  held = m.held;
+  forward = m.forward;
+  name = m.name;
+  width = m.width;
+  words = m.words;
+  shape = m.shape;
+  marked = m.marked;
+  cell = λ p i k n. let f = leaf p i in let r = rest i in grind arith;
+  part = m.part;
+  others = m.others;
+}

@@ -1,0 +1,5 @@
+use Rattle.heap_model.proofs.Written.{ref_written as it}
+use Rattle.heap_model.proofs.mutator.ref_written.Goals as goal
+
+pub returns : goal.returns
+returns c = it

@@ -1,0 +1,5 @@
+use Rattle.heap_model.proofs.Shown.{piece_shown as it}
+use Rattle.heap_model.proofs.reading.piece_shown.Goals as goal
+
+pub returns : goal.returns
+returns c = it

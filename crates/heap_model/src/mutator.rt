@@ -1,0 +1,49 @@
+//! The laws of what mutators write: each write keeps the invariant of the heap, with the same change
+//! of the graph heap. Each function does nothing: its contract is the law.
+ghost use Rattle.std.specs.Prelude.{◌≡◌, ℕ, ◌+◌, ◌<◌, true, length, slice_index, slice_set};
+ghost use Rattle.graph_heap.specs.declared.command.Shape.{Shape};
+ghost use Rattle.graph_heap.specs.declared.command.Change.TheVariants as changes;
+ghost use Rattle.graph_heap.specs.Shape.{fits};
+ghost use Rattle.graph_heap.specs.Graph.{Graph, object_of, changed};
+ghost use Rattle.graph_heap.specs.Reach.{Reaches};
+ghost use Rattle.size_classes.specs.Parts.{cells_of};
+ghost use Rattle.heap_model.specs.Block.{with_cell};
+ghost use Rattle.heap_model.specs.Store.{Store, Writes, node_of};
+ghost use Rattle.heap_model.specs.Agree.{IsMain};
+ghost use Rattle.heap_model.specs.Cut.{name_of, part_in, column_in};
+ghost use Rattle.heap_model.specs.State.{HeapState, seen, width_at};
+ghost use Rattle.heap_model.specs.Agreement.{Consistent};
+ghost use Rattle.heap_model.specs.Written.{IsKnown, IsRecorded, KeepsPlace};
+ghost use Rattle.heap_model.specs.Making.{MakesObject};
+
+/// A root gets null or the reference of a main copy, after what it held was recorded.
+pub fn root_written()
+    ensures { (h : HeapState) (present snapshot : Graph) (j y v : ℕ) → Consistent h present snapshot → j < length h.roots → IsRecorded h (slice_index h.roots j) → IsKnown present v → IsMain (seen h) y (name_of v)
+        → Consistent (record h { roots = slice_set h.roots j y }) (changed present (changes.Root j v)) snapshot }
+{}
+
+/// A word cell of an object gets a word.
+pub fn word_written()
+    ensures { (h : HeapState) (present snapshot : Graph) (new : Store) (address id k word : ℕ) → Consistent h present snapshot → Reaches present id → k < length (object_of present.objects id).words
+        → IsMain (seen h) (address + 1) (record { identity = id; part = part_in (cells_of (object_of present.objects id).shape) k })
+        → Writes h.store new address (with_cell (node_of h.store address) (width_at (node_of h.store address) + column_in (cells_of (object_of present.objects id).shape) k) word)
+        → Consistent (record h { store = new }) (changed present (changes.Word id k word)) snapshot }
+{}
+
+/// A reference cell of an object gets null or the reference of a main copy, after what it held was
+/// recorded.
+pub fn ref_written()
+    ensures { (h : HeapState) (present snapshot : Graph) (new : Store) (address y id i v : ℕ) → Consistent h present snapshot → Reaches present id → i < length (object_of present.objects id).refs
+        → IsMain (seen h) (address + 1) (record { identity = id; part = part_in (cells_of (object_of present.objects id).shape) i })
+        → IsRecorded h (slice_index (node_of h.store address).cells (column_in (cells_of (object_of present.objects id).shape) i))
+        → IsKnown present v → IsMain (seen h) y (name_of v)
+        → Writes h.store new address (with_cell (node_of h.store address) (column_in (cells_of (object_of present.objects id).shape) i) y)
+        → Consistent (record h { store = new }) (changed present (changes.Ref id i v)) snapshot }
+{}
+
+/// A new object is made, part after part, and a root gets its reference.
+pub fn new_written()
+    ensures { (h : HeapState) (present snapshot : Graph) (new : Store) (at : ℕ → ℕ) (j : ℕ) (shape : Shape) → Consistent h present snapshot → fits shape ≡ true → j < length h.roots → IsRecorded h (slice_index h.roots j)
+        → MakesObject h.store shape h.sense h.next at new → KeepsPlace h.store.pages new.pages h.phase
+        → Consistent (record h { store = new; next = h.next + 1; roots = slice_set h.roots j (at 0 + 1) }) (changed present (changes.New j h.next shape)) snapshot }
+{}

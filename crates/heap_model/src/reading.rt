@@ -1,0 +1,61 @@
+//! The laws of reading: what a heap that agrees with a graph heap shows. Each function does nothing:
+//! its contract is the law.
+ghost use Rattle.std.specs.Prelude.{◌≡◌, ◌≢◌, ◌↔◌, ℕ, ◌+◌, ◌-◌, ◌<◌, length, slice_index};
+ghost use Rattle.graph_heap.specs.Graph.{Graph, object_of};
+ghost use Rattle.graph_heap.specs.Reach.{Reaches};
+ghost use Rattle.size_classes.specs.Parts.{cells_of};
+ghost use Rattle.heap_model.specs.Store.{node_of};
+ghost use Rattle.heap_model.specs.Core.{Name};
+ghost use Rattle.heap_model.specs.Agree.{IsMain, Reads};
+ghost use Rattle.heap_model.specs.Cut.{count_of, name_of, part_in, column_in};
+ghost use Rattle.heap_model.specs.State.{HeapState, seen, width_at};
+ghost use Rattle.heap_model.specs.Agreement.{Agrees};
+ghost use Rattle.heap_model.specs.Reading.{IsMainCopy, LeadsTo};
+
+/// What a root holds reads as the graph heap's root.
+pub fn root_reads()
+    ensures { (h : HeapState) (g : Graph) (j : ℕ) → Agrees h g → j < length h.roots → Reads (seen h) (slice_index h.roots j) (name_of (slice_index g.roots j)) }
+{}
+
+/// 0 reads as null, and nothing else does.
+pub fn null_reads()
+    ensures { (h : HeapState) (g : Graph) (x id : ℕ) → Agrees h g → Reads (seen h) x (name_of id) → (x ≡ 0) ↔ (id ≡ 0) }
+{}
+
+/// A reference that isn't null leads through the forwarding word of its block to a main copy.
+pub fn reference_leads()
+    ensures there { (h : HeapState) (x : ℕ) (n : Name) → Reads (seen h) x n → x ≢ 0 → LeadsTo h x n }
+    ensures back { (h : HeapState) (x : ℕ) (n : Name) → LeadsTo h x n → x ≢ 0 → Reads (seen h) x n }
+{}
+
+/// A main copy by its address is one by its reference.
+pub fn main_copies()
+    ensures there { (h : HeapState) (address : ℕ) (n : Name) → IsMainCopy h.store address n → IsMain (seen h) (address + 1) n }
+    ensures back { (h : HeapState) (address : ℕ) (n : Name) → IsMain (seen h) (address + 1) n → IsMainCopy h.store address n }
+{}
+
+/// Each part shows the shape of its object.
+pub fn shape_shown()
+    ensures { (h : HeapState) (g : Graph) (id part address : ℕ) → Agrees h g → Reaches g id → part < count_of (object_of g.objects id) → IsMainCopy h.store address (record { identity = id; part = part })
+        → (node_of h.store address).shape ≡ (object_of g.objects id).shape }
+{}
+
+/// Reference cell i of an object stands in its part, and reads as the object's.
+pub fn ref_shown()
+    ensures { (h : HeapState) (g : Graph) (id i address : ℕ) → Agrees h g → Reaches g id → i < length (object_of g.objects id).refs
+        → IsMainCopy h.store address (record { identity = id; part = part_in (cells_of (object_of g.objects id).shape) i })
+        → Reads (seen h) (slice_index (node_of h.store address).cells (column_in (cells_of (object_of g.objects id).shape) i)) (name_of (slice_index (object_of g.objects id).refs i)) }
+{}
+
+/// Cell part - 1 of a spine reads as that part of the same object.
+pub fn piece_shown()
+    ensures { (h : HeapState) (g : Graph) (id part address : ℕ) → Agrees h g → Reaches g id → 0 < part → part < count_of (object_of g.objects id) → IsMainCopy h.store address (name_of id)
+        → Reads (seen h) (slice_index (node_of h.store address).cells (part - 1)) (record { identity = id; part = part }) }
+{}
+
+/// Word cell k of an object stands in its part behind the references, and is the object's.
+pub fn word_shown()
+    ensures { (h : HeapState) (g : Graph) (id k address : ℕ) → Agrees h g → Reaches g id → k < length (object_of g.objects id).words
+        → IsMainCopy h.store address (record { identity = id; part = part_in (cells_of (object_of g.objects id).shape) k })
+        → slice_index (node_of h.store address).cells (width_at (node_of h.store address) + column_in (cells_of (object_of g.objects id).shape) k) ≡ slice_index (object_of g.objects id).words k }
+{}

@@ -1,0 +1,4 @@
+pub mod Made
+pub mod Making
+pub mod Places
+pub mod Writing

@@ -1,0 +1,103 @@
+-- Reads and writes of one held block.
+use Rattle.std.proofs.Common.{◌≡◌, ℕ, ◌+◌, ◌<◌, ◌≤◌, ◌≢◌, ◌⊎◌, true, List, length, drop, set, get_or, ap, ◌∙◌, sym, arith, refl, inl, inr, subst, length-set}
+use Rattle.std.proofs.lemmas.List.{get_or-take, get_or-drop, length-take, length-drop}
+use Rattle.heap_model.specs.Header.{header_in, shape_in}
+use Rattle.heap_model.specs.Block.{words_at, node_in, cell_count, with_cell}
+use Rattle.heap_model.specs.Store.{Store, IsStore, size_at, is_held, node_of, Writes}
+use Rattle.headers.proofs.Frames.{node_at-other}
+use Rattle.headers.proofs.Written.{cell_written}
+use Rattle.nodes.proofs.Places.{held_place, inside, apart}
+
+module _ (s : Store) (whole : IsStore s) (a : ℕ) (held : is_held s a ≡ true) where
+  pub in_words : a + size_at s a ≤ length s.words
+  in_words = inside s a whole held
+
+  pub four : 4 ≤ size_at s a
+  four = (held_place s a whole held).size
+
+  -- a word of the block
+  word_of_block : (k : ℕ) → k < size_at s a → get_or (words_at s.words a (size_at s a)) k 0 ≡ get_or s.words (a + k) 0
+  word_of_block k l = get_or-take (size_at s a) (drop a s.words) k 0 l ∙ get_or-drop a s.words k 0
+
+  pub forward_is : get_or s.words a 0 ≡ (node_of s a).forward
+  unfolding node_of node_in
+  forward_is = sym (word_of_block 0 (omega (arith, four)) ∙ ap (λ n. get_or s.words n 0) (let e : a + 0 ≡ a = omega arith in e))
+
+  pub shape_is : shape_in (get_or s.words (a + 1) 0) ≡ (node_of s a).shape
+  unfolding node_of node_in
+  shape_is = ap shape_in (sym (word_of_block 1 (omega (arith, four))))
+
+  pub identity_is : get_or s.words (a + 2) 0 ≡ (node_of s a).identity
+  unfolding node_of node_in
+  identity_is = sym (word_of_block 2 (omega (arith, four)))
+
+  -- a write in the block leaves the record of each other held block
+  pub others_stay : (k v : ℕ) → k < size_at s a → (b : ℕ) → is_held s b ≡ true → b ≢ a → node_of (record s { words = set s.words (a + k) v }) b ≡ node_of s b
+  unfolding node_of size_at
+  others_stay k v l b other ne = node_at-other s.words (a + k) v b (size_at s b) outside
+    where
+      outside : (a + k < b) ⊎ (b + size_at s b ≤ a + k)
+      outside = elim (apart s a b (held_place s a whole held) (held_place s b whole other) (λ e. ne (sym e))) [
+        | inl x ↦ inl (omega (arith, x, l))
+        | inr y ↦ inr (omega (arith, y))
+      ]
+
+  module _ (i : ℕ) (within : i < length (node_of s a).cells) where
+    -- the cell is a word of the block
+    pub cell_within : 4 + i < size_at s a
+    unfolding node_of node_in
+    cell_within =
+        let b = words_at s.words a (size_at s a) in
+        omega (arith, within, length-take (size_at s a) (drop a s.words), length-drop a s.words, in_words, length-take (cell_count (header_in (get_or b 1 0))) (drop 4 b), length-drop 4 b)
+
+    pub cell_is : get_or s.words (a + (4 + i)) 0 ≡ get_or (node_of s a).cells i 0
+    unfolding node_of node_in
+    cell_is =
+        let b = words_at s.words a (size_at s a) in
+        let n = cell_count (header_in (get_or b 1 0)) in
+        let below : i < n = omega (arith, within, length-take n (drop 4 b)) in
+        sym (get_or-take n (drop 4 b) i 0 below ∙ get_or-drop 4 b i 0 ∙ word_of_block (4 + i) cell_within)
+
+    pub writes_cell : (v : ℕ) → Writes s (record s { words = set s.words (a + (4 + i)) v }) a (with_cell (node_of s a) i v)
+    unfolding node_of size_at
+    writes_cell v = record {
+      here = cell_written s.words i v a (size_at s a) within in_words;
+      others = others_stay (4 + i) v cell_within;
+      pages = refl;
+    }
+
+-- a write of words leaves what a store is
+pub still_store : (s : Store) (at v : ℕ) → IsStore s → IsStore (record s { words = set s.words at v })
+still_store s at v whole = record { pages = whole.pages; words = length-set s.words at v ∙ whole.words; few = whole.few }
+
+-- the same, of the value t as which the fields s are seen
+module _ (s t : Store) (is : s ≡ t) (whole : IsStore s) (a : ℕ) (held : is_held t a ≡ true) where
+  held' : is_held s a ≡ true
+  held' = subst (λ (x : Store). is_held x a ≡ true) (sym is) held
+
+  pub header_inside : a + 3 < length s.words
+  header_inside = omega (arith, in_words s whole a held', four s whole a held')
+
+  pub forward_by : get_or s.words a 0 ≡ (node_of t a).forward
+  forward_by = forward_is s whole a held' ∙ ap (λ (x : Store). (node_of x a).forward) is
+
+  pub shape_by : shape_in (get_or s.words (a + 1) 0) ≡ (node_of t a).shape
+  shape_by = shape_is s whole a held' ∙ ap (λ (x : Store). (node_of x a).shape) is
+
+  pub identity_by : get_or s.words (a + 2) 0 ≡ (node_of t a).identity
+  identity_by = identity_is s whole a held' ∙ ap (λ (x : Store). (node_of x a).identity) is
+
+  module _ (i : ℕ) (within : i < length (node_of t a).cells) where
+    within' : i < length (node_of s a).cells
+    within' = subst (λ (x : Store). i < length (node_of x a).cells) (sym is) within
+
+    pub cell_inside : a + (4 + i) < length s.words
+    cell_inside = omega (arith, in_words s whole a held', cell_within s whole a held' i within')
+
+    pub cell_by : get_or s.words (a + (4 + i)) 0 ≡ get_or (node_of t a).cells i 0
+    cell_by = cell_is s whole a held' i within' ∙ ap (λ (x : Store). get_or (node_of x a).cells i 0) is
+
+    pub writes_by : (v : ℕ) (words : List ℕ) → words ≡ set s.words (a + (4 + i)) v → Writes t (record s { words = words }) a (with_cell (node_of t a) i v)
+    writes_by v words e =
+        subst (λ (x : Store). Writes x (record s { words = words }) a (with_cell (node_of x a) i v)) is
+        (subst (λ w. Writes s (record s { words = w }) a (with_cell (node_of s a) i v)) (sym e) (writes_cell s whole a held' i within' v))

@@ -1,0 +1,122 @@
+//! Pages and words together.
+ghost use Rattle.std.specs.Prelude.{◌≡◌, ◌+◌, ◌-◌, ◌*◌, ◌/◌, ◌<◌, ◌≤◌, ◌↔◌, length, replicate, slice_index, slice_set, true, false, None, Some, IfOk, IfSome, IsNone};
+ghost use Rattle.size_classes.specs.Sizes.{size_of};
+ghost use Rattle.size_classes.specs.Parts.{part_cells, cells_of};
+ghost use Rattle.heap_model.specs.Header.{ShapeFits};
+ghost use Rattle.heap_model.specs.Block.{cell_count, with_forward, with_colour, with_link, with_cell, new_node};
+ghost use Rattle.heap_model.specs.Pages.{has_room, page_for};
+ghost use Rattle.heap_model.specs.Store.{is_held, node_of, Writes, Adds};
+
+use graph_heap::{NoMemory, Shape};
+use headers::Arena;
+use pages::PageTable;
+use size_classes::{Class, Need};
+use std::alloc::Global;
+use std::marker::Model;
+
+/// The blocks of a heap. Contracts see the pages and the words; a method that writes says what the
+/// record of its one block becomes, and that every other held block keeps its own.
+#[derive(Drop)]
+pub struct Nodes {
+    table: PageTable,
+    arena: Arena,
+}
+
+impl Model for Nodes {
+    ghost use Rattle.heap_model.specs.Store.{Store, IsStore};
+
+    ghost Value = { Store };
+
+    ghost view = { λ n. record { pages = n.table; words = n.arena } };
+
+    ghost invariant = { λ n. IsStore (record { pages = n.table; words = n.arena }) };
+}
+
+impl Nodes {
+    /// So many free pages, of 2048 words each. Only want of memory is refused.
+    pub fn new(alloc: Global, pages: u32) -> Result<Nodes, NoMemory>
+        requires { pages ≤ 4096 }
+        ensures { IfOk result (λ n. n ≡ record { pages = replicate pages None; words = replicate (2048 * pages) 0 }) }
+    {
+        let table = PageTable::new(alloc, pages)?;
+        let arena = Arena::new(alloc, pages)?;
+        Ok(Nodes { table, arena })
+    }
+
+    /// Whether there is room for so many blocks of each class.
+    pub fn room(&self, need: &Need) -> bool
+        ensures { result ≡ has_room self.now.pages (λ class. slice_index need.now class) }
+    {
+        self.table.room(need)
+    }
+
+    /// The address to which a held block forwards.
+    pub fn forward_of(&self, block: usize) -> u64
+        requires { is_held self.now block ≡ true }
+        ensures { result ≡ (node_of self.now block).forward }
+    {
+        self.arena.forward_of(block)
+    }
+
+    /// The shape of the object of which a held block holds a part.
+    pub fn shape(&self, block: usize) -> Shape
+        requires { is_held self.now block ≡ true }
+        ensures { result ≡ (node_of self.now block).shape }
+    {
+        self.arena.shape(block)
+    }
+
+    /// The identity of that object.
+    pub fn identity(&self, block: usize) -> u64
+        requires { is_held self.now block ≡ true }
+        ensures { result ≡ (node_of self.now block).identity }
+    {
+        self.arena.identity(block)
+    }
+
+    /// What cell i of a held block holds.
+    pub fn cell(&self, block: usize, i: usize) -> u64
+        requires held { is_held self.now block ≡ true }
+        requires within { i < length (node_of self.now block).cells }
+        ensures { result ≡ slice_index (node_of self.now block).cells i }
+    {
+        self.arena.cell(block, i)
+    }
+
+    /// Writes cell i of a held block.
+    pub fn set_cell(&mut self, block: usize, i: usize, value: u64)
+        requires held { is_held self.old block ≡ true }
+        requires within { i < length (node_of self.old block).cells }
+        ensures { Writes self.old self.new block (with_cell (node_of self.old block) i value) }
+    {
+        self.arena.set_cell(block, i, value);
+    }
+
+    /// Makes a part in a block of a class: the header, and so many null or zero cells. The block is
+    /// a free one of the first page of the class that isn't leaving and has one, else of the first
+    /// free page. None where there is no such page, and then nothing changes.
+    pub fn make(
+        &mut self,
+        class: Class,
+        shape: Shape,
+        part: u32,
+        colour: bool,
+        identity: u64,
+        cells: usize,
+    ) -> Option<usize>
+        requires shape { ShapeFits shape }
+        requires part { part < 65536 }
+        requires cells { cells ≡ part_cells (cells_of shape) part }
+        requires room { cells + 4 ≤ size_of class }
+        ensures none { IsNone result ↔ IsNone (page_for self.old.pages class) }
+        ensures page { IfSome result (λ address. page_for self.old.pages class ≡ Some (address / 2048)) }
+        ensures made { IfSome result (λ address. Adds self.old self.new address (new_node address (record { shape = shape; part = part; colour = colour }) identity)) }
+        ensures kept { IsNone result → self.new ≡ self.old }
+    {
+        let block = self.table.take(class)?;
+        let address = 2048 * block.page + block.index * class.size() as usize;
+        self.arena
+            .begin(address, shape, part, colour, identity, cells);
+        Some(address)
+    }
+}

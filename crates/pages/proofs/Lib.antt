@@ -1,0 +1,3 @@
+pub mod Needing
+pub mod Places
+pub mod Taking

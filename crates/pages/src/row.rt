@@ -1,0 +1,115 @@
+//! One page.
+ghost use Rattle.std.specs.Prelude.{◌≡◌, ◌⊎◌, length, true, false, IsTrue, slice_set, replicate, take, not, position, ◌<◌, ◌≤◌, Some, IfOk, count_by};
+ghost use Rattle.size_classes.specs.Sizes.{blocks_in};
+ghost use Rattle.heap_model.specs.Pages.{is_free, is_usable, page_of_class, with_held, IsOpen, free_on};
+
+use graph_heap::NoMemory;
+use size_classes::Class;
+use std::alloc::Global;
+
+/// A page: its class if it is in use, its marks, and a flag for each place that a block may have.
+#[derive(Drop)]
+pub struct Row {
+    class: Option<Class>,
+    leaving: bool,
+    receiving: bool,
+    held: Vec<bool>,
+    ghost flags: { length held.items ≡ 512 },
+}
+
+impl Row {
+    ghost use Rattle.pages.specs.Row.{page_in};
+
+    /// A free page.
+    pub fn new(alloc: Global) -> Result<Row, NoMemory>
+        ensures { IfOk result (λ r. page_in r ≡ None) }
+    {
+        let held = vec![in alloc; false; 512]?;
+        Ok(Row {
+            class: None,
+            leaving: false,
+            receiving: false,
+            held,
+        })
+    }
+
+    /// Whether the page is free.
+    pub fn is_free(&self) -> bool
+        ensures { result ≡ is_free (page_in self.now) }
+    {
+        self.class.is_none()
+    }
+
+    /// The first free block of a page of a class.
+    fn open_block(&self, class: Class) -> Option<usize>
+        ensures { result ≡ position not (take (blocks_in class) self.now.held.items) }
+    {
+        let blocks = class.blocks_per_page() as usize;
+        self.held[..blocks].iter().position(|held| !*held)
+    }
+
+    /// Whether the page is of the class, isn't leaving and has a free block.
+    pub fn is_usable(&self, class: Class) -> bool
+        ensures { result ≡ is_usable class (page_in self.now) }
+    {
+        match self.class {
+            None => false,
+            Some(own) => own == class && !self.leaving && self.open_block(own).is_some(),
+        }
+    }
+
+    /// How many free blocks of a class the page has, none if it is leaving.
+    pub fn free_on(&self, class: Class) -> usize
+        ensures free { result ≡ free_on class (page_in self.now) }
+        ensures within { result ≤ 512 }
+    {
+        match self.class {
+            Some(own) if own == class && !self.leaving => self.free_flags(own),
+            _ => 0,
+        }
+    }
+
+    /// How many blocks of a page of a class are free.
+    fn free_flags(&self, class: Class) -> usize
+        ensures free { result ≡ count_by not (take (blocks_in class) self.now.held.items) }
+        ensures within { result ≤ 512 }
+    {
+        let blocks = class.blocks_per_page() as usize;
+        self.held[..blocks].iter().filter(|held| !**held).count()
+    }
+
+    /// Takes the first free block. A free page gets the class.
+    pub fn take(&mut self, class: Class) -> usize
+        requires { IsTrue (is_free (page_in self.old)) ⊎ IsTrue (is_usable class (page_in self.old)) }
+        ensures open { IsOpen (page_of_class class (page_in self.old)) result }
+        ensures held { page_in self.new ≡ Some (with_held (page_of_class class (page_in self.old)) result true) }
+    {
+        match self.class {
+            None => {
+                self.class = Some(class);
+                self.leaving = false;
+                self.receiving = false;
+                reset(&mut self.held, class.blocks_per_page() as usize);
+                0
+            }
+            Some(own) => {
+                let block = self.open_block(own).unwrap();
+                self.held[block] = true;
+                block
+            }
+        }
+    }
+}
+
+/// Lets only the first of so many blocks be held.
+fn reset(held: &mut Vec<bool>, blocks: usize)
+    requires some { 0 < blocks }
+    requires within { blocks ≤ length held.old.items }
+    ensures first { take blocks held.new.items ≡ slice_set (replicate blocks false) 0 true }
+    ensures len { length held.new.items ≡ length held.old.items }
+{
+    for i in 0..blocks {
+        held[i] = false;
+    }
+    held[0] = true;
+}

@@ -1,0 +1,160 @@
+//! All pages.
+ghost use Rattle.std.specs.Prelude.{◌≡◌, ◌≤◌, ◌^◌, ◌-◌, ◌↔◌, position, length, replicate, IsNone, IfSome, Some, None, true, IfOk, slice_set, slice_index, count_by, sum_by};
+ghost use Rattle.heap_model.specs.Pages.{is_free, is_usable, page_for, page_at, page_of_class, with_held, IsOpen, free_on, free_blocks, has_room, pages_needed, whole_pages};
+ghost use Rattle.heap_model.specs.Pages as pages;
+ghost use Rattle.size_classes.specs.Sizes.{blocks_in};
+ghost use Rattle.pages.specs.Row.{page_in};
+
+use crate::row::Row;
+use graph_heap::NoMemory;
+use size_classes::{Class, Need};
+use std::alloc::Global;
+use std::marker::Model;
+
+/// A block: the number of its page, and its own on that page, both from 0.
+#[derive(Clone, Copy, Debug, PartialEq, Eq)]
+pub struct Block {
+    pub page: usize,
+    pub index: usize,
+}
+
+/// The pages of a heap. Contracts see the list of them: each is free, or a class with its marks and
+/// its held blocks.
+#[derive(Drop)]
+pub struct PageTable {
+    rows: Vec<Row>,
+}
+
+impl Model for PageTable {
+    ghost use Rattle.std.specs.Prelude.{List, Option, length, ◌≤◌};
+    ghost use Rattle.heap_model.specs.Pages.{Page};
+    ghost use Rattle.pages.specs.Table.{pages_in};
+
+    ghost Value = { List (Option Page) };
+
+    ghost view = { pages_in };
+
+    ghost invariant = { λ t. length t.rows.items ≤ 4096 };
+}
+
+impl PageTable {
+    /// So many free pages. Only want of memory is refused.
+    pub fn new(alloc: Global, pages: u32) -> Result<PageTable, NoMemory>
+        requires { pages ≤ 4096 }
+        ensures { IfOk result (λ t. t ≡ replicate pages None) }
+    {
+        let mut rows = Vec::with_capacity(alloc, pages as usize)?;
+        for _ in 0..pages {
+            rows.push(Row::new(alloc)?)?;
+        }
+        Ok(PageTable { rows })
+    }
+
+    /// How many pages are free.
+    pub fn free_pages(&self) -> usize
+        ensures free { result ≡ pages.free_pages self.now }
+        ensures within { result ≤ 4096 }
+    {
+        free_rows(self.rows.as_slice())
+    }
+
+    /// How many blocks of a class are free, on pages that aren't leaving.
+    fn free_blocks(&self, class: Class) -> usize
+        ensures { result ≡ free_blocks self.now class }
+    {
+        free_on_rows(self.rows.as_slice(), class)
+    }
+
+    /// Whether there is room for so many blocks of each class: the blocks that are needed beside the
+    /// free ones are taken in whole pages, and these together are at most the free pages.
+    pub fn room(&self, need: &Need) -> bool
+        ensures { result ≡ has_room self.now (λ class. slice_index need.now class) }
+    {
+        let mut pages = 0u64;
+        for number in 0..38u8 {
+            let class = Class::new(number);
+            pages += self.pages_for(class, need.blocks(class));
+        }
+        pages <= self.free_pages() as u64
+    }
+
+    /// How many free pages so many blocks of a class need.
+    fn pages_for(&self, class: Class, blocks: u32) -> u64
+        ensures pages { result ≡ whole_pages class (blocks - free_blocks self.now class) }
+        ensures within { result ≤ 2 ^ 32 }
+    {
+        if blocks == 0 {
+            return 0;
+        }
+        let missing = u64::from(blocks).saturating_sub(self.free_blocks(class) as u64);
+        missing.div_ceil(u64::from(class.blocks_per_page()))
+    }
+
+    /// The first page of the class that isn't leaving and has a free block.
+    #[tactic(auto, using(crate::proofs::Places::places))]
+    fn usable(&self, class: Class) -> Option<usize>
+        ensures { result ≡ position (is_usable class) self.now }
+    {
+        usable_row(self.rows.as_slice(), class)
+    }
+
+    /// The first free page.
+    #[tactic(auto, using(crate::proofs::Places::places))]
+    fn first_free(&self) -> Option<usize>
+        ensures { result ≡ position is_free self.now }
+    {
+        free_row(self.rows.as_slice())
+    }
+
+    /// The page of the next block of a class.
+    fn page_for(&self, class: Class) -> Option<usize>
+        ensures { result ≡ page_for self.now class }
+    {
+        match self.usable(class) {
+            Some(page) => Some(page),
+            None => self.first_free(),
+        }
+    }
+
+    /// Takes a block of a class: a free one of the first page of the class that isn't leaving and has
+    /// one, else of the first free page, which gets the class. None where there is no such page, and
+    /// then nothing changes.
+    pub fn take(&mut self, class: Class) -> Option<Block>
+        ensures none { IsNone result ↔ IsNone (page_for self.old class) }
+        ensures page { IfSome result (λ b. page_for self.old class ≡ Some b.page) }
+        ensures open { IfSome result (λ b. IsOpen (page_of_class class (page_at self.old b.page)) b.index) }
+        ensures held { IfSome result (λ b. self.new ≡ slice_set self.old b.page (Some (with_held (page_of_class class (page_at self.old b.page)) b.index true))) }
+        ensures kept { IsNone result → self.new ≡ self.old }
+    {
+        let page = self.page_for(class)?;
+        let row = &mut self.rows[page];
+        let index = row.take(class);
+        Some(Block { page, index })
+    }
+}
+
+fn usable_row(rows: &[Row], class: Class) -> Option<usize>
+    ensures { result ≡ position (λ r. is_usable class (page_in r)) rows.now }
+{
+    rows.iter().position(|r| r.is_usable(class))
+}
+
+fn free_row(rows: &[Row]) -> Option<usize>
+    ensures { result ≡ position (λ r. is_free (page_in r)) rows.now }
+{
+    rows.iter().position(|r| r.is_free())
+}
+
+fn free_rows(rows: &[Row]) -> usize
+    ensures free { result ≡ count_by (λ r. is_free (page_in r)) rows.now }
+    ensures within { result ≤ length rows.now }
+{
+    rows.iter().filter(|r| r.is_free()).count()
+}
+
+fn free_on_rows(rows: &[Row], class: Class) -> usize
+    requires { length rows.now ≤ 4096 }
+    ensures { result ≡ sum_by (λ r. free_on class (page_in r)) rows.now }
+{
+    rows.iter().map(|r| r.free_on(class)).sum()
+}

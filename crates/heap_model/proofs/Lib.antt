@@ -17,6 +17,13 @@ pub mod Agreements
 pub mod Written
 pub mod Shown
 pub mod Sameness
+pub mod Effects
+pub mod Held
+pub mod Acting
+pub mod Moved
+pub mod Actions
+pub mod Rest
+pub mod Shading
 pub mod Opening
 pub mod Making
 pub mod New

@@ -1,5 +1,5 @@
 -- The parts of a new object, as they are made one after the other.
-use Rattle.std.proofs.Common.{length-set, ◌≡◌, ◌≢◌, ℕ, ◌+◌, ◌-◌, ◌*◌, ◌<◌, ◌≤◌, ◌⊎◌, inl, inr, Bool, true, false, [], length, get_or, replicate, drop, take, min, refl, ap, subst, sym, ◌∙◌, arith, ◌==◌, ◌&&◌, if◌then◌else◌, nat_le, nat_lt}
+use Rattle.std.proofs.Common.{◌≡◌, ◌≢◌, ℕ, ◌+◌, ◌-◌, ◌*◌, ◌<◌, ◌≤◌, ◌⊎◌, inl, inr, Bool, true, false, [], length, get_or, replicate, drop, take, min, refl, ap, subst, sym, ◌∙◌, arith, ◌==◌, ◌&&◌, if◌then◌else◌, nat_le, nat_lt}
 use Rattle.std.proofs.lemmas.List.{length-replicate, drop-replicate, take-replicate, take_all}
 use Rattle.graph_heap.specs.declared.command.Shape.{Shape}
 use Rattle.graph_heap.specs.declared.command.Shape.TheVariants.{Plain, RefArray, WordArray}
@@ -7,8 +7,8 @@ use Rattle.graph_heap.specs.Shape.{ref_cells, word_cells, fits}
 use Rattle.graph_heap.specs.Graph.{new_object}
 use Rattle.size_classes.specs.Parts.{cells_of, pieces_of, parts_in, part_cells}
 use Rattle.heap_model.specs.Header.{Header}
-use Rattle.heap_model.specs.Block.{Node, new_node, with_cell}
-use Rattle.heap_model.specs.Store.{Store, Writes, Adds, is_held, node_of}
+use Rattle.heap_model.specs.Block.{Node, new_node}
+use Rattle.heap_model.specs.Store.{Store, Adds, is_held, node_of}
 use Rattle.heap_model.specs.Core.{Name, null, Heap, set_cell}
 use Rattle.heap_model.specs.Made.{Parts, Makes, MakesFirst, block_made}
 use Rattle.heap_model.specs.Same.{SameBlocks}
@@ -18,7 +18,8 @@ use Rattle.heap_model.specs.Agreement.{IsWhole}
 use Rattle.heap_model.specs.Making.{Making, Nothing_made, Part_made, Piece_linked, pieces_in, MakesObject}
 use Rattle.heap_model.proofs.Changes.{no_refs, parts_are}
 use Rattle.heap_model.proofs.Steps.{first_none, first_more, first_link, first_all}
-use Rattle.heap_model.proofs.Seen.{behind, cell_seen, held_pages, node_kept}
+use Rattle.heap_model.proofs.Written.{whole_cell}
+use Rattle.heap_model.proofs.Seen.{behind, cell_seen}
 
 -- a heap that shows the same blocks has the same parts made
 pub first_same : (h : Heap) (ps : Parts) (a : ℕ → ℕ) (k l : ℕ) (h1 h2 : Heap) → MakesFirst h ps a k l h1 → SameBlocks h1 h2 → MakesFirst h ps a k l h2
@@ -156,15 +157,6 @@ whole_add s t a header id w k b l = by_here (b == a) refl
         let l' : is_held s b ≡ true = sym (w.same b ne) ∙ l in
         subst (λ (z : Node). length z.cells ≡ part_cells (cells_of z.shape) z.part) (sym (w.others b l')) (k b l')
 
-pub whole_cell : (old new : Store) (a i v : ℕ) → Writes old new a (with_cell (node_of old a) i v) → IsWhole old → IsWhole new
-whole_cell old new a i v w k b l =
-    let n = with_cell (node_of old a) i v in
-    let l' : is_held old b ≡ true = sym (held_pages old new b w.pages) ∙ l in
-    let e = node_kept (λ z. length z.cells) old new a n w b l' (λ _. length-set (node_of old a).cells i v) in
-    let s = node_kept (λ z. z.shape) old new a n w b l' (λ _. refl) in
-    let p = node_kept (λ z. z.part) old new a n w b l' (λ _. refl) in
-    e ∙ k b l' ∙ ap (λ z. part_cells (cells_of z) (node_of old b).part) (sym s) ∙ ap (λ z. part_cells (cells_of (node_of new b).shape) z) (sym p)
-
 pub making_whole : (old : Store) (shape : Shape) (colour : Bool) (id : ℕ) (at : ℕ → ℕ) (k l : ℕ) (new : Store) → Making old shape colour id at k l new → IsWhole old → IsWhole new
 making_whole old shape colour id at k l new Nothing_made w = w
 making_whole old shape colour id at k l new (Part_made parts s t m a) w = whole_add s t (at parts) _ id a (making_whole old shape colour id at parts 0 s m w)
@@ -205,7 +197,8 @@ making_first h shape at k l new f whole bk bl some (Part_made parts s t m a) =
 making_first h shape at k l new f whole bk bl some (Piece_linked parts linked s t m a) =
     let more : 0 < parts = some (omega arith) in
     let before = making_first h shape at parts linked s f whole bk (omega arith) (λ z. more) m in
-    let q = spine_width shape linked (omega arith) in
+    let bound : linked < pieces_in (cells_of shape) = omega arith in
+    let q = spine_width shape linked bound in
     let hs : HeapState = record h { store = s } in
     let wide : width_at (node_of s (at 0)) ≡ pieces_of (cells_of shape) = sym (behind 0 (λ z. width_at (node_of s z)) (at 0)) ∙ before.width 0 more ∙ sym (part_width_new shape 0) ∙ q.1 in
     let held : is_held s (at 0) ≡ true = sym (behind true (λ z. is_held s z) (at 0)) ∙ before.held 0 more in
@@ -216,7 +209,7 @@ making_first h shape at k l new f whole bk bl some (Piece_linked parts linked s 
     let inside : linked < length (node_of s (at 0)).cells = subst (λ z. linked < z) (sym cells) q.3 in
     let within : linked < width_at (node_of s (at 0)) = subst (λ z. linked < z) (sym wide) q.3 in
     let seen_write = cell_seen hs t (at 0) linked (at (linked + 1) + 1) a inside within in
-    let value = linked_value at ((parts_of shape).link 0 linked) linked (link_next shape linked (omega arith)) in
+    let value = linked_value at ((parts_of shape).link 0 linked) linked (link_next shape linked bound) in
     let step = first_link (seen h) (parts_of shape) (reference at) parts linked (seen hs) before more (subst (λ z. linked < z) (sym (sym (part_width_new shape 0) ∙ q.1)) q.3) in
     first_same (seen h) (parts_of shape) (reference at) parts (linked + 1) _ (seen (record h { store = t }))
     (subst (λ z. MakesFirst (seen h) (parts_of shape) (reference at) parts (linked + 1) (set_cell (seen hs) (at 0 + 1) linked z)) value step) seen_write

@@ -100,7 +100,7 @@ pub known_reaches : (g : Graph) (id : ℕ) → IsKnown g id → 0 < id → Reach
 known_reaches g id k p = elim k [ inl e ↦ absurd (omega arith) | inr r ↦ r ]
 
 -- alike graph heaps reach the same
-object_known : (f g : Graph) → IsAlike f g → (id : ℕ) → IsKnown f id → object_of f.objects id ≡ object_of g.objects id
+pub object_known : (f g : Graph) → IsAlike f g → (id : ℕ) → IsKnown f id → object_of f.objects id ≡ object_of g.objects id
 unfolding object_of
 object_known f g a id k = elim k [ inl e ↦ (let z : object_of f.objects 0 ≡ object_of g.objects 0 = refl in subst (λ i. object_of f.objects i ≡ object_of g.objects i) (sym e) z) | inr r ↦ a.object id r ]
 

@@ -4,10 +4,10 @@ use Rattle.std.specs.Prelude.{Option}
 use Rattle.graph_heap.specs.declared.command.Change.TheVariants as changes
 use Rattle.graph_heap.specs.Graph.{Object, Graph, object_of, put_object, with_ref, with_word, changed}
 use Rattle.graph_heap.specs.Reach.{Reaches}
-use Rattle.size_classes.specs.Parts.{part_cells, cells_of, parts_in}
+use Rattle.size_classes.specs.Parts.{part_cells, cells_of}
 use Rattle.heap_model.specs.declared.phase.Phase.{Phase}
 use Rattle.heap_model.specs.declared.phase.Phase.TheVariants as phases
-use Rattle.heap_model.specs.Block.{with_cell}
+use Rattle.heap_model.specs.Block.{Node, with_cell}
 use Rattle.heap_model.specs.Pages.{Page}
 use Rattle.heap_model.specs.Store.{Store, Writes, is_held, node_of}
 use Rattle.heap_model.specs.Core.{Name, Kept, set_root, set_cell, set_word, write_root, write_target, write_word}
@@ -60,15 +60,17 @@ pub root_written : (h : HeapState) (present snapshot : Graph) (j y v : ℕ) → 
     → Consistent (record h { roots = set h.roots j y }) (changed present (changes.Root j v)) snapshot
 root_written h present snapshot j y v c l r k i = root_kept h present snapshot j y v c l r (known_kept h present snapshot c v k) i
 
--- a write of a cell leaves each block its cells
-whole_cell : (old new : Store) (a i v : ℕ) → Writes old new a (with_cell (node_of old a) i v) → IsWhole old → IsWhole new
-whole_cell old new a i v w k b l =
-    let n = with_cell (node_of old a) i v in
+-- a write that leaves the shape, the part and the number of cells leaves each block its cells
+pub whole_write : (old new : Store) (a : ℕ) (n : Node) → Writes old new a n → length n.cells ≡ length (node_of old a).cells → n.shape ≡ (node_of old a).shape → n.part ≡ (node_of old a).part → IsWhole old → IsWhole new
+whole_write old new a n w cells shape part k b l =
     let l' : is_held old b ≡ true = sym (held_pages old new b w.pages) ∙ l in
-    let e = node_kept (λ z. length z.cells) old new a n w b l' (λ _. length-set (node_of old a).cells i v) in
-    let s = node_kept (λ z. z.shape) old new a n w b l' (λ _. refl) in
-    let p = node_kept (λ z. z.part) old new a n w b l' (λ _. refl) in
+    let e = node_kept (λ z. length z.cells) old new a n w b l' (λ _. cells) in
+    let s = node_kept (λ z. z.shape) old new a n w b l' (λ _. shape) in
+    let p = node_kept (λ z. z.part) old new a n w b l' (λ _. part) in
     e ∙ k b l' ∙ ap (λ z. part_cells (cells_of z) (node_of old b).part) (sym s) ∙ ap (λ z. part_cells (cells_of (node_of new b).shape) z) (sym p)
+
+pub whole_cell : (old new : Store) (a i v : ℕ) → Writes old new a (with_cell (node_of old a) i v) → IsWhole old → IsWhole new
+whole_cell old new a i v w k = whole_write old new a _ w (length-set (node_of old a).cells i v) refl refl k
 
 -- each object keeps its cells
 cells_put : (g : Graph) (id : ℕ) (o : Object) → 0 < id → id ≤ length g.objects → HasItsCells o → ((k : ℕ) → HasItsCells (object_of g.objects k)) → (k : ℕ) → HasItsCells (object_of (put_object g.objects id o) k)
@@ -110,9 +112,9 @@ word_written h present snapshot new a id k word c r l i w =
       parts = subst (λ z. Coherent (collector_by (seen h') z h.phase h.grey) (view (changed present (changes.Word id k word))) (view snapshot)) (sym w.pages) c3;
     }
 
-width_le : (refs words p : ℕ) → p < parts_in (refs + words) → width_in refs words p ≤ part_cells (refs + words) p
+pub width_le : (refs words p : ℕ) → width_in refs words p ≤ part_cells (refs + words) p
 unfolding width_in is_cut
-width_le refs words p l = grind arith
+width_le refs words p = grind arith
 
 -- the reference cells of a part are among its cells
 column_within : (h : HeapState) (present snapshot : Graph) (c : Consistent h present snapshot) (a : ℕ) (n : Name) → Kept (length h.roots) (view snapshot) (view present) n → IsMain (seen h) (a + 1) n
@@ -129,7 +131,7 @@ column_within h present snapshot c a n k i l =
     let held : is_held h.store a ≡ true = sym (behind true (λ z. is_held h.store z) a) ∙ i.held in
     let sum = cells_sum o (c.cells n.identity) in
     let whole : length (node_of h.store a).cells ≡ part_cells (length o.refs + length o.words) n.part = c.whole a held ∙ ap (λ z. part_cells (cells_of z) (node_of h.store a).part) shape ∙ ap (λ z. part_cells (cells_of o.shape) z) part ∙ ap (λ z. part_cells z n.part) (sym sum) in
-    let le = width_le (length o.refs) (length o.words) n.part l in
+    let le = width_le (length o.refs) (length o.words) n.part in
     (width, omega arith)
 
 -- a reference cell is written

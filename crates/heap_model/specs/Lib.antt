@@ -16,3 +16,5 @@ pub mod Reading
 pub mod Alike
 pub mod Opening
 pub mod Making
+pub mod Action
+pub mod Swept

@@ -6,6 +6,7 @@
 #![tactic(auto)]
 
 pub mod agreement;
+pub mod collection;
 pub mod mutator;
 pub mod phase;
 pub mod reading;

@@ -13,7 +13,9 @@ ghost use Rattle.heap_model.specs.Agree.{IsMain};
 ghost use Rattle.heap_model.specs.Cut.{name_of, part_in, column_in};
 ghost use Rattle.heap_model.specs.State.{HeapState, seen, width_at};
 ghost use Rattle.heap_model.specs.Agreement.{Consistent};
-ghost use Rattle.heap_model.specs.Written.{IsKnown, IsRecorded, KeepsPlace};
+ghost use Rattle.heap_model.specs.Written.{IsKnown, IsRecorded, KeepsPlace, records};
+ghost use Rattle.heap_model.specs.Core.{Name};
+ghost use Rattle.heap_model.specs.Action.{Shades};
 ghost use Rattle.heap_model.specs.Making.{MakesObject};
 
 /// A root gets null or the reference of a main copy, after what it held was recorded.
@@ -46,4 +48,11 @@ pub fn new_written()
     ensures { (h : HeapState) (present snapshot : Graph) (new : Store) (at : ℕ → ℕ) (j : ℕ) (shape : Shape) → Consistent h present snapshot → fits shape ≡ true → j < length h.roots → IsRecorded h (slice_index h.roots j)
         → MakesObject h.store shape h.sense h.next at new → KeepsPlace h.store.pages new.pages h.phase
         → Consistent (record h { store = new; next = h.next + 1; roots = slice_set h.roots j (at 0 + 1) }) (changed present (changes.New j h.next shape)) snapshot }
+{}
+
+/// The record of the barrier: in roots and marking the main copy of what is overwritten is shaded.
+pub fn shade_keeps()
+    ensures kept { (h after : HeapState) (present snapshot : Graph) (x v : ℕ) → Consistent h present snapshot → records h.phase ≡ true → IsKnown present v → IsMain (seen h) x (name_of v) → Shades h x after → Consistent after present snapshot }
+    ensures main { (h after : HeapState) (x y : ℕ) (n : Name) → Shades h x after → IsMain (seen h) y n → IsMain (seen after) y n }
+    ensures recorded { (h after : HeapState) (x : ℕ) → Shades h ((seen h).forward x) after → (seen h).held x ≡ true → (seen h).held ((seen h).forward x) ≡ true → (seen after).marked ((seen after).forward x) ≡ true }
 {}

@@ -22,6 +22,9 @@ module _ (s t : Store) (is : s ≡ t) (whole : IsStore s) (class k i size : ℕ)
   pub address_small : 2048 * k + i * size < 2 ^ 64
   address_small = omega (arith, product_small, page_small)
 
+  pub address_within : 2048 * k + i * size ≤ 8388608
+  address_within = omega (arith, product_small, page_small)
+
   address_is : 2048 * k + i * size ≡ address_of class k i
   address_is = ap (λ n. 2048 * k + i * n) size_is
 

@@ -110,6 +110,7 @@ impl Nodes {
         requires room { cells + 4 ≤ size_of class }
         ensures none { IsNone result ↔ IsNone (page_for self.old.pages class) }
         ensures page { IfSome result (λ address. page_for self.old.pages class ≡ Some (address / 2048)) }
+        ensures within { IfSome result (λ address. address ≤ 8388608) }
         ensures made { IfSome result (λ address. Adds self.old self.new address (new_node address (record { shape = shape; part = part; colour = colour }) identity)) }
         ensures kept { IsNone result → self.new ≡ self.old }
     {

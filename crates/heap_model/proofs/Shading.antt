@@ -1,0 +1,61 @@
+-- The barrier's record: a main copy is shaded.
+use Rattle.std.proofs.Common.{length, ◌≡◌, ℕ, true, false, refl, ap, subst, sym, ◌∙◌, arith, ◌==◌, if◌then◌else◌}
+use Rattle.graph_heap.specs.Graph.{Graph}
+use Rattle.heap_model.specs.Core.{Name, Heap, shade}
+use Rattle.heap_model.specs.Agree.{IsMain}
+use Rattle.heap_model.specs.Same.{SameBlocks}
+use Rattle.heap_model.specs.Cut.{name_of, view}
+use Rattle.heap_model.specs.Collector.{Coherent}
+use Rattle.heap_model.specs.State.{HeapState, seen, collector_by, collector_of}
+use Rattle.heap_model.specs.Agreement.{Consistent}
+use Rattle.heap_model.specs.Written.{IsKnown, records}
+use Rattle.heap_model.specs.Action.{Shades, Was_marked, Is_marked}
+use Rattle.heap_model.proofs.Barrier.{shades}
+use Rattle.heap_model.proofs.Written.{records-progress}
+use Rattle.heap_model.proofs.Agreements.{known_kept}
+use Rattle.heap_model.proofs.Acting.{again, colour_seen, shaded_state, shades_limits, shades_roots, shades_whole}
+
+-- a shade shows the same blocks, one of them marked
+shade_seen : (h k : HeapState) (x : ℕ) → Shades h x k → SameBlocks (shade (seen h) x) (seen k)
+shade_seen h k x (Was_marked e) = record {
+  next = refl;
+  roots = refl;
+  root = λ j m. refl;
+  held = λ z. refl;
+  forward = λ z m. refl;
+  name = λ z m. refl;
+  width = λ z m. refl;
+  words = λ z m. refl;
+  shape = λ z m. refl;
+  marked = λ z m. marked_already (seen h) x z e;
+  cell = λ z i m b. refl;
+}
+  where
+    marked_already : (heap : Heap) (x z : ℕ) → heap.marked x ≡ true → heap.marked z ≡ (if z == x then true else heap.marked z)
+    marked_already heap x z e = grind arith
+shade_seen h k x (Is_marked new e w) = colour_seen h new x (λ z. let t : (seen h).marked x ≡ true = ap (seen h).marked z in (let q : false ≡ true = sym e ∙ t in cc)) w
+
+shades_phase : (h k : HeapState) (x : ℕ) → Shades h x k → k.phase ≡ h.phase
+shades_phase h k x (Was_marked e) = refl
+shades_phase h k x (Is_marked new e w) = refl
+
+-- the main copy of what can be reached is shaded
+pub shade_kept : (h after : HeapState) (present snapshot : Graph) (x v : ℕ) → Consistent h present snapshot → records h.phase ≡ true → IsKnown present v → IsMain (seen h) x (name_of v) → Shades h x after → Consistent after present snapshot
+shade_kept h k present snapshot x v c r known main sh =
+    let c1 = shades (collector_of h) (view present) (view snapshot) x (name_of v) c.parts (records-progress h.store.pages h.phase ∙ r) (known_kept h present snapshot c v known) main in
+    let c2 = shaded_state h k x h.phase (view present) (view snapshot) sh c1 in
+    again h k present snapshot c (shades_limits h k x sh) (ap length (shades_roots h k x sh)) (shades_whole h k x sh c.whole)
+    (subst (λ z. Coherent (collector_by (seen k) k.store.pages z k.grey) (view present) (view snapshot)) (sym (shades_phase h k x sh)) c2)
+
+-- main copies stay main copies
+pub shade_main : (h after : HeapState) (x y : ℕ) (n : Name) → Shades h x after → IsMain (seen h) y n → IsMain (seen after) y n
+shade_main h k x y n sh m = let e = shade_seen h k x sh in record { held = e.held y ∙ m.held; forward = e.forward y m.held ∙ m.forward; name = e.name y m.held ∙ m.name }
+
+-- what was shaded is recorded
+pub shade_records : (h after : HeapState) (x : ℕ) → Shades h ((seen h).forward x) after → (seen h).held x ≡ true → (seen h).held ((seen h).forward x) ≡ true → (seen after).marked ((seen after).forward x) ≡ true
+shade_records h k x sh held main =
+    let e = shade_seen h k ((seen h).forward x) sh in
+    ap (seen k).marked (e.forward x held) ∙ e.marked ((seen h).forward x) main ∙ here (seen h) ((seen h).forward x)
+  where
+    here : (heap : Heap) (f : ℕ) → (if f == f then true else heap.marked f) ≡ true
+    here heap f = grind arith

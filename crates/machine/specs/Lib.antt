@@ -1,0 +1,4 @@
+pub mod Heap
+pub mod Place
+pub mod Plan
+pub mod Reading

@@ -1,0 +1,7 @@
+//! The heap itself: commands are planned by reading the words of the heap, and then done by one write.
+#![tactic(auto)]
+
+pub mod heap;
+mod plan;
+
+pub use heap::Heap;

@@ -3,5 +3,7 @@
 
 pub mod heap;
 mod plan;
+pub mod recorded;
 
 pub use heap::Heap;
+pub use recorded::{Receipt, Recorded};

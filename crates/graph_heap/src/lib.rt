@@ -12,3 +12,6 @@ pub use command::{Change, Command, Entry, Limits, Refusal, Reply, Shape};
 pub use laws::{one_more, one_step, shapes_stand};
 pub use no_memory::NoMemory;
 pub use reference::Reference;
+
+#[cfg(test)]
+mod tests;

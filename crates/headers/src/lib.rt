@@ -10,3 +10,6 @@ pub use laws::{
     cell_written, colour_written, forward_written, header_packed, link_written, new_block,
     other_blocks,
 };
+
+#[cfg(test)]
+mod tests;

@@ -80,7 +80,7 @@ colour_seen h new x some w =
     }
 
 -- what is marked is shaded already
-shaded_already : (heap : Heap) (x : ℕ) → heap.marked x ≡ true → SameBlocks (shade heap x) heap
+pub shaded_already : (heap : Heap) (x : ℕ) → heap.marked x ≡ true → SameBlocks (shade heap x) heap
 shaded_already heap x e = record {
   next = refl;
   roots = refl;
@@ -164,11 +164,11 @@ header_act h present snapshot part cell x front back c e f n =
     again h (goes_to (record h { grey = front ++ back }) 1 (phases.Marking x 0)) present snapshot c refl refl c.whole c2
 
 -- the cells of a held block
-wide_within : (h : HeapState) (a : ℕ) → IsWhole h.store → is_held h.store a ≡ true → width_at (node_of h.store a) ≤ length (node_of h.store a).cells
+pub wide_within : (h : HeapState) (a : ℕ) → IsWhole h.store → is_held h.store a ≡ true → width_at (node_of h.store a) ≤ length (node_of h.store a).cells
 wide_within h a w l = let n = node_of h.store a in let e = w a l in let le = width_le (ref_cells n.shape) (word_cells n.shape) n.part in omega arith
 
 -- what the next cell of the part in scan forwards to is held
-scanned_held : (m : Collector) (g s : PartGraph) (c : Coherent m g s) → (Tracing m.heap g s c.at (done_of m) m.heap.roots × Greys m) → m.column < m.heap.width m.scanning → m.heap.held (m.heap.forward (m.heap.cell m.scanning m.column)) ≡ true
+pub scanned_held : (m : Collector) (g s : PartGraph) (c : Coherent m g s) → (Tracing m.heap g s c.at (done_of m) m.heap.roots × Greys m) → m.column < m.heap.width m.scanning → m.heap.held (m.heap.forward (m.heap.cell m.scanning m.column)) ≡ true
 scanned_held m g s c st l =
     let b = c.base in
     let x = m.scanning in
@@ -243,7 +243,7 @@ between s page block p z w e l some held low high =
     (ap (slice_get p.held) (sym index) ∙ ap (λ (y : Page). slice_get y.held i) (sym same) ∙ q.2.held, (let a : i * size_of p.class ≡ block * size_of p.class = ap (λ y. y * size_of p.class) index in omega arith))
 
 -- what is held, by reference
-held_behind : (h : HeapState) (z : ℕ) → 0 < z → (seen h).held z ≡ true → is_held h.store (z - 1) ≡ true
+pub held_behind : (h : HeapState) (z : ℕ) → 0 < z → (seen h).held z ≡ true → is_held h.store (z - 1) ≡ true
 held_behind h z some l = let e : (z == 0) ≡ false = grind arith in let q : (seen h).held z ≡ is_held h.store (z - 1) = rw e refl in sym q ∙ l
 
 -- a block is looked at, and stays
@@ -252,8 +252,8 @@ pub pass_act : (h : HeapState) (present snapshot : Graph) (page block : ℕ) (p 
 pass_act h present snapshot page block p store c e f l marked =
     let c0 = at_phase h (phases.Sweeping page block) (view present) (view snapshot) e c.parts in
     let c1 = sweep_on (seen h) h.store.pages h.store.pages page block page (block + 1) h.grey (view present) (view snapshot) c0 (λ z held low high.
-        let q = between h.store page block p z store f l (omega arith) (held_behind h z (omega arith) held) low high in
-        ap (seen h).marked q.1 ∙ marked q.0) in
+    let q = between h.store page block p z store f l (omega arith) (held_behind h z (omega arith) held) low high in
+    ap (seen h).marked q.1 ∙ marked q.0) in
     again h (goes_to h 1 (phases.Sweeping page (block + 1))) present snapshot c refl refl c.whole c1
 
 -- a block that isn't marked is freed
@@ -310,13 +310,13 @@ free_act h present snapshot page block p new store c e f was unmarked w pages =
     let size : size_in (page_at new.pages page) ≡ size_in (page_at h.store.pages page) = ap (λ z. size_in (page_at z page)) pages ∙ ap size_in (set_page_here h.store.pages page (Some (with_held p block false)) (page_within h.store.pages page p f)) ∙ sym (ap size_in f) in
     let l : block < length p.held = slice_get_within p.held block true was in
     let c3 = sweep_on (seen h1) h.store.pages new.pages page block page (block + 1) h.grey (view present) (view snapshot) c2 (λ z held low high.
-        let high' : z < 2048 * page + (block + 1) * size_in (page_at h.store.pages page) + 1 = subst (λ y. z < 2048 * page + (block + 1) * y + 1) size high in
-        let some : 0 < z = omega arith in
-        let held1 : is_held new (z - 1) ≡ true = held_behind h1 z some held in
-        let ne : z - 1 ≢ a = λ q. let t : is_held new (z - 1) ≡ false = ap (is_held new) q ∙ w.gone in (let r : false ≡ true = sym t ∙ held1 in cc) in
-        let held0 : is_held h.store (z - 1) ≡ true = sym (w.same (z - 1) ne) ∙ held1 in
-        let q = between h.store page block p z store f l some held0 low high' in
-        absurd (let at = q.1 in ne (omega arith))) in
+    let high' : z < 2048 * page + (block + 1) * size_in (page_at h.store.pages page) + 1 = subst (λ y. z < 2048 * page + (block + 1) * y + 1) size high in
+    let some : 0 < z = omega arith in
+    let held1 : is_held new (z - 1) ≡ true = held_behind h1 z some held in
+    let ne : z - 1 ≢ a = λ q. let t : is_held new (z - 1) ≡ false = ap (is_held new) q ∙ w.gone in (let r : false ≡ true = sym t ∙ held1 in cc) in
+    let held0 : is_held h.store (z - 1) ≡ true = sym (w.same (z - 1) ne) ∙ held1 in
+    let q = between h.store page block p z store f l some held0 low high' in
+    absurd (let at = q.1 in ne (omega arith))) in
     again h (goes_to h1 1 (phases.Sweeping page (block + 1))) present snapshot c refl refl (free_whole h.store new a w c.whole) c3
 
 -- blocks stay as they are, and pages change
@@ -375,9 +375,9 @@ close_act h present snapshot page block new store c e f w =
     let c0 = at_phase h (phases.Sweeping page block) (view present) (view snapshot) e c.parts in
     let c1 = same_stands m (seen h1) (view present) (view snapshot) (keeps_seen h new w) c0 in
     let c2 = sweep_on (seen h1) h.store.pages new.pages page block (page + 1) 0 h.grey (view present) (view snapshot) c1 (λ z held low high.
-        let some : 0 < z = omega arith in
-        let held0 : is_held h.store (z - 1) ≡ true = sym (w.held (z - 1)) ∙ held_behind h1 z some held in
-        absurd (none_left h.store page block z store f some held0 low (omega arith))) in
+    let some : 0 < z = omega arith in
+    let held0 : is_held h.store (z - 1) ≡ true = sym (w.held (z - 1)) ∙ held_behind h1 z some held in
+    absurd (none_left h.store page block z store f some held0 low (omega arith))) in
     again h (goes_to h1 1 (phases.Sweeping (page + 1) 0)) present snapshot c refl refl (keeps_whole h.store new w c.whole) c2
 
 -- the sweep ends

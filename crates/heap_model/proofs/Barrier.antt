@@ -105,7 +105,7 @@ puts_cell m g s x n i y v c kn ix l r kv iy =
     (cell_kept m g s n i v c kn l (λ t. subst (λ z. m.heap.marked (m.heap.forward (m.heap.cell z i)) ≡ true) ex (r t)) kv))
 
 -- the parts of a new object are made
-made_done : (m : Collector) (h' : Heap) (ps : Parts) (a : ℕ → ℕ) (x : ℕ) → Makes m.heap ps a h' → m.heap.held x ≡ true → done_of (record m { heap = h' }) x ≡ done_of m x
+pub made_done : (m : Collector) (h' : Heap) (ps : Parts) (a : ℕ → ℕ) (x : ℕ) → Makes m.heap ps a h' → m.heap.held x ≡ true → done_of (record m { heap = h' }) x ≡ done_of m x
 unfolding done_by
 made_done m h' ps a x w l = let e = w.still_marked x l in let f = w.still_width x l in grind arith
 

@@ -41,7 +41,7 @@ once-here xs x o n = (n, o)
 neither : (z x : ℕ) (c d : Bool) → ((x == z) || d) ≡ false → c ≡ false → (((z == x) || c) ≡ false) × (d ≡ false)
 neither z x c d h e = (grind arith, grind arith)
 
-once_middle : (front back : List ℕ) (x : ℕ) → Once (front ++ x ∷ back) → (contains (front ++ back) x ≡ false) × Once (front ++ back)
+pub once_middle : (front back : List ℕ) (x : ℕ) → Once (front ++ x ∷ back) → (contains (front ++ back) x ≡ false) × Once (front ++ back)
 unfolding Once
 once_middle [] back x o = o
 once_middle (z ∷ front) back x o =
@@ -171,7 +171,7 @@ swept_moving h g s at place receiving b w all = record { old = λ x l. let a = a
 swept_left : (h : Heap) (g s : PartGraph) (at : Name → ℕ) (place : ℕ) (left : ℕ → Bool) → Base h g s at → Sweeping h g s at place → ((x : ℕ) → h.held x ≡ true → x < place) → Left h left
 swept_left h g s at place left b w all = record { old = λ x l. let a = all x l in grind arith }
 
-left_main : (h : Heap) (left : ℕ → Bool) (x : ℕ) → Left h left → h.held x ≡ true → left x ≡ false → h.forward x ≡ x
+pub left_main : (h : Heap) (left : ℕ → Bool) (x : ℕ) → Left h left → h.held x ≡ true → left x ≡ false → h.forward x ≡ x
 left_main h left x w l n = let o = w.old x l in grind arith
 
 -- each action keeps the graph that the heap stands for
@@ -221,7 +221,7 @@ begins m g s c =
     record { at = c.at; base = b; stage = (tracing_same (flip m.heap) g g c.at (λ x. 0) (done_of (begun m)) 0 b (begun_done m) (begin_tracing m.heap g s c.at c.base), begun_greys m c.base.null_held) }
 
 -- what doesn't show doesn't count
-same_done : (m : Collector) (h' : Heap) (x : ℕ) → SameBlocks m.heap h' → m.heap.held x ≡ true → done_of (record m { heap = h' }) x ≡ done_of m x
+pub same_done : (m : Collector) (h' : Heap) (x : ℕ) → SameBlocks m.heap h' → m.heap.held x ≡ true → done_of (record m { heap = h' }) x ≡ done_of m x
 unfolding done_by
 same_done m h' x e l = let p = e.marked x l in let q = e.width x l in grind arith
 

@@ -129,7 +129,6 @@ is_reached g = reach_induction (length g.roots) (view g) (λ n. IsReached g n)
 pub reach_reaches : (g : Graph) (n : Name) → Reach (length g.roots) (view g) n → n.identity ≢ 0 → (Reaches g n.identity) × (n.part < count_of (object_of g.objects n.identity))
 reach_reaches g n r some = let q = is_reached g n r in (q.path some, q.part)
 
-
 pub reach_zero : (g : Graph) (n : Name) → Reach (length g.roots) (view g) n → n.identity ≡ 0 → n ≡ null
 reach_zero g n r e = let p = (is_reached g n r).null e in λ i. record { identity = e i; part = p i }
 

@@ -24,6 +24,12 @@ pub mod Moved
 pub mod Actions
 pub mod Rest
 pub mod Shading
+pub mod Units
+pub mod Apart
+pub mod Spent
+pub mod Within
+pub mod Turns
+pub mod Placed
 pub mod Opening
 pub mod Making
 pub mod New

@@ -27,13 +27,13 @@ use Rattle.heap_model.proofs.Seen.{behind}
 use Rattle.heap_model.proofs.Held.{set_page, page_within, is_page, held_at, block_within, size_some, page_of_place}
 use Rattle.heap_model.proofs.Acting.{at_phase, again, keeps_seen, keeps_whole}
 
-same_number : (a b : ℕ) → (a == b) ≡ true → a ≡ b
+pub same_number : (a b : ℕ) → (a == b) ≡ true → a ≡ b
 same_number a b e = grind arith
 
 not_number : (a b : ℕ) → a ≢ b → (a == b) ≡ false
 not_number a b e = grind arith
 
-at_number : (a b : ℕ) → a ≡ b → (a == b) ≡ true
+pub at_number : (a b : ℕ) → a ≡ b → (a == b) ≡ true
 at_number a b e = grind arith
 
 -- moving goes on at another place
@@ -101,7 +101,7 @@ choose_act h present snapshot class page best chosen c p new k at good there w p
     let stays = chosen_stays old class c p good there in
     let at' : (x : ℕ) → page_of new.pages x ≡ (if (x - 1) / 2048 == c.page then v else page_of old x) = λ x. ap (λ z. page_at z ((x - 1) / 2048)) pages ∙ set_page old c.page ((x - 1) / 2048) v within in
     let c2 = moves_on (seen h1) old new.pages (moves.Pass class page best chosen) (moves.Emptying class c.page 0 (chosen + 1)) h.grey (view present) (view snapshot) c1
-        (λ x r. receiving_on x ((x - 1) / 2048 == c.page) refl (at' x) r) (λ x q. left_on x ((x - 1) / 2048 == c.page) refl (at' x) stays q) in
+    (λ x r. receiving_on x ((x - 1) / 2048 == c.page) refl (at' x) r) (λ x q. left_on x ((x - 1) / 2048 == c.page) refl (at' x) stays q) in
     again h (goes_to h1 1 (phases.Moving (moves.Emptying class c.page 0 (chosen + 1)))) present snapshot k refl refl (keeps_whole h.store new w k.whole) c2
   where
     receiving_on : (x : ℕ) (b : Bool) → ((x - 1) / 2048 == c.page) ≡ b → page_of new.pages x ≡ (if b then Some (record p { leaving = true }) else page_of h.store.pages x) → is_receiving (page_of h.store.pages x) ≡ true → is_receiving (page_of new.pages x) ≡ true
@@ -212,10 +212,10 @@ usable_fits class q e = by_class (q.class == class) refl e
     by_class true t h = (grind arith, by_leaving q.leaving (is_some (position not q.held)) h)
     by_class false t h = absurd (cc)
 
-below_end : (k size : ℕ) → 0 < size → (k + 1) * size ≤ 2048 → k * size < 2048
+pub below_end : (k size : ℕ) → 0 < size → (k + 1) * size ≤ 2048 → k * size < 2048
 below_end k size s l = grind arith
 
-not_below : (i block size size' page : ℕ) → block ≤ i → size ≡ size' → nat_lt (2048 * page + i * size + 1) (2048 * page + block * size' + 1) ≡ false
+pub not_below : (i block size size' page : ℕ) → block ≤ i → size ≡ size' → nat_lt (2048 * page + i * size + 1) (2048 * page + block * size' + 1) ≡ false
 not_below i block size size' page l s = let m = mul-le-mul_right size l in let q : block * size ≡ block * size' = ap (λ z. block * z) s in grind arith
 
 below_next : (i size size' page : ℕ) → 0 < size → size ≡ size' → nat_lt (2048 * page + i * size + 1) (2048 * page + (i + 1) * size' + 1) ≡ true
@@ -273,9 +273,9 @@ move_act h present snapshot class page block chosen i to j p q new store c e at_
     let past : nat_lt x (reference_of new.pages page (i + 1)) ≡ true = below_next i size (size_in (page_at new.pages page)) page some (sym (ap size_in new_page)) in
     let left_now : is_left new.pages now x ≡ true = is_here new.pages x page_x past in
     let c1 = acts m (record m { heap = move (seen h) x y; receiving = λ z. is_receiving (page_of new.pages z); left = λ z. is_left new.pages now z }) (view present) (view snapshot)
-        (collector.Moves_block x y (λ z. is_receiving (page_of new.pages z)) (λ z. is_left new.pages now z) refl held_x unleft (let s : x ≢ 0 = omega arith in s) unreceiving free_y receives
-        (λ z r. receiving_on z ((z - 1) / 2048 == to) (at_new z) r) left_now
-        (λ z r. left_on z ((z - 1) / 2048 == page) refl ((z - 1) / 2048 == to) refl (at_new z) new_page r)) c0 in
+    (collector.Moves_block x y (λ z. is_receiving (page_of new.pages z)) (λ z. is_left new.pages now z) refl held_x unleft (let s : x ≢ 0 = omega arith in s) unreceiving free_y receives
+    (λ z r. receiving_on z ((z - 1) / 2048 == to) (at_new z) r) left_now
+    (λ z r. left_on z ((z - 1) / 2048 == page) refl ((z - 1) / 2048 == to) refl (at_new z) new_page r)) c0 in
     let m1 : Collector = record m { heap = move (seen h) x y; receiving = λ z. is_receiving (page_of new.pages z); left = λ z. is_left new.pages now z } in
     let c2 = same_stands m1 (seen h1) (view present) (view snapshot) (move_seen h new a b w) c1 in
     again h (goes_to h1 cost now) present snapshot c refl refl (move_whole h.store new a b w held_a c.whole) (record { at = c2.at; base = c2.base; stage = c2.stage })

@@ -61,8 +61,8 @@ held_kept h present snapshot c a k e =
     let k' : Kept (length snapshot.roots) (view snapshot) (view present) n = subst (λ z. Kept z (view snapshot) (view present) n) c.snapshot_row (subst (λ z. Kept (length h.roots) (view snapshot) (view present) z) (name_behind h a) k) in
     let grows = subst (λ z. Grows z (view snapshot) (view present)) c.snapshot_row c.parts.base.grows in
     let some : n.identity ≢ 0 = λ z.
-        let null_name : (seen h).name (a + 1) ≡ null = name_behind h a ∙ kept_zero snapshot present n k' z in
-        let at : a + 1 ≡ 0 = e ∙ ap c.parts.at null_name ∙ c.parts.base.null_at in omega arith in
+    let null_name : (seen h).name (a + 1) ≡ null = name_behind h a ∙ kept_zero snapshot present n k' z in
+    let at : a + 1 ≡ 0 = e ∙ ap c.parts.at null_name ∙ c.parts.base.null_at in omega arith in
     kept_identity snapshot present n grows some k'
 
 -- what is kept is held
@@ -74,8 +74,8 @@ kept_held h present snapshot c id k part l =
     let kept : Kept (length h.roots) (view snapshot) (view present) n = subst (λ z. Kept z (view snapshot) (view present) n) (sym c.snapshot_row) (identity_kept snapshot present id part grows k l) in
     let main : IsMain (seen h) (c.parts.at n) n = record { held = b.held n kept; forward = b.main n kept; name = b.name n kept } in
     let some : c.parts.at n ≢ 0 = λ z.
-        let e : null ≡ n = sym b.null_name ∙ ap (seen h).name (sym z) ∙ b.name n kept in
-        let zero : id ≡ 0 = sym (ap (λ (y : Name). y.identity) e) in not_zero k zero in
+    let e : null ≡ n = sym b.null_name ∙ ap (seen h).name (sym z) ∙ b.name n kept in
+    let zero : id ≡ 0 = sym (ap (λ (y : Name). y.identity) e) in not_zero k zero in
     let is : c.parts.at n - 1 + 1 ≡ c.parts.at n = omega arith in
     (c.parts.at n - 1, main_copy h (c.parts.at n - 1) n (subst (λ z. IsMain (seen h) z n) (sym is) main))
   where

@@ -41,15 +41,15 @@ object_same h f g p q id r =
     let words_length : length o.words ≡ length o'.words = c.words ∙ ap word_cells shape ∙ sym c'.words in
     let sum : length o.refs + length o.words ≡ length o'.refs + length o'.words = omega arith in
     let refs : o.refs ≡ o'.refs = ext_get_or 0 o.refs o'.refs refs_length (λ i l.
-        let n : Name = record { identity = id; part = part_at o i } in
-        let t = al.target n (column_at o i) (reach n r (part_below o i l)) (column_below o i l) in
-        let t' : target_of id o' (part_at o i) (column_at o i) ≡ name_of (get_or o'.refs i 0) = subst (λ z. target_of id o' (part_in z i) (column_in z i) ≡ name_of (get_or o'.refs i 0)) (sym sum) (cell_at id o' i (subst (λ z. i < z) refs_length l)) in
-        name_same _ _ (sym (cell_at id o i l) ∙ t ∙ t')) in
+    let n : Name = record { identity = id; part = part_at o i } in
+    let t = al.target n (column_at o i) (reach n r (part_below o i l)) (column_below o i l) in
+    let t' : target_of id o' (part_at o i) (column_at o i) ≡ name_of (get_or o'.refs i 0) = subst (λ z. target_of id o' (part_in z i) (column_in z i) ≡ name_of (get_or o'.refs i 0)) (sym sum) (cell_at id o' i (subst (λ z. i < z) refs_length l)) in
+    name_same _ _ (sym (cell_at id o i l) ∙ t ∙ t')) in
     let words : o.words ≡ o'.words = ext_get_or 0 o.words o'.words words_length (λ k l.
-        let n : Name = record { identity = id; part = part_at o k } in
-        let t : words_of o (part_at o k) ≡ words_of o' (part_at o k) = al.words n (reach n r (word_below o k l)) in
-        let t' : get_or (words_of o' (part_at o k)) (column_at o k) 0 ≡ get_or o'.words k 0 = subst (λ z. get_or (words_of o' (part_in z k)) (column_in z k) 0 ≡ get_or o'.words k 0) (sym sum) (word_at o' k) in
-        sym (word_at o k) ∙ ap (λ z. get_or z (column_at o k) 0) t ∙ t') in
+    let n : Name = record { identity = id; part = part_at o k } in
+    let t : words_of o (part_at o k) ≡ words_of o' (part_at o k) = al.words n (reach n r (word_below o k l)) in
+    let t' : get_or (words_of o' (part_at o k)) (column_at o k) 0 ≡ get_or o'.words k 0 = subst (λ z. get_or (words_of o' (part_in z k)) (column_in z k) 0 ≡ get_or o'.words k 0) (sym sum) (word_at o' k) in
+    sym (word_at o k) ∙ ap (λ z. get_or z (column_at o k) 0) t ∙ t') in
     λ i. record { shape = shape i; refs = refs i; words = words i }
   where
     some_id : Reaches f id → 0 < id

@@ -16,7 +16,7 @@ use Rattle.heap_model.proofs.Agreements.{known_kept}
 use Rattle.heap_model.proofs.Acting.{again, colour_seen, shaded_state, shades_limits, shades_roots, shades_whole}
 
 -- a shade shows the same blocks, one of them marked
-shade_seen : (h k : HeapState) (x : ℕ) → Shades h x k → SameBlocks (shade (seen h) x) (seen k)
+pub shade_seen : (h k : HeapState) (x : ℕ) → Shades h x k → SameBlocks (shade (seen h) x) (seen k)
 shade_seen h k x (Was_marked e) = record {
   next = refl;
   roots = refl;
@@ -35,7 +35,7 @@ shade_seen h k x (Was_marked e) = record {
     marked_already heap x z e = grind arith
 shade_seen h k x (Is_marked new e w) = colour_seen h new x (λ z. let t : (seen h).marked x ≡ true = ap (seen h).marked z in (let q : false ≡ true = sym e ∙ t in cc)) w
 
-shades_phase : (h k : HeapState) (x : ℕ) → Shades h x k → k.phase ≡ h.phase
+pub shades_phase : (h k : HeapState) (x : ℕ) → Shades h x k → k.phase ≡ h.phase
 shades_phase h k x (Was_marked e) = refl
 shades_phase h k x (Is_marked new e w) = refl
 

@@ -75,7 +75,7 @@ main_null h = record { held = refl; forward = refl; name = refl }
 -- a main copy of a part shows what the graph heap says
 shown : (h : HeapState) (g : Graph) (id part address : ℕ) → Agrees h g → Reaches g id → part < count_of (object_of g.objects id) → IsMainCopy h.store address (record { identity = id; part = part })
     → let s = seen h in (s.width (address + 1) ≡ width_of (object_of g.objects id) part) × (s.words (address + 1) ≡ words_of (object_of g.objects id) part) × (s.shape (address + 1) ≡ (object_of g.objects id).shape)
-      × ((i : ℕ) → i < width_of (object_of g.objects id) part → Reads s (s.cell (address + 1) i) (target_of id (object_of g.objects id) part i))
+    × ((i : ℕ) → i < width_of (object_of g.objects id) part → Reads s (s.cell (address + 1) i) (target_of id (object_of g.objects id) part i))
 shown h g id part address a r l i =
     let w = a.shows id part r l in
     let e = w.only (address + 1) (copy_main h address (record { identity = id; part = part }) i) in

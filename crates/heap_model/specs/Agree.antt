@@ -2,6 +2,7 @@
 use Rattle.std.specs.Prelude.{◌≡◌, ℕ, ◌<◌, true}
 use Rattle.heap_model.specs.Core.{Name, PartGraph, Heap, Reach}
 
+-- reference x names a main copy of n: it is held, and forwards to itself
 pub record IsMain (h : Heap) (x : ℕ) (n : Name) : Type 0 where
   pub held : h.held x ≡ true
   pub forward : h.forward x ≡ x
@@ -22,6 +23,7 @@ pub record Shows (h : Heap) (g : PartGraph) (n : Name) : Type 0 where
   pub shape : h.shape place ≡ g.shape n
   pub cells : (i : ℕ) → i < g.width n → Reads h (h.cell place i) (g.target n i)
 
+-- the heap agrees with a part graph: roots read as its roots, and what can be reached is shown
 pub record AgreesByParts (h : Heap) (g : PartGraph) : Type 0 where
   pub next : h.next ≡ g.next
   pub root : (j : ℕ) → j < h.roots → Reads h (h.root j) (g.root j)

@@ -2,6 +2,7 @@
 use Rattle.std.specs.Prelude.{◌≡◌, ℕ, ◌+◌, ◌<◌, ◌≤◌, ◌≢◌, Bool, true, false, List, [], ◌∷◌, ◌++◌, if◌then◌else◌, ◌==◌, ◌||◌}
 use Rattle.heap_model.specs.Core.{Name, PartGraph, Heap, Base, Tracing, Sweeping, Resting, Moving, Left, shade, set_root, set_cell, free, flip, move}
 
+-- how far a cycle has come, over references
 pub data Progress : Type 0 where
   In_idle : Progress
   In_roots : ℕ → Progress
@@ -9,6 +10,7 @@ pub data Progress : Type 0 where
   In_sweep : ℕ → Progress
   In_moves : Progress
 
+-- the collector as the laws see it
 pub record Collector : Type 0 where
   pub heap : Heap
   pub phase : Progress
@@ -20,6 +22,7 @@ pub record Collector : Type 0 where
   pub receiving : ℕ → Bool
   pub left : ℕ → Bool
 
+-- whether a list has a number
 unfoldable pub contains : List ℕ → ℕ → Bool
 contains [] x = false
 contains (y ∷ ys) x = (y == x) || contains ys x
@@ -33,9 +36,11 @@ Once (x ∷ xs) = (contains xs x ≡ false) × Once xs
 unfoldable pub done_by : (ℕ → Bool) → (ℕ → ℕ) → List ℕ → ℕ → ℕ → ℕ → ℕ
 done_by marked width grey scanning column x = if marked x then (if contains grey x then 0 else (if x == scanning then column else width x)) else 0
 
+-- the same of the collector's blocks
 abbrev pub done_of : Collector → ℕ → ℕ
 done_of m x = done_by m.heap.marked m.heap.width m.grey m.scanning m.column x
 
+-- grey blocks and the block in scan are held and marked, and none is there twice
 pub record Greys (m : Collector) : Type 0 where
   pub held : (x : ℕ) → contains m.grey x ≡ true → m.heap.held x ≡ true
   pub marked : (x : ℕ) → contains m.grey x ≡ true → m.heap.marked x ≡ true
@@ -53,6 +58,7 @@ Stage m g s at In_marking = Tracing m.heap g s at (done_of m) m.heap.roots × Gr
 Stage m g s at (In_sweep place) = Sweeping m.heap g s at place
 Stage m g s at In_moves = Resting m.heap g s at × Moving m.heap m.receiving × Left m.heap m.left
 
+-- the invariant, over references: some main copy for each part, what holds in every phase, and what holds in this one
 pub record Coherent (m : Collector) (g s : PartGraph) : Type 0 where
   pub at : Name → ℕ
   pub base : Base m.heap g s at
@@ -62,11 +68,13 @@ pub record Coherent (m : Collector) (g s : PartGraph) : Type 0 where
 abbrev pub shaded : Collector → ℕ → Collector
 shaded m x = record m { heap = shade m.heap x; grey = if m.heap.marked x then m.grey else x ∷ m.grey }
 
+-- a root is scanned: it is corrected, and its main copy shaded
 abbrev pub root_scanned : Collector → ℕ → Collector
 root_scanned m place =
     let x = m.heap.forward (m.heap.root place) in
     record (shaded (record m { heap = set_root m.heap place x }) x) { phase = In_roots (place + 1) }
 
+-- the next cell of the block in scan likewise
 abbrev pub cell_scanned : Collector → Collector
 cell_scanned m =
     let x = m.heap.forward (m.heap.cell m.scanning m.column) in
@@ -90,5 +98,6 @@ pub data Acts (m : Collector) : Collector → Type 0 where
   Goes_past : (left : ℕ → Bool) → m.phase ≡ In_moves → ((z : ℕ) → m.left z ≡ true → left z ≡ true) → Acts m (record m { left = left })
   Ends_moves : m.phase ≡ In_moves → Acts m (record m { phase = In_idle })
 
+-- a cycle begins
 abbrev pub begun : Collector → Collector
 begun m = record m { heap = flip m.heap; phase = In_roots 0; grey = []; scanning = 0; column = 0 }

@@ -8,10 +8,12 @@ pub record Name : Type 0 where
   pub identity : ℕ
   pub part : ℕ
 
+-- null, as a part
 abbrev pub null : Name
 null = record { identity = 0; part = 0 }
 
--- the sequential side, in parts
+-- A graph of parts: the roots, how many parts each identity has, and of each part how many reference
+-- cells it has, what they name, its words, and the shape of its object.
 pub record PartGraph : Type 0 where
   pub next : ℕ
   pub root : ℕ → Name
@@ -41,6 +43,7 @@ abbrev pub Walk : ℕ → PartGraph → ℕ → Name → Type 0
 Walk roots g zero n = (n ≡ null) ⊎ ((j : ℕ) × (j < roots) × (g.root j ≡ n))
 Walk roots g (suc k) n = (m : Name) × (i : ℕ) × Walk roots g k m × (i < g.width m) × (g.target m i ≡ n)
 
+-- a part at the end of a walk of some length
 unfoldable pub Reach : ℕ → PartGraph → Name → Type 0
 Reach roots g n = (k : ℕ) × Walk roots g k n
 
@@ -48,12 +51,15 @@ Reach roots g n = (k : ℕ) × Walk roots g k n
 unfoldable pub FreshBy : PartGraph → ℕ → (ℕ → ℕ) → Name → Type 0
 FreshBy s next count n = (s.next ≤ n.identity) × (n.identity < next) × (n.part < count n.identity)
 
+-- kept: reachable in the snapshot, or made since
 unfoldable pub KeptBy : ℕ → PartGraph → ℕ → (ℕ → ℕ) → Name → Type 0
 KeptBy roots s next count n = Reach roots s n ⊎ FreshBy s next count n
 
+-- the same, by the present graph
 abbrev pub Fresh : PartGraph → PartGraph → Name → Type 0
 Fresh s g n = FreshBy s g.next g.count n
 
+-- kept, by the present graph: g is the present one, s the snapshot
 abbrev pub Kept : ℕ → PartGraph → PartGraph → Name → Type 0
 Kept roots s g n = KeptBy roots s g.next g.count n
 
@@ -137,24 +143,31 @@ pub record Left (h : Heap) (left : ℕ → Bool) : Type 0 where
 abbrev pub put : {A : Type 0} → (ℕ → A) → ℕ → A → ℕ → A
 put f x v y = if y == x then v else f y
 
+-- a block is marked
 abbrev pub shade : Heap → ℕ → Heap
 shade h x = record h { marked = put h.marked x true }
 
+-- a root is written
 abbrev pub set_root : Heap → ℕ → ℕ → Heap
 set_root h j x = record h { root = put h.root j x }
 
+-- a reference cell is written
 abbrev pub set_cell : Heap → ℕ → ℕ → ℕ → Heap
 set_cell h x i y = record h { cell = λ z k. if (z == x) && (k == i) then y else h.cell z k }
 
+-- a block is freed
 abbrev pub free : Heap → ℕ → Heap
 free h x = record h { held = put h.held x false }
 
+-- whether two names are the same
 abbrev pub same : Name → Name → Bool
 same m n = (m.identity == n.identity) && (m.part == n.part)
 
+-- a part graph with another target in one cell
 abbrev pub write_target : PartGraph → Name → ℕ → Name → PartGraph
 write_target g n i v = record g { target = λ m k. if same m n && (k == i) then v else g.target m k }
 
+-- a part graph with another root
 abbrev pub write_root : PartGraph → ℕ → Name → PartGraph
 write_root g j v = record g { root = λ k. if k == j then v else g.root k }
 
@@ -183,5 +196,6 @@ moved at x y n = if at n == x then y else at n
 abbrev pub set_word : Heap → ℕ → ℕ → ℕ → Heap
 set_word h x c w = record h { words = λ z. if z == x then set (h.words z) c w else h.words z }
 
+-- a part graph with another word in one cell
 abbrev pub write_word : PartGraph → Name → ℕ → ℕ → PartGraph
 write_word g n c w = record g { words = λ m. if same m n then set (g.words m) c w else g.words m }

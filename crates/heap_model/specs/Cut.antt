@@ -21,6 +21,7 @@ width_in refs words part =
     then (if part == 0 then pieces_of (refs + words) else min 252 (refs - 252 * (part - 1)))
     else (if part == 0 then refs else 0)
 
+-- the same of an object's part
 abbrev pub width_of : Object → ℕ → ℕ
 width_of o part = width_in (length o.refs) (length o.words) part
 
@@ -60,9 +61,11 @@ view g = record {
 unfoldable pub part_in : ℕ → ℕ → ℕ
 part_in cells i = if is_cut cells then i / 252 + 1 else 0
 
+-- the place of the cell in its part
 unfoldable pub column_in : ℕ → ℕ → ℕ
 column_in cells i = if is_cut cells then i % 252 else i
 
+-- the same of an object's cells
 abbrev pub part_at : Object → ℕ → ℕ
 part_at o i = part_in (length o.refs + length o.words) i
 

@@ -18,3 +18,6 @@ pub mod Opening
 pub mod Making
 pub mod Action
 pub mod Swept
+pub mod Units
+pub mod Spent
+pub mod Placed

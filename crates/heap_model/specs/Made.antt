@@ -11,13 +11,16 @@ pub record Parts : Type 0 where
   pub words : ℕ → List ℕ
   pub shape : Shape
 
+-- there is a part, and each link leads to one
 pub record AreParts (ps : Parts) : Type 0 where
   pub some : 0 < ps.count
   pub link : (p i : ℕ) → p < ps.count → i < ps.width p → ps.link p i < ps.count
 
+-- what a link names in an object
 abbrev pub link_name : ℕ → ℕ → Name
 link_name identity q = if q == 0 then null else record { identity = identity; part = q }
 
+-- the part graph with a new object, which no root names yet
 abbrev pub made : PartGraph → Parts → PartGraph
 made g ps = record {
   next = g.next + 1;
@@ -55,6 +58,7 @@ pub record Makes (h : Heap) (ps : Parts) (a : ℕ → ℕ) (h' : Heap) : Type 0 
   pub part : ℕ → ℕ
   pub others : (x : ℕ) → h'.held x ≡ true → (h.held x ≡ true) ⊎ ((part x < ps.count) × (x ≡ a (part x)))
 
+-- the main copies with those of the new object
 abbrev pub made_at : (Name → ℕ) → ℕ → (ℕ → ℕ) → Name → ℕ
 made_at at next a n = if n.identity == next then a n.part else at n
 

@@ -2,6 +2,7 @@
 use Rattle.std.specs.Prelude.{◌≡◌, ℕ, ◌<◌, true}
 use Rattle.heap_model.specs.Core.{Heap}
 
+-- each held block shows the same, and the same blocks are held
 pub record SameBlocks (h h' : Heap) : Type 0 where
   pub next : h'.next ≡ h.next
   pub roots : h'.roots ≡ h.roots

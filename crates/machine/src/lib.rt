@@ -7,3 +7,6 @@ pub mod recorded;
 
 pub use heap::Heap;
 pub use recorded::{Receipt, Recorded};
+
+#[cfg(test)]
+mod tests;

@@ -14,3 +14,6 @@ pub use fault::{ConfigFault, Key};
 pub use need::Need;
 pub use parts::{Parts, parts_of};
 pub use settings::Settings;
+
+#[cfg(test)]
+mod tests;

@@ -1,0 +1,58 @@
+-- What a turn spends.
+use Rattle.std.proofs.Common.{◌≡◌, ℕ, ◌+◌, ◌<◌, ◌≤◌, ◌⊎◌, inl, inr, refl, ap, arith}
+use Rattle.size_classes.proofs.Table.{size_low, size_high}
+use Rattle.heap_model.specs.declared.phase.Phase.TheVariants as phases
+use Rattle.heap_model.specs.Store.{IsStore}
+use Rattle.heap_model.specs.State.{HeapState}
+use Rattle.heap_model.specs.Action.{Action, Scans_root, Ends_roots, Scans_header, Scans_cell, Ends_marking, Frees_block, Passes_block, Closes_page, Ends_sweep, Looks_at_page, Chooses_page, Chooses_none, Moves_block, Ends_moving, Chain, Nothing_done, Then, IsTurn}
+use Rattle.heap_model.proofs.Held.{is_page}
+use Rattle.heap_model.proofs.Spent.{shades_units}
+
+-- an action costs from 1 to 256 units, and they are spent
+pub action_cost : (h after : HeapState) (cost : ℕ) → IsStore h.store → Action h cost after → (0 < cost) × (cost ≤ 256)
+action_cost h after cost w (Scans_root next k e l sh) = (omega arith, omega arith)
+action_cost h after cost w (Ends_roots next e l) = (omega arith, omega arith)
+action_cost h after cost w (Scans_header part cell x front back e f n) = (omega arith, omega arith)
+action_cost h after cost w (Scans_cell part cell new k e l w0 sh) = (omega arith, omega arith)
+action_cost h after cost w (Ends_marking part cell e f n) = (omega arith, omega arith)
+action_cost h after cost w (Frees_block page block q new e f was unmarked w0 pages) = (omega arith, omega arith)
+action_cost h after cost w (Passes_block page block q e f l marked) = (omega arith, omega arith)
+action_cost h after cost w (Closes_page page block new e l f w0 pages) = (omega arith, omega arith)
+action_cost h after cost w (Ends_sweep page block e l) = (omega arith, omega arith)
+action_cost h after cost w (Looks_at_page class page best chosen at few more) = (omega arith, omega arith)
+action_cost h after cost w (Chooses_page class page best chosen b q new at few last is good there w0 pages) = (omega arith, omega arith)
+action_cost h after cost w (Chooses_none class page best chosen at few last is) = (omega arith, omega arith)
+action_cost h after cost w (Moves_block class page block chosen k to j q r new e at leaving next place there empty w0 pages) =
+    let is = is_page h.store page q w at in
+    let low = size_low q.class is.class in
+    let high = size_high q.class is.class in
+    (omega arith, high)
+action_cost h after cost w (Ends_moving done) = (omega arith, omega arith)
+
+pub action_units : (h after : HeapState) (cost : ℕ) → Action h cost after → after.units ≡ h.units + cost
+action_units h after cost (Scans_root next k e l sh) = ap (λ z. z + 1) (shades_units _ k _ sh).0
+action_units h after cost (Ends_roots next e l) = refl
+action_units h after cost (Scans_header part cell x front back e f n) = refl
+action_units h after cost (Scans_cell part cell new k e l w0 sh) = ap (λ z. z + 1) (shades_units _ k _ sh).0
+action_units h after cost (Ends_marking part cell e f n) = refl
+action_units h after cost (Frees_block page block q new e f was unmarked w0 pages) = refl
+action_units h after cost (Passes_block page block q e f l marked) = refl
+action_units h after cost (Closes_page page block new e l f w0 pages) = refl
+action_units h after cost (Ends_sweep page block e l) = refl
+action_units h after cost (Looks_at_page class page best chosen at few more) = refl
+action_units h after cost (Chooses_page class page best chosen b q new at few last is good there w0 pages) = refl
+action_units h after cost (Chooses_none class page best chosen at few last is) = refl
+action_units h after cost (Moves_block class page block chosen k to j q r new e at leaving next place there empty w0 pages) = refl
+action_units h after cost (Ends_moving done) = refl
+
+-- what a chain costs is spent
+pub chain_units : (h after : HeapState) (spent : ℕ) → Chain h spent after → after.units ≡ h.units + spent
+chain_units h after spent Nothing_done = omega arith
+chain_units h after spent (Then u cost j k chain action) = let a = chain_units h j u chain in let b = action_units j k cost action in omega arith
+
+-- a turn ends in idle, or leaves fewer than 256 units of its budget
+pub turn_spends : (h after : HeapState) (budget spent : ℕ) → IsStore after.store → IsTurn h budget after spent → (after.phase ≡ phases.Idle) ⊎ (budget < spent + 256)
+turn_spends h after budget spent w t = elim t.ends [
+  | inl e ↦ inl e
+  | inr n ↦ inr (let c = (action_cost after n.1 n.0 w n.2).1 in let l = n.3 in omega arith)
+]

@@ -1,0 +1,92 @@
+//! Replies worked out by hand.
+ghost use Rattle.machine.specs.Plan.{IsServed};
+
+use super::*;
+use graph_heap::{Command, NoMemory, Refusal, Reply, Shape};
+use size_classes::{Config, Settings};
+
+const ONE_PAGE: Settings = Settings {
+    pages: 1,
+    mutators: 1,
+    slots: 9,
+    statics: 0,
+    identities: 9223372036854775807,
+    defrag_below: 0,
+    defrag_pages: 0,
+    collector_ticks: 10,
+    mutator_ticks: 12,
+    rate: 100,
+};
+
+/// The reply to a command of mutator 0.
+fn told(heap: &mut Recorded, command: Command) -> Result<Reply, NoMemory>
+    requires { IsServed command }
+{
+    Ok(heap.call(0, command)?.entry.reply)
+}
+
+/// The reply to a request for an object of so many words.
+fn made(heap: &mut Recorded, dst: u32, words: u32) -> Result<Reply, NoMemory> {
+    let shape = Shape::Plain { refs: 0, words };
+    told(heap, Command::New { dst, shape })
+}
+
+#[test]
+fn a_page_fills_up(rt: HostRuntime) -> Result<(), NoMemory> {
+    let Ok(config) = Config::check(&ONE_PAGE) else {
+        panic!(rt; "the settings are good");
+    };
+    let mut heap = Recorded::new(rt.alloc(), &config)?;
+    for k in 0..8u32 {
+        assert!(rt; made(&mut heap, k, 252)? == Reply::Made(u64::from(k) + 1));
+    }
+    assert!(rt; made(&mut heap, 8, 252)? == Reply::Refused(Refusal::NoSpace));
+    let shape = Shape::Plain {
+        refs: 0,
+        words: 252,
+    };
+    assert!(rt; told(&mut heap, Command::Describe { a: 7 })? == Reply::Described(8, shape));
+    assert!(rt; told(&mut heap, Command::Describe { a: 8 })? == Reply::Refused(Refusal::NullSlot));
+    assert!(rt; made(&mut heap, 8, 253)? == Reply::Refused(Refusal::TooLarge));
+    let beyond = Command::Get { obj: 0, i: 252 };
+    assert!(rt; told(&mut heap, beyond)? == Reply::Refused(Refusal::BadIndex));
+    assert!(rt; heap.history().len() == 13);
+    Ok(())
+}
+
+#[test]
+fn a_page_has_one_class(rt: HostRuntime) -> Result<(), NoMemory> {
+    let Ok(config) = Config::check(&ONE_PAGE) else {
+        panic!(rt; "the settings are good");
+    };
+    let mut heap = Recorded::new(rt.alloc(), &config)?;
+    assert!(rt; made(&mut heap, 0, 0)? == Reply::Made(1));
+    assert!(rt; made(&mut heap, 0, 1)? == Reply::Refused(Refusal::NoSpace));
+    Ok(())
+}
+
+#[test]
+fn words_are_kept(rt: HostRuntime) -> Result<(), NoMemory> {
+    let Ok(config) = Config::check(&ONE_PAGE) else {
+        panic!(rt; "the settings are good");
+    };
+    let mut heap = Recorded::new(rt.alloc(), &config)?;
+    assert!(rt; made(&mut heap, 0, 1)? == Reply::Made(1));
+    let put = Command::Put {
+        obj: 0,
+        i: 0,
+        word: 7,
+    };
+    assert!(rt; told(&mut heap, put)? == Reply::Done);
+    assert!(rt; made(&mut heap, 1, 1)? == Reply::Made(2));
+    assert!(rt; told(&mut heap, Command::Get { obj: 0, i: 0 })? == Reply::Word(7));
+    assert!(rt; told(&mut heap, Command::Get { obj: 1, i: 0 })? == Reply::Word(0));
+    assert!(rt; told(&mut heap, Command::Clear { dst: 0 })? == Reply::Done);
+    assert!(rt;
+        told(&mut heap, Command::Get { obj: 0, i: 0 })? == Reply::Refused(Refusal::NullSlot)
+    );
+    assert!(rt;
+        heap.heap().answer(1, &Command::Clear { dst: 0 }) == Reply::Refused(Refusal::BadSlot)
+    );
+    Ok(())
+}

@@ -1,0 +1,95 @@
+//! Figures worked out by hand.
+use super::*;
+use graph_heap::Shape;
+
+#[test]
+fn classes_hold_requests(rt: HostRuntime) {
+    for (words, size) in [(0, 4), (4, 4), (17, 18), (230, 256), (256, 256)] {
+        let class = class_of(words).unwrap();
+        assert!(rt; class.size() == size, "at {words}");
+    }
+    assert!(rt; class_of(257).is_none());
+}
+
+#[test]
+fn arrays_are_cut(rt: HostRuntime) {
+    let tables: [(Shape, &[u32]); 4] = [
+        (Shape::RefArray(252), &[256]),
+        (Shape::RefArray(253), &[6, 256, 5]),
+        (Shape::WordArray(505), &[7, 256, 256, 5]),
+        (Shape::Plain { refs: 3, words: 4 }, &[11]),
+    ];
+    for (shape, sizes) in tables {
+        let parts = parts_of(&shape).unwrap();
+        assert!(rt; parts.count() as usize == sizes.len());
+        for (part, words) in (0..parts.count()).zip(sizes) {
+            assert!(rt; parts.words(part) == *words);
+        }
+    }
+    let large = parts_of(&Shape::WordArray(63504)).unwrap();
+    assert!(rt; large.count() == 253 && Need::of(&large).blocks(Class::new(37)) == 253);
+    assert!(rt; parts_of(&Shape::WordArray(63505)).is_none());
+    let wraps = Shape::Plain {
+        refs: 4294967295,
+        words: 1,
+    };
+    assert!(rt; parts_of(&wraps).is_none());
+}
+
+const SETTINGS: Settings = Settings {
+    pages: 3,
+    mutators: 1,
+    slots: 12,
+    statics: 0,
+    identities: 9223372036854775807,
+    defrag_below: 4,
+    defrag_pages: 1,
+    collector_ticks: 10,
+    mutator_ticks: 12,
+    rate: 100,
+};
+
+#[test]
+fn settings_are_checked(rt: HostRuntime) {
+    let Ok(config) = Config::check(&SETTINGS) else {
+        panic!(rt; "the settings are good");
+    };
+    assert!(rt;
+        config.cycle_limit() == 18565 && config.root_cells() == 12 && config.budget() == 1000
+    );
+    assert!(rt; config.limits().slots == 12);
+    let no_page = Settings {
+        pages: 0,
+        ..SETTINGS
+    };
+    assert!(rt; Config::check(&no_page) == Err(ConfigFault::OutOfRange(Key::Pages)));
+    let short = Settings {
+        collector_ticks: 1,
+        ..SETTINGS
+    };
+    assert!(rt; Config::check(&short) == Err(ConfigFault::BudgetOutOfRange));
+}
+
+#[test]
+fn faults_have_their_texts(rt: HostRuntime) -> Result<(), std::alloc::AllocError> {
+    let texts = [
+        (ConfigFault::TooLong, "too long"),
+        (ConfigFault::NotToml, "not TOML"),
+        (ConfigFault::UnknownKey, "unknown key"),
+        (ConfigFault::Missing(Key::Mutators), "mutators missing"),
+        (
+            ConfigFault::NotWhole(Key::Pages),
+            "pages not a whole number",
+        ),
+        (
+            ConfigFault::OutOfRange(Key::DefragBelow),
+            "defrag_below out of range",
+        ),
+        (ConfigFault::BudgetOutOfRange, "budget out of range"),
+    ];
+    for (fault, text) in texts {
+        let told = format!(in rt.alloc(); "{fault}")?;
+        assert!(rt; told.as_str() == text);
+    }
+    Ok(())
+}

@@ -22,8 +22,9 @@ fn arrays_are_cut(rt: HostRuntime) {
     for (shape, sizes) in tables {
         let parts = parts_of(&shape).unwrap();
         assert!(rt; parts.count() as usize == sizes.len());
-        for (part, words) in (0..parts.count()).zip(sizes) {
-            assert!(rt; parts.words(part) == *words);
+        for part in 0..parts.count() {
+            let words = parts.words(part);
+            assert!(rt; sizes.get(part as usize).copied() == Some(words));
         }
     }
     let large = parts_of(&Shape::WordArray(63504)).unwrap();

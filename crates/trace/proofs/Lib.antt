@@ -1,0 +1,10 @@
+pub mod Cuts
+pub mod Numbers
+pub mod Exact
+pub mod ReadCommands
+pub mod ReadLines
+pub mod Streaming
+pub mod Feeds
+pub mod Cutting
+pub mod ReadReplies
+pub mod ReadEntries

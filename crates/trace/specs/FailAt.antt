@@ -1,0 +1,13 @@
+-- A source or sink that fails on purpose: what it passes calls on to, how many calls from now the one that fails is (0 for none), and how often it failed itself.
+use Rattle.std.specs.Prelude.{ℕ, if◌then◌else◌}
+use Rattle.trace.specs.declared.fail_at.FailAt.{FailAt}
+
+module _ {T : Type 0} where
+  abbrev pub passes_to : FailAt T → T
+  passes_to s = s.inner
+
+  abbrev pub calls_left : FailAt T → ℕ
+  calls_left s = s.left
+
+  abbrev pub own_failures : FailAt T → ℕ
+  own_failures s = if s.failed then 1 else 0

@@ -1,0 +1,15 @@
+-- A reader of lines, as it lies in its buffer.
+use Rattle.std.specs.Prelude.{◌+◌, ◌-◌, ◌^◌, ◌<◌, ◌≤◌, slice_range}
+use Rattle.trace.specs.declared.line_reader.LineReader.TheInside.{Inside}
+use Rattle.trace.specs.LineReader.{Lines}
+
+abbrev pub lines_in : Inside → Lines
+lines_in a = record { line = slice_range a.buffer a.line_start a.line_end; kept = slice_range a.buffer a.start a.end; number = a.number }
+
+-- the ranges lie in the buffer, and the lines can be counted
+pub record IsHeld (a : Inside) : Type 0 where
+  pub line : a.line_start ≤ a.line_end
+  pub line_within : a.line_end ≤ 4096
+  pub range : a.start ≤ a.end
+  pub within : a.end ≤ 4096
+  pub few : a.number + (a.end - a.start) < 2 ^ 64

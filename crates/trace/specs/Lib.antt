@@ -1,0 +1,12 @@
+pub mod Spelling
+pub mod Reading
+pub mod Streams
+pub mod LineReader
+pub mod Held
+pub mod Memory
+pub mod MemorySource
+pub mod MemorySink
+pub mod Standard
+pub mod WriteSink
+pub mod ReadSource
+pub mod FailAt

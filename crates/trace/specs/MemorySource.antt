@@ -1,0 +1,9 @@
+-- A source over memory: its bytes, and how many of them are given.
+use Rattle.std.specs.Prelude.{ℕ, List}
+use Rattle.trace.specs.declared.memory.MemorySource.{MemorySource}
+
+abbrev pub source_bytes : MemorySource → List ℕ
+source_bytes s = s.bytes.now
+
+abbrev pub source_place : MemorySource → ℕ
+source_place s = s.at

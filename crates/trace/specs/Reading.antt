@@ -1,0 +1,260 @@
+-- How private functions read, as functions on lists. What is promised of reading stands in Spelling.
+use Rattle.std.specs.Prelude.{ℕ, ◌+◌, ◌-◌, ◌^◌, true, false, ◌&&◌, nat_lt, nat_le, ◌==◌, if◌then◌else◌, List, [], ◌∷◌, length, take, drop, codes, decimal, Option, Some, None, position, find}
+use Rattle.std.specs.Str.{bytes_eq}
+use Rattle.std.specs.Str.Parse.{digits_value}
+use Rattle.graph_heap.specs.declared.command.Shape.{Shape}
+use Rattle.graph_heap.specs.declared.command.Shape.TheVariants.{Plain, RefArray, WordArray}
+use Rattle.graph_heap.specs.declared.command.Command.{Command}
+use Rattle.graph_heap.specs.declared.command.Command.TheVariants as commands
+use Rattle.graph_heap.specs.declared.command.Reply.{Reply}
+use Rattle.graph_heap.specs.declared.command.Reply.TheVariants as replies
+use Rattle.graph_heap.specs.declared.command.Refusal.{Refusal}
+use Rattle.graph_heap.specs.declared.command.Refusal.TheVariants as refusals
+use Rattle.graph_heap.specs.declared.command.Entry.{Entry}
+use Rattle.graph_heap.specs.Refusal.{refusal_number}
+use Rattle.trace.specs.declared.entry.EntryLine.{EntryLine}
+use Rattle.trace.specs.declared.entry.EntryLine.TheVariants as entry_lines
+use Rattle.trace.specs.declared.replies.ReplyWord.{ReplyWord}
+use Rattle.trace.specs.declared.replies.ReplyWord.TheVariants as words
+use Rattle.trace.specs.declared.keyword.Keyword.{Keyword}
+use Rattle.trace.specs.declared.keyword.Keyword.TheVariants as keywords
+use Rattle.trace.specs.declared.line.Line.{Line}
+use Rattle.trace.specs.declared.line.Line.TheVariants as lines
+
+infixl 10 ◌>>=◌
+abbrev pub ◌>>=◌ : {A B : Type 0} → Option A → (A → Option B) → Option B
+None >>= f = None
+(Some x) >>= f = f x
+
+-- the number below 2 ^ bits of which the bytes are the spelling
+unfoldable pub number_in : ℕ → List ℕ → Option ℕ
+number_in bits bytes = if nat_lt (digits_value 10 bytes) (2 ^ bits) && bytes_eq bytes (decimal (digits_value 10 bytes)) then Some (digits_value 10 bytes) else None
+
+-- what stands before the first such byte, and behind it
+unfoldable pub cut_at : ℕ → List ℕ → Option (List ℕ × List ℕ)
+cut_at byte bytes = do
+  i ← position (λ b. b == byte) bytes
+  Some (take i bytes, drop (i + 1) bytes)
+
+-- the number before the first blank, and what stands behind that
+unfoldable pub field_in : ℕ → List ℕ → Option (ℕ × List ℕ)
+field_in bits bytes = do
+  c ← cut_at 32 bytes
+  n ← number_in bits c.0
+  Some (n, c.1)
+
+-- numbers parted by blanks
+unfoldable pub two_in : List ℕ → Option (ℕ × ℕ)
+two_in bytes = do
+  a ← field_in 32 bytes
+  b ← number_in 32 a.1
+  Some (a.0, b)
+
+unfoldable pub three_in : List ℕ → Option (ℕ × (ℕ × ℕ))
+three_in bytes = do
+  a ← field_in 32 bytes
+  b ← two_in a.1
+  Some (a.0, b)
+
+unfoldable pub four_in : List ℕ → Option (ℕ × (ℕ × (ℕ × ℕ)))
+four_in bytes = do
+  a ← field_in 32 bytes
+  b ← three_in a.1
+  Some (a.0, b)
+
+-- numbers, and behind them words
+unfoldable pub number_and_word_in : List ℕ → Option (ℕ × ℕ)
+number_and_word_in bytes = do
+  a ← field_in 32 bytes
+  b ← number_in 64 a.1
+  Some (a.0, b)
+
+unfoldable pub numbers_and_word_in : List ℕ → Option (ℕ × (ℕ × ℕ))
+numbers_and_word_in bytes = do
+  a ← field_in 32 bytes
+  b ← number_and_word_in a.1
+  Some (a.0, b)
+
+unfoldable pub two_words_in : List ℕ → Option (ℕ × ℕ)
+two_words_in bytes = do
+  a ← field_in 64 bytes
+  b ← number_in 64 a.1
+  Some (a.0, b)
+
+unfoldable pub number_and_words_in : List ℕ → Option (ℕ × (ℕ × ℕ))
+number_and_words_in bytes = do
+  a ← field_in 32 bytes
+  b ← two_words_in a.1
+  Some (a.0, b)
+
+unfoldable pub numbers_and_words_in : List ℕ → Option (ℕ × (ℕ × (ℕ × ℕ)))
+numbers_and_words_in bytes = do
+  a ← field_in 32 bytes
+  b ← number_and_words_in a.1
+  Some (a.0, b)
+
+-- the word with which a command begins
+abbrev pub keyword_text : Keyword → List ℕ
+keyword_text keywords.New = codes "new"
+keyword_text keywords.Load = codes "load"
+keyword_text keywords.Store = codes "store"
+keyword_text keywords.CompareStore = codes "cas"
+keyword_text keywords.Get = codes "get"
+keyword_text keywords.Put = codes "put"
+keyword_text keywords.ComparePut = codes "casput"
+keyword_text keywords.Copy = codes "copy"
+keyword_text keywords.Clear = codes "clear"
+keyword_text keywords.LoadStatic = codes "loadstatic"
+keyword_text keywords.StoreStatic = codes "storestatic"
+keyword_text keywords.CompareStatic = codes "casstatic"
+keyword_text keywords.Same = codes "same"
+keyword_text keywords.Describe = codes "describe"
+
+abbrev pub all_keywords : List Keyword
+all_keywords = keywords.New ∷ keywords.Load ∷ keywords.Store ∷ keywords.CompareStore ∷ keywords.Get ∷ keywords.Put ∷ keywords.ComparePut ∷ keywords.Copy ∷ keywords.Clear ∷ keywords.LoadStatic ∷ keywords.StoreStatic ∷ keywords.CompareStatic ∷ keywords.Same ∷ keywords.Describe ∷ []
+
+-- the kind that a word names
+unfoldable pub keyword_in : List ℕ → Option Keyword
+keyword_in word = find (λ k. bytes_eq word (keyword_text k)) all_keywords
+
+-- a shape
+unfoldable pub shape_in : List ℕ → Option Shape
+shape_in bytes = cut_at 32 bytes >>= λ c.
+    if bytes_eq c.0 (codes "plain") then two_in c.1 >>= (λ n. Some (Plain n.0 n.1)) else
+    if bytes_eq c.0 (codes "refs") then number_in 32 c.1 >>= (λ n. Some (RefArray n)) else
+    if bytes_eq c.0 (codes "words") then number_in 32 c.1 >>= (λ n. Some (WordArray n)) else None
+
+-- a slot and a shape
+unfoldable pub slot_and_shape_in : List ℕ → Option (ℕ × Shape)
+slot_and_shape_in bytes = do
+  a ← field_in 32 bytes
+  b ← shape_in a.1
+  Some (a.0, b)
+
+-- what stands behind the keyword of a command
+unfoldable pub arguments_in : Keyword → List ℕ → Option Command
+arguments_in keywords.New bytes = slot_and_shape_in bytes >>= λ n. Some (commands.New n.0 n.1)
+arguments_in keywords.Load bytes = three_in bytes >>= λ n. Some (commands.Load n.0 n.1.0 n.1.1)
+arguments_in keywords.Store bytes = three_in bytes >>= λ n. Some (commands.Store n.0 n.1.0 n.1.1)
+arguments_in keywords.CompareStore bytes = four_in bytes >>= λ n. Some (commands.CompareStore n.0 n.1.0 n.1.1.0 n.1.1.1)
+arguments_in keywords.Get bytes = two_in bytes >>= λ n. Some (commands.Get n.0 n.1)
+arguments_in keywords.Put bytes = numbers_and_word_in bytes >>= λ n. Some (commands.Put n.0 n.1.0 n.1.1)
+arguments_in keywords.ComparePut bytes = numbers_and_words_in bytes >>= λ n. Some (commands.ComparePut n.0 n.1.0 n.1.1.0 n.1.1.1)
+arguments_in keywords.Copy bytes = two_in bytes >>= λ n. Some (commands.Copy n.0 n.1)
+arguments_in keywords.Clear bytes = number_in 32 bytes >>= λ n. Some (commands.Clear n)
+arguments_in keywords.LoadStatic bytes = two_in bytes >>= λ n. Some (commands.LoadStatic n.0 n.1)
+arguments_in keywords.StoreStatic bytes = two_in bytes >>= λ n. Some (commands.StoreStatic n.0 n.1)
+arguments_in keywords.CompareStatic bytes = three_in bytes >>= λ n. Some (commands.CompareStatic n.0 n.1.0 n.1.1)
+arguments_in keywords.Same bytes = two_in bytes >>= λ n. Some (commands.Same n.0 n.1)
+arguments_in keywords.Describe bytes = number_in 32 bytes >>= λ n. Some (commands.Describe n)
+
+-- a command
+unfoldable pub command_in : List ℕ → Option Command
+command_in bytes = do
+  c ← cut_at 32 bytes
+  k ← keyword_in c.0
+  arguments_in k c.1
+
+-- a command of a mutator
+unfoldable pub mutator_and_command_in : List ℕ → Option (ℕ × Command)
+mutator_and_command_in bytes = do
+  a ← field_in 32 bytes
+  b ← command_in a.1
+  Some (a.0, b)
+
+-- a line for the collector
+unfoldable pub collector_in : List ℕ → Option Line
+collector_in bytes = if bytes_eq bytes (codes "begin") then Some lines.Begin else (do
+  c ← cut_at 32 bytes
+  n ← number_in 64 c.1
+  if bytes_eq c.0 (codes "quantum") && (nat_le 256 n && nat_le n 1000000) then Some (lines.Quantum n) else
+      if bytes_eq c.0 (codes "tick") && (nat_le 1 n && nat_le n 1099511627776) then Some (lines.Tick n) else None)
+
+-- a line, by its first byte: nothing, #, a digit, or something else
+unfoldable pub line_in : List ℕ → Option Line
+line_in [] = Some lines.Skip
+line_in (first ∷ rest) = if first == 35 then Some lines.Skip else
+    if nat_le 48 first && nat_le first 57 then mutator_and_command_in (first ∷ rest) >>= (λ a. Some (lines.Command a.0 a.1)) else collector_in (first ∷ rest)
+
+-- a refusal by its number
+abbrev pub all_refusals : List Refusal
+all_refusals = refusals.BadSlot ∷ refusals.NullSlot ∷ refusals.BadIndex ∷ refusals.WrongKind ∷ refusals.TooLarge ∷ refusals.IdentitiesSpent ∷ refusals.NoSpace ∷ refusals.BadStatic ∷ []
+
+unfoldable pub refusal_in : ℕ → Option Refusal
+refusal_in n = find (λ r. refusal_number r == n) all_refusals
+
+-- the word with which a reply of several words begins
+abbrev pub reply_word_text : ReplyWord → List ℕ
+reply_word_text words.Made = codes "made"
+reply_word_text words.Ref = codes "ref"
+reply_word_text words.Word = codes "word"
+reply_word_text words.Kept = codes "kept"
+reply_word_text words.KeptWord = codes "keptword"
+reply_word_text words.Described = codes "described"
+reply_word_text words.Refused = codes "refused"
+
+abbrev pub all_reply_words : List ReplyWord
+all_reply_words = words.Made ∷ words.Ref ∷ words.Word ∷ words.Kept ∷ words.KeptWord ∷ words.Described ∷ words.Refused ∷ []
+
+unfoldable pub reply_word_in : List ℕ → Option ReplyWord
+reply_word_in word = find (λ w. bytes_eq word (reply_word_text w)) all_reply_words
+
+-- an identity and a shape
+unfoldable pub identity_and_shape_in : List ℕ → Option (ℕ × Shape)
+identity_and_shape_in bytes = do
+  a ← field_in 64 bytes
+  b ← shape_in a.1
+  Some (a.0, b)
+
+-- what stands behind the first word of a reply
+unfoldable pub reply_arguments_in : ReplyWord → List ℕ → Option Reply
+reply_arguments_in words.Made bytes = number_in 64 bytes >>= λ n. Some (replies.Made n)
+reply_arguments_in words.Ref bytes = number_in 64 bytes >>= λ n. Some (replies.Ref n)
+reply_arguments_in words.Word bytes = number_in 64 bytes >>= λ n. Some (replies.Word n)
+reply_arguments_in words.Kept bytes = number_in 64 bytes >>= λ n. Some (replies.Kept n)
+reply_arguments_in words.KeptWord bytes = number_in 64 bytes >>= λ n. Some (replies.KeptWord n)
+reply_arguments_in words.Described bytes = identity_and_shape_in bytes >>= λ n. Some (replies.Described n.0 n.1)
+reply_arguments_in words.Refused bytes = number_in 64 bytes >>= λ n. refusal_in n >>= λ r. Some (replies.Refused r)
+
+-- a reply of several words
+unfoldable pub long_reply_in : List ℕ → Option Reply
+long_reply_in bytes = do
+  c ← cut_at 32 bytes
+  w ← reply_word_in c.0
+  reply_arguments_in w c.1
+
+-- a reply
+unfoldable pub reply_in : List ℕ → Option Reply
+reply_in bytes =
+    if bytes_eq bytes (codes "done") then Some replies.Done else
+    if bytes_eq bytes (codes "stored") then Some replies.Stored else
+    if bytes_eq bytes (codes "is yes") then Some (replies.Is true) else
+    if bytes_eq bytes (codes "is no") then Some (replies.Is false) else long_reply_in bytes
+
+-- what stands before the blank at the end, and behind "> " at the front
+unfoldable pub before_blank_in : List ℕ → Option (List ℕ)
+before_blank_in bytes = if bytes_eq (drop (length bytes - 1) bytes) (codes " ") then Some (take (length bytes - 1) bytes) else None
+
+unfoldable pub behind_point_in : List ℕ → Option (List ℕ)
+behind_point_in bytes = if bytes_eq (take 2 bytes) (codes "> ") then Some (drop 2 bytes) else None
+
+-- what stands before the arrow " => ", and behind it
+unfoldable pub arrow_in : List ℕ → Option (List ℕ × List ℕ)
+arrow_in bytes = do
+  c ← cut_at 61 bytes
+  front ← before_blank_in c.0
+  back ← behind_point_in c.1
+  Some (front, back)
+
+-- an entry
+unfoldable pub entry_in : List ℕ → Option Entry
+entry_in bytes = do
+  c ← arrow_in bytes
+  a ← mutator_and_command_in c.0
+  r ← reply_in c.1
+  Some (record { mutator = a.0; command = a.1; reply = r })
+
+-- a line of a history, by its first byte
+unfoldable pub entry_line_in : List ℕ → Option EntryLine
+entry_line_in [] = Some entry_lines.Skip
+entry_line_in (first ∷ rest) = if first == 35 then Some entry_lines.Skip else (entry_in (first ∷ rest) >>= λ e. Some (entry_lines.Entry e))

@@ -1,0 +1,123 @@
+-- The grammar of traces and histories: how commands, lines, replies and entries are spelled.
+use Rattle.std.specs.Prelude.{◌≡◌, ℕ, ◌^◌, ◌<◌, ◌≤◌, true, false, List, [], ◌∷◌, ◌++◌, codes, decimal}
+use Rattle.graph_heap.specs.declared.command.Shape.{Shape}
+use Rattle.graph_heap.specs.declared.command.Shape.TheVariants.{Plain, RefArray, WordArray}
+use Rattle.graph_heap.specs.declared.command.Command.{Command}
+use Rattle.graph_heap.specs.declared.command.Command.TheVariants as commands
+use Rattle.graph_heap.specs.declared.command.Reply.{Reply}
+use Rattle.graph_heap.specs.declared.command.Reply.TheVariants as replies
+use Rattle.graph_heap.specs.declared.command.Entry.{Entry}
+use Rattle.graph_heap.specs.Refusal.{refusal_number}
+use Rattle.trace.specs.declared.entry.EntryLine.{EntryLine}
+use Rattle.trace.specs.declared.entry.EntryLine.TheVariants as entry_lines
+use Rattle.trace.specs.declared.line.Line.{Line}
+use Rattle.trace.specs.declared.line.Line.TheVariants as lines
+
+-- numbers in decimal, without leading zeros, each parted from the next by one blank (byte 32)
+abbrev pub two : ℕ → ℕ → List ℕ
+two a b = decimal a ++ 32 ∷ decimal b
+
+abbrev pub three : ℕ → ℕ → ℕ → List ℕ
+three a b c = decimal a ++ 32 ∷ two b c
+
+abbrev pub four : ℕ → ℕ → ℕ → ℕ → List ℕ
+four a b c d = decimal a ++ 32 ∷ three b c d
+
+-- a shape
+abbrev pub shape_text : Shape → List ℕ
+shape_text (Plain refs words) = codes "plain " ++ two refs words
+shape_text (RefArray n) = codes "refs " ++ decimal n
+shape_text (WordArray n) = codes "words " ++ decimal n
+
+-- a command
+abbrev pub command_text : Command → List ℕ
+command_text (commands.New dst shape) = codes "new " ++ decimal dst ++ 32 ∷ shape_text shape
+command_text (commands.Load dst obj i) = codes "load " ++ three dst obj i
+command_text (commands.Store obj i src) = codes "store " ++ three obj i src
+command_text (commands.CompareStore obj i expect new) = codes "cas " ++ four obj i expect new
+command_text (commands.Get obj i) = codes "get " ++ two obj i
+command_text (commands.Put obj i word) = codes "put " ++ three obj i word
+command_text (commands.ComparePut obj i old new) = codes "casput " ++ four obj i old new
+command_text (commands.Copy dst src) = codes "copy " ++ two dst src
+command_text (commands.Clear dst) = codes "clear " ++ decimal dst
+command_text (commands.LoadStatic dst k) = codes "loadstatic " ++ two dst k
+command_text (commands.StoreStatic k src) = codes "storestatic " ++ two k src
+command_text (commands.CompareStatic k expect new) = codes "casstatic " ++ three k expect new
+command_text (commands.Same a b) = codes "same " ++ two a b
+command_text (commands.Describe a) = codes "describe " ++ decimal a
+
+-- a command of a mutator
+abbrev pub command_line : ℕ → Command → List ℕ
+command_line mutator command = decimal mutator ++ 32 ∷ command_text command
+
+-- The numbers of a shape, or of a command, are at most 4294967295, and the words of a command at
+-- most 18446744073709551615.
+abbrev pub ShapeFits : Shape → Type 0
+ShapeFits (Plain refs words) = (refs < 2 ^ 32) × (words < 2 ^ 32)
+ShapeFits (RefArray n) = n < 2 ^ 32
+ShapeFits (WordArray n) = n < 2 ^ 32
+
+abbrev pub CommandFits : Command → Type 0
+CommandFits (commands.New dst shape) = (dst < 2 ^ 32) × ShapeFits shape
+CommandFits (commands.Load dst obj i) = (dst < 2 ^ 32) × (obj < 2 ^ 32) × (i < 2 ^ 32)
+CommandFits (commands.Store obj i src) = (obj < 2 ^ 32) × (i < 2 ^ 32) × (src < 2 ^ 32)
+CommandFits (commands.CompareStore obj i expect new) = (obj < 2 ^ 32) × (i < 2 ^ 32) × (expect < 2 ^ 32) × (new < 2 ^ 32)
+CommandFits (commands.Get obj i) = (obj < 2 ^ 32) × (i < 2 ^ 32)
+CommandFits (commands.Put obj i word) = (obj < 2 ^ 32) × (i < 2 ^ 32) × (word < 2 ^ 64)
+CommandFits (commands.ComparePut obj i old new) = (obj < 2 ^ 32) × (i < 2 ^ 32) × (old < 2 ^ 64) × (new < 2 ^ 64)
+CommandFits (commands.Copy dst src) = (dst < 2 ^ 32) × (src < 2 ^ 32)
+CommandFits (commands.Clear dst) = dst < 2 ^ 32
+CommandFits (commands.LoadStatic dst k) = (dst < 2 ^ 32) × (k < 2 ^ 32)
+CommandFits (commands.StoreStatic k src) = (k < 2 ^ 32) × (src < 2 ^ 32)
+CommandFits (commands.CompareStatic k expect new) = (k < 2 ^ 32) × (expect < 2 ^ 32) × (new < 2 ^ 32)
+CommandFits (commands.Same a b) = (a < 2 ^ 32) × (b < 2 ^ 32)
+CommandFits (commands.Describe a) = a < 2 ^ 32
+
+-- an empty line, or one whose first byte is # (byte 35), whatever follows
+abbrev pub IsSkipped : List ℕ → Type 0
+IsSkipped [] = Unit {0}
+IsSkipped (first ∷ rest) = first ≡ 35
+
+-- The bytes are a spelling of the line. All but the skipped lines have one spelling each.
+abbrev pub Spells : List ℕ → Line → Type 0
+Spells bytes lines.Skip = IsSkipped bytes
+Spells bytes (lines.Command mutator command) = (bytes ≡ command_line mutator command) × (mutator < 2 ^ 32) × CommandFits command
+Spells bytes lines.Begin = bytes ≡ codes "begin"
+Spells bytes (lines.Quantum budget) = (bytes ≡ codes "quantum " ++ decimal budget) × (256 ≤ budget) × (budget ≤ 1000000)
+Spells bytes (lines.Tick ticks) = (bytes ≡ codes "tick " ++ decimal ticks) × (1 ≤ ticks) × (ticks ≤ 1099511627776)
+
+-- a reply
+abbrev pub reply_text : Reply → List ℕ
+reply_text (replies.Made id) = codes "made " ++ decimal id
+reply_text (replies.Ref id) = codes "ref " ++ decimal id
+reply_text (replies.Word w) = codes "word " ++ decimal w
+reply_text replies.Done = codes "done"
+reply_text replies.Stored = codes "stored"
+reply_text (replies.Kept id) = codes "kept " ++ decimal id
+reply_text (replies.KeptWord w) = codes "keptword " ++ decimal w
+reply_text (replies.Is true) = codes "is yes"
+reply_text (replies.Is false) = codes "is no"
+reply_text (replies.Described id shape) = codes "described " ++ decimal id ++ 32 ∷ shape_text shape
+reply_text (replies.Refused refusal) = codes "refused " ++ decimal (refusal_number refusal)
+
+-- an entry: the command's line, " => " and the reply
+abbrev pub entry_line : Entry → List ℕ
+entry_line e = command_line e.mutator e.command ++ codes " => " ++ reply_text e.reply
+
+-- the identities and words of a reply are at most 18446744073709551615
+abbrev pub ReplyFits : Reply → Type 0
+ReplyFits (replies.Made id) = id < 2 ^ 64
+ReplyFits (replies.Ref id) = id < 2 ^ 64
+ReplyFits (replies.Word w) = w < 2 ^ 64
+ReplyFits replies.Done = Unit {0}
+ReplyFits replies.Stored = Unit {0}
+ReplyFits (replies.Kept id) = id < 2 ^ 64
+ReplyFits (replies.KeptWord w) = w < 2 ^ 64
+ReplyFits (replies.Is b) = Unit {0}
+ReplyFits (replies.Described id shape) = (id < 2 ^ 64) × ShapeFits shape
+ReplyFits (replies.Refused refusal) = Unit {0}
+
+-- The bytes are a spelling of the line of a history. Each entry has one spelling.
+abbrev pub SpellsEntry : List ℕ → EntryLine → Type 0
+SpellsEntry bytes entry_lines.Skip = IsSkipped bytes
+SpellsEntry bytes (entry_lines.Entry e) = (bytes ≡ entry_line e) × (e.mutator < 2 ^ 32) × CommandFits e.command × ReplyFits e.reply

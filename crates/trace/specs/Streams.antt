@@ -1,0 +1,51 @@
+-- Readers and writers, and texts in lines.
+use Rattle.std.specs.Prelude.{◌≡◌, ◌≢◌, ℕ, ◌+◌, ◌<◌, ◌≤◌, Bool, IsTrue, List, [], ◌∷◌, ◌++◌, length, take, drop, Option, Some, IfSome, Result, Ok, Err, All}
+use Rattle.std.specs.List.{flat_map, AllByRecursion}
+
+-- how many calls failed, of one call with this result
+abbrev pub failed : {A E : Type 0} → Result A E → ℕ
+failed (Ok x) = 0
+failed (Err e) = 1
+
+-- where all the bytes of an input are known, they stay
+abbrev pub Stays : Option (List ℕ) → Option (List ℕ) → Type 0
+Stays old new = IfSome old (λ all. new ≡ Some all)
+
+-- What was given is a beginning of all the input, and all of it once the input has ended.
+pub record Begins (given : List ℕ) (ended : Bool) (all : List ℕ) : Type 0 where
+  pub rest : List ℕ
+  pub whole : all ≡ given ++ rest
+  pub over : IsTrue ended → rest ≡ []
+
+-- new is old and a beginning of the bytes, which isn't all of them
+abbrev pub GrowsByPart : List ℕ → List ℕ → List ℕ → Type 0
+GrowsByPart old new bytes = (n : ℕ) × (n < length bytes) × (new ≡ old ++ take n bytes)
+
+-- a line: at most 256 bytes, none of which is LF (byte 10)
+abbrev pub NoLf : List ℕ → Type 0
+NoLf bytes = All (λ b. b ≢ 10) bytes
+
+abbrev pub IsLine : List ℕ → Type 0
+IsLine line = NoLf line × (length line ≤ 256)
+
+-- the text of lines: each with LF behind it
+abbrev pub text_of : List (List ℕ) → List ℕ
+text_of lines = flat_map (λ line. line ++ 10 ∷ []) lines
+
+-- the text is these lines, and then a rest
+pub record Splits (text : List ℕ) (lines : List (List ℕ)) (rest : List ℕ) : Type 0 where
+  pub whole : text ≡ text_of lines ++ rest
+  pub each : AllByRecursion IsLine lines
+
+-- A source gave some bytes more: behind what was kept, they make this text.
+pub record Comes (given given' kept text : List ℕ) : Type 0 where
+  pub more : List ℕ
+  pub given_more : given' ≡ given ++ more
+  pub makes : kept ++ more ≡ text
+
+-- the first LF stands at i, and i is at most 256
+pub record FirstLf (bytes : List ℕ) (i : ℕ) : Type 0 where
+  pub near : i ≤ 256
+  pub within : i < length bytes
+  pub here : bytes ≡ take i bytes ++ 10 ∷ drop (i + 1) bytes
+  pub before : NoLf (take i bytes)

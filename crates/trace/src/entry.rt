@@ -1,0 +1,84 @@
+//! Lines of a history.
+ghost use Rattle.std.specs.Prelude.{◌≡◌, IfSome, option_map};
+ghost use Rattle.trace.specs.declared.entry.EntryLine.{EntryLine};
+ghost use Rattle.trace.specs.Spelling.{SpellsEntry};
+ghost use Rattle.trace.specs.Reading.{before_blank_in, behind_point_in, arrow_in, entry_in, entry_line_in};
+
+use crate::commands::mutator_and_command;
+use crate::field::cut;
+use crate::replies::reply;
+use graph_heap::Entry;
+
+/// What a line of a history says.
+#[derive(Clone, Copy, Debug, PartialEq, Eq)]
+pub enum EntryLine {
+    /// Nothing: the line is empty or a comment.
+    Skip,
+    /// A command, whose it was, and its reply.
+    Entry(Entry),
+}
+
+/// What stands before the blank at the end.
+#[tactic(auto, unfolding(crate::specs::Reading::before_blank_in))]
+fn before_blank(bytes: &[u8]) -> Option<&[u8]>
+    ensures { option_map (λ b. b.now) result ≡ before_blank_in bytes.now }
+{
+    bytes.strip_suffix(b" ".as_slice())
+}
+
+/// What stands behind `> ` at the front.
+#[tactic(auto, unfolding(crate::specs::Reading::behind_point_in))]
+fn behind_point(bytes: &[u8]) -> Option<&[u8]>
+    ensures { option_map (λ b. b.now) result ≡ behind_point_in bytes.now }
+{
+    bytes.strip_prefix(b"> ".as_slice())
+}
+
+/// What stands before the arrow ` => `, and behind it.
+#[tactic(auto, unfolding(crate::specs::Reading::arrow_in))]
+fn arrow(bytes: &[u8]) -> Option<(&[u8], &[u8])>
+    ensures { option_map (λ c. (c.0.now, c.1.now)) result ≡ arrow_in bytes.now }
+{
+    let (front, back) = cut(b'=', bytes)?;
+    let front = before_blank(front)?;
+    let back = behind_point(back)?;
+    Some((front, back))
+}
+
+/// An entry.
+#[tactic(auto, unfolding(crate::specs::Reading::entry_in))]
+fn entry(bytes: &[u8]) -> Option<Entry>
+    ensures { result ≡ entry_in bytes.now }
+{
+    let (front, back) = arrow(bytes)?;
+    let (mutator, command) = mutator_and_command(front)?;
+    let reply = reply(back)?;
+    Some(Entry {
+        mutator,
+        command,
+        reply,
+    })
+}
+
+#[tactic(auto, unfolding(crate::specs::Reading::entry_line_in))]
+fn meaning(bytes: &[u8]) -> Option<EntryLine>
+    ensures { result ≡ entry_line_in bytes.now }
+{
+    match bytes {
+        [] | [b'#', ..] => Some(EntryLine::Skip),
+        _ => {
+            let e = entry(bytes)?;
+            Some(EntryLine::Entry(e))
+        }
+    }
+}
+
+/// Reads a line of a history, without its LF.
+pub fn read_entry(bytes: &[u8]) -> Option<EntryLine>
+    // What is read is spelled so, each byte of it.
+    ensures found { IfSome result (λ line. SpellsEntry bytes.now line) }
+    // What is spelled so is read. So there is nothing to read only where no line is spelled so.
+    ensures only { (line : EntryLine) → SpellsEntry bytes.now line → result ≡ Some line }
+{
+    meaning(bytes)
+}

@@ -1,0 +1,144 @@
+//! Numbers in decimal, parted by blanks.
+ghost use Rattle.std.specs.Prelude.{◌≡◌, ◌==◌, option_map, position};
+ghost use Rattle.trace.specs.Reading.{number_in, cut_at, field_in, two_in, three_in, four_in, number_and_word_in, numbers_and_word_in, two_words_in, number_and_words_in, numbers_and_words_in};
+
+use itoa::Buffer;
+use std::str;
+
+/// The word that the bytes spell.
+pub(crate) fn word(bytes: &[u8]) -> Option<u64>
+    ensures { result ≡ number_in 64 bytes.now }
+{
+    let Ok(text) = str::from_utf8(bytes) else {
+        return None;
+    };
+    match text.parse::<u64>() {
+        Ok(n) if Buffer::new().format(n) == text => Some(n),
+        _ => None,
+    }
+}
+
+/// The number that the bytes spell.
+#[tactic(auto, unfolding(crate::specs::Reading::number_in))]
+pub(crate) fn number(bytes: &[u8]) -> Option<u32>
+    ensures { result ≡ number_in 32 bytes.now }
+{
+    let n = word(bytes)?;
+    if n < 4294967296 { Some(n as u32) } else { None }
+}
+
+/// Where a byte stands first.
+pub(crate) fn place_of(byte: u8, bytes: &[u8]) -> Option<usize>
+    ensures { result ≡ position (λ b. b == byte) bytes.now }
+{
+    bytes.iter().position(|b| *b == byte)
+}
+
+/// What stands before the first such byte, and behind it.
+#[tactic(auto, using(crate::proofs::Cuts::rest_of), unfolding(crate::specs::Reading::cut_at))]
+pub(crate) fn cut(byte: u8, bytes: &[u8]) -> Option<(&[u8], &[u8])>
+    ensures { option_map (λ c. (c.0.now, c.1.now)) result ≡ cut_at byte bytes.now }
+{
+    let i = place_of(byte, bytes)?;
+    Some((&bytes[..i], &bytes[i + 1..]))
+}
+
+/// The number before the first blank, and what stands behind that.
+#[tactic(auto, unfolding(crate::specs::Reading::field_in))]
+pub(crate) fn field(bytes: &[u8]) -> Option<(u32, &[u8])>
+    ensures { option_map (λ c. (c.0, c.1.now)) result ≡ field_in 32 bytes.now }
+{
+    let (first, rest) = cut(b' ', bytes)?;
+    let n = number(first)?;
+    Some((n, rest))
+}
+
+/// The word before the first blank, and what stands behind that.
+#[tactic(auto, unfolding(crate::specs::Reading::field_in))]
+pub(crate) fn word_field(bytes: &[u8]) -> Option<(u64, &[u8])>
+    ensures { option_map (λ c. (c.0, c.1.now)) result ≡ field_in 64 bytes.now }
+{
+    let (first, rest) = cut(b' ', bytes)?;
+    let w = word(first)?;
+    Some((w, rest))
+}
+
+/// Two numbers.
+#[tactic(auto, unfolding(crate::specs::Reading::two_in))]
+pub(crate) fn two(bytes: &[u8]) -> Option<(u32, u32)>
+    ensures { result ≡ two_in bytes.now }
+{
+    let (a, rest) = field(bytes)?;
+    let b = number(rest)?;
+    Some((a, b))
+}
+
+/// Three numbers.
+#[tactic(auto, unfolding(crate::specs::Reading::three_in))]
+pub(crate) fn three(bytes: &[u8]) -> Option<(u32, (u32, u32))>
+    ensures { result ≡ three_in bytes.now }
+{
+    let (a, rest) = field(bytes)?;
+    let b = two(rest)?;
+    Some((a, b))
+}
+
+/// Four numbers.
+#[tactic(auto, unfolding(crate::specs::Reading::four_in))]
+pub(crate) fn four(bytes: &[u8]) -> Option<(u32, (u32, (u32, u32)))>
+    ensures { result ≡ four_in bytes.now }
+{
+    let (a, rest) = field(bytes)?;
+    let b = three(rest)?;
+    Some((a, b))
+}
+
+/// A number and a word.
+#[tactic(auto, unfolding(crate::specs::Reading::number_and_word_in))]
+fn number_and_word(bytes: &[u8]) -> Option<(u32, u64)>
+    ensures { result ≡ number_and_word_in bytes.now }
+{
+    let (a, rest) = field(bytes)?;
+    let b = word(rest)?;
+    Some((a, b))
+}
+
+/// Two numbers and a word.
+#[tactic(auto, unfolding(crate::specs::Reading::numbers_and_word_in))]
+pub(crate) fn numbers_and_word(bytes: &[u8]) -> Option<(u32, (u32, u64))>
+    ensures { result ≡ numbers_and_word_in bytes.now }
+{
+    let (a, rest) = field(bytes)?;
+    let b = number_and_word(rest)?;
+    Some((a, b))
+}
+
+/// Two words.
+#[tactic(auto, unfolding(crate::specs::Reading::two_words_in))]
+fn two_words(bytes: &[u8]) -> Option<(u64, u64)>
+    ensures { result ≡ two_words_in bytes.now }
+{
+    let (a, rest) = word_field(bytes)?;
+    let b = word(rest)?;
+    Some((a, b))
+}
+
+/// A number and two words.
+#[tactic(auto, unfolding(crate::specs::Reading::number_and_words_in))]
+fn number_and_words(bytes: &[u8]) -> Option<(u32, (u64, u64))>
+    ensures { result ≡ number_and_words_in bytes.now }
+{
+    let (a, rest) = field(bytes)?;
+    let b = two_words(rest)?;
+    Some((a, b))
+}
+
+/// Two numbers and two words.
+#[tactic(auto, unfolding(crate::specs::Reading::numbers_and_words_in))]
+pub(crate) fn numbers_and_words(bytes: &[u8]) -> Option<(u32, (u32, (u64, u64)))>
+    ensures { result ≡ numbers_and_words_in bytes.now }
+{
+    let (a, rest) = field(bytes)?;
+    let b = number_and_words(rest)?;
+    Some((a, b))
+}

@@ -1,0 +1,35 @@
+//! Traces and histories as text: what lines and replies say, and the readers and writers that they
+//! come from and go to.
+#![tactic(auto)]
+
+mod commands;
+pub mod entry;
+pub mod fail_at;
+mod fault;
+mod field;
+mod keyword;
+mod laws;
+pub mod line;
+pub mod line_reader;
+pub mod memory;
+mod replies;
+pub mod sink;
+pub mod source;
+pub mod standard;
+mod transcript;
+pub mod write;
+
+pub use entry::{EntryLine, read_entry};
+pub use fail_at::FailAt;
+pub use fault::LineFault;
+pub use laws::{one_cutting, one_more_line};
+pub use line::{Line, read_line};
+pub use line_reader::{LineReader, NoLine};
+pub use memory::{MemorySink, MemorySource};
+pub use sink::{Sink, WriteFailed, write_all};
+pub use source::{ReadFailed, Source};
+pub use standard::{ReadSource, WriteSink};
+pub use write::{write_command, write_reply};
+
+#[cfg(test)]
+mod tests;

@@ -1,0 +1,67 @@
+//! Lines of a trace.
+ghost use Rattle.std.specs.Prelude.{◌≡◌, IfSome};
+ghost use Rattle.trace.specs.declared.line.Line.{Line};
+ghost use Rattle.trace.specs.Spelling.{Spells};
+ghost use Rattle.trace.specs.Reading.{collector_in, line_in};
+
+use crate::commands::mutator_and_command;
+use crate::field::{cut, word};
+use graph_heap::Command;
+
+/// What a line of a trace says.
+#[derive(Clone, Copy, Debug, PartialEq, Eq)]
+pub enum Line {
+    /// Nothing: the line is empty or a comment.
+    Skip,
+    /// A command of a mutator.
+    Command { mutator: u32, command: Command },
+    /// A cycle is begun.
+    Begin,
+    /// One quantum of this budget, in units.
+    Quantum(u32),
+    /// So many ticks pass.
+    Tick(u64),
+}
+
+/// A line for the collector.
+#[tactic(auto, unfolding(crate::specs::Reading::collector_in))]
+fn collector_line(bytes: &[u8]) -> Option<Line>
+    ensures { result ≡ collector_in bytes.now }
+{
+    if bytes == b"begin".as_slice() {
+        return Some(Line::Begin);
+    }
+    let (name, rest) = cut(b' ', bytes)?;
+    let n = word(rest)?;
+    if name == b"quantum".as_slice() && 256 <= n && n <= 1000000 {
+        Some(Line::Quantum(n as u32))
+    } else if name == b"tick".as_slice() && 1 <= n && n <= 1099511627776 {
+        Some(Line::Tick(n))
+    } else {
+        None
+    }
+}
+
+#[tactic(auto, unfolding(crate::specs::Reading::line_in))]
+fn meaning(bytes: &[u8]) -> Option<Line>
+    ensures { result ≡ line_in bytes.now }
+{
+    match bytes {
+        [] | [b'#', ..] => Some(Line::Skip),
+        [b'0'..=b'9', ..] => {
+            let (mutator, command) = mutator_and_command(bytes)?;
+            Some(Line::Command { mutator, command })
+        }
+        _ => collector_line(bytes),
+    }
+}
+
+/// Reads a line of a trace, without its LF.
+pub fn read_line(bytes: &[u8]) -> Option<Line>
+    // What is read is spelled so, each byte of it.
+    ensures found { IfSome result (λ line. Spells bytes.now line) }
+    // What is spelled so is read. So there is nothing to read only where no line is spelled so.
+    ensures only { (line : Line) → Spells bytes.now line → result ≡ Some line }
+{
+    meaning(bytes)
+}

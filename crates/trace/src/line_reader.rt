@@ -1,0 +1,198 @@
+//! Cutting what a source gives into lines.
+ghost use Rattle.std.specs.Prelude.{true, false, ◌∷◌, ◌++◌, ◌≡◌, ◌==◌, ◌+◌, ◌-◌, ◌<◌, ◌≤◌, ◌^◌, [], length, take, slice_range, IfOk, IfSome, IsNone, OnOk, OnErr, IsTrue};
+ghost use Rattle.trace.specs.Streams.{failed, Comes, Stays, NoLf, IsLine, FirstLf};
+
+use crate::fault::LineFault;
+use crate::field::place_of;
+use crate::source::{ReadFailed, Source};
+use std::marker::Model;
+
+/// How many bytes are read at once, at most.
+const CAPACITY: usize = 4096;
+
+/// How many bytes a line has, at most, before its LF.
+const LONGEST: usize = 256;
+
+/// Why there is no next line.
+#[derive(Clone, Copy, Debug, PartialEq, Eq)]
+pub enum NoLine {
+    /// The line of this number, counted from 1, is too long or not ended.
+    Fault(u64, LineFault),
+    /// A read failed.
+    Failed,
+}
+
+/// Where the first LF stands, if it is among the first 257 bytes.
+fn line_feed(bytes: &[u8]) -> Option<usize>
+    ensures found { IfSome result (λ i. FirstLf bytes.now i) }
+    ensures none { IsNone result → NoLf (take 257 bytes.now) }
+{
+    if bytes.len() <= LONGEST {
+        return place_of(b'\n', bytes);
+    }
+    place_of(b'\n', &bytes[..LONGEST + 1])
+}
+
+/// Brings the bytes of a range to the front of a buffer.
+fn to_front(buffer: &mut [u8], start: usize, end: usize)
+    requires range { start ≤ end }
+    requires within { end ≤ length buffer.old }
+    ensures { take (end - start) buffer.new ≡ slice_range buffer.old start end }
+{
+    buffer.copy_within(start..end, 0);
+}
+
+/// Reads into a buffer, behind the bytes at its front. Answers how many bytes were read.
+fn read_behind<S: Source>(source: &mut S, buffer: &mut [u8], at: usize) -> Result<usize, ReadFailed>
+    requires { at < length buffer.old }
+    ensures within { IfOk result (λ n. at + n ≤ length buffer.new) }
+    ensures bytes { IfOk result (λ n. Comes (S.given source.old) (S.given source.new) (take at buffer.old) (take (at + n) buffer.new)) }
+    ensures counted { IfOk result (λ n. length (S.given source.new) ≡ length (S.given source.old) + n) }
+    ensures given { OnErr result (S.given source.new ≡ S.given source.old) }
+    ensures kept { OnErr result (take at buffer.new ≡ take at buffer.old) }
+    ensures end { IfOk result (λ n. n ≡ 0 → IsTrue (S.ended source.new)) }
+    ensures cause { S.failures source.new ≡ S.failures source.old + failed result }
+    ensures input { OnOk result (Stays (S.input source.old) (S.input source.new)) }
+{
+    source.read(&mut buffer[at..])
+}
+
+/// A reader of lines: a buffer of 4096 bytes, with the line that was handed out last and the bytes that
+/// came behind it. It hands out lines of at most 256 bytes, without their LF.
+#[derive(Drop)]
+pub struct LineReader {
+    buffer: [u8; CAPACITY],
+    line_start: usize,
+    line_end: usize,
+    start: usize,
+    end: usize,
+    number: u64,
+}
+
+impl Model for LineReader {
+    ghost use Rattle.trace.specs.LineReader.{Lines};
+
+    ghost Value = { Lines };
+
+    ghost use Rattle.trace.specs.Held.{lines_in, IsHeld};
+
+    ghost view = { lines_in };
+
+    ghost invariant = { IsHeld };
+}
+
+impl LineReader {
+    ghost use Rattle.trace.specs.LineReader.{text_by, Says, lines_by, failures_by};
+
+    /// A reader that has read nothing yet.
+    pub fn new() -> LineReader
+        ensures { result ≡ record { line = []; kept = []; number = 0 } }
+    {
+        LineReader {
+            buffer: [0; CAPACITY],
+            line_start: 0,
+            line_end: 0,
+            start: 0,
+            end: 0,
+            number: 0,
+        }
+    }
+
+    /// The line that was handed out last, without its LF.
+    pub fn line(&self) -> &[u8]
+        ensures { result.now ≡ self.now.line }
+    {
+        &self.buffer[self.line_start..self.line_end]
+    }
+
+    /// The number of that line, counted from 1. It is also how many lines were handed out.
+    pub fn number(&self) -> u64
+        ensures { result ≡ self.now.number }
+    {
+        self.number
+    }
+
+    /// Reads behind the bytes that are kept. Answers how many were read.
+    fn fill<S: Source>(&mut self, source: &mut S) -> Result<usize, ReadFailed>
+        requires short { length self.old.kept ≤ 256 }
+        requires behind { self.old.number + length self.old.kept ≤ length (S.given source.old) }
+        ensures bytes { Comes (S.given source.old) (S.given source.new) self.old.kept self.new.kept }
+        ensures number { self.new.number ≡ self.old.number }
+        ensures more { IfOk result (λ n. length self.new.kept ≡ length self.old.kept + n) }
+        ensures nothing { result ≡ Ok 0 → self.new.kept ≡ self.old.kept }
+        ensures none { OnErr result (self.new.kept ≡ self.old.kept) }
+        ensures end { IfOk result (λ n. n ≡ 0 → IsTrue (S.ended source.new)) }
+        ensures cause { S.failures source.new ≡ S.failures source.old + failed result }
+        ensures input { OnOk result (Stays (S.input source.old) (S.input source.new)) }
+    {
+        let kept = self.end - self.start;
+        to_front(&mut self.buffer, self.start, self.end);
+        self.line_start = 0;
+        self.line_end = 0;
+        self.start = 0;
+        self.end = kept;
+        let n = read_behind(source, &mut self.buffer, kept)?;
+        self.end += n;
+        Ok(n)
+    }
+
+    /// How many bytes are kept.
+    fn kept(&self) -> usize
+        ensures { result ≡ length self.now.kept }
+    {
+        self.end - self.start
+    }
+
+    /// Hands out the line that the bytes kept begin with, if its LF is among their first 257.
+    fn cut_line(&mut self) -> bool
+        ensures cut { IsTrue result → self.old.kept ≡ self.new.line ++ 10 ∷ self.new.kept }
+        ensures line { IsTrue result → IsLine self.new.line }
+        ensures number { IsTrue result → self.new.number ≡ self.old.number + 1 }
+        ensures none { result ≡ false → NoLf (take 257 self.old.kept) }
+        ensures same { result ≡ false → self.new ≡ self.old }
+    {
+        let Some(length) = line_feed(&self.buffer[self.start..self.end]) else {
+            return false;
+        };
+        self.line_start = self.start;
+        self.line_end = self.start + length;
+        self.start = self.line_end + 1;
+        self.number += 1;
+        true
+    }
+
+    /// The fault of the line that begins with the bytes kept.
+    fn fault(&self, fault: LineFault) -> NoLine
+        requires { 0 < length self.now.kept }
+        ensures { result ≡ NoLine.Fault (self.now.number + 1) fault }
+    {
+        NoLine::Fault(self.number + 1, fault)
+    }
+
+    /// Hands out the next line. Ok(false) is the end of the input. An error takes no line: what came of
+    /// one is kept.
+    pub fn next_line<S: Source>(&mut self, source: &mut S) -> Result<bool, NoLine>
+        // The source has given the bytes that are kept, and at least one for each line.
+        requires { self.old.number + length self.old.kept ≤ length (S.given source.old) }
+        ensures text { Comes (S.given source.old) (S.given source.new) self.old.kept (text_by result self.new) }
+        ensures says { Says result self.new (S.ended source.new) }
+        ensures number { self.new.number ≡ self.old.number + lines_by result }
+        ensures behind { self.new.number + length self.new.kept ≤ length (S.given source.new) }
+        ensures counted { self.new.number < 2 ^ 64 }
+        ensures cause { S.failures source.new ≡ S.failures source.old + failures_by result }
+        ensures input { failures_by result ≡ 0 → Stays (S.input source.old) (S.input source.new) }
+    {
+        while !self.cut_line() {
+            if self.kept() > LONGEST {
+                return Err(self.fault(LineFault::TooLong));
+            }
+            match self.fill(source) {
+                Ok(0) if self.kept() == 0 => return Ok(false),
+                Ok(0) => return Err(self.fault(LineFault::NotEnded)),
+                Ok(_) => {}
+                Err(ReadFailed) => return Err(NoLine::Failed),
+            }
+        }
+        Ok(true)
+    }
+}

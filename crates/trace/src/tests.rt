@@ -1,0 +1,563 @@
+use super::*;
+use graph_heap::{Command, Entry, Refusal, Reply, Shape};
+use std::alloc::{AllocError, Global};
+use std::io::{self, Read, Write};
+use std::process::Abort;
+use std::test::Fail;
+
+/// Each form of a line, and the ends of the ranges of numbers.
+const LINES: [(&str, Line); 24] = [
+    ("", Line::Skip),
+    ("# 0 clear 0", Line::Skip),
+    (
+        "0 new 0 plain 0 0",
+        Line::Command {
+            mutator: 0,
+            command: Command::New {
+                dst: 0,
+                shape: Shape::Plain { refs: 0, words: 0 },
+            },
+        },
+    ),
+    (
+        "1 new 2 plain 3 4",
+        Line::Command {
+            mutator: 1,
+            command: Command::New {
+                dst: 2,
+                shape: Shape::Plain { refs: 3, words: 4 },
+            },
+        },
+    ),
+    (
+        "0 new 1 refs 253",
+        Line::Command {
+            mutator: 0,
+            command: Command::New {
+                dst: 1,
+                shape: Shape::RefArray(253),
+            },
+        },
+    ),
+    (
+        "0 new 2 words 505",
+        Line::Command {
+            mutator: 0,
+            command: Command::New {
+                dst: 2,
+                shape: Shape::WordArray(505),
+            },
+        },
+    ),
+    (
+        "0 load 1 2 3",
+        Line::Command {
+            mutator: 0,
+            command: Command::Load {
+                dst: 1,
+                obj: 2,
+                i: 3,
+            },
+        },
+    ),
+    (
+        "0 store 1 2 3",
+        Line::Command {
+            mutator: 0,
+            command: Command::Store {
+                obj: 1,
+                i: 2,
+                src: 3,
+            },
+        },
+    ),
+    (
+        "0 cas 1 2 3 4",
+        Line::Command {
+            mutator: 0,
+            command: Command::CompareStore {
+                obj: 1,
+                i: 2,
+                expect: 3,
+                new: 4,
+            },
+        },
+    ),
+    (
+        "0 get 1 2",
+        Line::Command {
+            mutator: 0,
+            command: Command::Get { obj: 1, i: 2 },
+        },
+    ),
+    (
+        "0 put 0 0 18446744073709551615",
+        Line::Command {
+            mutator: 0,
+            command: Command::Put {
+                obj: 0,
+                i: 0,
+                word: 18446744073709551615,
+            },
+        },
+    ),
+    (
+        "0 casput 1 2 3 4",
+        Line::Command {
+            mutator: 0,
+            command: Command::ComparePut {
+                obj: 1,
+                i: 2,
+                old: 3,
+                new: 4,
+            },
+        },
+    ),
+    (
+        "0 copy 1 2",
+        Line::Command {
+            mutator: 0,
+            command: Command::Copy { dst: 1, src: 2 },
+        },
+    ),
+    (
+        "4294967295 clear 0",
+        Line::Command {
+            mutator: 4294967295,
+            command: Command::Clear { dst: 0 },
+        },
+    ),
+    (
+        "0 loadstatic 1 2",
+        Line::Command {
+            mutator: 0,
+            command: Command::LoadStatic { dst: 1, k: 2 },
+        },
+    ),
+    (
+        "0 storestatic 1 2",
+        Line::Command {
+            mutator: 0,
+            command: Command::StoreStatic { k: 1, src: 2 },
+        },
+    ),
+    (
+        "0 casstatic 1 2 3",
+        Line::Command {
+            mutator: 0,
+            command: Command::CompareStatic {
+                k: 1,
+                expect: 2,
+                new: 3,
+            },
+        },
+    ),
+    (
+        "0 same 1 2",
+        Line::Command {
+            mutator: 0,
+            command: Command::Same { a: 1, b: 2 },
+        },
+    ),
+    (
+        "0 describe 1",
+        Line::Command {
+            mutator: 0,
+            command: Command::Describe { a: 1 },
+        },
+    ),
+    ("begin", Line::Begin),
+    ("quantum 256", Line::Quantum(256)),
+    ("quantum 1000000", Line::Quantum(1000000)),
+    ("tick 1", Line::Tick(1)),
+    ("tick 1099511627776", Line::Tick(1099511627776)),
+];
+
+#[test]
+fn each_line_is_read(rt: HostRuntime) {
+    for (text, line) in LINES {
+        assert_eq!(rt; read_line(text.as_bytes()), Some(line), "{text}");
+    }
+}
+
+/// Lines that aren't of the grammar.
+const OTHER_LINES: [&str; 31] = [
+    "01 clear 0",
+    "00 clear 0",
+    "+1 clear 0",
+    "0 clear 00",
+    "0  describe 0",
+    " 0 clear 0",
+    "0 clear 0 ",
+    "0 clear 0\r",
+    "0\tclear 0",
+    "0 clear",
+    "0 clear ",
+    "0 clear 0 0",
+    "0 Clear 0",
+    "clear 0",
+    "4294967296 clear 0",
+    "0 clear 4294967296",
+    "0 put 0 0 18446744073709551616",
+    "0 cas 0 0 0 4294967296",
+    "0 new 0 plain 0",
+    "0 new 0 words",
+    "0 new 0 bytes 1",
+    "0 same 0 0 => is yes",
+    "begin ",
+    "begin 1",
+    "quantum",
+    "quantum 255",
+    "quantum 1000001",
+    "quantum 0256",
+    "tick 0",
+    "tick 1099511627777",
+    " ",
+];
+
+#[test]
+fn other_lines_are_refused(rt: HostRuntime) {
+    for text in OTHER_LINES {
+        assert_eq!(rt; read_line(text.as_bytes()), None, "{text}");
+    }
+}
+
+#[test]
+fn each_reply_is_written(rt: HostRuntime) {
+    let words = Shape::WordArray(252);
+    let replies = [
+        (Reply::Made(1), "made 1"),
+        (Reply::Ref(0), "ref 0"),
+        (Reply::Word(7), "word 7"),
+        (Reply::Done, "done"),
+        (Reply::Stored, "stored"),
+        (Reply::Kept(0), "kept 0"),
+        (
+            Reply::KeptWord(18446744073709551615),
+            "keptword 18446744073709551615",
+        ),
+        (Reply::Is(true), "is yes"),
+        (Reply::Is(false), "is no"),
+        (
+            Reply::Described(1, Shape::Plain { refs: 0, words: 1 }),
+            "described 1 plain 0 1",
+        ),
+        (Reply::Described(8, words), "described 8 words 252"),
+        (
+            Reply::Described(2, Shape::RefArray(3)),
+            "described 2 refs 3",
+        ),
+        (Reply::Refused(Refusal::NoSpace), "refused 7"),
+        (Reply::Refused(Refusal::BadStatic), "refused 8"),
+    ];
+    for (reply, text) in replies {
+        let mut out = [b'x'; 256];
+        let end = write_reply(&reply, &mut out, 3);
+        assert_eq!(rt; &out[..3], b"xxx".as_slice());
+        assert_eq!(rt; &out[3..end], text.as_bytes(), "{text}");
+    }
+}
+
+/// What is written of a line is the line, and is read again.
+fn comes_back(rt: &impl Abort, text: &str) {
+    let mut out = [0; 256];
+    match read_line(text.as_bytes()) {
+        Some(Line::Command { mutator, command }) => {
+            let end = write_command(mutator, &command, &mut out, 0);
+            assert_eq!(rt; &out[..end], text.as_bytes(), "{text}");
+        }
+        _ => assert!(rt; false, "{text}"),
+    }
+}
+
+#[test]
+fn each_command_is_written(rt: HostRuntime) {
+    let lines = [
+        "0 new 1 plain 2 3",
+        "1 new 2 refs 4000000",
+        "2 new 3 words 4",
+        "0 load 1 2 3",
+        "0 store 1 2 3",
+        "4294967295 cas 4294967295 4294967295 4294967295 4294967295",
+        "0 get 1 2",
+        "0 put 1 2 3",
+        "4294967295 casput 4294967295 4294967295 18446744073709551615 18446744073709551615",
+        "0 copy 1 2",
+        "0 clear 1",
+        "0 loadstatic 1 2",
+        "0 storestatic 1 2",
+        "0 casstatic 1 2 3",
+        "0 same 1 2",
+        "0 describe 1",
+    ];
+    for text in lines {
+        comes_back(&rt, text);
+    }
+}
+
+const NEW: Command = Command::New {
+    dst: 1,
+    shape: Shape::Plain { refs: 0, words: 0 },
+};
+
+/// Entries of mutator 0.
+const ENTRIES: [(&str, Command, Reply); 5] = [
+    ("0 new 1 plain 0 0 => made 2", NEW, Reply::Made(2)),
+    (
+        "0 new 1 plain 0 0 => refused 7",
+        NEW,
+        Reply::Refused(Refusal::NoSpace),
+    ),
+    (
+        "0 same 0 1 => is no",
+        Command::Same { a: 0, b: 1 },
+        Reply::Is(false),
+    ),
+    ("0 clear 2 => done", Command::Clear { dst: 2 }, Reply::Done),
+    (
+        "0 describe 7 => described 8 words 252",
+        Command::Describe { a: 7 },
+        Reply::Described(8, Shape::WordArray(252)),
+    ),
+];
+
+/// Lines that aren't of a history.
+const OTHER_ENTRIES: [&str; 13] = [
+    "0 clear 0",
+    "begin",
+    "0 clear 0 =>  done",
+    "0 clear 0 => done ",
+    "0 clear 0=> done",
+    "0 clear 0 =>done",
+    "0 clear 0 = done",
+    "0 clear 0 => refused 0",
+    "0 clear 0 => refused 9",
+    "0 clear 0 => made 01",
+    "0 clear 0 => made 18446744073709551616",
+    "0 clear 0 => is true",
+    "0 clear 0 => done => done",
+];
+
+#[test]
+fn entries_are_read(rt: HostRuntime) {
+    for (text, command, reply) in ENTRIES {
+        let entry = Entry {
+            mutator: 0,
+            command,
+            reply,
+        };
+        assert_eq!(rt;
+            read_entry(text.as_bytes()),
+            Some(EntryLine::Entry(entry)),
+            "{text}"
+        );
+    }
+    for text in OTHER_ENTRIES {
+        assert_eq!(rt; read_entry(text.as_bytes()), None, "{text}");
+    }
+    assert_eq!(rt; read_entry(b""), Some(EntryLine::Skip));
+    assert_eq!(rt; read_entry(b"#0 clear 0"), Some(EntryLine::Skip));
+}
+
+/// The first thousand lines of a source, each with a slash behind it, and why there is no next one.
+fn lines_of<S: Source>(
+    alloc: Global,
+    source: &mut S,
+) -> Result<(Vec<u8>, Option<NoLine>), AllocError> {
+    let mut reader = LineReader::new();
+    let mut lines = Vec::new(alloc);
+    for _ in 0..1000u64 {
+        match reader.next_line(source) {
+            Ok(true) => {
+                lines.extend_from_slice(reader.line())?;
+                lines.push(b'/')?;
+            }
+            Ok(false) => return Ok((lines, None)),
+            Err(why) => return Ok((lines, Some(why))),
+        }
+    }
+    Ok((lines, None))
+}
+
+#[test]
+fn lines_are_cut(rt: HostRuntime) -> Result<(), Fail> {
+    let alloc = rt.alloc();
+    let texts = [
+        ("", "", None),
+        ("a\n\nb c\n", "a//b c/", None),
+        ("a\nb", "a/", Some(NoLine::Fault(2, LineFault::NotEnded))),
+        ("a\r\n", "a\r/", None),
+    ];
+    for (text, lines, why) in texts {
+        let (read, end) = lines_of(alloc, &mut MemorySource::new(text.as_bytes()))?;
+        assert_eq!(rt; read.as_slice(), lines.as_bytes(), "{text}");
+        assert_eq!(rt; end, why, "{text}");
+    }
+    Ok(())
+}
+
+#[test]
+fn a_line_has_256_bytes(rt: HostRuntime) -> Result<(), Fail> {
+    let alloc = rt.alloc();
+    let mut text = vec![in alloc; b'#'; 256]?;
+    let (_, why) = lines_of(alloc, &mut MemorySource::new(&text))?;
+    assert_eq!(rt; why, Some(NoLine::Fault(1, LineFault::NotEnded)));
+    text.push(b'\n')?;
+    let (lines, why) = lines_of(alloc, &mut MemorySource::new(&text))?;
+    let line = lines.strip_suffix(b"/".as_slice()).ok_or("no line")?;
+    assert_eq!(rt; line.len(), 256);
+    assert_eq!(rt; read_line(line), Some(Line::Skip));
+    assert_eq!(rt; why, None);
+    let mut text = vec![in alloc; b'#'; 257]?;
+    text.push(b'\n')?;
+    let (_, why) = lines_of(alloc, &mut MemorySource::new(&text))?;
+    assert_eq!(rt; why, Some(NoLine::Fault(1, LineFault::TooLong)));
+    Ok(())
+}
+
+#[test]
+fn std_readers_and_writers_are_wrapped(rt: HostRuntime) -> Result<(), Fail> {
+    let alloc = rt.alloc();
+    // The lines lie across the ends of several buffers.
+    let mut text = Vec::new(alloc);
+    let mut lines = Vec::new(alloc);
+    for n in 0..900u16 {
+        text.extend_from_slice(b"0 describe 12345")?;
+        text.push(if n % 7 == 0 { b'6' } else { b'7' })?;
+        lines.extend_from_slice(&text[text.len() - 17..])?;
+        text.push(b'\n')?;
+        lines.push(b'/')?;
+    }
+    let (read, why) = lines_of(alloc, &mut ReadSource::new(text.as_slice()))?;
+    assert_eq!(rt; why, None);
+    assert_eq!(rt; read.as_slice(), lines.as_slice());
+    let mut sink = WriteSink::new(Vec::new(alloc));
+    write_all(&mut sink, &text)?;
+    write_all(&mut sink, b"")?;
+    assert_eq!(rt; sink.into_inner().as_slice(), text.as_slice());
+    Ok(())
+}
+
+/// A reader that gives a byte at a time.
+#[derive(Drop)]
+struct Drip<'a>(&'a [u8]);
+
+impl Read for Drip<'_> {
+    fn read(&mut self, buffer: &mut [u8]) -> io::Result<usize> {
+        match self.0 {
+            [first, rest @ ..] if !buffer.is_empty() => {
+                buffer[0] = *first;
+                self.0 = rest;
+                Ok(1)
+            }
+            _ => Ok(0),
+        }
+    }
+}
+
+#[test]
+fn each_read_fails_in_turn(rt: HostRuntime) -> Result<(), Fail> {
+    let alloc = rt.alloc();
+    let text = b"0 clear 0\nbegin\n";
+    for call in 1..18u64 {
+        let mut source = FailAt::new(ReadSource::new(Drip(text)), call);
+        let (lines, why) = lines_of(alloc, &mut source)?;
+        assert!(rt; source.has_failed());
+        assert_eq!(rt; why, Some(NoLine::Failed), "{call}");
+        let whole = if call <= 10 {
+            ""
+        } else if call <= 16 {
+            "0 clear 0/"
+        } else {
+            "0 clear 0/begin/"
+        };
+        assert_eq!(rt; lines.as_slice(), whole.as_bytes(), "{call}");
+    }
+    let mut source = FailAt::new(ReadSource::new(Drip(text)), 18);
+    let (lines, why) = lines_of(alloc, &mut source)?;
+    assert!(rt; !source.has_failed());
+    assert_eq!(rt; why, None);
+    assert_eq!(rt; lines.as_slice(), b"0 clear 0/begin/".as_slice());
+    Ok(())
+}
+
+/// A writer that takes three bytes at a time.
+#[derive(Drop)]
+struct Sip(Vec<u8>);
+
+impl Write for Sip {
+    fn write(&mut self, bytes: &[u8]) -> io::Result<usize> {
+        let n = bytes.len().min(3);
+        self.0.extend_from_slice(&bytes[..n])?;
+        Ok(n)
+    }
+
+    fn flush(&mut self) -> io::Result<()> {
+        Ok(())
+    }
+}
+
+#[test]
+fn each_write_fails_in_turn(rt: HostRuntime) -> Result<(), Fail> {
+    let alloc = rt.alloc();
+    for call in 0..5usize {
+        let mut sink = FailAt::new(WriteSink::new(Sip(Vec::new(alloc))), call as u64);
+        let written = write_all(&mut sink, b"is yes\n");
+        assert_eq!(rt; sink.has_failed(), 0 < call && call < 4);
+        assert_eq!(rt; written.is_err(), sink.has_failed(), "{call}");
+        let text = match call {
+            1 => "",
+            2 => "is ",
+            3 => "is yes",
+            _ => "is yes\n",
+        };
+        assert_eq!(rt;
+            sink.get_ref().get_ref().0.as_slice(),
+            text.as_bytes(),
+            "{call}"
+        );
+    }
+    let mut sink = MemorySink::new(alloc);
+    write_all(&mut sink, b"done\n")?;
+    assert_eq!(rt; sink.bytes(), b"done\n".as_slice());
+    Ok(())
+}
+
+/// A writer that takes nothing.
+#[derive(Drop)]
+struct Shut;
+
+impl Write for Shut {
+    fn write(&mut self, _bytes: &[u8]) -> io::Result<usize> {
+        Ok(0)
+    }
+
+    fn flush(&mut self) -> io::Result<()> {
+        Ok(())
+    }
+}
+
+#[test]
+fn a_write_of_nothing_is_a_failure(rt: HostRuntime) {
+    let mut sink = WriteSink::new(Shut);
+    assert_eq!(rt; sink.write(b"done"), Err(WriteFailed));
+    assert_eq!(rt; sink.write(b""), Ok(0));
+}
+
+#[test]
+fn faults_have_their_texts(rt: HostRuntime) -> Result<(), Fail> {
+    let faults = [
+        (LineFault::TooLong, "line too long"),
+        (LineFault::NotEnded, "line not ended"),
+        (LineFault::NotAnEvent, "not an event"),
+        (LineFault::NotACommand, "not a command"),
+        (LineFault::NoSuchMutator, "no such mutator"),
+        (LineFault::NotAnEntry, "not an entry"),
+        (LineFault::ClockSpent, "clock spent"),
+        (LineFault::NotYet, "not yet"),
+    ];
+    for (fault, text) in faults {
+        assert_eq!(rt; format!(in rt.alloc(); "{fault}")?.as_str(), text);
+    }
+    Ok(())
+}

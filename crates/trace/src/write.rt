@@ -1,0 +1,179 @@
+//! Writing commands and replies.
+ghost use Rattle.std.specs.Prelude.{◌≡◌, ◌≤◌, ◌+◌, ◌++◌, ◌∷◌, codes, length, take, slice_index, decimal};
+ghost use Rattle.graph_heap.specs.Refusal.{refusal_number};
+ghost use Rattle.trace.specs.Spelling.{two, three, four, shape_text, command_text, command_line, reply_text};
+
+use graph_heap::{Command, Reply, Shape};
+use itoa::Buffer;
+
+/// Writes bytes at a place, and answers the place behind them.
+fn put(out: &mut [u8], at: usize, bytes: &[u8]) -> usize
+    requires { at + length bytes.now ≤ length out.old }
+    ensures text { take result out.new ≡ take at out.old ++ bytes.now }
+    ensures place { result ≡ at + length bytes.now }
+{
+    let end = at + bytes.len();
+    out[at..end].copy_from_slice(bytes);
+    end
+}
+
+/// Writes a number.
+fn put_number(out: &mut [u8], at: usize, n: u64) -> usize
+    requires { at + 20 ≤ length out.old }
+    ensures text { take result out.new ≡ take at out.old ++ decimal n }
+    ensures place { result ≤ at + 20 }
+{
+    let mut buffer = Buffer::new();
+    let text = buffer.format(n);
+    put(out, at, text.as_bytes())
+}
+
+/// Writes a word and a number.
+fn put_named(out: &mut [u8], at: usize, word: &[u8], n: u64) -> usize
+    requires { at + length word.now + 20 ≤ length out.old }
+    ensures text { take result out.new ≡ take at out.old ++ (word.now ++ decimal n) }
+    ensures place { result ≤ at + length word.now + 20 }
+{
+    let next = put(out, at, word);
+    put_number(out, next, n)
+}
+
+/// Writes a word and two numbers.
+fn put_two(out: &mut [u8], at: usize, word: &[u8], numbers: [u32; 2]) -> usize
+    requires { at + length word.now + 41 ≤ length out.old }
+    ensures text { take result out.new ≡ take at out.old ++ (word.now ++ two (slice_index numbers 0) (slice_index numbers 1)) }
+    ensures place { result ≤ at + length word.now + 41 }
+{
+    let [a, b] = numbers;
+    let next = put_named(out, at, word, a as u64);
+    put_named(out, next, b" ", b as u64)
+}
+
+/// Writes a word and three numbers.
+fn put_three(out: &mut [u8], at: usize, word: &[u8], numbers: [u32; 3]) -> usize
+    requires { at + length word.now + 62 ≤ length out.old }
+    ensures text { take result out.new ≡ take at out.old ++ (word.now ++ three (slice_index numbers 0) (slice_index numbers 1) (slice_index numbers 2)) }
+    ensures place { result ≤ at + length word.now + 62 }
+{
+    let [a, b, c] = numbers;
+    let next = put_named(out, at, word, a as u64);
+    put_two(out, next, b" ", [b, c])
+}
+
+/// Writes a word and four numbers.
+fn put_four(out: &mut [u8], at: usize, word: &[u8], numbers: [u32; 4]) -> usize
+    requires { at + length word.now + 83 ≤ length out.old }
+    ensures text { take result out.new ≡ take at out.old ++ (word.now ++ four (slice_index numbers 0) (slice_index numbers 1) (slice_index numbers 2) (slice_index numbers 3)) }
+    ensures place { result ≤ at + length word.now + 83 }
+{
+    let [a, b, c, d] = numbers;
+    let next = put_named(out, at, word, a as u64);
+    put_three(out, next, b" ", [b, c, d])
+}
+
+fn put_shape(out: &mut [u8], at: usize, shape: &Shape) -> usize
+    requires { at + 47 ≤ length out.old }
+    ensures text { take result out.new ≡ take at out.old ++ shape_text shape.now }
+    ensures place { result ≤ at + 47 }
+{
+    match *shape {
+        Shape::Plain { refs, words } => put_two(out, at, b"plain ", [refs, words]),
+        Shape::RefArray(n) => put_named(out, at, b"refs ", n as u64),
+        Shape::WordArray(n) => put_named(out, at, b"words ", n as u64),
+    }
+}
+
+/// Writes a command without its mutator.
+fn put_command(out: &mut [u8], at: usize, command: &Command) -> usize
+    requires { at + 90 ≤ length out.old }
+    ensures text { take result out.new ≡ take at out.old ++ command_text command.now }
+    ensures place { result ≤ at + 90 }
+{
+    match *command {
+        Command::New { dst, shape } => {
+            let next = put_named(out, at, b"new ", dst as u64);
+            let next = put(out, next, b" ");
+            put_shape(out, next, &shape)
+        }
+        Command::Load { dst, obj, i } => put_three(out, at, b"load ", [dst, obj, i]),
+        Command::Store { obj, i, src } => put_three(out, at, b"store ", [obj, i, src]),
+        Command::CompareStore {
+            obj,
+            i,
+            expect,
+            new,
+        } => put_four(out, at, b"cas ", [obj, i, expect, new]),
+        Command::Get { obj, i } => put_two(out, at, b"get ", [obj, i]),
+        Command::Put { obj, i, word } => {
+            let next = put_two(out, at, b"put ", [obj, i]);
+            put_named(out, next, b" ", word)
+        }
+        Command::ComparePut { obj, i, old, new } => {
+            let next = put_two(out, at, b"casput ", [obj, i]);
+            let next = put_named(out, next, b" ", old);
+            put_named(out, next, b" ", new)
+        }
+        Command::Copy { dst, src } => put_two(out, at, b"copy ", [dst, src]),
+        Command::Clear { dst } => put_named(out, at, b"clear ", dst as u64),
+        Command::LoadStatic { dst, k } => put_two(out, at, b"loadstatic ", [dst, k]),
+        Command::StoreStatic { k, src } => put_two(out, at, b"storestatic ", [k, src]),
+        Command::CompareStatic { k, expect, new } => put_three(
+            out,
+            at,
+            b"casstatic ",
+            [k, expect, new],
+        ),
+        Command::Same { a, b } => put_two(out, at, b"same ", [a, b]),
+        Command::Describe { a } => put_named(out, at, b"describe ", a as u64),
+    }
+}
+
+/// Writes a mutator's command at a place, without LF, and answers the place behind it. What stands
+/// before the place stays.
+pub fn write_command(mutator: u32, command: &Command, out: &mut [u8; 256], at: usize) -> usize
+    requires { at ≤ 128 }
+    ensures text { take result out.new ≡ take at out.old ++ command_line mutator command.now }
+    ensures short { length (command_line mutator command.now) ≤ 111 }
+    ensures place { result ≡ at + length (command_line mutator command.now) }
+{
+    let out = out.as_mut_slice();
+    let next = put_number(out, at, mutator as u64);
+    let next = put(out, next, b" ");
+    put_command(out, next, command)
+}
+
+/// Writes a reply.
+fn put_reply(out: &mut [u8], at: usize, reply: &Reply) -> usize
+    requires { at + 78 ≤ length out.old }
+    ensures text { take result out.new ≡ take at out.old ++ reply_text reply.now }
+    ensures place { result ≤ at + 78 }
+{
+    match *reply {
+        Reply::Made(id) => put_named(out, at, b"made ", id),
+        Reply::Ref(id) => put_named(out, at, b"ref ", id),
+        Reply::Word(w) => put_named(out, at, b"word ", w),
+        Reply::Done => put(out, at, b"done"),
+        Reply::Stored => put(out, at, b"stored"),
+        Reply::Kept(id) => put_named(out, at, b"kept ", id),
+        Reply::KeptWord(w) => put_named(out, at, b"keptword ", w),
+        Reply::Is(true) => put(out, at, b"is yes"),
+        Reply::Is(false) => put(out, at, b"is no"),
+        Reply::Described(id, shape) => {
+            let next = put_named(out, at, b"described ", id);
+            let next = put(out, next, b" ");
+            put_shape(out, next, &shape)
+        }
+        Reply::Refused(refusal) => put_named(out, at, b"refused ", refusal.number() as u64),
+    }
+}
+
+/// Writes a reply at a place, without LF, and answers the place behind it. What stands before the
+/// place stays.
+pub fn write_reply(reply: &Reply, out: &mut [u8; 256], at: usize) -> usize
+    requires { at ≤ 128 }
+    ensures text { take result out.new ≡ take at out.old ++ reply_text reply.now }
+    ensures short { length (reply_text reply.now) ≤ 78 }
+    ensures place { result ≡ at + length (reply_text reply.now) }
+{
+    put_reply(out.as_mut_slice(), at, reply)
+}

@@ -1,0 +1,218 @@
+//! Runs worked out by hand.
+use super::*;
+use graph_heap::{Command, NoMemory, Reply};
+use machine::Recorded;
+use size_classes::{Config, Settings};
+use std::alloc::Global;
+use std::process::Abort;
+use std::test::Fail;
+use trace::{FailAt, LineFault, MemorySink, MemorySource, ReadSource};
+
+const FOUR_PAGES: Settings = Settings {
+    pages: 4,
+    mutators: 2,
+    slots: 4,
+    statics: 1,
+    identities: 9223372036854775807,
+    defrag_below: 0,
+    defrag_pages: 0,
+    collector_ticks: 10,
+    mutator_ticks: 12,
+    rate: 100,
+};
+
+const ONE_PAGE: Settings = Settings {
+    pages: 1,
+    mutators: 1,
+    slots: 9,
+    statics: 0,
+    ..FOUR_PAGES
+};
+
+fn recorded(rt: &(impl Abort + AllocGlobal), settings: &Settings) -> Result<Recorded, NoMemory> {
+    match Config::check(settings) {
+        Ok(config) => Recorded::new(rt.alloc(), &config),
+        Err(_) => panic!(rt; "the settings are good"),
+    }
+}
+
+/// Plays a trace under settings, and compares the answer and what was written.
+fn expect(
+    rt: &(impl Abort + AllocGlobal),
+    settings: &Settings,
+    trace: &str,
+    answer: Result<(), PlayFault>,
+    written: &str,
+) -> Result<(), Fail> {
+    let mut heap = recorded(rt, settings)?;
+    let mut source = MemorySource::new(trace.as_bytes());
+    let mut sink = MemorySink::new(rt.alloc());
+    assert_eq!(rt; play(&mut source, &mut sink, &mut heap), answer, "{trace}");
+    assert_eq!(rt; sink.bytes(), written.as_bytes(), "{trace}");
+    Ok(())
+}
+
+#[test]
+fn commands_are_replied_to(rt: HostRuntime) -> Result<(), Fail> {
+    let runs = [
+        ("", ""),
+        ("# a comment\n\n#\n", ""),
+        (
+            "0 new 0 plain 0 1\n0 put 0 0 7\n0 get 0 0\n0 describe 0\n",
+            "made 1\ndone\nword 7\ndescribed 1 plain 0 1\n",
+        ),
+        (
+            "0 new 0 plain 0 0\n0 describe 0\n",
+            "made 1\ndescribed 1 plain 0 0\n",
+        ),
+        (
+            "2 clear 0\n0 clear 4\n0 get 0 0\n# null\n0 clear 0\n",
+            "refused 1\nrefused 1\nrefused 2\ndone\n",
+        ),
+    ];
+    for (trace, written) in runs {
+        expect(&rt, &FOUR_PAGES, trace, Ok(()), written)?;
+    }
+    Ok(())
+}
+
+#[test]
+fn a_page_has_one_class(rt: HostRuntime) -> Result<(), Fail> {
+    let trace = "0 new 0 plain 0 0\n0 new 1 plain 0 1\n";
+    expect(&rt, &ONE_PAGE, trace, Ok(()), "made 1\nrefused 7\n")
+}
+
+#[test]
+fn a_page_fills_up(rt: HostRuntime) -> Result<(), Fail> {
+    let trace =
+        "0 new 0 plain 0 252\n0 new 1 plain 0 252\n0 new 2 plain 0 252\n0 new 3 plain 0 252\n\
+        0 new 4 plain 0 252\n0 new 5 plain 0 252\n0 new 6 plain 0 252\n0 new 7 plain 0 252\n\
+        0 new 8 plain 0 252\n0 describe 7\n0 new 8 plain 0 253\n0 get 0 252\n0 same 0 0\n";
+    let written = "made 1\nmade 2\nmade 3\nmade 4\nmade 5\nmade 6\nmade 7\nmade 8\n\
+        refused 7\ndescribed 8 plain 0 252\nrefused 5\nrefused 3\n";
+    let fault = PlayFault::Line(13, LineFault::NotYet);
+    expect(&rt, &ONE_PAGE, trace, Err(fault), written)
+}
+
+#[test]
+fn a_line_in_fault_ends_the_run(rt: HostRuntime) -> Result<(), Fail> {
+    let runs = [
+        ("0 new 0 plain 0 0\n0 describe 0", 2, LineFault::NotEnded),
+        (
+            "0 new 0 plain 0 0\n0  describe 0\n",
+            2,
+            LineFault::NotAnEvent,
+        ),
+        (
+            "0 new 0 plain 0 0\n0 describe 0\r\n",
+            2,
+            LineFault::NotAnEvent,
+        ),
+        (
+            "0 new 0 plain 0 0\n0 describe 01\n",
+            2,
+            LineFault::NotAnEvent,
+        ),
+        ("0 new 0 plain 0 0\n\n#\nbegin\n", 4, LineFault::NotYet),
+        ("0 new 0 plain 0 0\nquantum 256\n", 2, LineFault::NotYet),
+        ("0 new 0 plain 0 0\ntick 1\n", 2, LineFault::NotYet),
+        (
+            "0 new 0 plain 0 0\n0 new 1 plain 1 0\n",
+            2,
+            LineFault::NotYet,
+        ),
+        ("0 new 0 plain 0 0\n0 new 1 words 1\n", 2, LineFault::NotYet),
+        ("0 new 0 plain 0 0\n0 copy 1 0\n", 2, LineFault::NotYet),
+    ];
+    for (trace, line, fault) in runs {
+        let answer = Err(PlayFault::Line(line, fault));
+        expect(&rt, &FOUR_PAGES, trace, answer, "made 1\n")?;
+    }
+    Ok(())
+}
+
+#[test]
+fn a_long_line_ends_the_run(rt: HostRuntime) -> Result<(), Fail> {
+    let mut trace = String::new(rt.alloc());
+    trace.push_str("0 clear 0\n#")?;
+    for _ in 0..255 {
+        trace.push('-')?;
+    }
+    trace.push('\n')?;
+    expect(&rt, &FOUR_PAGES, &trace, Ok(()), "done\n")?;
+    trace.push('#')?;
+    for _ in 0..256 {
+        trace.push('-')?;
+    }
+    trace.push('\n')?;
+    let fault = PlayFault::Line(3, LineFault::TooLong);
+    expect(&rt, &FOUR_PAGES, &trace, Err(fault), "done\n")
+}
+
+const TRACE: &str = "0 new 0 plain 0 1\n0 put 0 0 7\n0 get 0 0\n";
+
+const REPLIES: [&str; 4] = ["", "made 1\n", "made 1\ndone\n", "made 1\ndone\nword 7\n"];
+
+#[test]
+fn each_write_fails_in_turn(rt: HostRuntime) -> Result<(), Fail> {
+    for call in 1..4usize {
+        let mut heap = recorded(&rt, &FOUR_PAGES)?;
+        let mut source = MemorySource::new(TRACE.as_bytes());
+        let mut sink = FailAt::new(MemorySink::new(rt.alloc()), call as u64);
+        let answer = play(&mut source, &mut sink, &mut heap);
+        assert_eq!(rt; answer, Err(PlayFault::Write), "{call}");
+        assert_eq!(rt; heap.history().len(), call);
+        assert_eq!(rt; sink.get_ref().bytes(), REPLIES[call - 1].as_bytes());
+    }
+    Ok(())
+}
+
+#[test]
+fn each_read_fails_in_turn(rt: HostRuntime) -> Result<(), Fail> {
+    for (call, lines) in [(1u64, 0usize), (2, 3)] {
+        let mut heap = recorded(&rt, &FOUR_PAGES)?;
+        let mut source = FailAt::new(ReadSource::new(TRACE.as_bytes()), call);
+        let mut sink = MemorySink::new(rt.alloc());
+        let answer = play(&mut source, &mut sink, &mut heap);
+        assert_eq!(rt; answer, Err(PlayFault::Read), "{call}");
+        assert_eq!(rt; heap.history().len(), lines);
+        assert_eq!(rt; sink.bytes(), REPLIES[lines].as_bytes());
+    }
+    Ok(())
+}
+
+#[test]
+fn the_history_has_the_commands_and_replies(rt: HostRuntime) -> Result<(), Fail> {
+    let mut heap = recorded(&rt, &FOUR_PAGES)?;
+    let mut source = MemorySource::new(TRACE.as_bytes());
+    let mut sink = MemorySink::new(rt.alloc());
+    play(&mut source, &mut sink, &mut heap)?;
+    assert_eq!(rt; heap.history().len(), 3);
+    let entry = heap.history()[1];
+    let put = Command::Put {
+        obj: 0,
+        i: 0,
+        word: 7,
+    };
+    assert_eq!(rt; entry.mutator, 0);
+    assert_eq!(rt; entry.command, put);
+    assert_eq!(rt; entry.reply, Reply::Done);
+    Ok(())
+}
+
+#[test]
+fn faults_have_their_texts(rt: HostRuntime) -> Result<(), Fail> {
+    let faults = [
+        (
+            PlayFault::Line(2, LineFault::NotEnded),
+            "line 2: line not ended",
+        ),
+        (PlayFault::Read, "cannot read"),
+        (PlayFault::Write, "cannot write"),
+        (PlayFault::NoMemory, "no memory"),
+    ];
+    for (fault, text) in faults {
+        assert_eq!(rt; format!(in rt.alloc(); "{fault}")?.as_str(), text);
+    }
+    Ok(())
+}

@@ -1,0 +1,14 @@
+//! The schedule of the collector's quanta: a clock of ticks, when quanta are due, and the intervals
+//! that they took. The mutators have so many ticks at least between two intervals.
+#![tactic(auto)]
+
+pub mod clock_spent;
+pub mod interval;
+pub mod schedule;
+
+pub use clock_spent::ClockSpent;
+pub use interval::Interval;
+pub use schedule::{CLOCK_LIMIT, Schedule};
+
+#[cfg(test)]
+mod tests;

@@ -33,3 +33,4 @@ pub mod Placed
 pub mod Opening
 pub mod Making
 pub mod New
+pub mod Rooms

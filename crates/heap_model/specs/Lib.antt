@@ -21,3 +21,4 @@ pub mod Swept
 pub mod Units
 pub mod Spent
 pub mod Placed
+pub mod Room

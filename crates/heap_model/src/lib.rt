@@ -10,3 +10,4 @@ pub mod collection;
 pub mod mutator;
 pub mod phase;
 pub mod reading;
+pub mod room;

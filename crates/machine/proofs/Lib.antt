@@ -1,8 +1,11 @@
+pub mod Cells
 pub mod Doing
+pub mod Effects
 pub mod Finding
 pub mod Opening
 pub mod Planning
+pub mod Plans
+pub mod Reached
 pub mod Recording
 pub mod Replying
 pub mod Rooming
-pub mod Wording

@@ -26,7 +26,7 @@ opening_heap h o = record {
   present = opening h.limits;
   consistent = opening_stands h o;
   row = ap length o.roots ∙ length-replicate {A = ℕ} (root_cells h.limits) 0;
-  small = λ b e. absurd (contrary (is_held h.store b) e (none_held h o b));
+  fits = λ b e. absurd (contrary (is_held h.store b) e (none_held h o b));
 }
 
 -- the pages of a new store are free

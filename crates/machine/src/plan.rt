@@ -1,14 +1,26 @@
 //! What a command is going to do.
 ghost use Rattle.std.specs.Prelude.{◌≡◌};
-ghost use Rattle.machine.specs.Place.{word_place};
 
-use graph_heap::{Refusal, Reply, Shape};
+use graph_heap::{Reply, Shape};
+use nodes::Referent;
 
 /// What a command does: its reply, and the one write of the heap.
 #[derive(Clone, Copy, Debug, PartialEq, Eq)]
 pub struct Planned {
     pub reply: Reply,
     pub write: Write,
+}
+
+impl Planned {
+    /// Only a reply.
+    pub fn reply(reply: Reply) -> Planned
+        ensures { result ≡ record { reply = reply; write = Write.Nothing } }
+    {
+        Planned {
+            reply,
+            write: Write::Nothing,
+        }
+    }
 }
 
 /// A write of the heap, with the identities by which the graph heap tells of it.
@@ -19,6 +31,16 @@ pub enum Write {
     Root {
         cell: usize,
         id: u64,
+        reference: u64,
+    },
+    /// A cell of a block gets a reference, that of a main copy of `value` or 0 for null; it is
+    /// reference cell i of an object.
+    Ref {
+        id: u64,
+        i: u32,
+        value: u64,
+        block: usize,
+        cell: usize,
         reference: u64,
     },
     /// A cell of a block gets a word; it is word cell i of an object.
@@ -45,14 +67,20 @@ pub struct Found {
     pub shape: Shape,
 }
 
-/// The place of word cell i among the cells of an object in one part.
-pub fn word_cell(shape: Shape, i: u32) -> Result<usize, Refusal>
-    ensures { result ≡ word_place shape i }
-{
-    match shape {
-        Shape::Plain { refs, words } if i < words => Ok(refs as usize + i as usize),
-        Shape::WordArray(n) if i < n => Ok(i as usize),
-        Shape::RefArray(_) => Err(Refusal::WrongKind),
-        _ => Err(Refusal::BadIndex),
-    }
+/// A reference cell of an object: where it stands, and what it holds.
+#[derive(Clone, Copy, Debug, PartialEq, Eq)]
+pub struct FoundRef {
+    pub id: u64,
+    pub block: usize,
+    pub cell: usize,
+    pub value: Referent,
+}
+
+/// A word cell of an object: where it stands, and what it holds.
+#[derive(Clone, Copy, Debug, PartialEq, Eq)]
+pub struct FoundWord {
+    pub id: u64,
+    pub block: usize,
+    pub cell: usize,
+    pub word: u64,
 }

@@ -6,7 +6,7 @@ ghost use Rattle.graph_heap.specs.History.{after, IsLegal};
 ghost use Rattle.size_classes.specs.Config.{limits_of};
 ghost use Rattle.heap_model.specs.Agreement.{Agrees};
 ghost use Rattle.heap_model.specs.Opening.{IsOpening};
-ghost use Rattle.machine.specs.Plan.{IsServed, room_for};
+ghost use Rattle.machine.specs.Plan.{room_for};
 
 use crate::heap::Heap;
 use graph_heap::{Command, Entry, NoMemory};
@@ -58,7 +58,6 @@ impl Recorded {
     /// Does a command of a mutator, and enters it with its reply. Room for the entry is made first:
     /// where memory for that is refused, nothing has changed.
     pub fn call(&mut self, mutator: u32, command: Command) -> Result<Receipt, NoMemory>
-        requires { IsServed command }
         ensures entry { IfOk result (λ r. (r.entry.mutator ≡ mutator) × (r.entry.command ≡ command)) }
         ensures reply { IfOk result (λ r. r.entry.reply ≡ reply_of (room_for self.old.heap command) (after (opening self.old.heap.limits) self.old.history) mutator command) }
         ensures place { IfOk result (λ r. r.place ≡ length self.old.history) }

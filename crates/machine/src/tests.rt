@@ -1,5 +1,4 @@
 //! Replies worked out by hand.
-ghost use Rattle.machine.specs.Plan.{IsServed};
 
 use super::*;
 use graph_heap::{Command, NoMemory, Refusal, Reply, Shape};
@@ -19,9 +18,7 @@ const ONE_PAGE: Settings = Settings {
 };
 
 /// The reply to a command of mutator 0.
-fn told(heap: &mut Recorded, command: Command) -> Result<Reply, NoMemory>
-    requires { IsServed command }
-{
+fn told(heap: &mut Recorded, command: Command) -> Result<Reply, NoMemory> {
     Ok(heap.call(0, command)?.entry.reply)
 }
 

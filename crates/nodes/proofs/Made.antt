@@ -2,7 +2,7 @@
 use Rattle.std.proofs.Common.{◌≡◌, ℕ, ◌+◌, ◌*◌, ◌/◌, ◌<◌, ◌≤◌, ◌^◌, true, List, ◌∷◌, Option, Some, length, set, replicate, ap, ◌∙◌, sym, subst, arith}
 use Rattle.heap_model.specs.Header.{Header, HeaderFits, header_word}
 use Rattle.heap_model.specs.Block.{cell_count, new_node, new_words, spliced}
-use Rattle.heap_model.specs.Pages.{Page, page_for, page_at, page_of_class, with_held, IsOpen}
+use Rattle.heap_model.specs.Pages.{Page, page_for, page_at, page_of_class, with_held, IsOpen, TakesBlock}
 use Rattle.heap_model.specs.Store.{Store, IsStore, Adds, address_of}
 use Rattle.size_classes.specs.Sizes.{size_of}
 use Rattle.nodes.proofs.Making.{fit, within, few_words, page_place, made_store, adds}
@@ -60,3 +60,15 @@ module _ (s t : Store) (is : s ≡ t) (whole : IsStore s) (class k i size : ℕ)
         subst (λ (x : Store). Adds x (record { pages = pages; words = words }) (2048 * k + i * size) (new_node (2048 * k + i * size) h identity)) is
         (subst (λ a. Adds s (record { pages = pages; words = words }) a (new_node a h identity)) (sym address_is)
         (both (λ x. Adds s x (address_of class k i) (new_node (address_of class k i) h identity)) (adds s whole class k i small found was_free identity h fits room')))
+
+-- the block was taken as the pages say
+pub takes_by : (s t : Store) → s ≡ t → (class page index address : ℕ) (new : List (Option Page)) → page_for s.pages class ≡ Some page → page_for t.pages class ≡ Some (address / 2048)
+    → IsOpen (page_of_class class (page_at s.pages page)) index → new ≡ set s.pages page (Some (with_held (page_of_class class (page_at s.pages page)) index true))
+    → TakesBlock t.pages class (address / 2048) index new
+takes_by s t is class page index address new e e' was now =
+    let same : page ≡ address / 2048 = same_some (sym e ∙ ap (λ (x : Store). page_for x.pages class) is ∙ e') in
+    subst (λ (x : Store). TakesBlock x.pages class (address / 2048) index new) is
+    (subst (λ k. TakesBlock s.pages class k index new) same (record { page_is = e; was_free = was; new_is = now }))
+  where
+    same_some : {a b : ℕ} → Some a ≡ Some b → a ≡ b
+    same_some e = cc

@@ -4,4 +4,4 @@
 
 pub mod nodes;
 
-pub use nodes::Nodes;
+pub use nodes::{Nodes, Referent};

@@ -1,11 +1,12 @@
 //! Pages and words together.
-ghost use Rattle.std.specs.Prelude.{◌≡◌, ◌+◌, ◌-◌, ◌*◌, ◌/◌, ◌<◌, ◌≤◌, ◌↔◌, length, replicate, slice_index, slice_set, true, false, None, Some, IfOk, IfSome, IsNone};
+ghost use Rattle.std.specs.Prelude.{◌≡◌, ◌≢◌, ℕ, ◌+◌, ◌-◌, ◌*◌, ◌/◌, ◌<◌, ◌≤◌, ◌↔◌, length, replicate, slice_index, slice_set, true, false, None, Some, IfOk, IfSome, IsNone};
 ghost use Rattle.size_classes.specs.Sizes.{size_of};
 ghost use Rattle.size_classes.specs.Parts.{part_cells, cells_of};
 ghost use Rattle.heap_model.specs.Header.{ShapeFits};
 ghost use Rattle.heap_model.specs.Block.{cell_count, with_forward, with_colour, with_link, with_cell, new_node};
-ghost use Rattle.heap_model.specs.Pages.{has_room, page_for};
+ghost use Rattle.heap_model.specs.Pages.{has_room, page_for, TakesBlock};
 ghost use Rattle.heap_model.specs.Store.{is_held, node_of, Writes, Adds};
+ghost use Rattle.nodes.specs.Referent.{referent_of};
 
 use graph_heap::{NoMemory, Shape};
 use headers::Arena;
@@ -13,6 +14,14 @@ use pages::PageTable;
 use size_classes::{Class, Need};
 use std::alloc::Global;
 use std::marker::Model;
+
+/// What a reference names: an object, by its identity and the reference of its main copy, which is
+/// the copy's address plus one. For null both are 0.
+#[derive(Clone, Copy, Debug, PartialEq, Eq)]
+pub struct Referent {
+    pub identity: u64,
+    pub reference: u64,
+}
 
 /// The blocks of a heap. Contracts see the pages and the words; a method that writes says what the
 /// record of its one block becomes, and that every other held block keeps its own.
@@ -56,6 +65,36 @@ impl Nodes {
         ensures { result ≡ (node_of self.now block).forward }
     {
         self.arena.forward_of(block)
+    }
+
+    /// The reference of a held block: its address plus one.
+    pub fn reference_of(&self, block: usize) -> u64
+        requires { is_held self.now block ≡ true }
+        ensures reference { result ≡ block + 1 }
+        ensures within { result ≤ 8388608 }
+    {
+        // The words are read here only to know how many there are.
+        let _words = &self.arena;
+        block as u64 + 1
+    }
+
+    /// What a reference names, by way of the forwarding word of its block (Brooks, 1984).
+    pub fn resolve(&self, reference: u64) -> Referent
+        requires block { reference ≢ 0 → is_held self.now (reference - 1) ≡ true }
+        requires main { reference ≢ 0 → is_held self.now (node_of self.now (reference - 1)).forward ≡ true }
+        ensures { result ≡ referent_of self.now reference }
+    {
+        if reference == 0 {
+            return Referent {
+                identity: 0,
+                reference: 0,
+            };
+        }
+        let block = self.forward_of(reference as usize - 1) as usize;
+        Referent {
+            identity: self.identity(block),
+            reference: self.reference_of(block),
+        }
     }
 
     /// The shape of the object of which a held block holds a part.
@@ -110,6 +149,7 @@ impl Nodes {
         requires room { cells + 4 ≤ size_of class }
         ensures none { IsNone result ↔ IsNone (page_for self.old.pages class) }
         ensures page { IfSome result (λ address. page_for self.old.pages class ≡ Some (address / 2048)) }
+        ensures taken { IfSome result (λ address. (index : ℕ) × TakesBlock self.old.pages class (address / 2048) index self.new.pages) }
         ensures within { IfSome result (λ address. address ≤ 8388608) }
         ensures made { IfSome result (λ address. Adds self.old self.new address (new_node address (record { shape = shape; part = part; colour = colour }) identity)) }
         ensures kept { IsNone result → self.new ≡ self.old }

@@ -1,10 +1,7 @@
 -- What it is to play a trace.
-use Rattle.std.specs.Prelude.{◌≡◌, ℕ, ◌+◌, ◌<◌, Bool, true, false, IsTrue, ◌==◌, ◌⊎◌, List, [], ◌∷◌, ◌++◌, length, take, Result, Ok, Err}
+use Rattle.std.specs.Prelude.{◌≡◌, ℕ, ◌+◌, ◌<◌, Bool, IsTrue, ◌⊎◌, List, [], ◌∷◌, ◌++◌, length, take, Result, Ok, Err}
 use Rattle.std.specs.List.{flat_map}
 use Rattle.graph_heap.specs.declared.command.Command.{Command}
-use Rattle.graph_heap.specs.declared.command.Command.TheVariants as commands
-use Rattle.graph_heap.specs.declared.command.Shape.{Shape}
-use Rattle.graph_heap.specs.declared.command.Shape.TheVariants as shapes
 use Rattle.graph_heap.specs.declared.command.Entry.{Entry}
 use Rattle.trace.specs.declared.line.Line.{Line}
 use Rattle.trace.specs.declared.line.Line.TheVariants as lines
@@ -30,23 +27,10 @@ reply_line e = reply_text e.reply ++ 10 ∷ []
 abbrev pub replies_of : List Entry → List ℕ
 replies_of entries = flat_map reply_line entries
 
--- the commands that are done so far: those of plain objects without references
-abbrev pub is_played_shape : Shape → Bool
-is_played_shape (shapes.Plain refs words) = refs == 0
-is_played_shape _ = false
-
-abbrev pub is_played : Command → Bool
-is_played (commands.New dst shape) = is_played_shape shape
-is_played (commands.Get obj i) = true
-is_played (commands.Put obj i word) = true
-is_played (commands.Clear dst) = true
-is_played (commands.Describe a) = true
-is_played _ = false
-
--- a line whose event isn't done yet
+-- a line whose event isn't done yet: those of the collector
 abbrev pub IsLater : Line → Type 0
 IsLater lines.Skip = ⊥
-IsLater (lines.Command mutator command) = is_played command ≡ false
+IsLater (lines.Command mutator command) = ⊥
 IsLater _ = Unit {0}
 
 -- a line that spells a command

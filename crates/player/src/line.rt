@@ -2,29 +2,13 @@
 ghost use Rattle.std.specs.Prelude.{◌≡◌, ◌+◌, ◌∷◌, ◌++◌, [], OnOk, OnErr};
 ghost use Rattle.trace.specs.Spelling.{reply_text};
 ghost use Rattle.trace.specs.Streams.{GrowsByPart, failed};
-ghost use Rattle.player.specs.Playing as playing;
 ghost use Rattle.player.specs.Playing.{writes_failed};
 ghost use Rattle.player.specs.Progress.{LineDone};
 
 use crate::fault::PlayFault;
-use graph_heap::{Command, Reply, Shape};
+use graph_heap::Reply;
 use machine::Recorded;
 use trace::{Line, LineFault, Sink, WriteFailed, read_line, write_all, write_reply};
-
-/// Whether a command is one of those that are done so far.
-fn is_played(command: &Command) -> bool
-    ensures { result ≡ playing.is_played command.now }
-{
-    match *command {
-        Command::New {
-            shape: Shape::Plain { refs, .. },
-            ..
-        } => refs == 0,
-        Command::Get { .. } | Command::Put { .. } => true,
-        Command::Clear { .. } | Command::Describe { .. } => true,
-        _ => false,
-    }
-}
 
 /// Writes a reply and an LF.
 fn write_line<K: Sink>(sink: &mut K, reply: &Reply) -> Result<(), WriteFailed>
@@ -54,7 +38,7 @@ pub fn play_line<K: Sink>(
     };
     match line {
         Line::Skip => Ok(()),
-        Line::Command { mutator, command } if is_played(&command) => {
+        Line::Command { mutator, command } => {
             let Ok(receipt) = heap.call(mutator, command) else {
                 return Err(PlayFault::NoMemory);
             };
@@ -63,6 +47,8 @@ pub fn play_line<K: Sink>(
                 Err(WriteFailed) => Err(PlayFault::Write),
             }
         }
-        _ => Err(PlayFault::Line(number, LineFault::NotYet)),
+        Line::Begin | Line::Quantum(_) | Line::Tick(_) => {
+            Err(PlayFault::Line(number, LineFault::NotYet))
+        }
     }
 }

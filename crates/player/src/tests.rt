@@ -1,6 +1,6 @@
 //! Runs worked out by hand.
 use super::*;
-use graph_heap::{Command, NoMemory, Reply};
+use graph_heap::{Command, NoMemory, Reference, Reply};
 use machine::Recorded;
 use size_classes::{Config, Settings};
 use std::alloc::Global;
@@ -89,9 +89,8 @@ fn a_page_fills_up(rt: HostRuntime) -> Result<(), Fail> {
         0 new 4 plain 0 252\n0 new 5 plain 0 252\n0 new 6 plain 0 252\n0 new 7 plain 0 252\n\
         0 new 8 plain 0 252\n0 describe 7\n0 new 8 plain 0 253\n0 get 0 252\n0 same 0 0\n";
     let written = "made 1\nmade 2\nmade 3\nmade 4\nmade 5\nmade 6\nmade 7\nmade 8\n\
-        refused 7\ndescribed 8 plain 0 252\nrefused 5\nrefused 3\n";
-    let fault = PlayFault::Line(13, LineFault::NotYet);
-    expect(&rt, &ONE_PAGE, trace, Err(fault), written)
+        refused 7\ndescribed 8 plain 0 252\nrefused 5\nrefused 3\nis yes\n";
+    expect(&rt, &ONE_PAGE, trace, Ok(()), written)
 }
 
 #[test]
@@ -116,13 +115,6 @@ fn a_line_in_fault_ends_the_run(rt: HostRuntime) -> Result<(), Fail> {
         ("0 new 0 plain 0 0\n\n#\nbegin\n", 4, LineFault::NotYet),
         ("0 new 0 plain 0 0\nquantum 256\n", 2, LineFault::NotYet),
         ("0 new 0 plain 0 0\ntick 1\n", 2, LineFault::NotYet),
-        (
-            "0 new 0 plain 0 0\n0 new 1 plain 1 0\n",
-            2,
-            LineFault::NotYet,
-        ),
-        ("0 new 0 plain 0 0\n0 new 1 words 1\n", 2, LineFault::NotYet),
-        ("0 new 0 plain 0 0\n0 copy 1 0\n", 2, LineFault::NotYet),
     ];
     for (trace, line, fault) in runs {
         let answer = Err(PlayFault::Line(line, fault));
@@ -147,6 +139,120 @@ fn a_long_line_ends_the_run(rt: HostRuntime) -> Result<(), Fail> {
     trace.push('\n')?;
     let fault = PlayFault::Line(3, LineFault::TooLong);
     expect(&rt, &FOUR_PAGES, &trace, Err(fault), "done\n")
+}
+
+#[test]
+fn references_and_statics(rt: HostRuntime) -> Result<(), Fail> {
+    let trace = "0 new 0 plain 1 0\n0 store 0 0 0\n0 storestatic 0 0\n0 clear 0\n1 loadstatic 2 0\n\
+        1 load 3 2 0\n1 same 2 3\n1 casstatic 0 2 1\n1 casstatic 0 1 1\n";
+    let written = "made 1\ndone\ndone\ndone\nref 1\nref 1\nis yes\nstored\nstored\n";
+    expect(&rt, &FOUR_PAGES, trace, Ok(()), written)
+}
+
+#[test]
+fn refusals_come_in_their_order(rt: HostRuntime) -> Result<(), Fail> {
+    let settings = Settings {
+        identities: 2,
+        ..FOUR_PAGES
+    };
+    let trace = "2 clear 0\n0 clear 4\n0 load 0 1 0\n0 new 0 refs 2\n0 get 0 0\n0 load 1 0 2\n\
+        0 loadstatic 1 1\n0 new 1 plain 200 53\n0 new 1 words 1\n0 put 1 0 18446744073709551615\n\
+        0 casput 1 0 5 6\n0 casput 1 0 18446744073709551615 6\n0 get 1 0\n0 new 2 words 1\n\
+        0 store 1 0 0\n0 cas 0 1 0 0\n0 cas 0 1 2 0\n0 load 2 0 1\n";
+    let written = "refused 1\nrefused 1\nrefused 2\nmade 1\nrefused 4\nrefused 3\nrefused 8\n\
+        refused 5\nmade 2\ndone\nkeptword 18446744073709551615\nstored\nword 6\nrefused 6\n\
+        refused 4\nkept 0\nstored\nref 1\n";
+    expect(&rt, &settings, trace, Ok(()), written)
+}
+
+#[test]
+fn a_slot_may_be_named_twice(rt: HostRuntime) -> Result<(), Fail> {
+    let trace = "0 new 0 plain 1 0\n0 load 0 0 0\n0 load 0 0 0\n0 same 0 1\n0 cas 0 0 0 0\n\
+        0 new 1 plain 2 1\n0 cas 1 1 0 1\n0 cas 1 1 1 0\n0 load 1 1 1\n0 copy 0 0\n";
+    let written =
+        "made 1\nref 0\nrefused 2\nis yes\nrefused 2\nmade 2\nstored\nstored\nref 0\ndone\n";
+    expect(&rt, &FOUR_PAGES, trace, Ok(()), written)
+}
+
+#[test]
+fn large_arrays(rt: HostRuntime) -> Result<(), Fail> {
+    let trace = "0 new 0 refs 253\n0 store 0 252 0\n0 load 1 0 252\n0 load 1 0 253\n";
+    expect(
+        &rt,
+        &FOUR_PAGES,
+        trace,
+        Ok(()),
+        "made 1\ndone\nref 1\nrefused 3\n",
+    )?;
+    let trace =
+        "0 new 0 words 505\n0 put 0 251 1\n0 put 0 252 2\n0 put 0 504 3\n0 get 0 251\n0 get 0 252\n\
+        0 get 0 504\n0 get 0 503\n0 get 0 505\n";
+    let written = "made 1\ndone\ndone\ndone\nword 1\nword 2\nword 3\nword 0\nrefused 3\n";
+    expect(&rt, &FOUR_PAGES, trace, Ok(()), written)?;
+    let enough = Settings {
+        pages: 32,
+        ..FOUR_PAGES
+    };
+    let trace = "0 new 0 words 63504\n0 new 1 words 63505\n";
+    expect(&rt, &enough, trace, Ok(()), "made 1\nrefused 5\n")?;
+    let short = Settings {
+        pages: 31,
+        ..FOUR_PAGES
+    };
+    expect(&rt, &short, trace, Ok(()), "refused 7\nrefused 5\n")
+}
+
+/// Plays a trace on a heap and on the slow heap of the definition, and compares the histories.
+fn compare(rt: &(impl Abort + AllocGlobal), settings: &Settings, trace: &str) -> Result<(), Fail> {
+    let mut heap = recorded(rt, settings)?;
+    let mut source = MemorySource::new(trace.as_bytes());
+    let mut sink = MemorySink::new(rt.alloc());
+    play(&mut source, &mut sink, &mut heap)?;
+    let Ok(config) = Config::check(settings) else {
+        panic!(rt; "the settings are good");
+    };
+    let mut reference = Reference::new(rt.alloc(), &config.limits())?;
+    for entry in heap.history() {
+        assert!(rt; reference.accepts(entry)?, "{trace}");
+    }
+    Ok(())
+}
+
+#[test]
+fn cells_at_the_edges_of_pieces(rt: HostRuntime) -> Result<(), Fail> {
+    let settings = Settings {
+        pages: 40,
+        ..FOUR_PAGES
+    };
+    for n in [252u32, 253, 504, 505, 63504] {
+        let mut trace = format!(in rt.alloc();
+            "0 new 0 words {n}\n0 new 1 refs {n}\n0 new 2 plain 0 0\n"
+        )?;
+        for i in [0u32, 251, 252, 503, 504, n - 1, n] {
+            let text = format!(in rt.alloc(); "0 put 0 {i} {}\n0 store 1 {i} 2\n", i + 1)?;
+            trace.push_str(&text)?;
+        }
+        for i in [
+            0u32,
+            1,
+            250,
+            251,
+            252,
+            253,
+            502,
+            503,
+            504,
+            505,
+            n - 2,
+            n - 1,
+            n,
+        ] {
+            let text = format!(in rt.alloc(); "0 get 0 {i}\n0 load 3 1 {i}\n0 same 3 2\n")?;
+            trace.push_str(&text)?;
+        }
+        compare(&rt, &settings, &trace)?;
+    }
+    Ok(())
 }
 
 const TRACE: &str = "0 new 0 plain 0 1\n0 put 0 0 7\n0 get 0 0\n";

@@ -1,10 +1,10 @@
-use Rattle.std.proofs.Common.{sym, ap, ◌∙◌, get_or}
-use Rattle.heap_model.specs.State.{HeapState}
-use Rattle.heap_model.specs.Store.{node_of}
-use Rattle.machine.proofs.Wording.{get_effect}
+use Rattle.graph_heap.specs.declared.command.Command.TheVariants as commands
+use Rattle.graph_heap.specs.declared.command.Reply.TheVariants as replies
+use Rattle.machine.proofs.Effects.{get_effect}
+use Rattle.machine.proofs.Plans.{placed, reply_plans}
 use Rattle.machine.proofs.heap.Heap.plan_get.Goals as goal
 
 pub returns : goal.returns
 returns c g a =
-    let read = c.cell-word.ensures ∙ ap (λ (x : HeapState). get_or (node_of x.store c.in_ok-found.found.block).cells c.in_ok-cell.cell 0) c.self.view_is in
-    (get_effect c.args.self.now g a c.args.mutator c.args.obj c.in_ok-found.found (c.in_ok-found.ensures.finds g a) c.in_ok-found.ensures.small c.args.i c.in_ok-cell.cell (sym c.in_ok-cell.ensures) c.cell-word.result read, tt)
+    reply_plans c.args.self.now g c.args.mutator (commands.Get c.args.obj c.args.i) (replies.Word c.in_ok-found.found.word) c.reply.result c.reply.ensures
+    (get_effect c.args.self.now g a c.args.mutator c.args.obj c.args.i c.in_ok-root.root c.in_ok-found.found (placed c.self.view_is c.args.mutator c.args.obj c.in_ok-root.root c.in_ok-root.ensures.place) (c.in_ok-found.ensures g a))

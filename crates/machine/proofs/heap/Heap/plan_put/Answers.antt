@@ -1,9 +1,10 @@
-use Rattle.std.proofs.Common.{sym}
-use Rattle.machine.proofs.Wording.{put_effect, within, main, cell_is, cell_within}
+use Rattle.graph_heap.specs.declared.command.Command.TheVariants as commands
+use Rattle.graph_heap.specs.declared.command.Reply.TheVariants as replies
+use Rattle.machine.proofs.Effects.{put_effect}
+use Rattle.machine.proofs.Plans.{placed, word_plans}
 use Rattle.machine.proofs.heap.Heap.plan_put.Goals as goal
 
 pub returns : goal.returns
-returns c g a = (
-  put_effect c.args.self.now g a c.args.mutator c.args.obj c.in_ok-found.found (c.in_ok-found.ensures.finds g a) c.in_ok-found.ensures.small c.args.i c.in_ok-cell.cell (sym c.in_ok-cell.ensures) c.args.word,
-  ((c.in_ok-found.ensures.finds g a).reaches, within c.args.self.now g a c.args.mutator c.args.obj c.in_ok-found.found (c.in_ok-found.ensures.finds g a) c.in_ok-found.ensures.small c.args.i c.in_ok-cell.cell (sym c.in_ok-cell.ensures), main c.args.self.now g a c.args.mutator c.args.obj c.in_ok-found.found (c.in_ok-found.ensures.finds g a) c.in_ok-found.ensures.small c.args.i c.in_ok-cell.cell (sym c.in_ok-cell.ensures), cell_is c.args.self.now g a c.args.mutator c.args.obj c.in_ok-found.found (c.in_ok-found.ensures.finds g a) c.in_ok-found.ensures.small c.args.i c.in_ok-cell.cell (sym c.in_ok-cell.ensures), cell_within c.args.self.now g a c.args.mutator c.args.obj c.in_ok-found.found (c.in_ok-found.ensures.finds g a) c.in_ok-found.ensures.small c.args.i c.in_ok-cell.cell (sym c.in_ok-cell.ensures) c.in_ok-found.ensures.cells),
-)
+returns c g a =
+    word_plans c.args.self.now g c.args.mutator (commands.Put c.args.obj c.args.i c.args.word) replies.Done c.args.i _ c.args.word c.in_ok-found.found c.word_write.result c.word_write.ensures
+    (put_effect c.args.self.now g a c.args.mutator c.args.obj c.args.i c.args.word c.in_ok-root.root c.in_ok-found.found (placed c.self.view_is c.args.mutator c.args.obj c.in_ok-root.root c.in_ok-root.ensures.place) (c.in_ok-found.ensures g a)) (c.in_ok-found.ensures g a)

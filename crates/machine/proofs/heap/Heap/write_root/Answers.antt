@@ -1,4 +1,4 @@
-use Rattle.std.proofs.Common.{◌<◌, ℕ, length, subst, sym, refl, arith}
+use Rattle.std.proofs.Common.{◌<◌, ℕ, length, subst, sym, refl}
 use Rattle.graph_heap.specs.Graph.{Graph}
 use Rattle.heap_model.specs.Agree.{IsMain}
 use Rattle.heap_model.specs.Cut.{name_of}
@@ -11,13 +11,13 @@ use Rattle.machine.proofs.heap.Heap.write_root.Goals as goal
 abbrev Planned : ℕ → ℕ → ℕ → HeapState → Type 0
 Planned cell id x h = (g : Graph) → Agrees h g → (cell < length h.roots) × IsKnown g id × IsMain (seen h) x (name_of id)
 
-pub index_mut-requires : goal.index_mut-requires
-index_mut-requires c = omega (arith, root_below _ c.self.invariant refl c.args.cell c.args.reference c.args.id (subst (Planned c.args.cell c.args.id c.args.reference) (sym c.self.view_is) c.requires))
+pub set-requires : goal.set-requires
+set-requires c = root_below _ c.self.invariant refl c.args.cell c.args.reference c.args.id (subst (Planned c.args.cell c.args.id c.args.reference) (sym c.self.view_is) c.requires)
 
 pub invariant_of-self : goal.invariant_of-self
-invariant_of-self c = root_heap _ c.self.invariant refl c.args.cell c.args.reference c.args.id (subst (Planned c.args.cell c.args.id c.args.reference) (sym c.self.view_is) c.requires)
+invariant_of-self c = rw c.set.ensures (root_heap _ c.self.invariant refl c.args.cell c.args.reference c.args.id (subst (Planned c.args.cell c.args.id c.args.reference) (sym c.self.view_is) c.requires))
 
 pub returns : goal.returns
 returns c g a =
-    root_each _ c.self.invariant refl c.args.cell c.args.reference c.args.id (subst (Planned c.args.cell c.args.id c.args.reference) (sym c.self.view_is) c.requires)
-    g (subst (λ (x : HeapState). Agrees x g) (sym c.self.view_is) a)
+    rw c.set.ensures (root_each _ c.self.invariant refl c.args.cell c.args.reference c.args.id (subst (Planned c.args.cell c.args.id c.args.reference) (sym c.self.view_is) c.requires)
+    g (subst (λ (x : HeapState). Agrees x g) (sym c.self.view_is) a))

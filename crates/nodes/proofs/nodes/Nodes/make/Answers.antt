@@ -1,5 +1,5 @@
 use Rattle.std.proofs.Common.{arith}
-use Rattle.nodes.proofs.Made.{offset_small, address_small, address_within, words_there, page_by, store_by, adds_by}
+use Rattle.nodes.proofs.Made.{offset_small, address_small, address_within, words_there, page_by, store_by, adds_by, takes_by}
 use Rattle.nodes.proofs.nodes.Nodes.make.Goals as goal
 
 pub overflow_mul-address-2 : goal.overflow_mul-address-2
@@ -22,3 +22,11 @@ returns-clause-made c = adds_by _ _ c.self.view_is c.self.invariant c.args.class
 
 pub returns-clause-within : goal.returns-clause-within
 returns-clause-within c = address_within _ _ c.self.view_is c.self.invariant c.args.class c.in_ok-block.block.page c.in_ok-block.block.index c.size.result c.size.ensures.class c.size.ensures.size c.in_ok-block.ensures.page c.in_ok-block.ensures.«open»
+
+pub returns-clause-taken : goal.returns-clause-taken
+returns-clause-taken c = (
+  c.in_ok-block.block.index,
+  takes_by _ _ c.self.view_is c.args.class c.in_ok-block.block.page c.in_ok-block.block.index _ c.take.new.self c.in_ok-block.ensures.page
+      (page_by _ _ c.self.view_is c.self.invariant c.args.class c.in_ok-block.block.page c.in_ok-block.block.index c.size.result c.size.ensures.class c.size.ensures.size c.in_ok-block.ensures.page c.in_ok-block.ensures.«open»)
+      c.in_ok-block.ensures.«open» c.in_ok-block.ensures.held,
+)

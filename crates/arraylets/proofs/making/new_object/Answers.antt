@@ -1,0 +1,19 @@
+use Rattle.std.proofs.Common.{◌≡◌, ◌-◌, ◌∙◌, ap, sym, subst, get_or, refl}
+use Rattle.size_classes.specs.Parts.{cells_of, parts_in}
+use Rattle.heap_model.specs.Making.{Making, pieces_in}
+use Rattle.heap_model.proofs.Rooms.{first_same}
+use Rattle.arraylets.proofs.Linking.{at_some, pieces_are}
+use Rattle.arraylets.proofs.making.new_object.Goals as goal
+
+pub make_parts-at-requires-clause-room : goal.make_parts-at-requires-clause-room
+make_parts-at-requires-clause-room c = sym (first_same c.args.nodes.now.pages c.args.shape) ∙ c.requires.room
+
+pub returns-clause-made : goal.returns-clause-made
+returns-clause-made c =
+    let parts : c.unwrap-parts.result ≡ cells_of c.args.shape = at_some c.parts_of.result (λ p. p ≡ cells_of c.args.shape) c.unwrap-parts.result c.unwrap-parts.ensures c.parts_of.ensures.some in
+    let pieces : c.count.result - 1 ≡ pieces_in (cells_of c.args.shape) = ap (λ n. n - 1) (c.count.ensures.count ∙ ap parts_in parts) ∙ pieces_are (cells_of c.args.shape) in (
+      λ p. get_or c.make_parts-at.result p 0,
+      refl,
+      subst (λ n. Making c.args.nodes.now c.args.shape c.args.colour c.args.identity (λ p. get_or c.make_parts-at.result p 0) (parts_in (cells_of c.args.shape)) n c.link_pieces.new.nodes) pieces
+          (c.link_pieces.ensures.linked c.args.nodes.now c.args.shape c.args.colour c.args.identity (parts_in (cells_of c.args.shape)) c.make_parts-at.ensures.made),
+    )

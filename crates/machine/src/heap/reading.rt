@@ -1,0 +1,79 @@
+//! How the heap is read: by way of references and forwarding words.
+ghost use Rattle.std.specs.Prelude.{◌≡◌, ◌<◌, true, length, slice_index, IfOk};
+ghost use Rattle.graph_heap.specs.Graph.{Graph};
+ghost use Rattle.graph_heap.specs.Shape.{fits};
+ghost use Rattle.size_classes.specs.Parts.{cells_of, part_cells};
+ghost use Rattle.heap_model.specs.Store.{is_held, node_of};
+ghost use Rattle.heap_model.specs.Agreement.{Agrees};
+ghost use Rattle.machine.specs.Reading.{Names, Finds, FindsRef, FindsWord};
+
+use super::Heap;
+use crate::plan::{Found, FoundRef, FoundWord};
+use arraylets::{part_block, ref_place, word_place};
+use graph_heap::Refusal;
+use nodes::Referent;
+
+impl Heap {
+    /// What a root holds.
+    pub(super) fn held(&self, root: usize) -> Referent
+        requires { root < length self.now.roots }
+        ensures { (g : Graph) → Agrees self.now g → Names self.now g (slice_index g.roots root) result }
+    {
+        self.nodes.resolve(self.roots.get(root))
+    }
+
+    /// The object that a root holds, by its main copy.
+    pub(super) fn object(&self, root: usize) -> Result<Found, Refusal>
+        requires { root < length self.now.roots }
+        ensures finds { (g : Graph) → Agrees self.now g → Finds self.now g (slice_index g.roots root) result }
+        ensures held { IfOk result (λ f. is_held self.now.store f.block ≡ true) }
+        ensures cells { IfOk result (λ f. length (node_of self.now.store f.block).cells ≡ part_cells (cells_of f.shape) 0) }
+        ensures fits { IfOk result (λ f. fits f.shape ≡ true) }
+    {
+        let held = self.held(root);
+        if held.reference == 0 {
+            return Err(Refusal::NullSlot);
+        }
+        let block = held.reference as usize - 1;
+        let shape = self.nodes.shape(block);
+        Ok(Found {
+            block,
+            id: held.identity,
+            shape,
+        })
+    }
+
+    /// Reference cell i of the object that a root holds.
+    pub(super) fn find_ref(&self, root: usize, i: u32) -> Result<FoundRef, Refusal>
+        requires { root < length self.now.roots }
+        ensures { (g : Graph) → Agrees self.now g → FindsRef self.now g (slice_index g.roots root) i result }
+    {
+        let found = self.object(root)?;
+        let place = ref_place(found.shape, i)?;
+        let block = part_block(&self.nodes, found.block, place.part);
+        let value = self.nodes.resolve(self.nodes.cell(block, place.cell));
+        Ok(FoundRef {
+            id: found.id,
+            block,
+            cell: place.cell,
+            value,
+        })
+    }
+
+    /// Word cell i of the object that a root holds.
+    pub(super) fn find_word(&self, root: usize, i: u32) -> Result<FoundWord, Refusal>
+        requires { root < length self.now.roots }
+        ensures { (g : Graph) → Agrees self.now g → FindsWord self.now g (slice_index g.roots root) i result }
+    {
+        let found = self.object(root)?;
+        let place = word_place(found.shape, i)?;
+        let block = part_block(&self.nodes, found.block, place.part);
+        let word = self.nodes.cell(block, place.cell);
+        Ok(FoundWord {
+            id: found.id,
+            block,
+            cell: place.cell,
+            word,
+        })
+    }
+}

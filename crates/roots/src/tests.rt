@@ -1,0 +1,38 @@
+//! Places worked out by hand.
+use super::*;
+use graph_heap::{NoMemory, Refusal};
+use size_classes::{Config, Settings};
+
+#[test]
+fn slots_come_before_statics(rt: HostRuntime) -> Result<(), NoMemory> {
+    let settings = Settings {
+        pages: 1,
+        mutators: 2,
+        slots: 4,
+        statics: 1,
+        identities: 9223372036854775807,
+        defrag_below: 0,
+        defrag_pages: 0,
+        collector_ticks: 10,
+        mutator_ticks: 12,
+        rate: 100,
+    };
+    let Ok(config) = Config::check(&settings) else {
+        panic!(rt; "the settings are good");
+    };
+    let mut roots = Roots::new(rt.alloc(), &config)?;
+    assert_eq!(rt; roots.slot(0, 0), Ok(0));
+    assert_eq!(rt; roots.slot(1, 0), Ok(4));
+    assert_eq!(rt; roots.slot(1, 3), Ok(7));
+    assert_eq!(rt; roots.slot(1, 4), Err(Refusal::BadSlot));
+    assert_eq!(rt; roots.slot(2, 0), Err(Refusal::BadSlot));
+    assert_eq!(rt; roots.static_cell(0), Ok(8));
+    assert_eq!(rt; roots.static_cell(1), Err(Refusal::BadStatic));
+    assert_eq!(rt; roots.cells().len(), 9);
+    assert_eq!(rt; roots.get(8), 0);
+    roots.set(8, 5);
+    assert_eq!(rt; roots.get(8), 5);
+    assert_eq!(rt; roots.get(7), 0);
+    assert_eq!(rt; roots.limits().slots, 4);
+    Ok(())
+}

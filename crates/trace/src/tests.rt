@@ -559,5 +559,13 @@ fn faults_have_their_texts(rt: HostRuntime) -> Result<(), Fail> {
     for (fault, text) in faults {
         assert_eq!(rt; format!(in rt.alloc(); "{fault}")?.as_str(), text);
     }
+    assert_eq!(rt;
+        format!(in rt.alloc(); "{ReadFailed}")?.as_str(),
+        "cannot read"
+    );
+    assert_eq!(rt;
+        format!(in rt.alloc(); "{WriteFailed}")?.as_str(),
+        "cannot write"
+    );
     Ok(())
 }

@@ -10,8 +10,8 @@ use Rattle.heap_model.specs.declared.phase.Phase.{Phase}
 use Rattle.heap_model.specs.declared.phase.Phase.TheVariants as phases
 use Rattle.heap_model.specs.declared.phase.Moving.TheVariants as moves
 use Rattle.heap_model.specs.Block.{Node, with_cell, with_colour}
-use Rattle.heap_model.specs.Pages.{Page, page_at, with_held}
-use Rattle.heap_model.specs.Store.{Store, IsStore, Writes, is_held, size_in, node_of, address_of}
+use Rattle.heap_model.specs.Pages.{ArePages, Page, page_at, with_held}
+use Rattle.heap_model.specs.Store.{Store, Writes, is_held, size_in, node_of, address_of}
 use Rattle.heap_model.specs.Core.{Name, null, PartGraph, Heap, Tracing, shade, set_root, set_cell, free}
 use Rattle.heap_model.specs.Same.{SameBlocks}
 use Rattle.heap_model.specs.Cut.{view}
@@ -225,7 +225,7 @@ sweep_on heap old new page block page' block' grey g s c k =
     record { at = c1.at; base = c1.base; stage = c1.stage }
 
 -- the one block that starts between two places of a page
-between : (s : Store) (page block : ℕ) (p : Page) (z : ℕ) → IsStore s → page_at s.pages page ≡ Some p → block < length p.held → 0 < z → is_held s (z - 1) ≡ true → reference_of s.pages page block ≤ z → z < 2048 * page + (block + 1) * size_in (page_at s.pages page) + 1
+between : (s : Store) (page block : ℕ) (p : Page) (z : ℕ) → ArePages s.pages → page_at s.pages page ≡ Some p → block < length p.held → 0 < z → is_held s (z - 1) ≡ true → reference_of s.pages page block ≤ z → z < 2048 * page + (block + 1) * size_in (page_at s.pages page) + 1
     → (slice_get p.held block ≡ Some true) × (z ≡ address_of p.class page block + 1)
 between s page block p z w e l some held low high =
     let q = held_block s (z - 1) held in
@@ -247,7 +247,7 @@ pub held_behind : (h : HeapState) (z : ℕ) → 0 < z → (seen h).held z ≡ tr
 held_behind h z some l = let e : (z == 0) ≡ false = grind arith in let q : (seen h).held z ≡ is_held h.store (z - 1) = rw e refl in sym q ∙ l
 
 -- a block is looked at, and stays
-pub pass_act : (h : HeapState) (present snapshot : Graph) (page block : ℕ) (p : Page) → IsStore h.store → Consistent h present snapshot → h.phase ≡ phases.Sweeping page block → page_at h.store.pages page ≡ Some p → block < length p.held
+pub pass_act : (h : HeapState) (present snapshot : Graph) (page block : ℕ) (p : Page) → ArePages h.store.pages → Consistent h present snapshot → h.phase ≡ phases.Sweeping page block → page_at h.store.pages page ≡ Some p → block < length p.held
     → (slice_get p.held block ≡ Some true → (seen h).marked (address_of p.class page block + 1) ≡ true) → Consistent (goes_to h 1 (phases.Sweeping page (block + 1))) present snapshot
 pass_act h present snapshot page block p store c e f l marked =
     let c0 = at_phase h (phases.Sweeping page block) (view present) (view snapshot) e c.parts in
@@ -297,7 +297,7 @@ free_whole old new a w k b l =
     let l' : is_held old b ≡ true = sym (w.same b ne) ∙ l in
     subst (λ (z : Node). length z.cells ≡ part_cells (cells_of z.shape) z.part) (sym (w.nodes b ne l')) (k b l')
 
-pub free_act : (h : HeapState) (present snapshot : Graph) (page block : ℕ) (p : Page) (new : Store) → IsStore h.store → Consistent h present snapshot → h.phase ≡ phases.Sweeping page block → page_at h.store.pages page ≡ Some p
+pub free_act : (h : HeapState) (present snapshot : Graph) (page block : ℕ) (p : Page) (new : Store) → ArePages h.store.pages → Consistent h present snapshot → h.phase ≡ phases.Sweeping page block → page_at h.store.pages page ≡ Some p
     → slice_get p.held block ≡ Some true → (seen h).marked (address_of p.class page block + 1) ≡ false → Frees h.store new (address_of p.class page block) → new.pages ≡ set h.store.pages page (Some (with_held p block false))
     → Consistent (goes_to (record h { store = new }) 1 (phases.Sweeping page (block + 1))) present snapshot
 free_act h present snapshot page block p new store c e f was unmarked w pages =
@@ -348,7 +348,7 @@ keeps_whole old new w k b l =
     subst (λ (z : Node). length z.cells ≡ part_cells (cells_of z.shape) z.part) (sym (w.nodes b l')) (k b l')
 
 -- no held block stands on the rest of a page that was looked at
-none_left : (s : Store) (page block z : ℕ) → IsStore s → is_looked_at (page_at s.pages page) block ≡ true → 0 < z → is_held s (z - 1) ≡ true → reference_of s.pages page block ≤ z → z < 2048 * (page + 1) + 1 → ⊥
+none_left : (s : Store) (page block z : ℕ) → ArePages s.pages → is_looked_at (page_at s.pages page) block ≡ true → 0 < z → is_held s (z - 1) ≡ true → reference_of s.pages page block ≤ z → z < 2048 * (page + 1) + 1 → ⊥
 none_left s page block z w e some held low high =
     let q = held_block s (z - 1) held in
     let p = q.0 in
@@ -367,7 +367,7 @@ none_left s page block z w e some held low high =
     less_places : (size i j : ℕ) → 0 < size → i < j → j * size ≤ i * size → ⊥
     less_places size i j s l m = grind arith
 
-pub close_act : (h : HeapState) (present snapshot : Graph) (page block : ℕ) (new : Store) → IsStore h.store → Consistent h present snapshot → h.phase ≡ phases.Sweeping page block → is_looked_at (page_at h.store.pages page) block ≡ true
+pub close_act : (h : HeapState) (present snapshot : Graph) (page block : ℕ) (new : Store) → ArePages h.store.pages → Consistent h present snapshot → h.phase ≡ phases.Sweeping page block → is_looked_at (page_at h.store.pages page) block ≡ true
     → KeepsBlocks h.store new → Consistent (goes_to (record h { store = new }) 1 (phases.Sweeping (page + 1) 0)) present snapshot
 close_act h present snapshot page block new store c e f w =
     let h1 : HeapState = record h { store = new } in

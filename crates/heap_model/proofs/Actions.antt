@@ -2,12 +2,13 @@
 use Rattle.std.proofs.Common.{◌≡◌, ℕ, ◌+◌, ◌-◌, Bool, true, false, not, refl, ◌==◌, if◌then◌else◌}
 use Rattle.graph_heap.specs.Graph.{Graph}
 use Rattle.heap_model.specs.declared.phase.Phase.TheVariants as phases
-use Rattle.heap_model.specs.Store.{IsStore, node_of}
+use Rattle.heap_model.specs.Store.{node_of}
 use Rattle.heap_model.specs.Core.{flip}
 use Rattle.heap_model.specs.Same.{SameBlocks}
 use Rattle.heap_model.specs.Cut.{view}
 use Rattle.heap_model.specs.Collector.{Collector, Coherent}
 use Rattle.heap_model.specs.Collector as collector
+use Rattle.heap_model.specs.Pages.{ArePages}
 use Rattle.heap_model.specs.State.{HeapState, seen, same_colour, collector_by}
 use Rattle.heap_model.specs.Agreement.{Consistent}
 use Rattle.heap_model.specs.Action.{Action, Scans_root, Ends_roots, Scans_header, Scans_cell, Ends_marking, Frees_block, Passes_block, Closes_page, Ends_sweep, Looks_at_page, Chooses_page, Chooses_none, Moves_block, Ends_moving, begun}
@@ -15,7 +16,7 @@ use Rattle.heap_model.proofs.Collector.{begins, same_stands}
 use Rattle.heap_model.proofs.Acting.{at_phase, root_act, roots_end_act, header_act, cell_act, marking_end_act, pass_act, free_act, close_act, sweep_end_act}
 use Rattle.heap_model.proofs.Moved.{pass_on_act, choose_act, move_act, moving_end_act}
 
-pub action_kept : (h after : HeapState) (cost : ℕ) (present snapshot : Graph) → IsStore h.store → Consistent h present snapshot → Action h cost after → Consistent after present snapshot
+pub action_kept : (h after : HeapState) (cost : ℕ) (present snapshot : Graph) → ArePages h.store.pages → Consistent h present snapshot → Action h cost after → Consistent after present snapshot
 action_kept h after cost p s w c (Scans_root next k e l sh) = root_act h k p s next c e l sh
 action_kept h after cost p s w c (Ends_roots next e l) = roots_end_act h p s next c e l
 action_kept h after cost p s w c (Scans_header part cell x front back e f n) = header_act h p s part cell x front back c e f n

@@ -10,8 +10,8 @@ use Rattle.size_classes.specs.Parts.{part_cells, cells_of}
 use Rattle.size_classes.proofs.Table.{size_low}
 use Rattle.heap_model.specs.Header.{header_in}
 use Rattle.heap_model.specs.Block.{node_in}
-use Rattle.heap_model.specs.Pages.{Page, page_at}
-use Rattle.heap_model.specs.Store.{Store, IsStore, size_in, size_at, node_of}
+use Rattle.heap_model.specs.Pages.{ArePages, Page, page_at}
+use Rattle.heap_model.specs.Store.{Store, size_in, size_at, node_of}
 use Rattle.heap_model.specs.State.{HeapState, seen, width_at}
 use Rattle.heap_model.specs.Agreement.{IsWhole}
 use Rattle.heap_model.specs.Units.{LieApart}
@@ -63,7 +63,7 @@ two_apart a b i j size page page' size' e f l lt up same = by_page (nat_lt page 
         let s = sum in
         omega arith
 
-pub lie_apart : (h : HeapState) → IsStore h.store → IsWhole h.store → LieApart (seen h) (size_behind h) (2048 * length h.store.pages)
+pub lie_apart : (h : HeapState) → ArePages h.store.pages → IsWhole h.store → LieApart (seen h) (size_behind h) (2048 * length h.store.pages)
 lie_apart h w whole = record {
   fits = λ x l p.
       let held = held_behind h x p l in

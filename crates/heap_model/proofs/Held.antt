@@ -8,7 +8,7 @@ use Rattle.std.proofs.Math.Nat.{div-mul-le_self, mul-le-mul_right}
 use Rattle.std.proofs.lemmas.Option.{slice_get-get_or, slice_get_within, get_or_from_slice_get}
 use Rattle.size_classes.specs.Sizes.{size_of, blocks_in}
 use Rattle.size_classes.proofs.Table.{size_low}
-use Rattle.heap_model.specs.Pages.{Page, IsPage, page_at}
+use Rattle.heap_model.specs.Pages.{ArePages, Page, IsPage, page_at}
 use Rattle.heap_model.specs.Store.{Store, IsStore, held_in, is_held, address_of}
 
 pub set_page : (pages : List (Option Page)) (k j : ℕ) (v : Option Page) → k < length pages → page_at (set pages k v) j ≡ (if j == k then v else page_at pages j)
@@ -24,8 +24,12 @@ page_within pages k p e = by_size (nat_lt k (length pages)) refl
     by_size true t = grind arith
     by_size false t = absurd (let n : page_at pages k ≡ None = get_or_past pages k None (grind arith) in let q : None ≡ Some p = sym n ∙ e in cc)
 
-pub is_page : (s : Store) (k : ℕ) (p : Page) → IsStore s → page_at s.pages k ≡ Some p → IsPage p
-is_page s k p w e = w.pages k p (slice_get-get_or s.pages k None (page_within s.pages k p e) ∙ ap Some e)
+pub is_page : (s : Store) (k : ℕ) (p : Page) → ArePages s.pages → page_at s.pages k ≡ Some p → IsPage p
+is_page s k p w e = w.each k p e
+
+-- the pages of a store
+pub store_pages : (s : Store) → IsStore s → ArePages s.pages
+store_pages s w = record { each = λ k p e. w.pages k p (slice_get-get_or s.pages k None (page_within s.pages k p e) ∙ ap Some e) }
 
 -- a held block is a block of a page in use
 pub record IsBlockOf (s : Store) (b : ℕ) (p : Page) (i : ℕ) : Type 0 where
@@ -81,7 +85,7 @@ pub index_same : (a i j size : ℕ) → 0 < size → a + j * size ≤ a + i * si
 index_same a i j size s l u = grind arith
 
 -- a flag of a page is its block's
-pub held_at : (s : Store) (page i : ℕ) (p : Page) → IsStore s → page_at s.pages page ≡ Some p → slice_get p.held i ≡ Some true → is_held s (address_of p.class page i) ≡ true
+pub held_at : (s : Store) (page i : ℕ) (p : Page) → ArePages s.pages → page_at s.pages page ≡ Some p → slice_get p.held i ≡ Some true → is_held s (address_of p.class page i) ≡ true
 unfolding is_held
 held_at s page i p w e h =
     let is = is_page s page p w e in

@@ -30,6 +30,7 @@ pub mod Spent
 pub mod Within
 pub mod Turns
 pub mod Placed
+pub mod Marks
 pub mod Opening
 pub mod Making
 pub mod New

@@ -12,8 +12,8 @@ use Rattle.heap_model.specs.declared.phase.Moving.{Moving as Place}
 use Rattle.heap_model.specs.declared.phase.Moving.TheVariants as moves
 use Rattle.heap_model.specs.declared.phase.Candidate.{Candidate}
 use Rattle.heap_model.specs.Block.{Node, with_forward}
-use Rattle.heap_model.specs.Pages.{Page, page_at, with_held, is_usable}
-use Rattle.heap_model.specs.Store.{Store, IsStore, is_held, size_in, node_of, address_of}
+use Rattle.heap_model.specs.Pages.{ArePages, Page, page_at, with_held, is_usable}
+use Rattle.heap_model.specs.Store.{Store, is_held, size_in, node_of, address_of}
 use Rattle.heap_model.specs.Core.{Name, null, PartGraph, Heap, move}
 use Rattle.heap_model.specs.Same.{SameBlocks}
 use Rattle.heap_model.specs.Cut.{view}
@@ -72,7 +72,7 @@ pass_on_act h present snapshot class page best chosen class' page' best' c at =
     let c1 = moves_on (seen h) h.store.pages h.store.pages (moves.Pass class page best chosen) (moves.Pass class' page' best' chosen) h.grey (view present) (view snapshot) c0 (λ x r. r) (λ x q. q) in
     again h (goes_to h 1 (phases.Moving (moves.Pass class' page' best' chosen))) present snapshot c refl refl c.whole c1
 
-chosen_stays : (pages : List (Option Page)) (class : ℕ) (c : Candidate) (p : Page) → is_chosen pages class (Some c) ≡ true → page_at pages c.page ≡ Some p → p.leaving ≡ false
+pub chosen_stays : (pages : List (Option Page)) (class : ℕ) (c : Candidate) (p : Page) → is_chosen pages class (Some c) ≡ true → page_at pages c.page ≡ Some p → p.leaving ≡ false
 chosen_stays pages class c p e at = let q : is_choosable class (page_at pages c.page) ≡ true = first_true _ _ e in by_leaving p.leaving refl (subst (λ z. is_choosable class z ≡ true) at q)
   where
     first_true : (a b : Bool) → (a && b) ≡ true → a ≡ true
@@ -201,7 +201,7 @@ move_whole old new a b w la k c l = by_copy (c == b) refl
     by_copy true t = let e : c ≡ b = grind arith in subst (λ (n : Node). length n.cells ≡ part_cells (cells_of n.shape) n.part) (sym (ap (node_of new) e ∙ w.copy)) (k a la)
     by_copy false t = let ne : c ≢ b = grind arith in by_from (c == a) refl (sym (w.same c ne) ∙ l)
 
-usable_fits : (class : ℕ) (q : Page) → is_usable class (Some q) ≡ true → (q.class ≡ class) × (q.leaving ≡ false)
+pub usable_fits : (class : ℕ) (q : Page) → is_usable class (Some q) ≡ true → (q.class ≡ class) × (q.leaving ≡ false)
 usable_fits class q e = by_class (q.class == class) refl e
   where
     by_leaving : (b : Bool) (o : Bool) → (not b && o) ≡ true → b ≡ false
@@ -230,7 +230,7 @@ still_below page z block i size size' s l r =
     more : (i block : ℕ) → block ≤ i → block ≤ i + 1
     more i block l = omega arith
 
-pub move_act : (h : HeapState) (present snapshot : Graph) (class page block chosen i to j : ℕ) (p q : Page) (new : Store) → IsStore h.store → Consistent h present snapshot → h.phase ≡ phases.Moving (moves.Emptying class page block chosen)
+pub move_act : (h : HeapState) (present snapshot : Graph) (class page block chosen i to j : ℕ) (p q : Page) (new : Store) → ArePages h.store.pages → Consistent h present snapshot → h.phase ≡ phases.Moving (moves.Emptying class page block chosen)
     → page_at h.store.pages page ≡ Some p → p.leaving ≡ true → IsNext p block i → position (is_usable p.class) h.store.pages ≡ Some to → page_at h.store.pages to ≡ Some q → slice_get q.held j ≡ Some false
     → MovesBlock h.store new (address_of p.class page i) (address_of p.class to j) → new.pages ≡ set h.store.pages to (Some (record (with_held q j true) { receiving = true })) → (cost : ℕ)
     → Consistent (goes_to (record h { store = new }) cost (phases.Moving (moves.Emptying class page (i + 1) chosen))) present snapshot

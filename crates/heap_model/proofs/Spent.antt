@@ -12,8 +12,8 @@ use Rattle.heap_model.specs.declared.phase.Phase.TheVariants as phases
 use Rattle.heap_model.specs.declared.phase.Moving.TheVariants as moves
 use Rattle.heap_model.specs.declared.phase.Candidate.{Candidate}
 use Rattle.heap_model.specs.Block.{with_cell}
-use Rattle.heap_model.specs.Pages.{Page, page_at, with_held, free_pages}
-use Rattle.heap_model.specs.Store.{Store, IsStore, Writes, is_held, size_in, size_at, node_of, address_of}
+use Rattle.heap_model.specs.Pages.{ArePages, Page, page_at, with_held, free_pages}
+use Rattle.heap_model.specs.Store.{Store, Writes, is_held, size_in, size_at, node_of, address_of}
 use Rattle.heap_model.specs.Core.{Heap, shade, set_cell, move}
 use Rattle.heap_model.specs.Same.{SameBlocks}
 use Rattle.heap_model.specs.Cut.{view}
@@ -70,13 +70,13 @@ shades_units h k x (Was_marked e) = (refl, refl, refl)
 shades_units h k x (Is_marked new e w) = (refl, refl, w.pages)
 
 -- how much work there can be
-pub marking_bound : (h : HeapState) (present snapshot : Graph) (part cell : ℕ) → IsStore h.store → Consistent h present snapshot → h.phase ≡ phases.Marking part cell → marking_work h ≤ arena_words h + 1
+pub marking_bound : (h : HeapState) (present snapshot : Graph) (part cell : ℕ) → ArePages h.store.pages → Consistent h present snapshot → h.phase ≡ phases.Marking part cell → marking_work h ≤ arena_words h + 1
 unfolding marking_work
 marking_bound h present snapshot part cell w c e =
     let st = stage_at (collector_of h) (view present) (view snapshot) c.parts In_marking (ap (progress_of h.store.pages) e) in
     work_bound (collector_of h) (size_behind h) (arena_words h) st.1 (lie_apart h w c.whole)
 
-pub moving_bound : (h : HeapState) (present snapshot : Graph) → IsStore h.store → Consistent h present snapshot → moving_work h ≤ arena_words h + 1
+pub moving_bound : (h : HeapState) (present snapshot : Graph) → ArePages h.store.pages → Consistent h present snapshot → moving_work h ≤ arena_words h + 1
 unfolding moving_work
 moving_bound h present snapshot w c = gone_bound (seen h) (size_behind h) (arena_words h) refl (lie_apart h w c.whole)
 
@@ -91,7 +91,7 @@ root_within h k next x w l sh =
     (omega arith, omega arith, shades_grey h1 k x sh w.2)
 
 -- a header is scanned
-header_within : (h : HeapState) (present snapshot : Graph) (part cell x : ℕ) (front back : List ℕ) → IsStore h.store → Consistent h present snapshot → h.phase ≡ phases.Marking part cell → cell ≡ (seen h).width part → h.grey ≡ front ++ x ∷ back
+header_within : (h : HeapState) (present snapshot : Graph) (part cell x : ℕ) (front back : List ℕ) → ArePages h.store.pages → Consistent h present snapshot → h.phase ≡ phases.Marking part cell → cell ≡ (seen h).width part → h.grey ≡ front ++ x ∷ back
     → IsWithin h (phases.Marking part cell) → let after = goes_to (record h { grey = front ++ back }) 1 (phases.Marking x 0) in IsWithin after (phases.Marking x 0)
 unfolding marking_work
 header_within h present snapshot part cell x front back w c e f n i =
@@ -137,7 +137,7 @@ cell_blocks h present snapshot part cell new c e l w =
     (blocks, blocks.marked x (scanned_held m (view present) (view snapshot) c0 c0.stage l))
 
 -- a cell is scanned
-cell_within : (h k : HeapState) (present snapshot : Graph) (part cell : ℕ) (new : Store) → IsStore h.store → Consistent h present snapshot → h.phase ≡ phases.Marking part cell → cell < (seen h).width part
+cell_within : (h k : HeapState) (present snapshot : Graph) (part cell : ℕ) (new : Store) → ArePages h.store.pages → Consistent h present snapshot → h.phase ≡ phases.Marking part cell → cell < (seen h).width part
     → Writes h.store new (part - 1) (with_cell (node_of h.store (part - 1)) cell ((seen h).forward ((seen h).cell part cell))) → Shades (record h { store = new }) ((seen h).forward ((seen h).cell part cell)) k
     → IsWithin h (phases.Marking part cell) → IsWithin (goes_to k 1 (phases.Marking part (cell + 1))) (phases.Marking part (cell + 1))
 unfolding marking_work
@@ -176,14 +176,14 @@ cell_within h k present snapshot part cell new w c e l wr sh i =
 few_blocks : (p : Page) (block : ℕ) → 4 ≤ size_of p.class → (block + 1) * size_of p.class ≤ 2048 → block + 1 ≤ 512
 few_blocks p block low within = let m = mul-le-mul_left (block + 1) low in omega arith
 
-block_few : (s : Store) (page block : ℕ) (p : Page) → IsStore s → page_at s.pages page ≡ Some p → block < length p.held → block + 1 ≤ 512
+block_few : (s : Store) (page block : ℕ) (p : Page) → ArePages s.pages → page_at s.pages page ≡ Some p → block < length p.held → block + 1 ≤ 512
 block_few s page block p w e l = let is = is_page s page p w e in few_blocks p block (size_low p.class is.class) (block_within p block is l)
 
-marking_end_within : (h : HeapState) (present snapshot : Graph) (part cell : ℕ) → IsStore h.store → Consistent h present snapshot → h.phase ≡ phases.Marking part cell → IsWithin h (phases.Marking part cell) → IsWithin (goes_to h 1 (phases.Sweeping 0 0)) (phases.Sweeping 0 0)
+marking_end_within : (h : HeapState) (present snapshot : Graph) (part cell : ℕ) → ArePages h.store.pages → Consistent h present snapshot → h.phase ≡ phases.Marking part cell → IsWithin h (phases.Marking part cell) → IsWithin (goes_to h 1 (phases.Sweeping 0 0)) (phases.Sweeping 0 0)
 marking_end_within h present snapshot part cell w c e i = let b = marking_bound h present snapshot part cell w c e in let a = i.0 in (omega arith, omega arith, omega arith)
 
 -- a block is looked at, whether it is freed or not
-look_within : (h : HeapState) (new : Store) (page block : ℕ) (p : Page) → IsStore h.store → page_at h.store.pages page ≡ Some p → block < length p.held → length new.pages ≡ length h.store.pages
+look_within : (h : HeapState) (new : Store) (page block : ℕ) (p : Page) → ArePages h.store.pages → page_at h.store.pages page ≡ Some p → block < length p.held → length new.pages ≡ length h.store.pages
     → IsWithin h (phases.Sweeping page block) → IsWithin (goes_to (record h { store = new }) 1 (phases.Sweeping page (block + 1))) (phases.Sweeping page (block + 1))
 look_within h new page block p w e l pages i = let f = block_few h.store page block p w e l in let a = i.0 in let b = i.2 in (omega arith, f, omega arith)
 
@@ -262,7 +262,7 @@ chooses_within h class page c chosen best p new few last at w pages i =
     (omega arith, few, omega arith)
 
 -- a block is moved
-move_within : (h : HeapState) (present snapshot : Graph) (class page block chosen i to j : ℕ) (p q : Page) (new : Store) → IsStore h.store → Consistent h present snapshot → (a b : ℕ) → is_held h.store a ≡ true → (node_of h.store a).forward ≡ a → size_at h.store a ≡ size_of p.class
+move_within : (h : HeapState) (present snapshot : Graph) (class page block chosen i to j : ℕ) (p q : Page) (new : Store) → ArePages h.store.pages → Consistent h present snapshot → (a b : ℕ) → is_held h.store a ≡ true → (node_of h.store a).forward ≡ a → size_at h.store a ≡ size_of p.class
     → MovesBlock h.store new a b → page_at h.store.pages to ≡ Some q → new.pages ≡ set h.store.pages to (Some (record (with_held q j true) { receiving = true })) → IsWithin h (phases.Moving (moves.Emptying class page block chosen))
     → let z = phases.Moving (moves.Emptying class page (i + 1) chosen) in IsWithin (goes_to (record h { store = new }) (size_of p.class) z) z
 unfolding moving_work
@@ -292,7 +292,7 @@ move_within h present snapshot class page block chosen i to j p q new w c a b he
 more_pages : (a b p : ℕ) → a ≤ b → a * p ≤ b * p
 more_pages a b p l = mul-le-mul_right p l
 
-moving_end_within : (h : HeapState) (present snapshot : Graph) → 0 < length h.store.pages → IsStore h.store → Consistent h present snapshot → MovingDone h → IsWithin h h.phase → IsWithin (goes_to h 1 phases.Idle) phases.Idle
+moving_end_within : (h : HeapState) (present snapshot : Graph) → 0 < length h.store.pages → ArePages h.store.pages → Consistent h present snapshot → MovingDone h → IsWithin h h.phase → IsWithin (goes_to h 1 phases.Idle) phases.Idle
 moving_end_within h present snapshot some w c (No_class page best chosen e) i =
     let v = subst (λ z. IsWithin h z) e i in
     let b = moving_bound h present snapshot w c in
@@ -308,7 +308,7 @@ moving_end_within h present snapshot some w c (No_page class page block chosen p
     omega arith
 
 -- what is moved is a main copy, of its page's size
-moved_main : (h : HeapState) (present snapshot : Graph) (class page block chosen i : ℕ) (p : Page) → IsStore h.store → Consistent h present snapshot → h.phase ≡ phases.Moving (moves.Emptying class page block chosen) → page_at h.store.pages page ≡ Some p → IsNext p block i
+moved_main : (h : HeapState) (present snapshot : Graph) (class page block chosen i : ℕ) (p : Page) → ArePages h.store.pages → Consistent h present snapshot → h.phase ≡ phases.Moving (moves.Emptying class page block chosen) → page_at h.store.pages page ≡ Some p → IsNext p block i
     → let a = address_of p.class page i in (is_held h.store a ≡ true) × ((node_of h.store a).forward ≡ a) × (size_at h.store a ≡ size_of p.class)
 unfolding size_at
 moved_main h present snapshot class page block chosen i p w c e at next =
@@ -331,7 +331,7 @@ moved_main h present snapshot class page block chosen i p w c e at next =
     (held, omega arith, ap (λ z. size_in (page_at h.store.pages z)) page_a ∙ ap size_in at)
 
 -- each action spends what there is room for
-pub within_kept : (h after : HeapState) (cost : ℕ) (present snapshot : Graph) → 0 < length h.store.pages → IsStore h.store → Consistent h present snapshot → IsWithin h h.phase → Action h cost after → IsWithin after after.phase
+pub within_kept : (h after : HeapState) (cost : ℕ) (present snapshot : Graph) → 0 < length h.store.pages → ArePages h.store.pages → Consistent h present snapshot → IsWithin h h.phase → Action h cost after → IsWithin after after.phase
 within_kept h after cost p s some w c i (Scans_root next k e l sh) = root_within h k next _ (subst (λ z. IsWithin h z) e i) l sh
 within_kept h after cost p s some w c i (Ends_roots next e l) = let v = subst (λ z. IsWithin h z) e i in let a = v.0 in let b = v.1 in (omega arith, v.2)
 within_kept h after cost p s some w c i (Scans_header part cell x front back e f n) = header_within h p s part cell x front back w c e f n (subst (λ z. IsWithin h z) e i)
@@ -351,7 +351,7 @@ within_kept h after cost p s some w c i (Moves_block class page block chosen k t
 within_kept h after cost p s some w c i (Ends_moving done) = moving_end_within h p s some w c done i
 
 -- so no more than the limit is ever spent
-pub limit_kept : (h : HeapState) (present snapshot : Graph) → 0 < length h.store.pages → IsStore h.store → Consistent h present snapshot → IsWithin h h.phase → h.units ≤ cycle_limit h
+pub limit_kept : (h : HeapState) (present snapshot : Graph) → 0 < length h.store.pages → ArePages h.store.pages → Consistent h present snapshot → IsWithin h h.phase → h.units ≤ cycle_limit h
 limit_kept h p s some w c i = by_phase h.phase refl i
   where
     by_phase : (q : Phase) → h.phase ≡ q → IsWithin h q → h.units ≤ cycle_limit h

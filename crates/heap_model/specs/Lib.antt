@@ -22,3 +22,4 @@ pub mod Units
 pub mod Spent
 pub mod Placed
 pub mod Room
+pub mod Marks

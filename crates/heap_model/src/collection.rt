@@ -4,10 +4,13 @@ ghost use Rattle.std.specs.Prelude.{◌≡◌, ◌↔◌, ◌⊎◌, ℕ, ◌+�
 ghost use Rattle.graph_heap.specs.Graph.{Graph};
 ghost use Rattle.heap_model.specs.declared.phase.Phase.TheVariants as phases;
 ghost use Rattle.heap_model.specs.declared.phase.Moving.{Moving as Place};
+ghost use Rattle.heap_model.specs.Pages.{ArePages, page_at};
 ghost use Rattle.heap_model.specs.Store.{IsStore};
 ghost use Rattle.heap_model.specs.State.{HeapState};
 ghost use Rattle.heap_model.specs.Agreement.{Consistent};
 ghost use Rattle.heap_model.specs.Action.{Action, Chain, IsTurn, begun};
+ghost use Rattle.heap_model.specs.Placed.{IsPlaced};
+ghost use Rattle.heap_model.specs.Marks.{HasNoMark, AreClosed};
 ghost use Rattle.heap_model.specs.Swept.{IsKept, IsHeld, IsSwept};
 ghost use Rattle.heap_model.specs.Spent.{IsWithin, cycle_limit};
 
@@ -45,4 +48,19 @@ pub fn turns_spend()
     ensures cost { (h after : HeapState) (cost : ℕ) → IsStore h.store → Action h cost after → (0 < cost) × (cost ≤ 256) }
     ensures spent { (h after : HeapState) (spent : ℕ) → Chain h spent after → after.units ≡ h.units + spent }
     ensures ends { (h after : HeapState) (budget spent : ℕ) → IsStore after.store → IsTurn h budget after spent → (after.phase ≡ phases.Idle) ⊎ (budget < spent + 256) }
+{}
+
+/// Each action leaves each page one, and as many of them; the place of the phase fits the pages; and the
+/// pages that a sweep has closed carry no mark.
+pub fn actions_keep_the_place()
+    ensures pages { (h after : HeapState) (cost : ℕ) → ArePages h.store.pages → Action h cost after → ArePages after.store.pages }
+    ensures count { (h after : HeapState) (cost : ℕ) → Action h cost after → length after.store.pages ≡ length h.store.pages }
+    ensures placed { (h after : HeapState) (cost : ℕ) → Action h cost after → IsPlaced after.store.pages after.phase }
+    ensures closed { (h after : HeapState) (cost : ℕ) → AreClosed h.store.pages h.phase → Action h cost after → AreClosed after.store.pages after.phase }
+    ensures begun { (h : HeapState) → IsPlaced (begun h).store.pages (begun h).phase × AreClosed (begun h).store.pages (begun h).phase }
+{}
+
+/// At the end of a sweep no page is leaving or receiving.
+pub fn no_mark_is_left()
+    ensures { (h : HeapState) (page block : ℕ) → AreClosed h.store.pages h.phase → h.phase ≡ phases.Sweeping page block → length h.store.pages ≤ page → (k : ℕ) → HasNoMark (page_at h.store.pages k) }
 {}

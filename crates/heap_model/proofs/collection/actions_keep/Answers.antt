@@ -1,5 +1,6 @@
+use Rattle.heap_model.proofs.Held.{store_pages}
 use Rattle.heap_model.proofs.Actions.{action_kept as it}
 use Rattle.heap_model.proofs.collection.actions_keep.Goals as goal
 
 pub returns : goal.returns
-returns c = it
+returns c = λ h after cost p s w k a. it h after cost p s (store_pages h.store w) k a

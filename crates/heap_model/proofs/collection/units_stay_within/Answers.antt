@@ -1,3 +1,4 @@
+use Rattle.heap_model.proofs.Held.{store_pages}
 use Rattle.heap_model.proofs.Spent.{begun_within as it0}
 use Rattle.heap_model.proofs.Spent.{within_kept as it1}
 use Rattle.heap_model.proofs.Spent.{limit_kept as it2}
@@ -7,7 +8,7 @@ pub returns-clause-begun : goal.returns-clause-begun
 returns-clause-begun c = it0
 
 pub returns-clause-action : goal.returns-clause-action
-returns-clause-action c = it1
+returns-clause-action c = λ h after cost p s some w k i a. it1 h after cost p s some (store_pages h.store w) k i a
 
 pub returns-clause-limit : goal.returns-clause-limit
-returns-clause-limit c = it2
+returns-clause-limit c = λ h p s some w k i. it2 h p s some (store_pages h.store w) k i

@@ -31,6 +31,8 @@ pub mod Within
 pub mod Turns
 pub mod Placed
 pub mod Marks
+pub mod Stood
+pub mod Bound
 pub mod Opening
 pub mod Making
 pub mod New

@@ -16,7 +16,7 @@ use Rattle.heap_model.proofs.Kept.{kept_null, kept_cases, kept_reach, reach_indu
 use Rattle.heap_model.proofs.Barrier.{staged}
 use Rattle.heap_model.proofs.Changes.{no_refs}
 
-page_none : (n k : ℕ) → page_at (replicate n None) k ≡ None
+pub page_none : (n k : ℕ) → page_at (replicate n None) k ≡ None
 page_none n k = let l = length-replicate {A = Option Page} n None in grind (arith, get_or-replicate, get_or_past)
 
 none_held : (h : HeapState) → IsOpening h → (b : ℕ) → is_held h.store b ≡ false

@@ -23,3 +23,5 @@ pub mod Spent
 pub mod Placed
 pub mod Room
 pub mod Marks
+pub mod Standing
+pub mod Bound

@@ -11,3 +11,4 @@ pub mod mutator;
 pub mod phase;
 pub mod reading;
 pub mod room;
+pub mod standing;

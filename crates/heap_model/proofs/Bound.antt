@@ -1,0 +1,116 @@
+-- How many quanta a cycle takes at most.
+use Rattle.std.proofs.Common.{◌≡◌, ℕ, zero, suc, ◌+◌, ◌-◌, ◌*◌, ◌/◌, ◌<◌, ◌≤◌, ◌⊎◌, inl, inr, length, refl, ap, sym, ◌∙◌, subst, arith, length-set}
+use Rattle.std.proofs.Math.Nat.{lt-div-mul-add}
+use Rattle.heap_model.specs.declared.phase.Phase.TheVariants as phases
+use Rattle.heap_model.specs.State.{HeapState}
+use Rattle.heap_model.specs.Action.{Action, Scans_root, Ends_roots, Scans_header, Scans_cell, Ends_marking, Frees_block, Passes_block, Closes_page, Ends_sweep, Looks_at_page, Chooses_page, Chooses_none, Moves_block, Ends_moving, Shades, Was_marked, Is_marked, Chain, Nothing_done, Then}
+use Rattle.heap_model.specs.Spent.{cycle_limit}
+use Rattle.heap_model.specs.Bound.{AreQuanta, most_quanta, OneEnds}
+use Rattle.heap_model.proofs.Spent.{shades_units}
+use Rattle.heap_model.proofs.Marks.{action_count}
+use Rattle.heap_model.proofs.Turns.{chain_units, turn_spends}
+use Rattle.heap_model.proofs.Stood.{stands_chain, stands_limit}
+
+pub shades_defrag : (h k : HeapState) (x : ℕ) → Shades h x k → k.defrag_pages ≡ h.defrag_pages
+shades_defrag h k x (Was_marked e) = refl
+shades_defrag h k x (Is_marked new e w) = refl
+
+pub same_limit : (h after : HeapState) → length after.roots ≡ length h.roots → length after.store.pages ≡ length h.store.pages → after.defrag_pages ≡ h.defrag_pages → cycle_limit after ≡ cycle_limit h
+same_limit h after r p d =
+    let e : (after.defrag_pages + 38) * length after.store.pages ≡ (h.defrag_pages + 38) * length h.store.pages = ap (λ z. (z + 38) * length after.store.pages) d ∙ ap (λ z. (h.defrag_pages + 38) * z) p in
+    omega arith
+
+-- what a cycle may spend stays through actions
+action_defrag : (h after : HeapState) (cost : ℕ) → Action h cost after → (length after.roots ≡ length h.roots) × (after.defrag_pages ≡ h.defrag_pages)
+action_defrag h after cost (Scans_root next k e l sh) = (ap length (shades_units _ k _ sh).1 ∙ length-set h.roots next _, shades_defrag _ k _ sh)
+action_defrag h after cost (Ends_roots next e l) = (refl, refl)
+action_defrag h after cost (Scans_header part cell x front back e f n) = (refl, refl)
+action_defrag h after cost (Scans_cell part cell new k e l w0 sh) = (ap length (shades_units _ k _ sh).1, shades_defrag _ k _ sh)
+action_defrag h after cost (Ends_marking part cell e f n) = (refl, refl)
+action_defrag h after cost (Frees_block page block p new e f was unmarked w0 pages) = (refl, refl)
+action_defrag h after cost (Passes_block page block p e f l marked) = (refl, refl)
+action_defrag h after cost (Closes_page page block new e l f w0 pages) = (refl, refl)
+action_defrag h after cost (Ends_sweep page block e l) = (refl, refl)
+action_defrag h after cost (Looks_at_page class page best chosen at few more) = (refl, refl)
+action_defrag h after cost (Chooses_page class page best chosen c p new at few last is good there w0 pages) = (refl, refl)
+action_defrag h after cost (Chooses_none class page best chosen at few last is) = (refl, refl)
+action_defrag h after cost (Moves_block class page block chosen i to j p q new e at leaving next place there empty w0 pages) = (refl, refl)
+action_defrag h after cost (Ends_moving done) = (refl, refl)
+
+pub chain_limit : (h after : HeapState) (spent : ℕ) → Chain h spent after → cycle_limit after ≡ cycle_limit h
+chain_limit h after spent Nothing_done = refl
+chain_limit h after spent (Then u cost j k chain action) =
+    let d = action_defrag j k cost action in
+    same_limit j k d.0 (action_count j k cost action) d.1 ∙ chain_limit h j u chain
+
+-- what n quanta spend, each at least d
+spent_more : (n d before after spent : ℕ) → n * d ≤ before → after ≡ before + spent → d ≤ spent → (n + 1) * d ≤ after
+spent_more n d before after spent l e m = let s : (n + 1) * d ≡ n * d + d = grind arith in omega arith
+
+too_much : (limit d units : ℕ) → 0 < d → (limit / d + 1) * d ≤ units → units ≤ limit → ⊥
+too_much limit d units some l m =
+    let s : (limit / d + 1) * d ≡ limit / d * d + d = grind arith in
+    let r : limit < limit / d * d + d = lt-div-mul-add some in
+    omega arith
+
+at_least : (k budget spent : ℕ) → k ≤ budget → budget < spent + 256 → k - 255 ≤ spent
+at_least k budget spent l m = omega arith
+
+module _ (h : HeapState) (k count : ℕ) (before after : ℕ → HeapState) (budget spent : ℕ → ℕ) (w : AreQuanta h k count before after budget spent) where
+  -- the units before a quantum, and what may be spent
+  at_first : ((before 0).units ≡ 0) × (cycle_limit (before 0) ≡ cycle_limit h)
+  at_first = (w.first.units, w.first.limit)
+
+  -- a quantum that doesn't end in idle
+  after_turn : (i : ℕ) → i < count → ((after i).phase ≡ phases.Idle) ⊎ ((k - 255 ≤ spent i) × ((after i).units ≡ (before i).units + spent i))
+  after_turn i l =
+      let s = w.stands i l in
+      let t = w.turn i l in
+      let v = stands_chain (before i) (after i) (spent i) s.0 s.1 s.2 t.chain in
+      elim (turn_spends (before i) (after i) (budget i) (spent i) v.pages t) [
+        | inl e ↦ inl e
+        | inr m ↦ inr (at_least k (budget i) (spent i) (w.enough i l) m, chain_units (before i) (after i) (spent i) t.chain)
+      ]
+
+  -- what may be spent stays
+  limit_stays : (i : ℕ) → i < count → cycle_limit (after i) ≡ cycle_limit h
+  limit_stays zero l = chain_limit (before 0) (after 0) (spent 0) (w.turn 0 l).chain ∙ at_first.1
+  limit_stays (suc i) l =
+      let m : i + 1 < count = omega arith in
+      let e : suc i ≡ i + 1 = omega arith in
+      subst (λ z. cycle_limit (after z) ≡ cycle_limit h) (sym e)
+      (chain_limit (before (i + 1)) (after (i + 1)) (spent (i + 1)) (w.turn (i + 1) m).chain ∙ (w.next i m).limit ∙ limit_stays i (omega arith))
+
+  -- the units after the first quanta, if none of them ended in idle
+  spent_by : (i : ℕ) → i < count → OneEnds (i + 1) after ⊎ ((i + 1) * (k - 255) ≤ (after i).units)
+  spent_by zero l = elim (after_turn 0 l) [
+    | inl e ↦ inl (0, omega arith, e)
+    | inr m ↦ inr (spent_more 0 (k - 255) (before 0).units (after 0).units (spent 0) (omega arith) m.1 m.0)
+  ]
+  spent_by (suc i) l =
+      let m : i + 1 < count = omega arith in
+      let e : suc i ≡ i + 1 = omega arith in
+      subst (λ z. OneEnds (z + 1) after ⊎ ((z + 1) * (k - 255) ≤ (after z).units)) (sym e)
+      (elim (spent_by i (omega arith)) [
+        | inl o ↦ inl (o.0, (let n = o.1 in omega arith), o.2)
+        | inr n ↦ elim (after_turn (i + 1) m) [
+          | inl f ↦ inl (i + 1, omega arith, f)
+          | inr u ↦ inr (spent_more (i + 1) (k - 255) (before (i + 1)).units (after (i + 1)).units (spent (i + 1)) (let b = (w.next i m).units in omega arith) u.1 u.0)
+        ]
+      ])
+
+pub quanta_end : (h : HeapState) (k : ℕ) (before after : ℕ → HeapState) (budget spent : ℕ → ℕ) → 256 ≤ k → AreQuanta h k (most_quanta h k) before after budget spent → OneEnds (most_quanta h k) after
+quanta_end h k before after budget spent l w =
+    let last = cycle_limit h / (k - 255) in
+    let m : last < last + 1 = omega arith in
+    elim (spent_by h k (last + 1) before after budget spent w last m) [
+      | inl o ↦ o
+      | inr n ↦ absurd (
+          let s = w.stands last m in
+          let t = w.turn last m in
+          let v = stands_chain (before last) (after last) (spent last) s.0 s.1 s.2 t.chain in
+          let b = stands_limit (after last) s.0 s.1 v in
+          let e = limit_stays h k (last + 1) before after budget spent w last m in
+          let c : (after last).units ≤ cycle_limit h = subst (λ z. (after last).units ≤ z) e b in
+          too_much (cycle_limit h) (k - 255) (after last).units (omega arith) n c)
+    ]

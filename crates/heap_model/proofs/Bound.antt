@@ -44,16 +44,16 @@ chain_limit h after spent (Then u cost j k chain action) =
     same_limit j k d.0 (action_count j k cost action) d.1 ∙ chain_limit h j u chain
 
 -- what n quanta spend, each at least d
-spent_more : (n d before after spent : ℕ) → n * d ≤ before → after ≡ before + spent → d ≤ spent → (n + 1) * d ≤ after
+pub spent_more : (n d before after spent : ℕ) → n * d ≤ before → after ≡ before + spent → d ≤ spent → (n + 1) * d ≤ after
 spent_more n d before after spent l e m = let s : (n + 1) * d ≡ n * d + d = grind arith in omega arith
 
-too_much : (limit d units : ℕ) → 0 < d → (limit / d + 1) * d ≤ units → units ≤ limit → ⊥
+pub too_much : (limit d units : ℕ) → 0 < d → (limit / d + 1) * d ≤ units → units ≤ limit → ⊥
 too_much limit d units some l m =
     let s : (limit / d + 1) * d ≡ limit / d * d + d = grind arith in
     let r : limit < limit / d * d + d = lt-div-mul-add some in
     omega arith
 
-at_least : (k budget spent : ℕ) → k ≤ budget → budget < spent + 256 → k - 255 ≤ spent
+pub at_least : (k budget spent : ℕ) → k ≤ budget → budget < spent + 256 → k - 255 ≤ spent
 at_least k budget spent l m = omega arith
 
 module _ (h : HeapState) (k count : ℕ) (before after : ℕ → HeapState) (budget spent : ℕ → ℕ) (w : AreQuanta h k count before after budget spent) where

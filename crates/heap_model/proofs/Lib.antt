@@ -33,6 +33,11 @@ pub mod Placed
 pub mod Marks
 pub mod Stood
 pub mod Bound
+pub mod Recorded
+pub mod Taken
+pub mod Changed
+pub mod Left
+pub mod Course
 pub mod Opening
 pub mod Making
 pub mod New

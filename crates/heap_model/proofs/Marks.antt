@@ -17,7 +17,7 @@ use Rattle.heap_model.proofs.Moved.{same_number, usable_fits}
 use Rattle.heap_model.proofs.Spent.{shades_units}
 
 -- the pages with another in the place of one
-pages_put : (old new : List (Option Page)) (k : ℕ) (v : Option Page) → k < length old → new ≡ set old k v → ArePages old → ((p : Page) → v ≡ Some p → IsPage p) → ArePages new
+pub pages_put : (old new : List (Option Page)) (k : ℕ) (v : Option Page) → k < length old → new ≡ set old k v → ArePages old → ((p : Page) → v ≡ Some p → IsPage p) → ArePages new
 pages_put old new k v l e w is = record { each = λ j p at. by_place j p (j == k) (sym (ap (λ z. page_at z j) e ∙ set_page old k j v l) ∙ at) }
   where
     by_place : (j : ℕ) (p : Page) (t : Bool) → (if t then v else page_at old j) ≡ Some p → IsPage p
@@ -27,10 +27,10 @@ pages_put old new k v l e w is = record { each = λ j p at. by_place j p (j == k
 pub pages_same : (old new : List (Option Page)) → new ≡ old → ArePages old → ArePages new
 pages_same old new e w = subst ArePages (sym e) w
 
-some_page : (q : Page) → IsPage q → (p : Page) → Some q ≡ Some p → IsPage p
+pub some_page : (q : Page) → IsPage q → (p : Page) → Some q ≡ Some p → IsPage p
 some_page q w p e = subst IsPage (same_Some q p e) w
 
-held_page : (p : Page) (i : ℕ) (b : Bool) → IsPage p → IsPage (with_held p i b)
+pub held_page : (p : Page) (i : ℕ) (b : Bool) → IsPage p → IsPage (with_held p i b)
 held_page p i b w = record { class = w.class; blocks = length-set p.held i b ∙ w.blocks; marks = w.marks }
 
 no_and : (b : Bool) → (b && false) ≡ false

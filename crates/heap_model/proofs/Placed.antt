@@ -32,7 +32,7 @@ pages_then a b c f g = record {
         let w = f.free k r e m in
         (sym (ap (λ (z : Page). z.leaving) same) ∙ s.2.leaving ∙ w.0, sym (ap (λ (z : Page). z.receiving) same) ∙ s.2.receiving ∙ w.1)
 
-page_for_within : (pages : List (Option Page)) (class k : ℕ) → page_for pages class ≡ Some k → k < length pages
+pub page_for_within : (pages : List (Option Page)) (class k : ℕ) → page_for pages class ≡ Some k → k < length pages
 page_for_within pages class k e = by_usable (position (is_usable class) pages) refl e
   where
     by_usable : (o : Option ℕ) → position (is_usable class) pages ≡ o → first_of o (position is_free pages) ≡ Some k → k < length pages

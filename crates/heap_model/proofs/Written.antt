@@ -117,7 +117,7 @@ unfolding width_in is_cut
 width_le refs words p = grind arith
 
 -- the reference cells of a part are among its cells
-column_within : (h : HeapState) (present snapshot : Graph) (c : Consistent h present snapshot) (a : ℕ) (n : Name) → Kept (length h.roots) (view snapshot) (view present) n → IsMain (seen h) (a + 1) n
+pub column_within : (h : HeapState) (present snapshot : Graph) (c : Consistent h present snapshot) (a : ℕ) (n : Name) → Kept (length h.roots) (view snapshot) (view present) n → IsMain (seen h) (a + 1) n
     → n.part < count_of (object_of present.objects n.identity) → (width_at (node_of h.store a) ≡ width_of (object_of present.objects n.identity) n.part) × (width_at (node_of h.store a) ≤ length (node_of h.store a).cells)
 unfolding count_of
 column_within h present snapshot c a n k i l =

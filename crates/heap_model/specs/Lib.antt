@@ -25,3 +25,7 @@ pub mod Room
 pub mod Marks
 pub mod Standing
 pub mod Bound
+pub mod Taking
+pub mod Change
+pub mod Event
+pub mod Left

@@ -1,12 +1,13 @@
 //! The laws of a heap that stands for two graph heaps, that at present and that when the last cycle
 //! began. Each function does nothing: its contract is the law.
-ghost use Rattle.std.specs.Prelude.{◌≡◌, ℕ, ◌<◌, ◌≤◌, true, false, length};
+ghost use Rattle.std.specs.Prelude.{◌≡◌, ◌⊎◌, ℕ, ◌+◌, ◌<◌, ◌≤◌, true, false, length};
 ghost use Rattle.graph_heap.specs.Graph.{Graph, opening};
 ghost use Rattle.heap_model.specs.declared.phase.Phase.TheVariants as phases;
 ghost use Rattle.heap_model.specs.Pages.{page_at};
 ghost use Rattle.heap_model.specs.State.{HeapState};
+ghost use Rattle.heap_model.specs.Agreement.{Agrees};
 ghost use Rattle.heap_model.specs.Opening.{IsOpening};
-ghost use Rattle.heap_model.specs.Action.{Action, Chain, begun};
+ghost use Rattle.heap_model.specs.Action.{Action, Chain, IsTurn, begun};
 ghost use Rattle.heap_model.specs.Swept.{IsSwept};
 ghost use Rattle.heap_model.specs.Spent.{cycle_limit};
 ghost use Rattle.heap_model.specs.Marks.{HasNoMark};
@@ -33,4 +34,16 @@ pub fn sweeps_end()
 /// After a cycle began, one of the first quanta ends in idle, whatever mutators do between them.
 pub fn cycles_end()
     ensures { (h : HeapState) (k : ℕ) (before after : ℕ → HeapState) (budget spent : ℕ → ℕ) → 256 ≤ k → AreQuanta h k (most_quanta h k) before after budget spent → OneEnds (most_quanta h k) after }
+{}
+
+/// A turn of a heap that stands ends in idle, or leaves fewer than 256 units of its budget.
+pub fn turns_end()
+    ensures { (h after : HeapState) (budget spent : ℕ) (present snapshot : Graph) → Stands h present snapshot → IsTurn h budget after spent → (after.phase ≡ phases.Idle) ⊎ (budget < spent + 256) }
+{}
+
+/// The collector changes nothing that a caller can see: whatever graph heap the heap agrees with, it
+/// agrees with it after each chain of actions and each beginning of a cycle.
+pub fn collecting_shows_nothing()
+    ensures chain { (h after : HeapState) (spent : ℕ) (present snapshot g : Graph) → Stands h present snapshot → Chain h spent after → Agrees h g → Agrees after g }
+    ensures begun { (h : HeapState) (present snapshot g : Graph) → Stands h present snapshot → h.phase ≡ phases.Idle → Agrees h g → Agrees (begun h) g }
 {}

@@ -1,0 +1,132 @@
+-- A change that the heap does keeps what holds of it.
+use Rattle.std.proofs.Common.{◌≡◌, ℕ, ◌+◌, ◌<◌, true, List, length, get_or, set, refl, subst, sym, ◌∙◌, inr, arith}
+use Rattle.std.specs.Prelude.{Option}
+use Rattle.graph_heap.specs.declared.command.Shape.{Shape}
+use Rattle.graph_heap.specs.declared.command.Change.{Change}
+use Rattle.graph_heap.specs.declared.command.Change.TheVariants as changes
+use Rattle.graph_heap.specs.Shape.{fits}
+use Rattle.graph_heap.specs.Graph.{Graph, object_of, changed}
+use Rattle.graph_heap.specs.Reach.{Reaches}
+use Rattle.size_classes.specs.Parts.{cells_of, parts_in}
+use Rattle.heap_model.specs.Block.{with_cell}
+use Rattle.heap_model.specs.Pages.{Page, ArePages}
+use Rattle.heap_model.specs.Store.{Store, Writes, node_of}
+use Rattle.heap_model.specs.Core.{Name}
+use Rattle.heap_model.specs.Agree.{IsMain, Reads}
+use Rattle.heap_model.specs.Cut.{name_of, count_of, part_in, column_in, width_of, part_at, column_at}
+use Rattle.heap_model.specs.State.{HeapState, seen, width_at}
+use Rattle.heap_model.specs.Agreement.{Consistent}
+use Rattle.heap_model.specs.Making.{MakesObject}
+use Rattle.heap_model.specs.Alike.{IsFounded}
+use Rattle.heap_model.specs.Written.{IsKnown, IsRecorded}
+use Rattle.heap_model.specs.Spent.{DoesMore}
+use Rattle.heap_model.specs.Placed.{KeepsPages, IsPlaced}
+use Rattle.heap_model.specs.Marks.{AreClosed}
+use Rattle.heap_model.specs.Standing.{Stands}
+use Rattle.heap_model.specs.Taking.{Takes}
+use Rattle.heap_model.specs.Change.{Records, HasCell, place_of, DoesChange, Does_nothing, Does_root, Does_ref, Does_word, Does_new}
+use Rattle.heap_model.proofs.Cut.{part_below, column_below}
+use Rattle.heap_model.proofs.Agreements.{consistent_agrees, part_kept}
+use Rattle.heap_model.proofs.Sameness.{known_root, known_ref}
+use Rattle.heap_model.proofs.Shown.{main_copy, ref_shown}
+use Rattle.heap_model.proofs.Written.{cells_sum, column_within, root_written, ref_written, word_written}
+use Rattle.heap_model.proofs.New.{new_written}
+use Rattle.heap_model.proofs.Within.{more_within, root_more, ref_more, word_more, new_more}
+use Rattle.heap_model.proofs.Placed.{pages_same, place_stays}
+use Rattle.heap_model.proofs.Marks.{taken_placed, taken_closed}
+use Rattle.heap_model.proofs.Taken.{takes_pages, takes_keep, takes_count, sizes_stay}
+use Rattle.heap_model.proofs.Recorded.{records_stay, records_cells, records_main, records_recorded, records_kept, records_more}
+
+-- a heap with the same place, that has done no less, goes on to stand
+pub stands_on : (h k : HeapState) (present snapshot present' : Graph) → Stands h present snapshot → Consistent k present' snapshot → ArePages k.store.pages → KeepsPages h.store.pages k.store.pages → DoesMore h k → Stands k present' snapshot
+stands_on h k p s p' w c pages keeps more = record {
+  pages = pages;
+  some = (let a = more.pages in let b = w.some in omega arith);
+  consistent = c;
+  within = more_within h k more w.within;
+  placed = subst (IsPlaced k.store.pages) (sym more.phase) (taken_placed h.store.pages k.store.pages h.phase w.placed keeps);
+  closed = subst (AreClosed k.store.pages) (sym more.phase) (taken_closed h.store.pages k.store.pages h.phase w.closed keeps);
+}
+
+pub same_pages : (old new : List (Option Page)) → new ≡ old → KeepsPages old new
+same_pages old new e = subst (λ z. KeepsPages old z) (sym e) (pages_same old)
+
+pub stands_same : (h k : HeapState) (present snapshot present' : Graph) → Stands h present snapshot → Consistent k present' snapshot → k.store.pages ≡ h.store.pages → DoesMore h k → Stands k present' snapshot
+stands_same h k p s p' w c e more = stands_on h k p s p' w c (subst ArePages (sym e) w.pages) (same_pages h.store.pages k.store.pages e) more
+
+-- the barrier
+pub stands_records : (h k : HeapState) (present snapshot : Graph) (x v : ℕ) → Stands h present snapshot → Records h x k → IsKnown present v → Reads (seen h) x (name_of v) → Stands k present snapshot
+stands_records h k p s x v w r known reads = stands_same h k p s p w (records_kept h k p s x v w.consistent r known reads) (records_stay h k x r).pages (records_more h k x r)
+
+-- what a root holds
+root_reads : (h : HeapState) (present snapshot : Graph) (j : ℕ) → Consistent h present snapshot → j < length h.roots → Reads (seen h) (get_or h.roots j 0) (name_of (get_or present.roots j 0))
+root_reads h p s j c l = (consistent_agrees h p s c).root j l
+
+stands_root : (h k : HeapState) (present snapshot : Graph) (cell id y : ℕ) → Stands h present snapshot → cell < length present.roots → IsKnown present id → Records h (get_or h.roots cell 0) k → IsMain (seen h) y (name_of id)
+    → Stands (record k { roots = set k.roots cell y }) (changed present (changes.Root cell id)) snapshot
+stands_root h k p s cell id y w l known r i =
+    let c = w.consistent in
+    let low : cell < length h.roots = subst (λ z. cell < z) (sym c.present_row) l in
+    let reads = root_reads h p s cell c low in
+    let v = stands_records h k p s (get_or h.roots cell 0) (get_or p.roots cell 0) w r (known_root p cell l) reads in
+    let stay = records_stay h k _ r in
+    let low' : cell < length k.roots = subst (λ z. cell < length z) (sym stay.roots) low in
+    let recorded = subst (λ z. IsRecorded k (get_or z cell 0)) (sym stay.roots) (records_recorded h k _ _ r reads) in
+    let c1 = root_written k p s cell y id v.consistent low' recorded known (records_main h k _ y (name_of id) r i) in
+    stands_same k (record k { roots = set k.roots cell y }) p s (changed p (changes.Root cell id)) v c1 refl (root_more k cell y)
+
+-- a reference cell
+stands_ref : (h k : HeapState) (present snapshot : Graph) (id i value address y : ℕ) (new : Store) → Stands h present snapshot → Reaches present id → i < length (object_of present.objects id).refs → IsKnown present value
+    → HasCell h present id i address → Records h (get_or (node_of h.store address).cells (place_of present id i) 0) k → IsMain (seen h) y (name_of value)
+    → Writes k.store new address (with_cell (node_of k.store address) (place_of present id i) y) → Stands (record k { store = new }) (changed present (changes.Ref id i value)) snapshot
+stands_ref h k p s id i value address y new w reaches l known at r main writes =
+    let c = w.consistent in
+    let o = object_of p.objects id in
+    let a = consistent_agrees h p s c in
+    let copy = main_copy h address _ at in
+    let reads = ref_shown h p id i address a reaches l copy in
+    let v = stands_records h k p s _ (get_or o.refs i 0) w r (known_ref p id i (inr reaches) l) reads in
+    let cells = records_cells h k _ address r copy.held in
+    let at' = records_main h k _ (address + 1) _ r at in
+    let recorded = subst (λ z. IsRecorded k (get_or z (place_of p id i) 0)) (sym cells) (records_recorded h k _ _ r reads) in
+    let c1 = ref_written k p s new address y id i value v.consistent reaches l at' recorded known (records_main h k _ y (name_of value) r main) writes in
+    let sum = cells_sum o (c.cells id) in
+    let below : part_at o i < count_of o = part_below o i l in
+    let n : Name = record { identity = id; part = part_at o i } in
+    let at'' : IsMain (seen k) (address + 1) n = subst (λ z. IsMain (seen k) (address + 1) (record { identity = id; part = part_in z i })) (sym sum) at' in
+    let within = column_within k p s v.consistent address n (part_kept k p s v.consistent id (part_at o i) reaches below) at'' below in
+    let column : column_at o i < width_of o (part_at o i) = column_below o i l in
+    let column' : column_at o i < width_at (node_of k.store address) = subst (λ z. column_at o i < z) (sym within.0) column in
+    let wide : place_of p id i < width_at (node_of k.store address) = subst (λ z. column_in z i < width_at (node_of k.store address)) sum column' in
+    let inside : place_of p id i < length (node_of k.store address).cells = (let e = within.1 in omega arith) in
+    stands_same k (record k { store = new }) p s (changed p (changes.Ref id i value)) v c1 writes.pages (ref_more k new address (place_of p id i) y writes inside wide)
+
+-- a new object
+stands_new : (h k : HeapState) (present snapshot : Graph) (cell id : ℕ) (shape : Shape) (new : Store) (at : ℕ → ℕ) → Stands h present snapshot → cell < length present.roots → id ≡ length present.objects + 1 → fits shape ≡ true
+    → Records h (get_or h.roots cell 0) k → MakesObject k.store shape k.sense k.next at new → Takes (cells_of shape) k.store.pages (parts_in (cells_of shape)) new.pages
+    → Stands (record k { store = new; next = k.next + 1; roots = set k.roots cell (at 0 + 1) }) (changed present (changes.New cell id shape)) snapshot
+stands_new h k p s cell id shape new at w l same f r makes takes =
+    let c = w.consistent in
+    let low : cell < length h.roots = subst (λ z. cell < z) (sym c.present_row) l in
+    let reads = root_reads h p s cell c low in
+    let v = stands_records h k p s (get_or h.roots cell 0) (get_or p.roots cell 0) w r (known_root p cell l) reads in
+    let stay = records_stay h k _ r in
+    let low' : cell < length k.roots = subst (λ z. cell < length z) (sym stay.roots) low in
+    let recorded = subst (λ z. IsRecorded k (get_or z cell 0)) (sym stay.roots) (records_recorded h k _ _ r reads) in
+    let keeps = takes_keep (cells_of shape) k.store.pages (parts_in (cells_of shape)) new.pages takes in
+    let count = takes_count (cells_of shape) k.store.pages (parts_in (cells_of shape)) new.pages takes in
+    let c1 = new_written k p s new at cell shape v.consistent f low' recorded makes (place_stays k.store.pages new.pages k.phase v.placed keeps) in
+    let next : k.next ≡ id = (consistent_agrees k p s v.consistent).next ∙ sym same in
+    let c2 = subst (λ z. Consistent (record k { store = new; next = k.next + 1; roots = set k.roots cell (at 0 + 1) }) (changed p (changes.New cell z shape)) s) next c1 in
+    let more = new_more k new at cell shape f v.consistent.whole makes count (sizes_stay k.store new keeps) in
+    stands_on k (record k { store = new; next = k.next + 1; roots = set k.roots cell (at 0 + 1) }) p s (changed p (changes.New cell id shape)) v c2
+    (takes_pages (cells_of shape) k.store.pages (parts_in (cells_of shape)) new.pages v.pages takes) keeps more
+
+-- each change of what is there
+pub stands_changed : (h after : HeapState) (present snapshot : Graph) (c : Change) → Stands h present snapshot → IsFounded present c → DoesChange h present c after → Stands after (changed present c) snapshot
+stands_changed h after p s c w f Does_nothing = w
+stands_changed h after p s c w f (Does_root cell id y k r i) = stands_root h k p s cell id y w f.0 f.1 r i
+stands_changed h after p s c w f (Does_ref id i value address y k new at r main writes) = stands_ref h k p s id i value address y new w f.0 f.2 f.3 at r main writes
+stands_changed h after p s c w f (Does_word id i word address new at writes) =
+    stands_same h (record h { store = new }) p s (changed p (changes.Word id i word)) w (word_written h p s new address id i word w.consistent f.0 f.2 at writes) writes.pages (word_more h new address (place_of p id i) word writes)
+stands_changed h after p s c w f (Does_new cell id shape k new at r makes takes) = stands_new h k p s cell id shape new at w f.0 f.1 f.2 r makes takes

@@ -1,0 +1,72 @@
+-- A change leaves the cycle where it stood.
+use Rattle.std.proofs.Common.{◌≡◌, ◌≢◌, ℕ, ◌+◌, Bool, true, false, List, length, set, refl, ap, sym, ◌∙◌, arith, length-set, ◌==◌}
+use Rattle.graph_heap.specs.declared.command.Shape.{Shape}
+use Rattle.graph_heap.specs.declared.command.Change.{Change}
+use Rattle.graph_heap.specs.Graph.{Graph}
+use Rattle.size_classes.specs.Parts.{cells_of, parts_in}
+use Rattle.heap_model.specs.Store.{Store, is_held}
+use Rattle.heap_model.specs.State.{HeapState}
+use Rattle.heap_model.specs.Making.{Making, Nothing_made, Part_made, Piece_linked}
+use Rattle.heap_model.specs.Change.{DoesChange, Does_nothing, Does_root, Does_ref, Does_word, Does_new}
+use Rattle.heap_model.specs.Left.{LeavesCycle}
+use Rattle.heap_model.proofs.Seen.{held_pages}
+use Rattle.heap_model.proofs.Moved.{same_number}
+use Rattle.heap_model.proofs.Placed.{pages_then}
+use Rattle.heap_model.proofs.Bound.{same_limit}
+use Rattle.heap_model.proofs.Taken.{takes_keep, takes_count}
+use Rattle.heap_model.proofs.Changed.{same_pages}
+use Rattle.heap_model.proofs.Recorded.{Stays, records_stay}
+
+adds_held : (s t : Store) (a b : ℕ) → is_held s a ≡ false → ((b : ℕ) → b ≢ a → is_held t b ≡ is_held s b) → is_held s b ≡ true → is_held t b ≡ true
+adds_held s t a b free same held = by_here (b == a) refl
+  where
+    by_here : (w : Bool) → (b == a) ≡ w → is_held t b ≡ true
+    by_here true e = let here : b ≡ a = same_number b a e in absurd (let z : false ≡ true = sym free ∙ sym (ap (is_held s) here) ∙ held in cc)
+    by_here false e = let ne : b ≢ a = grind arith in same b ne ∙ held
+
+making_held : (old : Store) (shape : Shape) (colour : Bool) (id : ℕ) (at : ℕ → ℕ) (k l : ℕ) (new : Store) → Making old shape colour id at k l new → (b : ℕ) → is_held old b ≡ true → is_held new b ≡ true
+making_held old shape colour id at k l new Nothing_made b held = held
+making_held old shape colour id at k l new (Part_made parts s t making w) b held = adds_held s t (at parts) b w.free w.same (making_held old shape colour id at parts 0 s making b held)
+making_held old shape colour id at k l new (Piece_linked parts linked s t making w) b held = held_pages s t b w.pages ∙ making_held old shape colour id at parts linked s making b held
+
+-- behind the barrier, and after a write of a cell
+written_left : (h k : HeapState) (new : Store) (roots : List ℕ) → Stays h k → new.pages ≡ k.store.pages → length roots ≡ length k.roots → LeavesCycle h (record k { store = new; roots = roots })
+written_left h k new roots s e r = record {
+  phase = s.phase;
+  units = s.units;
+  limit = same_limit h (record k { store = new; roots = roots }) (r ∙ ap length s.roots) (ap length (e ∙ s.pages)) s.defrag;
+  sense = s.sense;
+  pages = same_pages h.store.pages new.pages (e ∙ s.pages);
+  held = λ b l. held_pages h.store new b (e ∙ s.pages) ∙ l;
+  grey = s.grey;
+}
+
+same_left : (h : HeapState) (new : Store) → new.pages ≡ h.store.pages → LeavesCycle h (record h { store = new })
+same_left h new e = record {
+  phase = refl;
+  units = refl;
+  limit = same_limit h (record h { store = new }) refl (ap length e) refl;
+  sense = refl;
+  pages = same_pages h.store.pages new.pages e;
+  held = λ b l. held_pages h.store new b e ∙ l;
+  grey = λ x g. g;
+}
+
+pub change_left : (h after : HeapState) (g : Graph) (c : Change) → DoesChange h g c after → LeavesCycle h after
+change_left h after g c Does_nothing = same_left h h.store refl
+change_left h after g c (Does_root cell id y k r i) = written_left h k k.store (set k.roots cell y) (records_stay h k _ r) refl (length-set k.roots cell y)
+change_left h after g c (Does_ref id i value address y k new at r main writes) = written_left h k new k.roots (records_stay h k _ r) writes.pages refl
+change_left h after g c (Does_word id i word address new at writes) = same_left h new writes.pages
+change_left h after g c (Does_new cell id shape k new at r makes takes) =
+    let s = records_stay h k _ r in
+    let keeps = takes_keep (cells_of shape) k.store.pages (parts_in (cells_of shape)) new.pages takes in
+    let count = takes_count (cells_of shape) k.store.pages (parts_in (cells_of shape)) new.pages takes in
+    record {
+      phase = s.phase;
+      units = s.units;
+      limit = same_limit h (record k { store = new; next = k.next + 1; roots = set k.roots cell (at 0 + 1) }) (length-set k.roots cell (at 0 + 1) ∙ ap length s.roots) (count ∙ ap length s.pages) s.defrag;
+      sense = s.sense;
+      pages = pages_then h.store.pages k.store.pages new.pages (same_pages h.store.pages k.store.pages s.pages) keeps;
+      held = λ b l. making_held k.store shape k.sense k.next at _ _ new makes b (held_pages h.store k.store b s.pages ∙ l);
+      grey = s.grey;
+    }

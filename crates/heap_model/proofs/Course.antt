@@ -11,7 +11,7 @@ use Rattle.graph_heap.specs.declared.command.Change.{Change}
 use Rattle.graph_heap.specs.declared.command.Change.TheVariants as changes
 use Rattle.graph_heap.specs.Graph.{Graph, opening, changed, root_cells}
 use Rattle.graph_heap.specs.Effect.{effect_of, settled, next_of}
-use Rattle.graph_heap.specs.History.{after, IsLegal}
+use Rattle.graph_heap.specs.History.{after, after_entry, IsLegal, IsEntryOf}
 use Rattle.graph_heap.proofs.Histories.{after-push, IsLegal-push, IsEntryOf-step}
 use Rattle.heap_model.specs.declared.phase.Phase.{Phase}
 use Rattle.heap_model.specs.declared.phase.Phase.TheVariants as phases
@@ -38,61 +38,85 @@ changed-limits g (changes.Word id i v) = refl
 changed-limits g (changes.New cell id shape) = refl
 
 -- what a command changes is there
-founded : (g : Graph) (room : Bool) (m : ℕ) (c : Command) → length g.roots ≡ root_cells g.limits → IsFounded g (change_by room g m c)
+pub founded : (g : Graph) (room : Bool) (m : ℕ) (c : Command) → length g.roots ≡ root_cells g.limits → IsFounded g (change_by room g m c)
 founded g room m c row = by_effect (effect_of room g m c) refl
   where
     by_effect : (x : Result (Reply × Change) Refusal) → effect_of room g m c ≡ x → IsFounded g (settled x).1
     by_effect (Ok x) e = effect_founded g room m c x row e
     by_effect (Err n) e = tt
 
-present_row : (h : HeapState) (present snapshot : Graph) → Consistent h present snapshot → length present.roots ≡ root_cells present.limits
+pub present_row : (h : HeapState) (present snapshot : Graph) → Consistent h present snapshot → length present.roots ≡ root_cells present.limits
 present_row h p s c = sym c.present_row ∙ c.row ∙ ap root_cells c.limits
 
--- the command of an entry
-enters_course : (r new : Course) (m : ℕ) (c : Command) (reply : Reply) → IsCourse r → Enters r m c reply new → IsCourse new
-unfolding next_of
-enters_course r new m c reply w e =
-    let g = present_of r in
-    let room = room_for r.heap c in
-    let k : Entry = record { mutator = m; command = c; reply = reply } in
-    let s = stands_changed r.heap new.heap g (snapshot_of r) (change_by room g m c) w.stands (founded g room m c (present_row r.heap g (snapshot_of r) w.stands.consistent)) e.change in
-    let limits : new.heap.limits ≡ r.heap.limits = s.consistent.limits ∙ changed-limits g (change_by room g m c) ∙ sym w.stands.consistent.limits in
-    let step = IsEntryOf-step g k room (sym e.replies) in
-    let there : after (opening r.heap.limits) new.history ≡ next_of room g m c = ap (after (opening r.heap.limits)) e.history ∙ after-push (opening r.heap.limits) r.history k ∙ step.1 in
-    let now : present_of new ≡ next_of room g m c = ap (λ z. after (opening z) new.history) limits ∙ there in
-    let first : take new.place new.history ≡ take r.place r.history = ap (λ z. take z new.history) e.place ∙ ap (take r.place) e.history ∙ take-append-le r.place r.history (k ∷ []) w.place in
-    let then : snapshot_of new ≡ snapshot_of r = ap (λ z. after (opening z) (take new.place new.history)) limits ∙ ap (after (opening r.heap.limits)) first in
-    let longer : length new.history ≡ length r.history + 1 = ap length e.history ∙ length-append r.history (k ∷ []) in
-    let s1 = subst (λ z. Stands new.heap z (snapshot_of r)) (sym now) s in
-    record {
-      stands = subst (λ z. Stands new.heap (present_of new) z) (sym then) s1;
-      legal = subst (λ z. IsLegal (opening z) new.history) (sym limits) (subst (IsLegal (opening r.heap.limits)) (sym e.history) (IsLegal-push (opening r.heap.limits) r.history k w.legal step.0));
-      place = (let p = w.place in let q = e.place in omega arith);
-    }
+-- where the history of a command leads
+module _ (r new : Course) (m : ℕ) (c : Command) (reply : Reply) (w : IsCourse r) (e : Enters r m c reply new) where
+  abbrev pub change : Change
+  change = change_by (room_for r.heap c) (present_of r) m c
+
+  abbrev pub entry : Entry
+  entry = record { mutator = m; command = c; reply = reply }
+
+  pub enters_stands : Stands new.heap (changed (present_of r) change) (snapshot_of r)
+  enters_stands = stands_changed r.heap new.heap (present_of r) (snapshot_of r) change w.stands (founded (present_of r) (room_for r.heap c) m c (present_row r.heap (present_of r) (snapshot_of r) w.stands.consistent)) e.change
+
+  enters_limits : new.heap.limits ≡ r.heap.limits
+  enters_limits = enters_stands.consistent.limits ∙ changed-limits (present_of r) change ∙ sym w.stands.consistent.limits
+
+  enters_step : IsEntryOf (present_of r) entry × (after_entry (present_of r) entry ≡ next_of (room_for r.heap c) (present_of r) m c)
+  enters_step = IsEntryOf-step (present_of r) entry (room_for r.heap c) (sym e.replies)
+
+  pub enters_present : present_of new ≡ changed (present_of r) change
+  unfolding next_of
+  enters_present = ap (λ z. after (opening z) new.history) enters_limits ∙ ap (after (opening r.heap.limits)) e.history ∙ after-push (opening r.heap.limits) r.history entry ∙ enters_step.1
+
+  enters_first : take new.place new.history ≡ take r.place r.history
+  enters_first = ap (λ z. take z new.history) e.place ∙ ap (take r.place) e.history ∙ take-append-le r.place r.history (entry ∷ []) w.place
+
+  enters_snapshot : snapshot_of new ≡ snapshot_of r
+  enters_snapshot = ap (λ z. after (opening z) (take new.place new.history)) enters_limits ∙ ap (after (opening r.heap.limits)) enters_first
+
+  pub enters_course : IsCourse new
+  enters_course =
+      let longer : length new.history ≡ length r.history + 1 = ap length e.history ∙ length-append r.history (entry ∷ []) in
+      let s1 = subst (λ z. Stands new.heap z (snapshot_of r)) (sym enters_present) enters_stands in
+      record {
+        stands = subst (λ z. Stands new.heap (present_of new) z) (sym enters_snapshot) s1;
+        legal = subst (λ z. IsLegal (opening z) new.history) (sym enters_limits) (subst (IsLegal (opening r.heap.limits)) (sym e.history) (IsLegal-push (opening r.heap.limits) r.history entry w.legal enters_step.0));
+        place = (let p = w.place in let q = e.place in omega arith);
+      }
+
+-- a beginning
+pub begins_present : (r new : Course) → Begins r new → present_of new ≡ present_of r
+begins_present r new b = ap (λ z. after (opening z) new.history) (ap (λ (z : HeapState). z.limits) b.heap) ∙ ap (after (opening r.heap.limits)) b.history
 
 begins_course : (r new : Course) → IsCourse r → Begins r new → IsCourse new
 begins_course r new w b =
     let s = stands_begun r.heap (present_of r) (snapshot_of r) w.stands b.idle in
     let limits : new.heap.limits ≡ r.heap.limits = ap (λ (z : HeapState). z.limits) b.heap in
-    let now : present_of new ≡ present_of r = ap (λ z. after (opening z) new.history) limits ∙ ap (after (opening r.heap.limits)) b.history in
     let all : take new.place new.history ≡ r.history = ap (λ z. take z new.history) b.place ∙ ap (take (length r.history)) b.history ∙ take-length r.history in
     let then : snapshot_of new ≡ present_of r = ap (λ z. after (opening z) (take new.place new.history)) limits ∙ ap (after (opening r.heap.limits)) all in
     let s1 = subst (λ z. Stands z (present_of r) (present_of r)) (sym b.heap) s in
-    let s2 = subst (λ z. Stands new.heap z (present_of r)) (sym now) s1 in
+    let s2 = subst (λ z. Stands new.heap z (present_of r)) (sym (begins_present r new b)) s1 in
     record {
       stands = subst (λ z. Stands new.heap (present_of new) z) (sym then) s2;
       legal = subst (λ z. IsLegal (opening z) new.history) (sym limits) (subst (IsLegal (opening r.heap.limits)) (sym b.history) w.legal);
       place = (let p = b.place in let q = ap length b.history in omega arith);
     }
 
+-- a quantum
+collects_limits : (r new : Course) (budget units : ℕ) (phase : Phase) → IsCourse r → Collects r budget units phase new → new.heap.limits ≡ r.heap.limits
+collects_limits r new budget units phase w k = (stands_chain r.heap new.heap units (present_of r) (snapshot_of r) w.stands k.turn.chain).consistent.limits ∙ sym w.stands.consistent.limits
+
+pub collects_present : (r new : Course) (budget units : ℕ) (phase : Phase) → IsCourse r → Collects r budget units phase new → present_of new ≡ present_of r
+collects_present r new budget units phase w k = ap (λ z. after (opening z) new.history) (collects_limits r new budget units phase w k) ∙ ap (after (opening r.heap.limits)) k.history
+
 collects_course : (r new : Course) (budget units : ℕ) (phase : Phase) → IsCourse r → Collects r budget units phase new → IsCourse new
 collects_course r new budget units phase w k =
     let s = stands_chain r.heap new.heap units (present_of r) (snapshot_of r) w.stands k.turn.chain in
-    let limits : new.heap.limits ≡ r.heap.limits = s.consistent.limits ∙ sym w.stands.consistent.limits in
-    let now : present_of new ≡ present_of r = ap (λ z. after (opening z) new.history) limits ∙ ap (after (opening r.heap.limits)) k.history in
+    let limits = collects_limits r new budget units phase w k in
     let first : take new.place new.history ≡ take r.place r.history = ap (λ z. take z new.history) k.place ∙ ap (take r.place) k.history in
     let then : snapshot_of new ≡ snapshot_of r = ap (λ z. after (opening z) (take new.place new.history)) limits ∙ ap (after (opening r.heap.limits)) first in
-    let s1 = subst (λ z. Stands new.heap z (snapshot_of r)) (sym now) s in
+    let s1 = subst (λ z. Stands new.heap z (snapshot_of r)) (sym (collects_present r new budget units phase w k)) s in
     record {
       stands = subst (λ z. Stands new.heap (present_of new) z) (sym then) s1;
       legal = subst (λ z. IsLegal (opening z) new.history) (sym limits) (subst (IsLegal (opening r.heap.limits)) (sym k.history) w.legal);

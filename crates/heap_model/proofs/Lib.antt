@@ -38,6 +38,7 @@ pub mod Taken
 pub mod Changed
 pub mod Left
 pub mod Course
+pub mod Freed
 pub mod Opening
 pub mod Making
 pub mod New

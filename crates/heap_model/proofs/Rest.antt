@@ -66,7 +66,7 @@ held_kept h present snapshot c a k e =
     kept_identity snapshot present n grows some k'
 
 -- what is kept is held
-kept_held : (h : HeapState) (present snapshot : Graph) (c : Consistent h present snapshot) (id : ℕ) → IsKept present snapshot id → IsHeld h present id
+pub kept_held : (h : HeapState) (present snapshot : Graph) (c : Consistent h present snapshot) (id : ℕ) → IsKept present snapshot id → IsHeld h present id
 kept_held h present snapshot c id k part l =
     let n : Name = record { identity = id; part = part } in
     let b = c.parts.base in

@@ -133,7 +133,7 @@ agrees_alike h f g p a = record {
 }
 
 -- what can be reached after a change was there before, or is the new object
-after_root : (f : Graph) (j v : ℕ) → j < length f.roots → IsKnown f v → (id : ℕ) → Reaches (changed f (changes.Root j v)) id → IsKnown f id
+pub after_root : (f : Graph) (j v : ℕ) → j < length f.roots → IsKnown f v → (id : ℕ) → Reaches (changed f (changes.Root j v)) id → IsKnown f id
 after_root f j v l k = reaches_induction (changed f (changes.Root j v)) (λ z. IsKnown f z)
     (λ i b. let b' : i < length f.roots = subst (λ z. i < z) (length-set f.roots j v) b in subst (λ z. IsKnown f z) (sym (read-set f.roots j v i l)) (by_here i b' (i == j)))
     (λ from i q b. known_ref f from i q b)
@@ -142,7 +142,7 @@ after_root f j v l k = reaches_induction (changed f (changes.Root j v)) (λ z. I
     by_here i b true = k
     by_here i b false = known_root f i b
 
-after_put : (f : Graph) (id : ℕ) (o : Object) → 0 < id → id ≤ length f.objects → ((i : ℕ) → i < length o.refs → IsKnown f (get_or o.refs i 0)) → (k : ℕ) → Reaches (record f { objects = put_object f.objects id o }) k → IsKnown f k
+pub after_put : (f : Graph) (id : ℕ) (o : Object) → 0 < id → id ≤ length f.objects → ((i : ℕ) → i < length o.refs → IsKnown f (get_or o.refs i 0)) → (k : ℕ) → Reaches (record f { objects = put_object f.objects id o }) k → IsKnown f k
 after_put f id o p l refs = reaches_induction (record f { objects = put_object f.objects id o }) (λ z. IsKnown f z) (known_root f)
     (λ from i q b. by_here from i q (from == id) refl b)
   where
@@ -156,7 +156,7 @@ after_put f id o p l refs = reaches_induction (record f { objects = put_object f
         let there : object_of (put_object f.objects id o) from ≡ object_of f.objects from = object-put_other f.objects id o from p ne in
         subst (λ (z : Object). IsKnown f (get_or z.refs i 0)) (sym there) (known_ref f from i q (subst (λ (z : Object). i < length z.refs) there b))
 
-after_new : (f : Graph) (j : ℕ) (shape : Shape) → j < length f.roots → (id : ℕ) → Reaches (changed f (changes.New j (length f.objects + 1) shape)) id → (IsKnown f id) ⊎ (id ≡ length f.objects + 1)
+pub after_new : (f : Graph) (j : ℕ) (shape : Shape) → j < length f.roots → (id : ℕ) → Reaches (changed f (changes.New j (length f.objects + 1) shape)) id → (IsKnown f id) ⊎ (id ≡ length f.objects + 1)
 after_new f j shape l = reaches_induction (changed f (changes.New j (length f.objects + 1) shape)) (λ z. (IsKnown f z) ⊎ (z ≡ length f.objects + 1))
     (λ i b. let b' : i < length f.roots = subst (λ z. i < z) (length-set f.roots j (length f.objects + 1)) b in subst (λ z. (IsKnown f z) ⊎ (z ≡ length f.objects + 1)) (sym (read-set f.roots j (length f.objects + 1) i l)) (by_here i b' (i == j)))
     (λ from i q b. by_new from i q (from == length f.objects + 1) refl b)
@@ -186,7 +186,7 @@ put_alike f g id o p a some l e k q = by_here (k == id) refl
         ap (object_of (put_object f.objects id o)) same ∙ object-put_same f.objects id o some l ∙ e ∙ sym (object-put_same g.objects id p some l') ∙ sym (ap (object_of (put_object g.objects id p)) same)
     by_here false t = let ne : k ≢ id = grind arith in object-put_other f.objects id o k some ne ∙ object_known f g a k q ∙ sym (object-put_other g.objects id p k some ne)
 
-reach_some : (g : Graph) (id : ℕ) → Reaches g id → 0 < id
+pub reach_some : (g : Graph) (id : ℕ) → Reaches g id → 0 < id
 unfolding Reaches
 reach_some g id r = r.0
 

@@ -1,8 +1,9 @@
 -- A heap goes on to stand through actions, chains and beginnings.
-use Rattle.std.proofs.Common.{◌≡◌, ℕ, ◌<◌, ◌≤◌, true, false, length, ap, subst, sym, ◌∙◌, arith}
+use Rattle.std.proofs.Common.{refl, ◌≡◌, ℕ, ◌<◌, ◌≤◌, true, false, length, ap, subst, sym, ◌∙◌, arith}
 use Rattle.std.specs.Prelude.{Some, None}
 use Rattle.graph_heap.specs.Graph.{Graph, opening}
 use Rattle.heap_model.specs.declared.phase.Phase.TheVariants as phases
+use Rattle.heap_model.specs.declared.phase.Moving.TheVariants as moves
 use Rattle.heap_model.specs.Pages.{page_at}
 use Rattle.heap_model.specs.State.{HeapState}
 use Rattle.heap_model.specs.Opening.{IsOpening}
@@ -75,3 +76,28 @@ sweep_change h after cost p s w (Chooses_none class page best chosen (After_page
 sweep_change h after cost p s w (Moves_block class page block chosen i to j q r new e at leaving next place there empty w0 pages) on off = absurd (let z : true ≡ false = sym on ∙ ap is_sweeping e in cc)
 sweep_change h after cost p s w (Ends_moving (No_class page best chosen e)) on off = absurd (let z : true ≡ false = sym on ∙ ap is_sweeping e in cc)
 sweep_change h after cost p s w (Ends_moving (No_page class page block chosen q e at done less)) on off = absurd (let z : true ≡ false = sym on ∙ ap is_sweeping e in cc)
+
+-- idle does nothing
+idle_rests : (h after : HeapState) (cost : ℕ) → Action h cost after → h.phase ≡ phases.Idle → ⊥
+idle_rests h after cost (Scans_root next k e l sh) i = let z : phases.Idle ≡ phases.Roots next = sym i ∙ e in cc
+idle_rests h after cost (Ends_roots next e l) i = let z : phases.Idle ≡ phases.Roots next = sym i ∙ e in cc
+idle_rests h after cost (Scans_header part cell x front back e f n) i = let z : phases.Idle ≡ phases.Marking part cell = sym i ∙ e in cc
+idle_rests h after cost (Scans_cell part cell new k e l w0 sh) i = let z : phases.Idle ≡ phases.Marking part cell = sym i ∙ e in cc
+idle_rests h after cost (Ends_marking part cell e f n) i = let z : phases.Idle ≡ phases.Marking part cell = sym i ∙ e in cc
+idle_rests h after cost (Frees_block page block q new e f was unmarked w0 pages) i = let z : phases.Idle ≡ phases.Sweeping page block = sym i ∙ e in cc
+idle_rests h after cost (Passes_block page block q e f l marked) i = let z : phases.Idle ≡ phases.Sweeping page block = sym i ∙ e in cc
+idle_rests h after cost (Closes_page page block new e l f w0 pages) i = let z : phases.Idle ≡ phases.Sweeping page block = sym i ∙ e in cc
+idle_rests h after cost (Ends_sweep page block e l) i = let z : phases.Idle ≡ phases.Sweeping page block = sym i ∙ e in cc
+idle_rests h after cost (Looks_at_page class page best chosen (In_pass class0 page0 best0 chosen0 e) few more) i = let z : phases.Idle ≡ phases.Moving (moves.Pass class page best chosen) = sym i ∙ e in cc
+idle_rests h after cost (Looks_at_page class page best chosen (After_page class0 page0 block chosen0 q e at l done less) few more) i = let z : phases.Idle ≡ phases.Moving (moves.Emptying class page0 block chosen) = sym i ∙ e in cc
+idle_rests h after cost (Chooses_page class page best chosen b q new (In_pass class0 page0 best0 chosen0 e) few last is good there w0 pages) i = let z : phases.Idle ≡ phases.Moving (moves.Pass class page best chosen) = sym i ∙ e in cc
+idle_rests h after cost (Chooses_page class page best chosen b q new (After_page class0 page0 block chosen0 r e at l done less) few last is good there w0 pages) i = let z : phases.Idle ≡ phases.Moving (moves.Emptying class page0 block chosen) = sym i ∙ e in cc
+idle_rests h after cost (Chooses_none class page best chosen (In_pass class0 page0 best0 chosen0 e) few last is) i = let z : phases.Idle ≡ phases.Moving (moves.Pass class page best chosen) = sym i ∙ e in cc
+idle_rests h after cost (Chooses_none class page best chosen (After_page class0 page0 block chosen0 r e at l done less) few last is) i = let z : phases.Idle ≡ phases.Moving (moves.Emptying class page0 block chosen) = sym i ∙ e in cc
+idle_rests h after cost (Moves_block class page block chosen k to j q r new e at leaving next place there empty w0 pages) i = let z : phases.Idle ≡ phases.Moving (moves.Emptying class page block chosen) = sym i ∙ e in cc
+idle_rests h after cost (Ends_moving (No_class page best chosen e)) i = let z : phases.Idle ≡ phases.Moving (moves.Pass 38 page best chosen) = sym i ∙ e in cc
+idle_rests h after cost (Ends_moving (No_page class page block chosen q e at done less)) i = let z : phases.Idle ≡ phases.Moving (moves.Emptying class page block chosen) = sym i ∙ e in cc
+
+pub idle_chain : (h after : HeapState) (spent : ℕ) → Chain h spent after → h.phase ≡ phases.Idle → (after ≡ h) × (spent ≡ 0)
+idle_chain h after spent Nothing_done i = (refl, refl)
+idle_chain h after spent (Then u cost j k chain action) i = absurd (idle_rests j k cost action (ap (λ (z : HeapState). z.phase) (idle_chain h j u chain i).0 ∙ i))

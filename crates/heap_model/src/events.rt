@@ -3,6 +3,7 @@
 ghost use Rattle.std.specs.Prelude.{◌≡◌, ◌↔◌, ◌⊎◌, ℕ, ◌<◌, ◌≤◌, List, [], length};
 ghost use Rattle.graph_heap.specs.declared.command.Change.{Change};
 ghost use Rattle.graph_heap.specs.Graph.{Graph, changed};
+ghost use Rattle.graph_heap.specs.Reach.{Reaches};
 ghost use Rattle.heap_model.specs.declared.phase.Phase.TheVariants as phases;
 ghost use Rattle.heap_model.specs.declared.phase.Moving.{Moving as Place};
 ghost use Rattle.heap_model.specs.State.{HeapState};
@@ -48,4 +49,12 @@ pub fn courses_hold()
 /// between them.
 pub fn quanta_suffice()
     ensures { (r start new : Course) (k : ℕ) (es : List Event) → 256 ≤ k → IsCourse r → Begins r start → Runs start es new → HaveBudgets k es → most_quanta r.heap k ≤ quanta_in es → OneIsLast es }
+{}
+
+/// What can be reached is kept, and held: so what was freed can't be reached. And it comes never back:
+/// whatever events follow, of the objects that were made before they reach none that wasn't reached.
+pub fn freed_is_unreachable()
+    ensures kept { (r : Course) (id : ℕ) → IsCourse r → Reaches (present_of r) id → IsKept (present_of r) (snapshot_of r) id }
+    ensures held { (r : Course) (id : ℕ) → IsCourse r → Reaches (present_of r) id → IsHeld r.heap (present_of r) id }
+    ensures never_back { (es : List Event) (r new : Course) (id : ℕ) → IsCourse r → Runs r es new → id ≤ length (present_of r).objects → Reaches (present_of new) id → Reaches (present_of r) id }
 {}

@@ -36,9 +36,11 @@ pub fn cycles_end()
     ensures { (h : HeapState) (k : ℕ) (before after : ℕ → HeapState) (budget spent : ℕ → ℕ) → 256 ≤ k → AreQuanta h k (most_quanta h k) before after budget spent → OneEnds (most_quanta h k) after }
 {}
 
-/// A turn of a heap that stands ends in idle, or leaves fewer than 256 units of its budget.
+/// A turn of a heap that stands ends in idle, or leaves fewer than 256 units of its budget. In idle it
+/// spends nothing, and nothing changes.
 pub fn turns_end()
-    ensures { (h after : HeapState) (budget spent : ℕ) (present snapshot : Graph) → Stands h present snapshot → IsTurn h budget after spent → (after.phase ≡ phases.Idle) ⊎ (budget < spent + 256) }
+    ensures idle { (h after : HeapState) (budget spent : ℕ) → h.phase ≡ phases.Idle → IsTurn h budget after spent → (after ≡ h) × (spent ≡ 0) }
+    ensures ends { (h after : HeapState) (budget spent : ℕ) (present snapshot : Graph) → Stands h present snapshot → IsTurn h budget after spent → (after.phase ≡ phases.Idle) ⊎ (budget < spent + 256) }
 {}
 
 /// The collector changes nothing that a caller can see: whatever graph heap the heap agrees with, it

@@ -22,6 +22,7 @@ use Rattle.heap_model.specs.Opening.{IsOpening}
 use Rattle.heap_model.specs.Spent.{cycle_limit}
 use Rattle.heap_model.specs.Standing.{Stands}
 use Rattle.heap_model.specs.Bound.{most_quanta}
+use Rattle.heap_model.specs.Change.{DoesChange}
 use Rattle.heap_model.specs.Event.{Course, present_of, snapshot_of, room_for, change_by, Enters, Begins, Collects, Event, Command_done, Cycle_begun, Cycle_on, Quantum_done, Quantum_refused, Does, Runs, IsCourse, quanta_in, HaveBudgets, OneIsLast}
 use Rattle.heap_model.proofs.Effects.{effect_founded}
 use Rattle.heap_model.proofs.Turns.{chain_units, turn_spends}
@@ -47,6 +48,10 @@ founded g room m c row = by_effect (effect_of room g m c) refl
 
 pub present_row : (h : HeapState) (present snapshot : Graph) → Consistent h present snapshot → length present.roots ≡ root_cells present.limits
 present_row h p s c = sym c.present_row ∙ c.row ∙ ap root_cells c.limits
+
+pub stands_command : (h after : HeapState) (present snapshot : Graph) (room : Bool) (m : ℕ) (c : Command) → Stands h present snapshot → DoesChange h present (change_by room present m c) after → Stands after (next_of room present m c) snapshot
+unfolding next_of
+stands_command h after p s room m c w d = stands_changed h after p s (change_by room p m c) w (founded p room m c (present_row h p s w.consistent)) d
 
 -- where the history of a command leads
 module _ (r new : Course) (m : ℕ) (c : Command) (reply : Reply) (w : IsCourse r) (e : Enters r m c reply new) where

@@ -1,8 +1,10 @@
 //! The laws of events: what a command, a beginning of a cycle and a quantum keep, in any order. Each
 //! function does nothing: its contract is the law.
-ghost use Rattle.std.specs.Prelude.{◌≡◌, ◌↔◌, ◌⊎◌, ℕ, ◌<◌, ◌≤◌, List, [], length};
+ghost use Rattle.std.specs.Prelude.{◌≡◌, ◌↔◌, ◌⊎◌, ℕ, ◌<◌, ◌≤◌, Bool, List, [], length};
 ghost use Rattle.graph_heap.specs.declared.command.Change.{Change};
+ghost use Rattle.graph_heap.specs.declared.command.Command.{Command};
 ghost use Rattle.graph_heap.specs.Graph.{Graph, changed};
+ghost use Rattle.graph_heap.specs.Effect.{next_of};
 ghost use Rattle.graph_heap.specs.Reach.{Reaches};
 ghost use Rattle.heap_model.specs.declared.phase.Phase.TheVariants as phases;
 ghost use Rattle.heap_model.specs.declared.phase.Moving.{Moving as Place};
@@ -16,7 +18,7 @@ ghost use Rattle.heap_model.specs.Spent.{cycle_limit};
 ghost use Rattle.heap_model.specs.Standing.{Stands};
 ghost use Rattle.heap_model.specs.Bound.{most_quanta};
 ghost use Rattle.heap_model.specs.Change.{DoesChange};
-ghost use Rattle.heap_model.specs.Event.{Course, Event, present_of, snapshot_of, Begins, Does, Runs, IsCourse, quanta_in, HaveBudgets, OneIsLast};
+ghost use Rattle.heap_model.specs.Event.{Course, Event, present_of, snapshot_of, change_by, Begins, Does, Runs, IsCourse, quanta_in, HaveBudgets, OneIsLast};
 ghost use Rattle.heap_model.specs.Left.{LeavesCycle};
 
 /// Each change of what is there keeps what holds of the heap, with the same change of the graph heap at
@@ -24,6 +26,12 @@ ghost use Rattle.heap_model.specs.Left.{LeavesCycle};
 pub fn changes_stand()
     ensures stands { (h after : HeapState) (present snapshot : Graph) (c : Change) → Stands h present snapshot → IsFounded present c → DoesChange h present c after → Stands after (changed present c) snapshot }
     ensures cycle { (h after : HeapState) (present : Graph) (c : Change) → DoesChange h present c after → LeavesCycle h after }
+{}
+
+/// A command's change is one of what is there. So a heap that does it goes on to stand, for the graph heap
+/// after the command.
+pub fn commands_stand()
+    ensures { (h after : HeapState) (present snapshot : Graph) (room : Bool) (m : ℕ) (c : Command) → Stands h present snapshot → DoesChange h present (change_by room present m c) after → Stands after (next_of room present m c) snapshot }
 {}
 
 /// A new heap has the empty history. Each event keeps that the history is legal, and that the heap stands

@@ -8,7 +8,8 @@ use Rattle.heap_model.specs.Spent.{cycle_limit}
 use Rattle.heap_model.specs.Bound.{AreQuanta, most_quanta, OneEnds}
 use Rattle.heap_model.proofs.Spent.{shades_units}
 use Rattle.heap_model.proofs.Marks.{action_count}
-use Rattle.heap_model.proofs.Turns.{chain_units, turn_spends}
+use Rattle.heap_model.proofs.Turns.{chain_units}
+use Rattle.heap_model.proofs.Costs.{turn_left}
 use Rattle.heap_model.proofs.Stood.{stands_chain, stands_limit}
 
 pub shades_defrag : (h k : HeapState) (x : ℕ) → Shades h x k → k.defrag_pages ≡ h.defrag_pages
@@ -67,7 +68,7 @@ module _ (h : HeapState) (k count : ℕ) (before after : ℕ → HeapState) (bud
       let s = w.stands i l in
       let t = w.turn i l in
       let v = stands_chain (before i) (after i) (spent i) s.0 s.1 s.2 t.chain in
-      elim (turn_spends (before i) (after i) (budget i) (spent i) v.pages t) [
+      elim (turn_left (before i) (after i) (budget i) (spent i) v.pages t) [
         | inl e ↦ inl e
         | inr m ↦ inr (at_least k (budget i) (spent i) (w.enough i l) m, chain_units (before i) (after i) (spent i) t.chain)
       ]

@@ -25,7 +25,8 @@ use Rattle.heap_model.specs.Bound.{most_quanta}
 use Rattle.heap_model.specs.Change.{DoesChange}
 use Rattle.heap_model.specs.Event.{Course, present_of, snapshot_of, room_for, change_by, Enters, Begins, Collects, Event, Command_done, Cycle_begun, Cycle_on, Quantum_done, Quantum_refused, Does, Runs, IsCourse, quanta_in, HaveBudgets, OneIsLast}
 use Rattle.heap_model.proofs.Effects.{effect_founded}
-use Rattle.heap_model.proofs.Turns.{chain_units, turn_spends}
+use Rattle.heap_model.proofs.Turns.{chain_units}
+use Rattle.heap_model.proofs.Costs.{turn_left}
 use Rattle.heap_model.proofs.Stood.{stands_chain, stands_begun, stands_opening, stands_limit}
 use Rattle.heap_model.proofs.Bound.{chain_limit, too_much, at_least, spent_more}
 use Rattle.heap_model.proofs.Changed.{stands_changed}
@@ -189,7 +190,7 @@ module _ (k limit : ℕ) (great : 256 ≤ k) where
         | inl i ↦ last_here budget units phase es i
         | inr other ↦ not_last budget units phase es other (
             let away : x.heap.phase ≢ phases.Idle = λ i. other (sym q.ends ∙ i) in
-            let spent : k - 255 ≤ units = elim (turn_spends r.heap x.heap budget units w1.stands.pages q.turn) [ inl i ↦ absurd (away i) | inr s ↦ at_least k budget units b.0 s ] in
+            let spent : k - 255 ≤ units = elim (turn_left r.heap x.heap budget units w1.stands.pages q.turn) [ inl i ↦ absurd (away i) | inr s ↦ at_least k budget units b.0 s ] in
             let more = spent_more n (k - 255) r.heap.units x.heap.units units l (chain_units r.heap x.heap units q.turn.chain) spent in
             runs_end es x new (n + 1) w1 away (chain_limit r.heap x.heap units q.turn.chain ∙ e) more d.2 b.1 (omega arith))
       ]

@@ -32,6 +32,7 @@ pub mod Turns
 pub mod Placed
 pub mod Marks
 pub mod Stood
+pub mod Costs
 pub mod Bound
 pub mod Recorded
 pub mod Taken

@@ -24,6 +24,7 @@ pub mod Placed
 pub mod Room
 pub mod Marks
 pub mod Standing
+pub mod Turn
 pub mod Bound
 pub mod Taking
 pub mod Change

@@ -12,6 +12,7 @@ ghost use Rattle.heap_model.specs.Swept.{IsSwept};
 ghost use Rattle.heap_model.specs.Spent.{cycle_limit};
 ghost use Rattle.heap_model.specs.Marks.{HasNoMark};
 ghost use Rattle.heap_model.specs.Standing.{Stands, is_sweeping};
+ghost use Rattle.heap_model.specs.Turn.{NextCosts, SpendsTurn};
 ghost use Rattle.heap_model.specs.Bound.{AreQuanta, OneEnds, most_quanta};
 
 /// A new heap stands for the opening graph heap. A heap goes on to stand through each action, each
@@ -36,11 +37,20 @@ pub fn cycles_end()
     ensures { (h : HeapState) (k : ℕ) (before after : ℕ → HeapState) (budget spent : ℕ → ℕ) → 256 ≤ k → AreQuanta h k (most_quanta h k) before after budget spent → OneEnds (most_quanta h k) after }
 {}
 
+/// What an action costs is told by the state before it, in one way, and is at most 256 units.
+pub fn costs_are_told()
+    ensures action { (h after : HeapState) (cost : ℕ) → Action h cost after → NextCosts h cost }
+    ensures one { (h : HeapState) (a b : ℕ) → NextCosts h a → NextCosts h b → a ≡ b }
+    ensures high { (h : HeapState) (cost : ℕ) (present snapshot : Graph) → Stands h present snapshot → NextCosts h cost → cost ≤ 256 }
+{}
+
 /// A turn of a heap that stands ends in idle, or leaves fewer than 256 units of its budget. In idle it
-/// spends nothing, and nothing changes.
+/// spends nothing, and nothing changes. A turn up to an action that doesn't fit is one up to a heap whose
+/// next action doesn't fit.
 pub fn turns_end()
-    ensures idle { (h after : HeapState) (budget spent : ℕ) → h.phase ≡ phases.Idle → IsTurn h budget after spent → (after ≡ h) × (spent ≡ 0) }
-    ensures ends { (h after : HeapState) (budget spent : ℕ) (present snapshot : Graph) → Stands h present snapshot → IsTurn h budget after spent → (after.phase ≡ phases.Idle) ⊎ (budget < spent + 256) }
+    ensures turn { (h after : HeapState) (budget spent : ℕ) → IsTurn h budget after spent → SpendsTurn h budget after spent }
+    ensures idle { (h after : HeapState) (budget spent : ℕ) → h.phase ≡ phases.Idle → SpendsTurn h budget after spent → (after ≡ h) × (spent ≡ 0) }
+    ensures ends { (h after : HeapState) (budget spent : ℕ) (present snapshot : Graph) → Stands h present snapshot → SpendsTurn h budget after spent → (after.phase ≡ phases.Idle) ⊎ (budget < spent + 256) }
 {}
 
 /// The collector changes nothing that a caller can see: whatever graph heap the heap agrees with, it

@@ -40,6 +40,7 @@ pub mod Changed
 pub mod Left
 pub mod Course
 pub mod Freed
+pub mod Leading
 pub mod Opening
 pub mod Making
 pub mod New

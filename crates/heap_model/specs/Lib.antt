@@ -30,3 +30,4 @@ pub mod Taking
 pub mod Change
 pub mod Event
 pub mod Left
+pub mod Led

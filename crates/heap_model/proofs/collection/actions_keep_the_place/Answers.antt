@@ -1,3 +1,4 @@
+use Rattle.heap_model.proofs.Held.{store_pages}
 use Rattle.heap_model.proofs.Marks.{action_pages, action_count, action_placed, action_closed}
 use Rattle.heap_model.proofs.collection.actions_keep_the_place.Goals as goal
 
@@ -15,3 +16,6 @@ returns-clause-closed c = action_closed
 
 pub returns-clause-begun : goal.returns-clause-begun
 returns-clause-begun c = λ h. (tt, tt)
+
+pub returns-clause-store : goal.returns-clause-store
+returns-clause-store c = store_pages

@@ -1,11 +1,11 @@
 -- Reads and writes of one held block.
-use Rattle.std.proofs.Common.{◌≡◌, ℕ, ◌+◌, ◌<◌, ◌≤◌, ◌≢◌, ◌⊎◌, true, List, length, drop, set, get_or, ap, ◌∙◌, sym, arith, refl, inl, inr, subst, length-set}
+use Rattle.std.proofs.Common.{◌≡◌, ℕ, ◌+◌, ◌<◌, ◌≤◌, ◌≢◌, ◌⊎◌, Bool, true, List, length, drop, set, get_or, ap, ◌∙◌, sym, arith, refl, inl, inr, subst, length-set}
 use Rattle.std.proofs.lemmas.List.{get_or-take, get_or-drop, length-take, length-drop}
-use Rattle.heap_model.specs.Header.{header_in, shape_in}
-use Rattle.heap_model.specs.Block.{words_at, node_in, cell_count, with_cell}
+use Rattle.heap_model.specs.Header.{header_in, shape_in, recoloured}
+use Rattle.heap_model.specs.Block.{words_at, node_in, cell_count, with_cell, with_colour}
 use Rattle.heap_model.specs.Store.{Store, IsStore, size_at, is_held, node_of, Writes}
 use Rattle.headers.proofs.Frames.{node_at-other}
-use Rattle.headers.proofs.Written.{cell_written}
+use Rattle.headers.proofs.Written.{cell_written, colour_written}
 use Rattle.nodes.proofs.Places.{held_place, inside, apart}
 
 module _ (s : Store) (whole : IsStore s) (a : ℕ) (held : is_held s a ≡ true) where
@@ -41,6 +41,19 @@ module _ (s : Store) (whole : IsStore s) (a : ℕ) (held : is_held s a ≡ true)
         | inl x ↦ inl (omega (arith, x, l))
         | inr y ↦ inr (omega (arith, y))
       ]
+
+  pub colour_is : (header_in (get_or s.words (a + 1) 0)).colour ≡ (node_of s a).colour
+  unfolding node_of node_in
+  colour_is = ap (λ w. (header_in w).colour) (sym (word_of_block 1 (omega (arith, four))))
+
+  -- its colour is written
+  pub writes_colour : (c : Bool) → Writes s (record s { words = set s.words (a + 1) (recoloured (get_or s.words (a + 1) 0) c) }) a (with_colour (node_of s a) c)
+  unfolding node_of size_at
+  writes_colour c = record {
+    here = colour_written s.words a (size_at s a) four in_words c;
+    others = others_stay 1 (recoloured (get_or s.words (a + 1) 0) c) (omega (arith, four));
+    pages = refl;
+  }
 
   module _ (i : ℕ) (within : i < length (node_of s a).cells) where
     -- the cell is a word of the block
@@ -83,6 +96,14 @@ module _ (s t : Store) (is : s ≡ t) (whole : IsStore s) (a : ℕ) (held : is_h
 
   pub shape_by : shape_in (get_or s.words (a + 1) 0) ≡ (node_of t a).shape
   shape_by = shape_is s whole a held' ∙ ap (λ (x : Store). (node_of x a).shape) is
+
+  pub colour_by : (header_in (get_or s.words (a + 1) 0)).colour ≡ (node_of t a).colour
+  colour_by = colour_is s whole a held' ∙ ap (λ (x : Store). (node_of x a).colour) is
+
+  pub recolours_by : (c : Bool) (words : List ℕ) → words ≡ set s.words (a + 1) (recoloured (get_or s.words (a + 1) 0) c) → Writes t (record s { words = words }) a (with_colour (node_of t a) c)
+  recolours_by c words e =
+      subst (λ (x : Store). Writes x (record s { words = words }) a (with_colour (node_of x a) c)) is
+      (subst (λ w. Writes s (record s { words = w }) a (with_colour (node_of s a) c)) (sym e) (writes_colour s whole a held' c))
 
   pub identity_by : get_or s.words (a + 2) 0 ≡ (node_of t a).identity
   identity_by = identity_is s whole a held' ∙ ap (λ (x : Store). (node_of x a).identity) is

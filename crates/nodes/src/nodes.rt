@@ -1,16 +1,20 @@
 //! Pages and words together.
-ghost use Rattle.std.specs.Prelude.{◌≡◌, ◌≢◌, ℕ, ◌+◌, ◌-◌, ◌*◌, ◌/◌, ◌<◌, ◌≤◌, ◌↔◌, length, replicate, slice_index, slice_set, true, false, None, Some, IfOk, IfSome, IsNone};
+ghost use Rattle.std.specs.Prelude.{IsSome, IsSomeAnd, slice_get, ◌≡◌, ◌≢◌, ℕ, ◌+◌, ◌-◌, ◌*◌, ◌/◌, ◌<◌, ◌≤◌, ◌↔◌, length, replicate, slice_index, slice_set, true, false, None, Some, IfOk, IfSome, IsNone};
 ghost use Rattle.size_classes.specs.Sizes.{size_of};
 ghost use Rattle.size_classes.specs.Parts.{part_cells, cells_of};
 ghost use Rattle.heap_model.specs.Header.{ShapeFits};
 ghost use Rattle.heap_model.specs.Block.{cell_count, with_forward, with_colour, with_link, with_cell, new_node};
-ghost use Rattle.heap_model.specs.Pages.{has_room, page_for, TakesBlock};
-ghost use Rattle.heap_model.specs.Store.{is_held, node_of, Writes, Adds};
+ghost use Rattle.heap_model.specs.Pages.{has_room, page_for, page_at, with_held, TakesBlock};
+ghost use Rattle.heap_model.specs.Pages as page_list;
+ghost use Rattle.heap_model.specs.Action.{Frees, KeepsBlocks, closed};
+ghost use Rattle.heap_model.specs.State.{same_colour};
+ghost use Rattle.heap_model.specs.Store.{is_held, node_of, address_of, Writes, Adds};
+ghost use Rattle.nodes.specs.Pages.{blocks_on};
 ghost use Rattle.nodes.specs.Referent.{referent_of};
 
 use graph_heap::{NoMemory, Shape};
 use headers::Arena;
-use pages::PageTable;
+use pages::{Block, PageTable};
 use size_classes::{Class, Need};
 use std::alloc::Global;
 use std::marker::Model;
@@ -113,6 +117,30 @@ impl Nodes {
         self.arena.identity(block)
     }
 
+    /// The colour of a held block.
+    pub fn colour(&self, block: usize) -> bool
+        requires { is_held self.now block ≡ true }
+        ensures { result ≡ (node_of self.now block).colour }
+    {
+        self.arena.colour(block)
+    }
+
+    /// Whether a held block has a colour.
+    pub fn has_colour(&self, block: usize, colour: bool) -> bool
+        requires { is_held self.now block ≡ true }
+        ensures { result ≡ same_colour colour (node_of self.now block).colour }
+    {
+        self.colour(block) == colour
+    }
+
+    /// Gives a held block a colour.
+    pub fn set_colour(&mut self, block: usize, colour: bool)
+        requires { is_held self.old block ≡ true }
+        ensures { Writes self.old self.new block (with_colour (node_of self.old block) colour) }
+    {
+        self.arena.set_colour(block, colour);
+    }
+
     /// What cell i of a held block holds.
     pub fn cell(&self, block: usize, i: usize) -> u64
         requires held { is_held self.now block ≡ true }
@@ -129,6 +157,69 @@ impl Nodes {
         ensures { Writes self.old self.new block (with_cell (node_of self.old block) i value) }
     {
         self.arena.set_cell(block, i, value);
+    }
+
+    /// Gives a block of a page, by its number there, back: it is held no more. Every other block is held
+    /// or not, and says, as before.
+    pub fn free(&mut self, page: usize, index: usize)
+        requires page { page < length self.old.pages }
+        requires held { IsSomeAnd (page_at self.old.pages page) (λ p. slice_get p.held index ≡ Some true) }
+        ensures freed { IfSome (page_at self.old.pages page) (λ p. Frees self.old self.new (address_of p.class page index)) }
+        ensures pages { IfSome (page_at self.old.pages page) (λ p. self.new.pages ≡ slice_set self.old.pages page (Some (with_held p index false))) }
+    {
+        self.table.give(Block { page, index });
+    }
+
+    /// Closes a page, as the sweeper does when it has looked at all its blocks: its marks go, and if no
+    /// block is held it becomes free. The same blocks are held, and say what they said.
+    pub fn close_page(&mut self, page: usize)
+        requires { page < length self.old.pages }
+        ensures kept { KeepsBlocks self.old self.new }
+        ensures pages { self.new.pages ≡ slice_set self.old.pages page (closed (page_at self.old.pages page)) }
+    {
+        self.table.close_page(page);
+    }
+
+    /// How many pages there are.
+    pub fn pages(&self) -> usize
+        ensures pages { result ≡ length self.now.pages }
+        ensures within { result ≤ 4096 }
+    {
+        self.table.len()
+    }
+
+    /// How many pages are free.
+    pub fn free_pages(&self) -> usize
+        ensures free { result ≡ page_list.free_pages self.now.pages }
+        ensures within { result ≤ 4096 }
+    {
+        self.table.free_pages()
+    }
+
+    /// How many blocks a page has, held or not; a free page has none.
+    pub fn blocks(&self, page: usize) -> usize
+        requires { page < length self.now.pages }
+        ensures { result ≡ blocks_on (page_at self.now.pages page) }
+    {
+        match self.table.class(page) {
+            Some(class) => class.blocks_per_page() as usize,
+            None => 0,
+        }
+    }
+
+    /// The address of a block of a page, by its number there, if it is held.
+    pub fn held_block(&self, page: usize, index: usize) -> Option<usize>
+        requires { page < length self.now.pages }
+        ensures held { IsSome result ↔ IsSomeAnd (page_at self.now.pages page) (λ p. slice_get p.held index ≡ Some true) }
+        ensures address { IfSome result (λ address. IfSome (page_at self.now.pages page) (λ p. address ≡ address_of p.class page index)) }
+        ensures block { IfSome result (λ address. is_held self.now address ≡ true) }
+    {
+        let class = self.table.class(page)?;
+        if self.table.is_held(Block { page, index }) {
+            Some(2048 * page + index * class.size() as usize)
+        } else {
+            None
+        }
     }
 
     /// Makes a part in a block of a class: the header, and so many null or zero cells. The block is

@@ -1,3 +1,4 @@
+mod Giving
 pub mod Needing
 pub mod Places
 pub mod Taking

@@ -1,7 +1,8 @@
 //! One page.
-ghost use Rattle.std.specs.Prelude.{◌≡◌, ◌⊎◌, length, true, false, IsTrue, slice_set, replicate, take, not, position, ◌<◌, ◌≤◌, Some, IfOk, count_by};
+ghost use Rattle.std.specs.Prelude.{◌≡◌, ◌↔◌, ◌⊎◌, option_map, slice_get, IfSome, IsSomeAnd, length, true, false, IsTrue, slice_set, replicate, take, not, position, ◌<◌, ◌≤◌, Some, IfOk, count_by};
 ghost use Rattle.size_classes.specs.Sizes.{blocks_in};
 ghost use Rattle.heap_model.specs.Pages.{is_free, is_usable, page_of_class, with_held, IsOpen, free_on};
+ghost use Rattle.heap_model.specs.Action.{held_on, closed};
 
 use graph_heap::NoMemory;
 use size_classes::Class;
@@ -97,6 +98,56 @@ impl Row {
                 self.held[block] = true;
                 block
             }
+        }
+    }
+
+    /// The class of a page that is in use.
+    pub fn class(&self) -> Option<Class>
+        ensures { result ≡ option_map (λ p. p.class) (page_in self.now) }
+    {
+        self.class
+    }
+
+    /// Whether a block is held. On a free page none is.
+    pub fn is_held(&self, index: usize) -> bool
+        ensures { IsTrue result ↔ IsSomeAnd (page_in self.now) (λ p. slice_get p.held index ≡ Some true) }
+    {
+        match self.class {
+            Some(own) => index < own.blocks_per_page() as usize && self.held[index],
+            None => false,
+        }
+    }
+
+    /// How many blocks are held.
+    pub fn held(&self) -> usize
+        ensures held { result ≡ held_on (page_in self.now) }
+        ensures within { result ≤ 512 }
+    {
+        match self.class {
+            Some(own) => {
+                let blocks = own.blocks_per_page() as usize;
+                self.held[..blocks].iter().filter(|held| **held).count()
+            }
+            None => 0,
+        }
+    }
+
+    /// Gives a held block back.
+    pub fn give(&mut self, index: usize)
+        requires { IsSomeAnd (page_in self.old) (λ p. slice_get p.held index ≡ Some true) }
+        ensures { IfSome (page_in self.old) (λ p. page_in self.new ≡ Some (with_held p index false)) }
+    {
+        self.held[index] = false;
+    }
+
+    /// Closes the page: its marks go, and if no block is held it becomes free.
+    pub fn close(&mut self)
+        ensures { page_in self.new ≡ closed (page_in self.old) }
+    {
+        self.leaving = false;
+        self.receiving = false;
+        if self.held() == 0 {
+            self.class = None;
         }
     }
 }

@@ -1,7 +1,8 @@
 //! All pages.
-ghost use Rattle.std.specs.Prelude.{◌≡◌, ◌≤◌, ◌^◌, ◌-◌, ◌↔◌, position, length, replicate, IsNone, IfSome, Some, None, true, IfOk, slice_set, slice_index, count_by, sum_by};
+ghost use Rattle.std.specs.Prelude.{◌≡◌, ◌<◌, ◌≤◌, option_map, slice_get, IsTrue, IsSomeAnd, false, ◌^◌, ◌-◌, ◌↔◌, position, length, replicate, IsNone, IfSome, Some, None, true, IfOk, slice_set, slice_index, count_by, sum_by};
 ghost use Rattle.heap_model.specs.Pages.{is_free, is_usable, page_for, page_at, page_of_class, with_held, IsOpen, free_on, free_blocks, has_room, pages_needed, whole_pages};
 ghost use Rattle.heap_model.specs.Pages as pages;
+ghost use Rattle.heap_model.specs.Action.{held_on, closed};
 ghost use Rattle.size_classes.specs.Sizes.{blocks_in};
 ghost use Rattle.pages.specs.Row.{page_in};
 
@@ -130,6 +131,57 @@ impl PageTable {
         let row = &mut self.rows[page];
         let index = row.take(class);
         Some(Block { page, index })
+    }
+
+    /// How many pages there are.
+    pub fn len(&self) -> usize
+        ensures pages { result ≡ length self.now }
+        ensures within { result ≤ 4096 }
+    {
+        self.rows.len()
+    }
+
+    /// The class of a page that is in use; None for a free page.
+    pub fn class(&self, page: usize) -> Option<Class>
+        requires { page < length self.now }
+        ensures { result ≡ option_map (λ p. p.class) (page_at self.now page) }
+    {
+        self.rows[page].class()
+    }
+
+    /// Whether a block is held. On a free page none is.
+    pub fn is_held(&self, block: Block) -> bool
+        requires { block.page < length self.now }
+        ensures { IsTrue result ↔ IsSomeAnd (page_at self.now block.page) (λ p. slice_get p.held block.index ≡ Some true) }
+    {
+        self.rows[block.page].is_held(block.index)
+    }
+
+    /// How many blocks of a page are held.
+    pub fn held(&self, page: usize) -> usize
+        requires { page < length self.now }
+        ensures held { result ≡ held_on (page_at self.now page) }
+        ensures within { result ≤ 512 }
+    {
+        self.rows[page].held()
+    }
+
+    /// Gives a held block back. Every other block, and every other page, stays.
+    pub fn give(&mut self, block: Block)
+        requires page { block.page < length self.old }
+        requires held { IsSomeAnd (page_at self.old block.page) (λ p. slice_get p.held block.index ≡ Some true) }
+        ensures { IfSome (page_at self.old block.page) (λ p. self.new ≡ slice_set self.old block.page (Some (with_held p block.index false))) }
+    {
+        self.rows[block.page].give(block.index);
+    }
+
+    /// Closes a page, as the sweeper does when it has looked at all its blocks: the marks leaving and
+    /// receiving go, and if no block is held the page becomes free.
+    pub fn close_page(&mut self, page: usize)
+        requires { page < length self.old }
+        ensures { self.new ≡ slice_set self.old page (closed (page_at self.old page)) }
+    {
+        self.rows[page].close();
     }
 }
 

@@ -10,7 +10,7 @@ ghost use Rattle.heap_model.specs.Pages.{has_room, TakesBlock};
 ghost use Rattle.heap_model.specs.Room.{needed_from};
 ghost use Rattle.heap_model.specs.Store.{Store, is_held, node_of, Adds};
 ghost use Rattle.heap_model.specs.Making.{Making, MakesObject};
-ghost use Rattle.arraylets.specs.Taking.{Takes};
+ghost use Rattle.heap_model.specs.Taking.{Takes};
 
 use graph_heap::Shape;
 use nodes::Nodes;

@@ -179,6 +179,17 @@ scanned_held m g s c st l =
     let same : m.heap.cell x m.column ≡ m.heap.cell (c.at n) m.column = ap (λ z. m.heap.cell z m.column) e in
     ap m.heap.held (ap m.heap.forward same ∙ b.cell n m.column k i) ∙ b.held (g.target n m.column) (b.grows.kept_target n m.column k i)
 
+-- and so is what it holds
+pub scanned_cell_held : (m : Collector) (g s : PartGraph) (c : Coherent m g s) → (Tracing m.heap g s c.at (done_of m) m.heap.roots × Greys m) → m.column < m.heap.width m.scanning → m.heap.held (m.heap.cell m.scanning m.column) ≡ true
+scanned_cell_held m g s c st l =
+    let b = c.base in
+    let x = m.scanning in
+    let n = m.heap.name x in
+    let k = st.0.marked_kept x st.1.scanning_held st.1.scanning_marked in
+    let e : x ≡ c.at n = st.0.marked_main x st.1.scanning_held st.1.scanning_marked in
+    let i : m.column < g.width n = (let v = b.width n k in let u = ap m.heap.width e in omega arith) in
+    ap (λ z. m.heap.held (m.heap.cell z m.column)) e ∙ b.cell_held n m.column k i
+
 -- a reference cell is scanned
 pub cell_act : (h k : HeapState) (present snapshot : Graph) (part cell : ℕ) (new : Store) → Consistent h present snapshot → h.phase ≡ phases.Marking part cell → cell < (seen h).width part
     → Writes h.store new (part - 1) (with_cell (node_of h.store (part - 1)) cell ((seen h).forward ((seen h).cell part cell))) → Shades (record h { store = new }) ((seen h).forward ((seen h).cell part cell)) k

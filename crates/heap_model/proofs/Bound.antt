@@ -22,7 +22,7 @@ same_limit h after r p d =
     omega arith
 
 -- what a cycle may spend stays through actions
-action_defrag : (h after : HeapState) (cost : ℕ) → Action h cost after → (length after.roots ≡ length h.roots) × (after.defrag_pages ≡ h.defrag_pages)
+pub action_defrag : (h after : HeapState) (cost : ℕ) → Action h cost after → (length after.roots ≡ length h.roots) × (after.defrag_pages ≡ h.defrag_pages)
 action_defrag h after cost (Scans_root next k e l sh) = (ap length (shades_units _ k _ sh).1 ∙ length-set h.roots next _, shades_defrag _ k _ sh)
 action_defrag h after cost (Ends_roots next e l) = (refl, refl)
 action_defrag h after cost (Scans_header part cell x front back e f n) = (refl, refl)

@@ -45,3 +45,4 @@ pub mod Opening
 pub mod Making
 pub mod New
 pub mod Rooms
+pub mod Grey

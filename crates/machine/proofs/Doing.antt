@@ -1,181 +1,85 @@
--- A planned change done: the heap stands for the graph heap after it, and for each that it agreed with.
-use Rattle.std.proofs.Common.{◌≡◌, ◌≢◌, ℕ, ◌+◌, ◌<◌, ◌⊎◌, inl, inr, true, false, length, get_or, set, ap, ◌∙◌, sym, subst, arith, refl, length-set}
-use Rattle.graph_heap.specs.declared.command.Shape.{Shape}
+-- A change done: the heap stands for the graph heap after it, and for each that it agreed with.
+use Rattle.std.proofs.Common.{◌≡◌, ℕ, ◌+◌, ◌<◌, ◌^◌, Bool, true, false, ◌==◌, if◌then◌else◌, length, ap, ◌∙◌, sym, subst, refl}
 use Rattle.graph_heap.specs.declared.command.Change.{Change}
 use Rattle.graph_heap.specs.declared.command.Change.TheVariants as changes
 use Rattle.graph_heap.specs.Shape.{fits}
-use Rattle.graph_heap.specs.Graph.{Graph, object_of, changed, opening}
-use Rattle.size_classes.specs.Parts.{cells_of}
-use Rattle.heap_model.specs.Block.{Node, with_cell}
-use Rattle.heap_model.specs.Store.{Store, is_held, node_of, Writes}
-use Rattle.heap_model.specs.Agree.{IsMain}
-use Rattle.heap_model.specs.Cut.{name_of, column_in}
-use Rattle.heap_model.specs.State.{HeapState, seen}
-use Rattle.heap_model.specs.Agreement.{Agrees, Consistent}
+use Rattle.graph_heap.specs.Graph.{Graph, Object, object_of, changed, with_ref, with_word, new_object}
+use Rattle.size_classes.specs.Parts.{cells_of, parts_in}
+use Rattle.heap_model.specs.State.{HeapState}
+use Rattle.heap_model.specs.Spent.{cycle_limit}
+use Rattle.heap_model.specs.Standing.{Stands}
+use Rattle.heap_model.specs.Agreement.{Agrees}
 use Rattle.heap_model.specs.Alike.{IsFounded}
-use Rattle.heap_model.specs.Written.{IsKnown, IsRecorded, records, KeepsPlace}
-use Rattle.heap_model.specs.Making.{Making, Nothing_made, Part_made, Piece_linked, MakesObject}
-use Rattle.heap_model.specs.declared.phase.Phase.TheVariants as phases
+use Rattle.heap_model.specs.Change.{DoesChange, Does_nothing, Does_root, Does_ref, Does_word, Does_new}
 use Rattle.heap_model.proofs.Agreements.{consistent_agrees}
-use Rattle.heap_model.proofs.Sameness.{each_changed}
-use Rattle.heap_model.proofs.Written.{root_written, ref_written, word_written}
-use Rattle.heap_model.proofs.New.{new_written}
-use Rattle.heap_model.proofs.Shown.{main_copy}
-use Rattle.machine.specs.Heap.{IsHeap}
-use Rattle.machine.specs.Reading.{IsRefPlace, IsWordPlace}
-
-same_place : (a b : ℕ) → (a ≡ b) ⊎ (a ≢ b)
-same_place a b = grind arith
-
-held_before : (s t : Store) (b : ℕ) → t.pages ≡ s.pages → is_held t b ≡ true → is_held s b ≡ true
-unfolding is_held
-held_before s t b e h = subst (λ pages. is_held (record { pages = pages; words = t.words }) b ≡ true) e h
-
--- no cycle is on, and nothing is recorded
-unrecorded : (h : HeapState) (x : ℕ) → h.phase ≡ phases.Idle → IsRecorded h x
-unrecorded h x e t = absurd (contrary (sym (ap records e) ∙ t))
-  where
-    contrary : false ≡ true → ⊥
-    contrary z = cc
-
--- a heap that stands for the present after a change agrees with each graph heap after it
-pub each_after : (h after : HeapState) (w : IsHeap h) (c : Change) → IsFounded w.present c → Consistent after (changed w.present c) (opening h.limits)
-    → (g : Graph) → Agrees h g → Agrees after (changed g c)
-each_after h after w c founded k g a =
-    each_changed h after w.present g c (consistent_agrees h w.present (opening h.limits) w.consistent) a founded (consistent_agrees after (changed w.present c) (opening h.limits) k)
+use Rattle.heap_model.proofs.Sameness.{each_changed, reach_some}
+use Rattle.heap_model.proofs.Changes.{put_each, object-append}
+use Rattle.heap_model.proofs.Changed.{stands_changed}
+use Rattle.heap_model.proofs.Recorded.{records_stay}
+use Rattle.heap_model.proofs.Taken.{takes_count}
+use Rattle.heap_model.proofs.Left.{change_left}
+use Rattle.machine.specs.Heap.{IsHeap, is_moving}
+use Rattle.machine.specs.Plan.{IsPlanned, change_of}
+use Rattle.machine.specs.declared.plan.Write.{Write}
+use Rattle.machine.specs.declared.plan.Write.TheVariants as writes
 
 pub present_agrees : (h : HeapState) (w : IsHeap h) → Agrees h w.present
-present_agrees h w = consistent_agrees h w.present (opening h.limits) w.consistent
+present_agrees h w = consistent_agrees h w.present w.snapshot w.stands.consistent
 
-module _ (h : HeapState) (w : IsHeap h) (idle : h.phase ≡ phases.Idle) where
-  -- a root
-  module _ (j x id : ℕ) (planned : (g : Graph) → Agrees h g → (j < length h.roots) × IsKnown g id × IsMain (seen h) x (name_of id)) where
-    pub root_below : j < length h.roots
-    root_below = (planned w.present (present_agrees h w)).0
+-- no object becomes too large
+fits_changed : (g : Graph) (c : Change) → IsFounded g c → ((id : ℕ) → fits (object_of g.objects id).shape ≡ true) → (id : ℕ) → fits (object_of (changed g c).objects id).shape ≡ true
+fits_changed g changes.Nothing f w = w
+fits_changed g (changes.Root cell id) f w = w
+fits_changed g (changes.Ref id i v) f w = λ k.
+    ap fits (put_each (λ (o : Object). o.shape) g.objects id (with_ref (object_of g.objects id) i v) (reach_some g id f.0) f.1 refl k) ∙ w k
+fits_changed g (changes.Word id i v) f w = λ k.
+    ap fits (put_each (λ (o : Object). o.shape) g.objects id (with_word (object_of g.objects id) i v) (reach_some g id f.0) f.1 refl k) ∙ w k
+fits_changed g (changes.New cell id shape) f w = λ k. by_last k (k == length g.objects + 1) refl
+  where
+    by_last : (k : ℕ) (b : Bool) → (k == length g.objects + 1) ≡ b → fits (object_of (changed g (changes.New cell id shape)).objects k).shape ≡ true
+    by_last k true e = ap (λ (o : Object). fits o.shape) (object-append g.objects (new_object shape) k ∙ ap (λ t. if t then new_object shape else object_of g.objects k) e) ∙ f.2
+    by_last k false e = ap (λ (o : Object). fits o.shape) (object-append g.objects (new_object shape) k ∙ ap (λ t. if t then new_object shape else object_of g.objects k) e) ∙ w k
 
-    root_consistent : Consistent (record h { roots = set h.roots j x }) (changed w.present (changes.Root j id)) (opening h.limits)
-    root_consistent =
-        let p = planned w.present (present_agrees h w) in
-        root_written h w.present (opening h.limits) j x id w.consistent p.0 (unrecorded h (get_or h.roots j 0) idle) p.1 p.2
+-- what isn't of the cycle stays
+change_defrag : (h after : HeapState) (g : Graph) (c : Change) → DoesChange h g c after → after.defrag_pages ≡ h.defrag_pages
+change_defrag h after g c Does_nothing = refl
+change_defrag h after g c (Does_root cell id y k r i) = (records_stay h k _ r).defrag
+change_defrag h after g c (Does_ref id i value address y k new at r main w) = (records_stay h k _ r).defrag
+change_defrag h after g c (Does_word id i word address new at w) = refl
+change_defrag h after g c (Does_new cell id shape k new at r makes takes) = (records_stay h k _ r).defrag
 
-    pub root_heap : IsHeap (record h { roots = set h.roots j x })
-    root_heap = record {
-      present = changed w.present (changes.Root j id);
-      consistent = root_consistent;
-      row = length-set h.roots j x ∙ w.row;
-      fits = w.fits;
-    }
+pub change_count : (h after : HeapState) (g : Graph) (c : Change) → DoesChange h g c after → length after.store.pages ≡ length h.store.pages
+change_count h after g c Does_nothing = refl
+change_count h after g c (Does_root cell id y k r i) = ap length (records_stay h k _ r).pages
+change_count h after g c (Does_ref id i value address y k new at r main w) = ap length w.pages ∙ ap length (records_stay h k _ r).pages
+change_count h after g c (Does_word id i word address new at w) = ap length w.pages
+change_count h after g c (Does_new cell id shape k new at r makes takes) =
+    takes_count (cells_of shape) k.store.pages (parts_in (cells_of shape)) new.pages takes ∙ ap length (records_stay h k _ r).pages
 
-    pub root_each : (g : Graph) → Agrees h g → Agrees (record h { roots = set h.roots j x }) (changed g (changes.Root j id))
-    root_each g a =
-        let p = planned w.present (present_agrees h w) in
-        each_after h (record h { roots = set h.roots j x }) w (changes.Root j id) (subst (λ n. j < n) w.consistent.present_row p.0, p.1) root_consistent g a
+-- the change of a planned write is one of what is there
+pub founded : (h : HeapState) (g : Graph) → Agrees h g → (w : Write) → IsPlanned h g w → IsFounded g (change_of w)
+founded h g a writes.Nothing p = tt
+founded h g a (writes.Root cell id x) p = (subst (λ n. cell < n) a.roots p.0, p.1)
+founded h g a (writes.Ref id i value block cell x) p = (p.0.0, (a.given id p.0.0).below, p.0.1, p.1.0)
+founded h g a (writes.Word id i word block cell) p = (p.0, (a.given id p.0).below, p.1)
+founded h g a (writes.New cell id shape) p = (subst (λ n. cell < n) a.roots p.0, p.1 ∙ a.next, p.3)
 
-  -- a write of one cell of a block, where that leaves its shape
-  module _ (block : ℕ) (n : Node) (new : Store) (same_shape : n.shape ≡ (node_of h.store block).shape) (held : is_held h.store block ≡ true) (written : Writes h.store new block n) where
-    still_held : (b : ℕ) → is_held new b ≡ true → is_held h.store b ≡ true
-    unfolding is_held
-    still_held b e = subst (λ pages. is_held (record { pages = pages; words = new.words }) b ≡ true) written.pages e
+module _ (h after : HeapState) (w : IsHeap h) (c : Change) (is_founded : IsFounded w.present c) (does : DoesChange h w.present c after) where
+  stands_after : Stands after (changed w.present c) w.snapshot
+  stands_after = stands_changed h after w.present w.snapshot c w.stands is_founded does
 
-    same_or : (a b : ℕ) → (a ≡ b) ⊎ (a ≢ b)
-    same_or a b = grind arith
+  pub heap_after : IsHeap after
+  heap_after = let left = change_left h after w.present c does in record {
+    present = changed w.present c;
+    snapshot = w.snapshot;
+    stands = stands_after;
+    fits = fits_changed w.present c is_founded w.fits;
+    still = ap is_moving left.phase ∙ w.still;
+    unmoved = change_defrag h after w.present c does ∙ w.unmoved;
+    small = subst (λ n. n < 2 ^ 31) (sym left.limit) w.small;
+  }
 
-    still_fits : (b : ℕ) → is_held new b ≡ true → fits (node_of new b).shape ≡ true
-    still_fits b e = elim (same_or b block) [
-      | inl z ↦ subst (λ k. fits (node_of new k).shape ≡ true) (sym z) (subst (λ k. fits k ≡ true) (sym (ap (λ (y : Node). y.shape) written.here ∙ same_shape)) (w.fits block held))
-      | inr d ↦ subst (λ (y : Node). fits y.shape ≡ true) (sym (written.others b (still_held b e) d)) (w.fits b (still_held b e))
-    ]
-
-  -- a reference cell
-  module _ (block cell id i value x : ℕ) (planned : (g : Graph) → Agrees h g → IsRefPlace h g id i block cell × (IsKnown g value × IsMain (seen h) x (name_of value))) where
-    pub ref_held : is_held h.store block ≡ true
-    ref_held = (main_copy h block _ (planned w.present (present_agrees h w)).0.2).held
-
-    pub ref_within : cell < length (node_of h.store block).cells
-    ref_within = (planned w.present (present_agrees h w)).0.4
-
-    module _ (new : Store) (written : Writes h.store new block (with_cell (node_of h.store block) cell x)) where
-      ref_consistent : Consistent (record h { store = new }) (changed w.present (changes.Ref id i value)) (opening h.limits)
-      ref_consistent =
-          let p = planned w.present (present_agrees h w) in
-          ref_written h w.present (opening h.limits) new block x id i value w.consistent p.0.0 p.0.1 p.0.2
-          (unrecorded h (get_or (node_of h.store block).cells (column_in (cells_of (object_of w.present.objects id).shape) i) 0) idle) p.1.0 p.1.1
-          (subst (λ k. Writes h.store new block (with_cell (node_of h.store block) k x)) p.0.3 written)
-
-      pub ref_heap : IsHeap (record h { store = new })
-      ref_heap = record {
-        present = changed w.present (changes.Ref id i value);
-        consistent = ref_consistent;
-        row = w.row;
-        fits = still_fits block (with_cell (node_of h.store block) cell x) new refl ref_held written;
-      }
-
-      pub ref_each : (g : Graph) → Agrees h g → Agrees (record h { store = new }) (changed g (changes.Ref id i value))
-      ref_each g a =
-          let p = planned w.present (present_agrees h w) in
-          each_after h (record h { store = new }) w (changes.Ref id i value) (p.0.0, ((present_agrees h w).given id p.0.0).below, p.0.1, p.1.0) ref_consistent g a
-
-  -- a word cell
-  module _ (block cell id i : ℕ) (planned : (g : Graph) → Agrees h g → IsWordPlace h g id i block cell) where
-    pub word_held : is_held h.store block ≡ true
-    word_held = (main_copy h block _ (planned w.present (present_agrees h w)).2).held
-
-    pub word_within : cell < length (node_of h.store block).cells
-    word_within = (planned w.present (present_agrees h w)).4
-
-    module _ (word : ℕ) (new : Store) (written : Writes h.store new block (with_cell (node_of h.store block) cell word)) where
-      word_consistent : Consistent (record h { store = new }) (changed w.present (changes.Word id i word)) (opening h.limits)
-      word_consistent =
-          let p = planned w.present (present_agrees h w) in
-          word_written h w.present (opening h.limits) new block id i word w.consistent p.0 p.1 p.2
-          (subst (λ k. Writes h.store new block (with_cell (node_of h.store block) k word)) p.3 written)
-
-      pub word_heap : IsHeap (record h { store = new })
-      word_heap = record {
-        present = changed w.present (changes.Word id i word);
-        consistent = word_consistent;
-        row = w.row;
-        fits = still_fits block (with_cell (node_of h.store block) cell word) new refl word_held written;
-      }
-
-      pub word_each : (g : Graph) → Agrees h g → Agrees (record h { store = new }) (changed g (changes.Word id i word))
-      word_each g a =
-          let p = planned w.present (present_agrees h w) in
-          each_after h (record h { store = new }) w (changes.Word id i word) (p.0, ((present_agrees h w).given id p.0).below, p.1) word_consistent g a
-
-  -- a new object
-  module _ (j : ℕ) (shape : Shape) (at : ℕ → ℕ) (new : Store) (below : j < length h.roots) (fit : fits shape ≡ true) (makes : MakesObject h.store shape h.sense h.next at new) where
-    keeps : KeepsPlace h.store.pages new.pages h.phase
-    keeps = subst (λ p. KeepsPlace h.store.pages new.pages p) (sym idle) tt
-
-    new_consistent : Consistent (record h { store = new; next = h.next + 1; roots = set h.roots j (at 0 + 1) }) (changed w.present (changes.New j h.next shape)) (opening h.limits)
-    new_consistent = new_written h w.present (opening h.limits) new at j shape w.consistent fit below (unrecorded h (get_or h.roots j 0) idle) makes keeps
-
-    -- each block made is of the shape
-    made_fits : (parts linked : ℕ) (s : Store) → Making h.store shape h.sense h.next at parts linked s → (b : ℕ) → is_held s b ≡ true → fits (node_of s b).shape ≡ true
-    made_fits parts linked s Nothing_made b e = w.fits b e
-    made_fits parts linked s (Part_made k s' t m added) b e = elim (same_place b (at k)) [
-      | inl z ↦ subst (λ n. fits (node_of s n).shape ≡ true) (sym z) (subst (λ (y : Node). fits y.shape ≡ true) (sym added.here) fit)
-      | inr d ↦ (let held : is_held s' b ≡ true = sym (added.same b d) ∙ e in subst (λ (y : Node). fits y.shape ≡ true) (sym (added.others b held)) (made_fits k 0 s' m b held))
-    ]
-    made_fits parts linked s (Piece_linked k l s' t m written) b e = elim (same_place b (at 0)) [
-      | inl z ↦ subst (λ n. fits (node_of s n).shape ≡ true) (sym z) (subst (λ (y : Node). fits y.shape ≡ true) (sym written.here) (made_fits k l s' m (at 0) (held_before s' s (at 0) written.pages (subst (λ n. is_held s n ≡ true) z e))))
-      | inr d ↦ (let held = held_before s' s b written.pages e in subst (λ (y : Node). fits y.shape ≡ true) (sym (written.others b held d)) (made_fits k l s' m b held))
-    ]
-
-    pub new_heap : IsHeap (record h { store = new; next = h.next + 1; roots = set h.roots j (at 0 + 1) })
-    new_heap = record { present = changed w.present (changes.New j h.next shape); consistent = new_consistent; row = length-set h.roots j (at 0 + 1) ∙ w.row; fits = made_fits _ _ new makes }
-
-    pub new_each : (g : Graph) → Agrees h g → Agrees (record h { store = new; next = h.next + 1; roots = set h.roots j (at 0 + 1) }) (changed g (changes.New j h.next shape))
-    new_each g a =
-        each_after h (record h { store = new; next = h.next + 1; roots = set h.roots j (at 0 + 1) }) w (changes.New j h.next shape)
-        (subst (λ n. j < n) w.consistent.present_row below, (present_agrees h w).next, fit) new_consistent g a
-
-    -- the same, by the address of part 0 and the identity
-    pub new_heap_at : (block : ℕ) → at 0 ≡ block → IsHeap (record h { store = new; next = h.next + 1; roots = set h.roots j (block + 1) })
-    new_heap_at block e = subst (λ b. IsHeap (record h { store = new; next = h.next + 1; roots = set h.roots j (b + 1) })) e new_heap
-
-    pub new_each_at : (block id : ℕ) → at 0 ≡ block → h.next ≡ id → (g : Graph) → Agrees h g → Agrees (record h { store = new; next = h.next + 1; roots = set h.roots j (block + 1) }) (changed g (changes.New j id shape))
-    new_each_at block id eb e g a =
-        subst (λ n. Agrees (record h { store = new; next = h.next + 1; roots = set h.roots j (block + 1) }) (changed g (changes.New j n shape))) e
-        (subst (λ b. Agrees (record h { store = new; next = h.next + 1; roots = set h.roots j (b + 1) }) (changed g (changes.New j h.next shape))) eb (new_each g a))
+  -- it agrees with each graph heap after the change, with which it agreed
+  pub agrees_after : (g : Graph) → Agrees h g → Agrees after (changed g c)
+  agrees_after g a =
+      each_changed h after w.present g c (present_agrees h w) a is_founded (consistent_agrees after (changed w.present c) w.snapshot stands_after.consistent)

@@ -22,6 +22,7 @@ use Rattle.heap_model.proofs.Shown.{leads, copy_main, main_copy, root_reads, sha
 use Rattle.heap_model.proofs.Sameness.{known_root, known_reaches}
 use Rattle.heap_model.proofs.Cut.{count_some}
 use Rattle.machine.specs.Heap.{IsHeap}
+use Rattle.machine.proofs.Doing.{present_agrees}
 use Rattle.machine.specs.Reading.{Names, IsFound}
 use Rattle.nodes.specs.declared.nodes.Referent.{Referent}
 use Rattle.nodes.specs.Referent.{referent_of}
@@ -105,11 +106,8 @@ module _ (h : HeapState) (w : IsHeap h) (r : Referent) (some : r.reference ≢ 0
 
     pub object_cells : (shape : Shape) → shape ≡ (node_of h.store block).shape → length (node_of h.store block).cells ≡ part_cells (cells_of shape) 0
     object_cells shape es =
-        w.consistent.whole block object_held
+        w.stands.consistent.whole block object_held
         ∙ ap (part_cells (cells_of (node_of h.store block).shape)) (block_main w.present present named).part ∙ ap (λ s. part_cells (cells_of s) 0) (sym es)
-
-    pub object_fits : (shape : Shape) → shape ≡ (node_of h.store block).shape → fits shape ≡ true
-    object_fits shape es = subst (λ z. fits z ≡ true) (sym es) (w.fits block object_held)
 
   pub finds_by : (g : Graph) → Agrees h g → (id : ℕ) → Names h g id r → (shape : Shape) → shape ≡ (node_of h.store block).shape → IsFound h g id (record { block = block; id = r.identity; shape = shape })
   finds_by g a id n shape es =
@@ -123,3 +121,8 @@ module _ (h : HeapState) (w : IsHeap h) (r : Referent) (some : r.reference ≢ 0
         shape = es ∙ shape_shown h g r.identity 0 block a reaches (count_some _) m;
         main = m;
       }
+
+  pub object_fits : (present : ℕ) → Names h w.present present r → (shape : Shape) → shape ≡ (node_of h.store block).shape → fits shape ≡ true
+  object_fits present named shape es =
+      let f = finds_by w.present (present_agrees h w) present named shape es in
+      subst (λ z. fits z ≡ true) (sym f.shape) (w.fits r.identity)

@@ -1,11 +1,14 @@
 pub mod Cells
+pub mod Collecting
+pub mod Courses
 pub mod Doing
 pub mod Effects
 pub mod Finding
+pub mod Following
 pub mod Opening
 pub mod Planning
 pub mod Plans
 pub mod Reached
-pub mod Recording
 pub mod Replying
 pub mod Rooming
+pub mod Writing

@@ -1,32 +1,33 @@
 -- The opening heap.
-use Rattle.std.proofs.Common.{◌≡◌, ℕ, zero, suc, Bool, ◌/◌, ◌%◌, true, false, List, Option, None, length, replicate, ap, ◌∙◌, sym, refl}
+use Rattle.std.proofs.Common.{◌≡◌, ℕ, ◌+◌, ◌*◌, ◌<◌, ◌≤◌, ◌^◌, true, [], List, Option, None, length, replicate, ap, ◌∙◌, sym, arith}
 use Rattle.std.proofs.lemmas.List.{length-replicate}
-use Rattle.graph_heap.specs.Graph.{opening, root_cells}
+use Rattle.graph_heap.specs.Shape.{fits}
+use Rattle.graph_heap.specs.Graph.{opening, object_of}
 use Rattle.heap_model.specs.Pages.{Page, page_at}
 use Rattle.heap_model.specs.Store.{Store, is_held, held_in}
 use Rattle.heap_model.specs.State.{HeapState}
 use Rattle.heap_model.specs.Opening.{IsOpening}
-use Rattle.heap_model.proofs.Opening.{opening_stands}
-use Rattle.machine.specs.Heap.{IsHeap}
+use Rattle.heap_model.specs.Spent.{cycle_limit}
+use Rattle.heap_model.proofs.Stood.{stands_opening}
+use Rattle.machine.specs.Heap.{IsHeap, is_moving}
 
-none_at : (n k : ℕ) → page_at (replicate n None) k ≡ None
-none_at zero k = refl
-none_at (suc n) zero = refl
-none_at (suc n) (suc k) = none_at n k
+no_object_fits : (id : ℕ) → fits (object_of [] id).shape ≡ true
+unfolding object_of
+no_object_fits id = grind arith
 
-none_held : (h : HeapState) → IsOpening h → (b : ℕ) → is_held h.store b ≡ false
-unfolding is_held
-none_held h o b = ap (λ pages. held_in (page_at pages (b / 2048)) (b % 2048)) o.pages ∙ ap (λ q. held_in q (b % 2048)) (none_at (length h.store.pages) (b / 2048))
+-- What a cycle may spend is small, with at most 4096 pages and 16640 roots.
+small_limit : (h : HeapState) → length h.store.pages ≤ 4096 → length h.roots ≤ 16640 → h.defrag_pages ≡ 0 → cycle_limit h < 2 ^ 31
+small_limit h p r d = let z : (h.defrag_pages + 38) * length h.store.pages ≡ 38 * length h.store.pages = ap (λ n. (n + 38) * length h.store.pages) d in omega (arith, z)
 
-contrary : (b : Bool) → b ≡ true → b ≡ false → ⊥
-contrary b p q = cc
-
-pub opening_heap : (h : HeapState) → IsOpening h → IsHeap h
-opening_heap h o = record {
+pub opening_heap : (h : HeapState) → IsOpening h → 0 < length h.store.pages → length h.store.pages ≤ 4096 → length h.roots ≤ 16640 → h.defrag_pages ≡ 0 → IsHeap h
+opening_heap h o some few row d = record {
   present = opening h.limits;
-  consistent = opening_stands h o;
-  row = ap length o.roots ∙ length-replicate {A = ℕ} (root_cells h.limits) 0;
-  fits = λ b e. absurd (contrary (is_held h.store b) e (none_held h o b));
+  snapshot = opening h.limits;
+  stands = stands_opening h o some;
+  fits = no_object_fits;
+  still = ap is_moving o.phase;
+  unmoved = d;
+  small = small_limit h few row d;
 }
 
 -- the pages of a new store are free
@@ -34,3 +35,6 @@ pub all_free : (s : Store) (n : ℕ) (words : List ℕ) → s ≡ record { pages
 all_free s n words e =
     let p : s.pages ≡ replicate {A = Option Page} n None = ap (λ (x : Store). x.pages) e in
     p ∙ ap (λ k. replicate {A = Option Page} k None) (sym (ap length p ∙ length-replicate {A = Option Page} n None))
+
+pub new_count : (s : Store) (n : ℕ) (words : List ℕ) → s ≡ record { pages = replicate n None; words = words } → length s.pages ≡ n
+new_count s n words e = ap (λ (x : Store). length x.pages) e ∙ length-replicate {A = Option Page} n None

@@ -13,7 +13,8 @@ use Rattle.machine.specs.declared.plan.Write.TheVariants as writes
 use Rattle.machine.specs.declared.plan.FoundRef.{FoundRef}
 use Rattle.machine.specs.declared.plan.FoundWord.{FoundWord}
 use Rattle.machine.specs.Reading.{Names, IsFoundRef, IsFoundWord}
-use Rattle.machine.specs.Plan.{room_for, PlansFor}
+use Rattle.heap_model.specs.Event.{room_for}
+use Rattle.machine.specs.Plan.{PlansFor}
 use Rattle.machine.proofs.Effects.{named}
 
 -- what is known of the fields h, of the value t

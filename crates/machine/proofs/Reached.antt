@@ -52,7 +52,7 @@ module _ (h t : HeapState) (is : h ≡ t) (w : IsHeap h) (root i : ℕ) (f : Fou
       ref_held = subst (λ b. is_held h.store b ≡ true) (sym eb) (ref_block_held h g0 (agrees_here g0 a0) _ f (found_here g0 a0) i place at)
 
       pub ref_inside : place.cell < length (node_of h.store block).cells
-      ref_inside = subst (λ b. place.cell < length (node_of h.store b).cells) (sym eb) (ref_cell_within h g0 (agrees_here g0 a0) _ f (found_here g0 a0) i place at w.consistent.whole)
+      ref_inside = subst (λ b. place.cell < length (node_of h.store b).cells) (sym eb) (ref_cell_within h g0 (agrees_here g0 a0) _ f (found_here g0 a0) i place at w.stands.consistent.whole)
 
       module _ (x : ℕ) (ex : x ≡ get_or (node_of h.store block).cells place.cell 0) where
         reads_of : (g : Graph) → Agrees t g → Reads (seen h) x (name_of (get_or (object_of g.objects f.id).refs i 0))
@@ -68,7 +68,7 @@ module _ (h t : HeapState) (is : h ≡ t) (w : IsHeap h) (root i : ℕ) (f : Fou
         finds_ref value ev g a =
             subst (λ (y : HeapState). IsFoundRef y g (get_or g.roots root 0) i (record { id = f.id; block = block; cell = place.cell; value = value })) is
             (subst (λ b. IsFoundRef h g (get_or g.roots root 0) i (record { id = f.id; block = b; cell = place.cell; value = value })) (sym eb)
-            (found_ref h g (agrees_here g a) _ f (found_here g a) i place at w.consistent.whole value
+            (found_ref h g (agrees_here g a) _ f (found_here g a) i place at w.stands.consistent.whole value
             (names_by h g x _ value (reads_of g a) (ref_known h g (agrees_here g a) _ f (found_here g a) i place at) ev)))
 
   module _ (place : Place) (at : word_place f.shape i ≡ Ok place) where
@@ -89,10 +89,10 @@ module _ (h t : HeapState) (is : h ≡ t) (w : IsHeap h) (root i : ℕ) (f : Fou
       word_held = subst (λ b. is_held h.store b ≡ true) (sym eb) (word_block_held h g0 (agrees_here g0 a0) _ f (found_here g0 a0) i place at)
 
       pub word_inside : place.cell < length (node_of h.store block).cells
-      word_inside = subst (λ b. place.cell < length (node_of h.store b).cells) (sym eb) (word_cell_within h g0 (agrees_here g0 a0) _ f (found_here g0 a0) i place at fit w.consistent.whole)
+      word_inside = subst (λ b. place.cell < length (node_of h.store b).cells) (sym eb) (word_cell_within h g0 (agrees_here g0 a0) _ f (found_here g0 a0) i place at fit w.stands.consistent.whole)
 
       pub finds_word : (word : ℕ) → word ≡ get_or (node_of h.store block).cells place.cell 0 → (g : Graph) → Agrees t g → IsFoundWord t g (get_or g.roots root 0) i (record { id = f.id; block = block; cell = place.cell; word = word })
       finds_word word e g a =
           subst (λ (y : HeapState). IsFoundWord y g (get_or g.roots root 0) i (record { id = f.id; block = block; cell = place.cell; word = word })) is
           (subst (λ b. IsFoundWord h g (get_or g.roots root 0) i (record { id = f.id; block = b; cell = place.cell; word = word })) (sym eb)
-          (found_word h g (agrees_here g a) _ f (found_here g a) i place at fit w.consistent.whole word (e ∙ ap (λ b. get_or (node_of h.store b).cells place.cell 0) eb)))
+          (found_word h g (agrees_here g a) _ f (found_here g a) i place at fit w.stands.consistent.whole word (e ∙ ap (λ b. get_or (node_of h.store b).cells place.cell 0) eb)))

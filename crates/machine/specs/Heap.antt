@@ -1,14 +1,14 @@
 -- The heap's fields, as the heap in words.
-use Rattle.std.specs.Prelude.{◌≡◌, ℕ, false, true, [], length}
-use Rattle.graph_heap.specs.Graph.{Graph, opening, root_cells}
+use Rattle.std.specs.Prelude.{◌≡◌, ◌*◌, ◌<◌, ◌≤◌, ◌^◌, ℕ, Bool, true, false, length}
+use Rattle.graph_heap.specs.Graph.{Graph, object_of}
 use Rattle.graph_heap.specs.Shape.{fits}
+use Rattle.heap_model.specs.declared.phase.Phase.{Phase}
 use Rattle.heap_model.specs.declared.phase.Phase.TheVariants as phases
-use Rattle.heap_model.specs.Store.{is_held, node_of}
 use Rattle.heap_model.specs.State.{HeapState}
-use Rattle.heap_model.specs.Agreement.{Consistent}
+use Rattle.heap_model.specs.Spent.{cycle_limit}
+use Rattle.heap_model.specs.Standing.{Stands}
 use Rattle.machine.specs.declared.heap.Heap.TheInside.{Inside}
 
--- no cycle is begun yet, and the colour that means marked is the same always
 abbrev pub state_of : Inside → HeapState
 state_of a = record {
   limits = a.roots.limits;
@@ -17,16 +17,31 @@ state_of a = record {
   store = a.nodes;
   roots = a.roots.cells;
   next = a.next;
-  phase = phases.Idle;
-  units = 0;
-  sense = false;
-  grey = [];
+  phase = a.phase;
+  units = a.units;
+  sense = a.sense;
+  grey = a.grey.parts;
 }
 
--- The heap stands for some graph heap, made from the opening one. No block is of a shape that is too
--- large.
+-- whether blocks are being moved
+abbrev pub is_moving : Phase → Bool
+is_moving phases.Idle = false
+is_moving (phases.Roots next) = false
+is_moving (phases.Marking part cell) = false
+is_moving (phases.Sweeping page block) = false
+is_moving (phases.Moving m) = true
+
+-- The heap stands for some graph heaps, no object of which is too large. Nothing is moved, and what a
+-- cycle may spend is a small number.
 pub record IsHeap (h : HeapState) : Type 0 where
   pub present : Graph
-  pub consistent : Consistent h present (opening h.limits)
-  pub row : length h.roots ≡ root_cells h.limits
-  pub fits : (b : ℕ) → is_held h.store b ≡ true → fits (node_of h.store b).shape ≡ true
+  pub snapshot : Graph
+  pub stands : Stands h present snapshot
+  pub fits : (id : ℕ) → fits (object_of present.objects id).shape ≡ true
+  pub still : is_moving h.phase ≡ false
+  pub unmoved : h.defrag_pages ≡ 0
+  pub small : cycle_limit h < 2 ^ 31
+
+-- there is memory for as many grey parts as there can be: a block has four words at least
+abbrev pub HasMemory : Inside → Type 0
+HasMemory a = 512 * length a.nodes.pages ≤ a.grey.room

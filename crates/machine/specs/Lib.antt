@@ -1,3 +1,4 @@
+pub mod Collecting
 pub mod Heap
 pub mod Plan
 pub mod Reading

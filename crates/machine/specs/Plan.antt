@@ -1,7 +1,6 @@
 -- What it is to plan a command, and to do what was planned.
-use Rattle.std.specs.Prelude.{◌≡◌, ℕ, ◌^◌, ◌<◌, true, length, Bool, Result, Ok, Err}
+use Rattle.std.specs.Prelude.{◌≡◌, ℕ, ◌^◌, ◌<◌, true, length, Result, Ok, Err}
 use Rattle.graph_heap.specs.declared.command.Command.{Command}
-use Rattle.graph_heap.specs.declared.command.Command.TheVariants as commands
 use Rattle.graph_heap.specs.declared.command.Refusal.{Refusal}
 use Rattle.graph_heap.specs.declared.command.Change.{Change}
 use Rattle.graph_heap.specs.declared.command.Change.TheVariants as changes
@@ -15,15 +14,11 @@ use Rattle.heap_model.specs.Cut.{name_of}
 use Rattle.heap_model.specs.State.{HeapState, seen}
 use Rattle.heap_model.specs.Agreement.{Agrees}
 use Rattle.heap_model.specs.Written.{IsKnown}
+use Rattle.heap_model.specs.Event.{room_for}
 use Rattle.machine.specs.Reading.{IsRefPlace, IsWordPlace}
 use Rattle.machine.specs.declared.plan.Planned.{Planned}
 use Rattle.machine.specs.declared.plan.Write.{Write}
 use Rattle.machine.specs.declared.plan.Write.TheVariants as writes
-
--- there is room for what a command asks for: blocks for the parts of a new object
-abbrev pub room_for : HeapState → Command → Bool
-room_for h (commands.New dst shape) = has_room h.store.pages (needed shape)
-room_for h _ = true
 
 -- what a write changes in the graph heap
 abbrev pub change_of : Write → Change

@@ -1,20 +1,80 @@
 -- A heap and its history.
-use Rattle.std.specs.Prelude.{List}
-use Rattle.graph_heap.specs.declared.command.Entry.{Entry}
-use Rattle.graph_heap.specs.Graph.{opening}
-use Rattle.graph_heap.specs.History.{after, IsLegal}
+use Rattle.std.specs.Prelude.{◌≡◌, ◌↔◌, ℕ, ◌+◌, ◌-◌, ◌<◌, ◌≤◌, true, false, List, [], ◌∷◌, ◌++◌, length, map, Result, Ok, Err, vec_len, vec_capacity}
+use Rattle.graph_heap.specs.declared.command.Command.{Command}
+use Rattle.graph_heap.specs.declared.no_memory.NoMemory.{NoMemory}
+use Rattle.heap_model.specs.declared.phase.Phase.TheVariants as phases
+use Rattle.heap_model.specs.Pages.{page_at}
 use Rattle.heap_model.specs.State.{HeapState}
-use Rattle.heap_model.specs.Agreement.{Agrees}
+use Rattle.heap_model.specs.Action.{Action, Chain}
+use Rattle.heap_model.specs.Swept.{IsSwept, IsKept, IsHeld}
+use Rattle.heap_model.specs.Marks.{HasNoMark}
+use Rattle.heap_model.specs.Standing.{is_sweeping}
+use Rattle.heap_model.specs.Event as done
+use Rattle.heap_model.specs.Event.{Course, present_of, snapshot_of, Runs, HaveBudgets, quanta_in, OneIsLast}
+use Rattle.heap_model.specs.Bound.{most_quanta}
 use Rattle.machine.specs.declared.recorded.Recorded.TheInside.{Inside}
+use Rattle.machine.specs.declared.event.Event.{Event}
+use Rattle.machine.specs.declared.event.Event.TheVariants as events
+use Rattle.machine.specs.declared.collector.Busy.{Busy}
+use Rattle.machine.specs.declared.collector.BudgetOutOfRange.{BudgetOutOfRange}
+use Rattle.machine.specs.declared.collector.Spent.{Spent}
 
+-- the heap with its history and the place at which the last cycle began, and for how many more entries
+-- there is memory
 pub record RecordedHeap : Type 0 where
-  pub heap : HeapState
-  pub history : List Entry
+  pub course : Course
+  pub room : ℕ
 
 abbrev pub recorded_of : Inside → RecordedHeap
-recorded_of a = record { heap = a.heap; history = a.history.items }
+recorded_of a = record {
+  course = record { heap = a.heap; history = a.history.items; place = a.place };
+  room = vec_capacity a.history - vec_len a.history;
+}
 
--- the history is legal, and the heap agrees with the graph heap to which it leads
-pub record IsRecorded (r : RecordedHeap) : Type 0 where
-  pub legal : IsLegal (opening r.heap.limits) r.history
-  pub agrees : Agrees r.heap (after (opening r.heap.limits) r.history)
+-- what a call to begin a cycle, or to spend a budget, did
+abbrev pub begin_done : Result (Unit {0}) Busy → done.Event
+begin_done (Ok begun) = done.Cycle_begun
+begin_done (Err busy) = done.Cycle_on
+
+abbrev pub quantum_done : ℕ → Result Spent BudgetOutOfRange → done.Event
+quantum_done budget (Ok spent) = done.Quantum_done budget spent.units spent.phase
+quantum_done budget (Err refused) = done.Quantum_refused budget
+
+-- what was asked for, of an event that is done
+abbrev pub asked : done.Event → Event
+asked (done.Command_done m c reply) = events.Command m c
+asked done.Cycle_begun = events.Begin
+asked done.Cycle_on = events.Begin
+asked (done.Quantum_done budget units phase) = events.Quantum budget
+asked (done.Quantum_refused budget) = events.Quantum budget
+
+-- These events were asked for, and are done, one after the other; or memory was refused for a command,
+-- and only those before it are done.
+abbrev pub RunsFront : Course → List Event → Course → Result (Unit {0}) NoMemory → Type 0
+RunsFront old es new (Ok all) = (front : List done.Event) × Runs old front new × (es ≡ map asked front)
+RunsFront old es new (Err refused) =
+    (front : List done.Event) × (m : ℕ) × (c : Command) × (rest : List Event) × Runs old front new × (es ≡ map asked front ++ events.Command m c ∷ rest)
+
+-- how many of the events are commands
+abbrev pub commands_in : List Event → ℕ
+commands_in [] = 0
+commands_in (events.Command m c ∷ es) = commands_in es + 1
+commands_in (e ∷ es) = commands_in es
+
+-- At each change out of sweeping, within a quantum too, exactly the blocks of what is kept are held, and no
+-- page is leaving or receiving.
+abbrev pub EachSweepEnds : Course → Type 0
+EachSweepEnds r =
+    (spent cost : ℕ) (h after : HeapState) → Chain r.heap spent h → Action h cost after → is_sweeping h.phase ≡ true → is_sweeping after.phase ≡ false
+    → IsSwept after (present_of r) (snapshot_of r) × ((k : ℕ) → HasNoMark (page_at after.store.pages k))
+
+-- in idle the held objects are exactly those that are kept
+abbrev pub HoldsKept : Course → Type 0
+HoldsKept r = r.heap.phase ≡ phases.Idle → (id : ℕ) → 0 < id → IsHeld r.heap (present_of r) id ↔ IsKept (present_of r) (snapshot_of r) id
+
+-- Behind a cycle that has begun, one of the first quanta of budgets of at least k ends in idle, for any k
+-- from 256 on, whatever comes between them.
+abbrev pub EndsSoon : Course → Type 0
+EndsSoon r =
+    (k : ℕ) (es : List done.Event) (new : Course) → 256 ≤ k → Runs r es new → HaveBudgets k es → most_quanta r.heap k ≤ quanta_in es → OneIsLast es
+

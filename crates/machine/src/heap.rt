@@ -5,16 +5,21 @@ ghost use Rattle.graph_heap.specs.Effect.{reply_of, next_of};
 ghost use Rattle.size_classes.specs.Config.{limits_of};
 ghost use Rattle.heap_model.specs.Opening.{IsOpening};
 ghost use Rattle.heap_model.specs.Agreement.{Agrees};
-ghost use Rattle.machine.specs.Plan.{Plans, IsPlanned, change_of, room_for};
+ghost use Rattle.heap_model.specs.Change.{DoesChange};
+ghost use Rattle.heap_model.specs.Event.{change_by, room_for};
+ghost use Rattle.machine.specs.Plan.{Plans, IsPlanned, change_of};
 
 use crate::plan::{Planned, Write};
 use graph_heap::{Command, NoMemory, Refusal, Reply};
+use heap_model::phase::Phase;
 use nodes::Nodes;
 use roots::Roots;
+use satb_barrier::Grey;
 use size_classes::Config;
 use std::alloc::Global;
 use std::marker::Model;
 
+mod collecting;
 mod planning;
 mod reading;
 mod writing;
@@ -26,33 +31,44 @@ pub struct Heap {
     nodes: Nodes,
     roots: Roots,
     next: u64,
+    phase: Phase,
+    units: u64,
+    sense: bool,
+    grey: Grey,
 }
 
 impl Model for Heap {
     ghost use Rattle.heap_model.specs.State.{HeapState};
-    ghost use Rattle.machine.specs.Heap.{state_of, IsHeap};
+    ghost use Rattle.machine.specs.Heap.{state_of, IsHeap, HasMemory};
 
     ghost Value = { HeapState };
 
     ghost view = { state_of };
 
-    ghost invariant = { λ a. IsHeap (state_of a) };
+    ghost invariant = { λ a. IsHeap (state_of a) × HasMemory a };
 }
 
 impl Heap {
-    /// A heap of free pages, with null roots and no object. Only want of memory is refused.
+    /// A heap of free pages, with null roots and no object, and memory for all that it will ever hold.
+    /// Only want of memory is refused. Nothing is moved yet, so no page may be asked to be emptied.
     pub fn new(alloc: Global, config: &Config) -> Result<Heap, NoMemory>
+        requires { config.now.defrag_pages ≡ 0 }
         ensures opening { IfOk result IsOpening }
         ensures limits { IfOk result (λ h. h.limits ≡ limits_of config.now) }
         ensures pages { IfOk result (λ h. length h.store.pages ≡ config.now.pages) }
     {
         let nodes = Nodes::new(alloc, config.pages)?;
         let roots = Roots::new(alloc, config)?;
+        let grey = Grey::new(alloc, 512 * config.pages as usize)?;
         Ok(Heap {
             config: *config,
             nodes,
             roots,
             next: 1,
+            phase: Phase::Idle,
+            units: 0,
+            sense: false,
+            grey,
         })
     }
 
@@ -67,11 +83,13 @@ impl Heap {
     }
 
     /// Does a command of a mutator, and replies. Whatever graph heap the heap agrees with, the reply
-    /// is that of its step, with room exactly where there is room for the parts of the new object,
-    /// and the heap agrees with it after the step.
+    /// is that of its step, with room exactly where there is room for the parts of the new object, and
+    /// the heap agrees with it after the step. What the command overwrites is recorded first, while
+    /// roots are scanned or parts marked.
     pub fn step(&mut self, mutator: u32, command: Command) -> Reply
         ensures reply { (g : Graph) → Agrees self.old g → result ≡ reply_of (room_for self.old command) g mutator command }
         ensures agrees { (g : Graph) → Agrees self.old g → Agrees self.new (next_of (room_for self.old command) g mutator command) }
+        ensures does { (g : Graph) → Agrees self.old g → DoesChange self.old g (change_by (room_for self.old command) g mutator command) self.new }
     {
         match self.plan(mutator, &command) {
             Ok(planned) => {
@@ -116,7 +134,8 @@ impl Heap {
     /// Does what was planned.
     fn apply(&mut self, write: &Write)
         requires { (g : Graph) → Agrees self.old g → IsPlanned self.old g write.now }
-        ensures { (g : Graph) → Agrees self.old g → Agrees self.new (changed g (change_of write.now)) }
+        ensures does { (g : Graph) → Agrees self.old g → DoesChange self.old g (change_of write.now) self.new }
+        ensures agrees { (g : Graph) → Agrees self.old g → Agrees self.new (changed g (change_of write.now)) }
     {
         match *write {
             Write::Nothing => {}

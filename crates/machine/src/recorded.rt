@@ -1,35 +1,44 @@
 //! A heap with its history.
-ghost use Rattle.std.specs.Prelude.{◌≡◌, [], ◌∷◌, ◌++◌, length, IfOk, OnErr, OnOk};
+ghost use Rattle.std.specs.Prelude.{◌≡◌, ◌⊎◌, ◌+◌, ◌<◌, ◌≤◌, [], ◌∷◌, length, IfOk, IsOk, OnErr, OnOk};
 ghost use Rattle.graph_heap.specs.Graph.{opening};
-ghost use Rattle.graph_heap.specs.Effect.{reply_of};
-ghost use Rattle.graph_heap.specs.History.{after, IsLegal};
+ghost use Rattle.graph_heap.specs.History.{IsLegal};
 ghost use Rattle.size_classes.specs.Config.{limits_of};
 ghost use Rattle.heap_model.specs.Agreement.{Agrees};
+ghost use Rattle.heap_model.specs.Event.{present_of, Does};
+ghost use Rattle.heap_model.specs.Event as done;
+ghost use Rattle.heap_model.specs.declared.phase.Phase.TheVariants as phases;
 ghost use Rattle.heap_model.specs.Opening.{IsOpening};
-ghost use Rattle.machine.specs.Plan.{room_for};
+ghost use Rattle.heap_model.specs.Spent.{cycle_limit};
+ghost use Rattle.machine.specs.Recorded.{begin_done, quantum_done, RunsFront, commands_in, EachSweepEnds, EndsSoon, HoldsKept};
 
+use crate::collector::{BudgetOutOfRange, Busy, Spent};
+use crate::event::Event;
 use crate::heap::Heap;
 use graph_heap::{Command, Entry, NoMemory};
 use size_classes::Config;
 use std::alloc::Global;
 use std::marker::Model;
 
-/// A heap with the history of its commands and replies, which only grows. Contracts see both: the
-/// history is always legal, and the heap agrees with the graph heap to which it leads.
+/// A heap with the history of its commands and replies, which only grows. Contracts see both, with the
+/// place of the history at which the last cycle began: the history is always legal, the heap agrees
+/// with the graph heap to which it leads, and in idle it holds exactly what is kept. They also see for
+/// how many more entries there is memory.
 #[derive(Drop)]
 pub struct Recorded {
     heap: Heap,
     history: Vec<Entry>,
+    place: usize,
 }
 
 impl Model for Recorded {
-    ghost use Rattle.machine.specs.Recorded.{RecordedHeap, recorded_of, IsRecorded};
+    ghost use Rattle.heap_model.specs.Event.{IsCourse};
+    ghost use Rattle.machine.specs.Recorded.{RecordedHeap, recorded_of};
 
     ghost Value = { RecordedHeap };
 
     ghost view = { recorded_of };
 
-    ghost invariant = { λ a. IsRecorded (recorded_of a) };
+    ghost invariant = { λ a. IsCourse (recorded_of a).course };
 }
 
 /// What a caller gets for a command: its entry in the history, and the place of that entry, from 0.
@@ -40,32 +49,43 @@ pub struct Receipt {
 }
 
 impl Recorded {
-    ghost use Rattle.machine.specs.Recorded.{IsRecorded};
-
-    /// A new heap, without history. Only want of memory is refused.
+    /// A new heap, without history. Only want of memory is refused. Nothing is moved yet, so no page may
+    /// be asked to be emptied.
     pub fn new(alloc: Global, config: &Config) -> Result<Recorded, NoMemory>
-        ensures heap { IfOk result (λ r. IsOpening r.heap) }
-        ensures limits { IfOk result (λ r. r.heap.limits ≡ limits_of config.now) }
-        ensures history { IfOk result (λ r. r.history ≡ []) }
+        requires { config.now.defrag_pages ≡ 0 }
+        ensures heap { IfOk result (λ r. IsOpening r.course.heap) }
+        ensures limits { IfOk result (λ r. r.course.heap.limits ≡ limits_of config.now) }
+        ensures pages { IfOk result (λ r. length r.course.heap.store.pages ≡ config.now.pages) }
+        ensures history { IfOk result (λ r. r.course.history ≡ []) }
+        ensures place { IfOk result (λ r. r.course.place ≡ 0) }
     {
         let heap = Heap::new(alloc, config)?;
         Ok(Recorded {
             heap,
             history: Vec::new(alloc),
+            place: 0,
         })
+    }
+
+    /// Makes room for so many more entries: the next so many calls aren't refused memory.
+    pub fn reserve(&mut self, entries: usize) -> Result<(), NoMemory>
+        ensures room { OnOk result (entries ≤ self.new.room) }
+        ensures kept { self.old.room ≤ self.new.room }
+        ensures course { self.new.course ≡ self.old.course }
+    {
+        self.history.reserve(entries)?;
+        Ok(())
     }
 
     /// Does a command of a mutator, and enters it with its reply. Room for the entry is made first:
     /// where memory for that is refused, nothing has changed.
     pub fn call(&mut self, mutator: u32, command: Command) -> Result<Receipt, NoMemory>
         ensures entry { IfOk result (λ r. (r.entry.mutator ≡ mutator) × (r.entry.command ≡ command)) }
-        ensures reply { IfOk result (λ r. r.entry.reply ≡ reply_of (room_for self.old.heap command) (after (opening self.old.heap.limits) self.old.history) mutator command) }
-        ensures place { IfOk result (λ r. r.place ≡ length self.old.history) }
-        ensures history { IfOk result (λ r. self.new.history ≡ self.old.history ++ r.entry ∷ []) }
-        ensures limits { self.new.heap.limits ≡ self.old.heap.limits }
-        ensures legal { IsLegal (opening self.new.heap.limits) self.new.history }
-        ensures agrees { Agrees self.new.heap (after (opening self.new.heap.limits) self.new.history) }
-        ensures err { OnErr result (self.new ≡ self.old) }
+        ensures does { IfOk result (λ r. Does self.old.course (done.Command_done mutator command r.entry.reply) self.new.course) }
+        ensures place { IfOk result (λ r. r.place ≡ length self.old.course.history) }
+        ensures room { 0 < self.old.room → IsOk result }
+        ensures left { self.old.room ≤ self.new.room + 1 }
+        ensures err { OnErr result (self.new.course ≡ self.old.course) }
     {
         let place = self.history.len();
         let reply = self.heap.answer(mutator, &command);
@@ -79,18 +99,73 @@ impl Recorded {
         Ok(Receipt { entry, place })
     }
 
+    /// Begins a cycle at this place of the history, unless one is on. It takes no memory.
+    pub fn begin(&mut self) -> Result<(), Busy>
+        ensures does { Does self.old.course (begin_done result) self.new.course }
+        ensures suffice { IsOk result → EndsSoon self.new.course }
+        ensures room { self.new.room ≡ self.old.room }
+    {
+        self.heap.begin()?;
+        self.place = self.history.len();
+        Ok(())
+    }
+
+    /// Spends units of a budget on the cycle that is on. It takes no memory.
+    pub fn quantum(&mut self, budget: u32) -> Result<Spent, BudgetOutOfRange>
+        ensures does { Does self.old.course (quantum_done budget result) self.new.course }
+        ensures swept { EachSweepEnds self.old.course }
+        ensures ends { IfOk result (λ s. (s.phase ≡ phases.Idle) ⊎ (budget < s.units + 256)) }
+        ensures room { self.new.room ≡ self.old.room }
+    {
+        self.heap.quantum(budget)
+    }
+
+    /// Does one event. What a cycle or a budget is refused is passed over.
+    fn event(&mut self, event: Event) -> Result<(), NoMemory>
+        ensures runs { RunsFront self.old.course (event ∷ []) self.new.course result }
+        ensures room { commands_in (event ∷ []) ≤ self.old.room → IsOk result }
+        ensures left { self.old.room ≤ self.new.room + commands_in (event ∷ []) }
+    {
+        match event {
+            Event::Command { mutator, command } => {
+                self.call(mutator, command)?;
+            }
+            Event::Begin => {
+                let _on = self.begin();
+            }
+            Event::Quantum(budget) => {
+                let _refused = self.quantum(budget);
+            }
+        }
+        Ok(())
+    }
+
+    /// Does events one after the other, in whatever order. It stops where memory is refused for the
+    /// entry of a command, and that command isn't done.
+    pub fn run(&mut self, events: &[Event]) -> Result<(), NoMemory>
+        ensures runs { RunsFront self.old.course events.now self.new.course result }
+        ensures room { commands_in events.now ≤ self.old.room → IsOk result }
+    {
+        for event in events {
+            self.event(*event)?;
+        }
+        Ok(())
+    }
+
     /// The heap.
     pub fn heap(&self) -> &Heap
-        ensures { result.now ≡ self.now.heap }
+        ensures heap { result.now ≡ self.now.course.heap }
+        ensures held { HoldsKept self.now.course }
+        ensures units { self.now.course.heap.units ≤ cycle_limit self.now.course.heap }
     {
         &self.heap
     }
 
     /// The history, from its first entry on.
     pub fn history(&self) -> &[Entry]
-        ensures history { result.now ≡ self.now.history }
-        ensures legal { IsLegal (opening self.now.heap.limits) self.now.history }
-        ensures agrees { Agrees self.now.heap (after (opening self.now.heap.limits) self.now.history) }
+        ensures history { result.now ≡ self.now.course.history }
+        ensures legal { IsLegal (opening self.now.course.heap.limits) self.now.course.history }
+        ensures agrees { Agrees self.now.course.heap (present_of self.now.course) }
     {
         self.history.as_slice()
     }

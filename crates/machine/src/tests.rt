@@ -1,8 +1,14 @@
 //! Replies worked out by hand.
+ghost use Rattle.std.specs.Prelude.{◌≡◌};
 
 use super::*;
 use graph_heap::{Command, NoMemory, Refusal, Reply, Shape};
 use size_classes::{Config, Settings};
+use std::process::Abort;
+
+mod collecting;
+mod mixing;
+mod refusing;
 
 const ONE_PAGE: Settings = Settings {
     pages: 1,
@@ -17,6 +23,58 @@ const ONE_PAGE: Settings = Settings {
     rate: 100,
 };
 
+const MANY_SLOTS: Settings = Settings {
+    pages: 4,
+    mutators: 2,
+    slots: 256,
+    ..ONE_PAGE
+};
+
+/// The configuration of settings by which no page is to be emptied.
+fn config_of(rt: &impl Abort, settings: &Settings) -> Config
+    ensures { result.defrag_pages ≡ 0 }
+{
+    let Ok(config) = Config::check(settings) else {
+        panic!(rt; "the settings are good");
+    };
+    assert!(rt; config.defrag_pages == 0);
+    config
+}
+
+/// A heap with its history, of such settings.
+fn recorded(rt: &(impl Abort + AllocGlobal), settings: &Settings) -> Result<Recorded, NoMemory> {
+    Recorded::new(rt.alloc(), &config_of(rt, settings))
+}
+
+/// A request for a plain object.
+fn plain(dst: u32, refs: u32, words: u32) -> Command {
+    let shape = Shape::Plain { refs, words };
+    Command::New { dst, shape }
+}
+
+/// A request for an array of words.
+fn words(dst: u32, n: u32) -> Command {
+    let shape = Shape::WordArray(n);
+    Command::New { dst, shape }
+}
+
+/// Does commands of a mutator, and compares each reply.
+fn expect(
+    rt: &impl Abort,
+    heap: &mut Recorded,
+    mutator: u32,
+    steps: &[(Command, Reply)],
+) -> Result<(), NoMemory> {
+    for (command, reply) in steps {
+        assert_eq!(rt;
+            heap.call(mutator, *command)?.entry.reply,
+            *reply,
+            "{command:?}"
+        );
+    }
+    Ok(())
+}
+
 /// The reply to a command of mutator 0.
 fn told(heap: &mut Recorded, command: Command) -> Result<Reply, NoMemory> {
     Ok(heap.call(0, command)?.entry.reply)
@@ -24,16 +82,12 @@ fn told(heap: &mut Recorded, command: Command) -> Result<Reply, NoMemory> {
 
 /// The reply to a request for an object of so many words.
 fn made(heap: &mut Recorded, dst: u32, words: u32) -> Result<Reply, NoMemory> {
-    let shape = Shape::Plain { refs: 0, words };
-    told(heap, Command::New { dst, shape })
+    told(heap, plain(dst, 0, words))
 }
 
 #[test]
 fn a_page_fills_up(rt: HostRuntime) -> Result<(), NoMemory> {
-    let Ok(config) = Config::check(&ONE_PAGE) else {
-        panic!(rt; "the settings are good");
-    };
-    let mut heap = Recorded::new(rt.alloc(), &config)?;
+    let mut heap = recorded(&rt, &ONE_PAGE)?;
     for k in 0..8u32 {
         assert!(rt; made(&mut heap, k, 252)? == Reply::Made(u64::from(k) + 1));
     }
@@ -53,10 +107,7 @@ fn a_page_fills_up(rt: HostRuntime) -> Result<(), NoMemory> {
 
 #[test]
 fn a_page_has_one_class(rt: HostRuntime) -> Result<(), NoMemory> {
-    let Ok(config) = Config::check(&ONE_PAGE) else {
-        panic!(rt; "the settings are good");
-    };
-    let mut heap = Recorded::new(rt.alloc(), &config)?;
+    let mut heap = recorded(&rt, &ONE_PAGE)?;
     assert!(rt; made(&mut heap, 0, 0)? == Reply::Made(1));
     assert!(rt; made(&mut heap, 0, 1)? == Reply::Refused(Refusal::NoSpace));
     Ok(())
@@ -64,10 +115,7 @@ fn a_page_has_one_class(rt: HostRuntime) -> Result<(), NoMemory> {
 
 #[test]
 fn words_are_kept(rt: HostRuntime) -> Result<(), NoMemory> {
-    let Ok(config) = Config::check(&ONE_PAGE) else {
-        panic!(rt; "the settings are good");
-    };
-    let mut heap = Recorded::new(rt.alloc(), &config)?;
+    let mut heap = recorded(&rt, &ONE_PAGE)?;
     assert!(rt; made(&mut heap, 0, 1)? == Reply::Made(1));
     let put = Command::Put {
         obj: 0,

@@ -1,8 +1,8 @@
 //! Plays a trace from standard input on a heap, and writes the replies to standard output.
 #![tactic(auto)]
+ghost use Rattle.std.specs.Prelude.{◌≡◌};
 
-use machine::Recorded;
-use player::{PlayFault, play};
+use player::{PlayFault, Player, play};
 use size_classes::{Config, Settings};
 use std::alloc::Global;
 use std::io::{self, Read, Write};
@@ -28,7 +28,9 @@ const SETTINGS: Settings = Settings {
 
 /// The checked configuration of a run.
 #[tactic(auto, unfolding(size_classes::specs::Config::is_between))]
-fn config() -> Config {
+fn config() -> Config
+    ensures { result.defrag_pages ≡ 0 }
+{
     match Config::check(&SETTINGS) {
         Ok(config) => config,
         Err(_) => unreachable!(),
@@ -50,13 +52,13 @@ fn play_trace<R: Read + Drop, W: Write + Drop>(
     input: R,
     output: W,
 ) -> Result<(), PlayFault> {
-    let Ok(mut heap) = Recorded::new(alloc, &config()) else {
+    let Ok(mut player) = Player::new(alloc, &config()) else {
         return Err(PlayFault::NoMemory);
     };
     play(
         &mut ReadSource::new(input),
         &mut WriteSink::new(output),
-        &mut heap,
+        &mut player,
     )
 }
 

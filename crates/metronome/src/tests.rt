@@ -41,7 +41,10 @@ fn runs_end_with_a_status(rt: HostRuntime) -> Result<(), Fail> {
         "made 1\n",
         "metronome: line 2: not an event\n",
     )?;
-    expect(&rt, "begin\n", 4, "", "metronome: line 1: not yet\n")
+    let twice = "tick 1099511627776\ntick 1\n";
+    expect(&rt, twice, 4, "", "metronome: line 2: clock spent\n")?;
+    let cycle = "0 new 0 plain 0 1\n0 clear 0\nbegin\nquantum 1000\ntick 40\n";
+    expect(&rt, cycle, 0, "made 1\ndone\n", "")
 }
 
 /// A reader and writer that fails.

@@ -1,3 +1,4 @@
+pub mod Following
 pub mod Freeing
 pub mod Made
 pub mod Making

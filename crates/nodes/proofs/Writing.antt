@@ -1,9 +1,13 @@
 -- Reads and writes of one held block.
 use Rattle.std.proofs.Common.{◌≡◌, ℕ, ◌+◌, ◌<◌, ◌≤◌, ◌≢◌, ◌⊎◌, Bool, true, List, length, drop, set, get_or, ap, ◌∙◌, sym, arith, refl, inl, inr, subst, length-set}
 use Rattle.std.proofs.lemmas.List.{get_or-take, get_or-drop, length-take, length-drop}
+use Rattle.graph_heap.specs.declared.command.Shape.{Shape}
+use Rattle.graph_heap.specs.Shape.{ref_cells, word_cells}
 use Rattle.heap_model.specs.Header.{header_in, shape_in, recoloured}
 use Rattle.heap_model.specs.Block.{words_at, node_in, cell_count, with_cell, with_colour}
 use Rattle.heap_model.specs.Store.{Store, IsStore, size_at, is_held, node_of, Writes}
+use Rattle.heap_model.specs.Cut.{width_in}
+use Rattle.heap_model.specs.State.{width_at}
 use Rattle.headers.proofs.Frames.{node_at-other}
 use Rattle.headers.proofs.Written.{cell_written, colour_written}
 use Rattle.nodes.proofs.Places.{held_place, inside, apart}
@@ -26,6 +30,10 @@ module _ (s : Store) (whole : IsStore s) (a : ℕ) (held : is_held s a ≡ true)
   pub shape_is : shape_in (get_or s.words (a + 1) 0) ≡ (node_of s a).shape
   unfolding node_of node_in
   shape_is = ap shape_in (sym (word_of_block 1 (omega (arith, four))))
+
+  pub part_is : (header_in (get_or s.words (a + 1) 0)).part ≡ (node_of s a).part
+  unfolding node_of node_in
+  part_is = ap (λ w. (header_in w).part) (sym (word_of_block 1 (omega (arith, four))))
 
   pub identity_is : get_or s.words (a + 2) 0 ≡ (node_of s a).identity
   unfolding node_of node_in
@@ -96,6 +104,12 @@ module _ (s t : Store) (is : s ≡ t) (whole : IsStore s) (a : ℕ) (held : is_h
 
   pub shape_by : shape_in (get_or s.words (a + 1) 0) ≡ (node_of t a).shape
   shape_by = shape_is s whole a held' ∙ ap (λ (x : Store). (node_of x a).shape) is
+
+  pub part_by : (header_in (get_or s.words (a + 1) 0)).part ≡ (node_of t a).part
+  part_by = part_is s whole a held' ∙ ap (λ (x : Store). (node_of x a).part) is
+
+  pub width_by : (shape : Shape) (part : ℕ) → shape ≡ shape_in (get_or s.words (a + 1) 0) → part ≡ (header_in (get_or s.words (a + 1) 0)).part → width_in (ref_cells shape) (word_cells shape) part ≡ width_at (node_of t a)
+  width_by shape part e f = ap (λ z. width_in (ref_cells z) (word_cells z) part) (e ∙ shape_by) ∙ ap (λ p. width_in (ref_cells (node_of t a).shape) (word_cells (node_of t a).shape) p) (f ∙ part_by)
 
   pub colour_by : (header_in (get_or s.words (a + 1) 0)).colour ≡ (node_of t a).colour
   colour_by = colour_is s whole a held' ∙ ap (λ (x : Store). (node_of x a).colour) is

@@ -7,7 +7,8 @@ ghost use Rattle.heap_model.specs.Block.{cell_count, with_forward, with_colour, 
 ghost use Rattle.heap_model.specs.Pages.{has_room, page_for, page_at, with_held, TakesBlock};
 ghost use Rattle.heap_model.specs.Pages as page_list;
 ghost use Rattle.heap_model.specs.Action.{Frees, KeepsBlocks, closed};
-ghost use Rattle.heap_model.specs.State.{same_colour};
+ghost use Rattle.heap_model.specs.State.{same_colour, width_at};
+ghost use Rattle.heap_model.specs.Cut.{width_in};
 ghost use Rattle.heap_model.specs.Store.{is_held, node_of, address_of, Writes, Adds};
 ghost use Rattle.nodes.specs.Pages.{blocks_on};
 ghost use Rattle.nodes.specs.Referent.{referent_of};
@@ -25,6 +26,22 @@ use std::marker::Model;
 pub struct Referent {
     pub identity: u64,
     pub reference: u64,
+}
+
+/// How many reference cells a part has, of an object with so many reference and word cells: a spine
+/// has one for each piece, a piece has its share.
+#[tactic(auto, unfolding(heap_model::specs::Cut::is_cut, heap_model::specs::Cut::width_in))]
+fn width_of(refs: u32, words: u32, part: u32) -> usize
+    ensures { result ≡ width_in refs words part }
+{
+    let refs = refs as usize;
+    let cells = refs + words as usize;
+    match (cells <= 252, part) {
+        (true, 0) => refs,
+        (true, _) => 0,
+        (false, 0) => (cells + 251) / 252,
+        (false, _) => refs.saturating_sub(252 * (part as usize - 1)).min(252),
+    }
 }
 
 /// The blocks of a heap. Contracts see the pages and the words; a method that writes says what the
@@ -107,6 +124,19 @@ impl Nodes {
         ensures { result ≡ (node_of self.now block).shape }
     {
         self.arena.shape(block)
+    }
+
+    /// How many cells of a held block are references: they stand first.
+    pub fn width(&self, block: usize) -> usize
+        requires { is_held self.now block ≡ true }
+        ensures { result ≡ width_at (node_of self.now block) }
+    {
+        let part = self.arena.part(block);
+        match self.arena.shape(block) {
+            Shape::Plain { refs, words } => width_of(refs, words, part),
+            Shape::RefArray(n) => width_of(n, 0, part),
+            Shape::WordArray(n) => width_of(0, n, part),
+        }
     }
 
     /// The identity of that object.

@@ -1,2 +1,4 @@
-mod Lines
-mod Ending
+pub mod Doing
+pub mod Ending
+pub mod Lines
+pub mod Ticking

@@ -1,83 +1,109 @@
 -- The lines so far, and one line more.
-use Rattle.std.proofs.Common.{Bool, true, false, ◌≡◌, ℕ, ◌+◌, inl, inr, List, [], ◌∷◌, ◌++◌, length, arith, length-append, append_assoc, append-nil, ap, ◌∙◌, sym, subst, refl}
+use Rattle.std.proofs.Common.{Bool, true, false, ◌≡◌, ℕ, ◌+◌, List, [], ◌∷◌, ◌++◌, length, arith, length-append, append_assoc, append-nil, ap, ◌∙◌, sym, subst, refl}
 use Rattle.std.specs.Prelude.{Ok, Option, Some, None}
+use Rattle.std.proofs.lemmas.Grind.{flat_map-append}
 use Rattle.graph_heap.specs.declared.command.Entry.{Entry}
+use Rattle.heap_model.specs.Event.{Course, Event, Command_done, Cycle_begun, Cycle_on, Quantum_done, Quantum_refused, Runs}
+use Rattle.machine.proofs.Courses.{runs_then}
+use Rattle.trace.specs.declared.line.Line.{Line}
 use Rattle.trace.specs.declared.line.Line.TheVariants as lines
-use Rattle.trace.specs.Spelling.{Spells, IsSkipped}
+use Rattle.trace.specs.Spelling.{Spells}
 use Rattle.trace.specs.LineReader.{Lines, text_by, Says, lines_by}
 use Rattle.trace.specs.Streams.{IsLine, Splits, Comes, Stays, text_of}
 use Rattle.trace.proofs.Cutting.{one_more}
+use Rattle.player.specs.Player.{PlayerState, QuantaDue, None_yet, One_more, DoesLine, Skips, Commands, Begins, Goes_on, Spends, Ticks, entries_in}
 use Rattle.player.specs.Playing.{Plays, reply_line, replies_of}
 use Rattle.player.specs.Progress.{LineDone, SoFar}
 
--- a line more that is skipped, or that makes an entry
-pub plays_skipped : (ls : List (List ℕ)) (es : List Entry) (line : List ℕ) → Plays ls es → IsSkipped line → Plays (ls ++ line ∷ []) es
-plays_skipped [] es line p s = inl (s, p)
-plays_skipped (l ∷ ls) es line (inl k) s = inl (k.0, plays_skipped ls es line k.1 s)
-plays_skipped (l ∷ ls) es line (inr k) s = inr (k.0, k.1, k.2, k.3, plays_skipped ls k.1 line k.4 s)
+-- a line more
+pub plays_more : (ls : List (List ℕ)) (es fs : List Event) (bytes : List ℕ) (line : Line) (old mid new : PlayerState) → Plays old ls es mid → Spells bytes line → DoesLine mid line fs new → Plays old (ls ++ bytes ∷ []) (es ++ fs) new
+plays_more [] es fs bytes line old mid new p s d =
+    (line, fs, [], new, s, subst (λ (x : PlayerState). DoesLine x line fs new) p.1 d, ap (λ l. l ++ fs) p.0 ∙ sym (append-nil fs), (refl, refl))
+plays_more (l ∷ ls) es fs bytes line old mid new p s d =
+    (p.0, p.1, p.2 ++ fs, p.3, p.4, p.5, ap (λ l. l ++ fs) p.6 ∙ append_assoc p.1 p.2 fs, plays_more ls p.2 fs bytes line p.3 mid new p.7 s d)
 
-pub plays_done : (ls : List (List ℕ)) (es : List Entry) (line : List ℕ) (e : Entry) → Plays ls es → Spells line (lines.Command e.mutator e.command) → Plays (ls ++ line ∷ []) (es ++ e ∷ [])
-plays_done [] es line e p s = inr (e, [], ap (λ (l : List Entry). l ++ e ∷ []) p, s, refl)
-plays_done (l ∷ ls) es line e (inl k) s = inl (k.0, plays_done ls es line e k.1 s)
-plays_done (l ∷ ls) es line e (inr k) s = inr (k.0, k.1 ++ e ∷ [], ap (λ (l : List Entry). l ++ e ∷ []) k.2, k.3, plays_done ls k.1 line e k.4 s)
+-- the entries and the replies of more events
+pub entries_more : (es fs : List Event) → entries_in (es ++ fs) ≡ entries_in es ++ entries_in fs
+entries_more [] fs = refl
+entries_more (Command_done m c reply ∷ es) fs = ap (λ l. (record { mutator = m; command = c; reply = reply }) ∷ l) (entries_more es fs)
+entries_more (Cycle_begun ∷ es) fs = entries_more es fs
+entries_more (Cycle_on ∷ es) fs = entries_more es fs
+entries_more (Quantum_done budget units phase ∷ es) fs = entries_more es fs
+entries_more (Quantum_refused budget ∷ es) fs = entries_more es fs
 
--- the text of one reply more
-pub one_reply_more : (es : List Entry) (e : Entry) → replies_of (es ++ e ∷ []) ≡ replies_of es ++ reply_line e
-one_reply_more [] e = append-nil (reply_line e)
-one_reply_more (d ∷ es) e = ap (λ t. reply_line d ++ t) (one_reply_more es e) ∙ sym (append_assoc (reply_line d) (replies_of es) (reply_line e))
+pub replies_more : (es fs : List Entry) → replies_of (es ++ fs) ≡ replies_of es ++ replies_of fs
+replies_more es fs = flat_map-append reply_line es fs
 
-pub written_more : (taken taken' taken'' : List ℕ) (es : List Entry) (e : Entry) → taken' ≡ taken ++ replies_of es → taken'' ≡ taken' ++ reply_line e → taken'' ≡ taken ++ replies_of (es ++ e ∷ [])
-written_more taken taken' taken'' es e old new =
-    new ∙ ap (λ t. t ++ reply_line e) old ∙ append_assoc taken (replies_of es) (reply_line e) ∙ ap (λ t. taken ++ t) (sym (one_reply_more es e))
+-- quanta make no entry
+pub due_entries : (until : ℕ) (p : PlayerState) (es : List Event) (q : PlayerState) → QuantaDue until p es q → entries_in es ≡ []
+due_entries until p es q None_yet = refl
+due_entries until p es q (One_more fs r due units phase course w is below d) = entries_more fs (Quantum_done r.budget units phase ∷ []) ∙ ap (λ l. l ++ []) (due_entries until p fs r w)
+
+-- the events of a line are done, one after the other
+due_runs : (until : ℕ) (p : PlayerState) (es : List Event) (q : PlayerState) → QuantaDue until p es q → Runs p.course es q.course
+due_runs until p es q None_yet = refl
+due_runs until p es q (One_more fs r due units phase course w is below d) = runs_then fs (Quantum_done r.budget units phase ∷ []) p.course r.course course (due_runs until p fs r w) (course, d, refl)
+
+line_runs : (p : PlayerState) (line : Line) (es : List Event) (q : PlayerState) → DoesLine p line es q → Runs p.course es q.course
+line_runs p line es q Skips = refl
+line_runs p line es q (Commands m c reply course d) = (course, d, refl)
+line_runs p line es q (Begins course d) = (course, d, refl)
+line_runs p line es q (Goes_on d) = (p.course, d, refl)
+line_runs p line es q (Spends budget units phase course d) = (course, d, refl)
+line_runs p line es q (Ticks n fs r small w none) = due_runs (p.timetable.clock + n) p es r w
+
+pub lines_run : (ls : List (List ℕ)) (es : List Event) (old new : PlayerState) → Plays old ls es new → Runs old.course es new.course
+lines_run [] es old new p = subst (λ l. Runs old.course l new.course) (sym p.0) (ap (λ (x : PlayerState). x.course) p.1)
+lines_run (l ∷ ls) es old new p =
+    subst (λ k. Runs old.course k new.course) (sym p.6) (runs_then p.1 p.2 old.course p.3.course new.course (line_runs old p.0 p.1 p.3 p.5) (lines_run ls p.2 p.3 new p.7))
+
+-- the history grows by the entries
+pub history_grows : (es : List Event) (r new : Course) → Runs r es new → new.history ≡ r.history ++ entries_in es
+history_grows [] r new w = ap (λ (x : Course). x.history) w ∙ sym (append-nil r.history)
+history_grows (Command_done m c reply ∷ es) r new w =
+    history_grows es w.0 new w.2 ∙ ap (λ h. h ++ entries_in es) w.1.history ∙ append_assoc r.history (record { mutator = m; command = c; reply = reply } ∷ []) (entries_in es)
+history_grows (Cycle_begun ∷ es) r new w = history_grows es w.0 new w.2 ∙ ap (λ h. h ++ entries_in es) w.1.history
+history_grows (Cycle_on ∷ es) r new w = history_grows es w.0 new w.2 ∙ ap (λ (x : Course). x.history ++ entries_in es) w.1.1
+history_grows (Quantum_done budget units phase ∷ es) r new w = history_grows es w.0 new w.2 ∙ ap (λ h. h ++ entries_in es) w.1.history
+history_grows (Quantum_refused budget ∷ es) r new w = history_grows es w.0 new w.2 ∙ ap (λ (x : Course). x.history ++ entries_in es) w.1.1
+
+pub written_more : (taken taken' taken'' : List ℕ) (es fs : List Event) → taken' ≡ taken ++ replies_of (entries_in es) → taken'' ≡ taken' ++ replies_of (entries_in fs) → taken'' ≡ taken ++ replies_of (entries_in (es ++ fs))
+written_more taken taken' taken'' es fs old new =
+    new ∙ ap (λ t. t ++ replies_of (entries_in fs)) old ∙ append_assoc taken (replies_of (entries_in es)) (replies_of (entries_in fs))
+    ∙ ap (λ t. taken ++ t) (sym (replies_more (entries_in es) (entries_in fs)) ∙ ap replies_of (sym (entries_more es fs)))
 
 -- what came, and more of it
 pub came_more : (given given' given'' text more : List ℕ) → given' ≡ given ++ text → given'' ≡ given' ++ more → given'' ≡ given ++ (text ++ more)
 came_more given given' given'' text more old new = new ∙ ap (λ t. t ++ more) old ∙ append_assoc given text more
 
-pub grows_more : (history history' history'' es : List Entry) (e : Entry) → history' ≡ history ++ es → history'' ≡ history' ++ e ∷ [] → history'' ≡ history ++ (es ++ e ∷ [])
-grows_more history history' history'' es e old new = new ∙ ap (λ t. t ++ e ∷ []) old ∙ append_assoc history es (e ∷ [])
-
 counts_more : (ls : List (List ℕ)) (line : List ℕ) (number : ℕ) → number ≡ length ls → number + 1 ≡ length (ls ++ line ∷ [])
 counts_more ls line number e = omega (arith, e, length-append ls (line ∷ []))
 
 -- before the first line
-pub at_first : (given taken : List ℕ) (history : List Entry) → SoFar given given history history taken taken [] 0
-at_first given taken history = record {
+pub at_first : (given taken : List ℕ) (p : PlayerState) → SoFar given given p p taken taken [] 0
+at_first given taken p = record {
   text = [];
   lines = [];
-  entries = [];
+  events = [];
   came = sym (append-nil given);
   splits = record { whole = refl; each = tt };
-  plays = refl;
-  grows = sym (append-nil history);
+  plays = (refl, refl);
   written = sym (append-nil taken);
   counted = refl;
 }
 
-module _ (given given' given'' : List ℕ) (history history' history'' : List Entry) (taken taken' taken'' kept kept' line : List ℕ) (number : ℕ) where
+module _ (given given' given'' : List ℕ) (old mid new : PlayerState) (taken taken' taken'' kept kept' line : List ℕ) (number : ℕ) where
   -- a line more that is done
-  pub one_line_more : SoFar given given' history history' taken taken' kept number → Comes given' given'' kept (line ++ 10 ∷ kept') → IsLine line → LineDone line (number + 1) history' history'' taken' taken'' (Ok tt)
-      → SoFar given given'' history history'' taken taken'' kept' (number + 1)
-  one_line_more so comes is (inl k) = record {
+  pub one_line_more : SoFar given given' old mid taken taken' kept number → Comes given' given'' kept (line ++ 10 ∷ kept') → IsLine line → LineDone line (number + 1) mid new taken' taken'' (Ok tt)
+      → SoFar given given'' old new taken taken'' kept' (number + 1)
+  one_line_more so comes is k = record {
     text = so.text ++ comes.more;
     lines = so.lines ++ line ∷ [];
-    entries = so.entries;
+    events = so.events ++ k.1;
     came = came_more given given' given'' so.text comes.more so.came comes.given_more;
     splits = one_more so.text comes.more kept kept' line so.lines so.splits comes.makes is;
-    plays = plays_skipped so.lines so.entries line so.plays k.0;
-    grows = k.1 ∙ so.grows;
-    written = k.2 ∙ so.written;
-    counted = counts_more so.lines line number so.counted;
-  }
-  one_line_more so comes is (inr k) = record {
-    text = so.text ++ comes.more;
-    lines = so.lines ++ line ∷ [];
-    entries = so.entries ++ k.0 ∷ [];
-    came = came_more given given' given'' so.text comes.more so.came comes.given_more;
-    splits = one_more so.text comes.more kept kept' line so.lines so.splits comes.makes is;
-    plays = plays_done so.lines so.entries line k.0 so.plays k.1;
-    grows = grows_more history history' history'' so.entries k.0 so.grows k.2;
-    written = written_more taken taken' taken'' so.entries k.0 so.written k.3;
+    plays = plays_more so.lines so.events k.1 line k.0 old mid new so.plays k.2 k.3;
+    written = written_more taken taken' taken'' so.events k.1 so.written k.4;
     counted = counts_more so.lines line number so.counted;
   }
 
@@ -98,12 +124,24 @@ stays_on None b c p q = tt
 stays_on (Some all) b c p q = (subst (λ (o : Option (List ℕ)). Stays o c) p q)
 
 -- a line more, as the reader of lines hands it out
-pub handed_out : (given given' given'' : List ℕ) (ended : Bool) (history history' history'' : List Entry) (taken taken' taken'' kept line : List ℕ) (number number' : ℕ) (l : Lines) (b : Bool) → b ≡ true
-    → SoFar given given' history history' taken taken' kept number → Comes given' given'' kept (text_by (Ok b) l) → Says (Ok b) l ended → l.number ≡ number + lines_by (Ok b)
-    → line ≡ l.line → number' ≡ l.number → LineDone line number' history' history'' taken' taken'' (Ok tt)
-    → SoFar given given'' history history'' taken taken'' l.kept l.number
-handed_out given given' given'' ended history history' history'' taken taken' taken'' kept line number number' l true is so comes says n same_line same_number done =
-    subst (λ m. SoFar given given'' history history'' taken taken'' l.kept m) (sym n)
-    (one_line_more given given' given'' history history' history'' taken taken' taken'' kept l.kept l.line number so comes says
-    (subst (λ m. LineDone l.line m history' history'' taken' taken'' (Ok tt)) (same_number ∙ n) (subst (λ t. LineDone t number' history' history'' taken' taken'' (Ok tt)) same_line done)))
-handed_out given given' given'' ended history history' history'' taken taken' taken'' kept line number number' l false is so comes says n same_line same_number done = absurd (cc)
+pub handed_out : (given given' given'' : List ℕ) (ended : Bool) (old mid new : PlayerState) (taken taken' taken'' kept line : List ℕ) (number number' : ℕ) (l : Lines) (b : Bool) → b ≡ true
+    → SoFar given given' old mid taken taken' kept number → Comes given' given'' kept (text_by (Ok b) l) → Says (Ok b) l ended → l.number ≡ number + lines_by (Ok b)
+    → line ≡ l.line → number' ≡ l.number → LineDone line number' mid new taken' taken'' (Ok tt)
+    → SoFar given given'' old new taken taken'' l.kept l.number
+handed_out given given' given'' ended old mid new taken taken' taken'' kept line number number' l true is so comes says n same_line same_number done =
+    subst (λ m. SoFar given given'' old new taken taken'' l.kept m) (sym n)
+    (one_line_more given given' given'' old mid new taken taken' taken'' kept l.kept l.line number so comes says
+    (subst (λ m. LineDone l.line m mid new taken' taken'' (Ok tt)) (same_number ∙ n) (subst (λ t. LineDone t number' mid new taken' taken'' (Ok tt)) same_line done)))
+handed_out given given' given'' ended old mid new taken taken' taken'' kept line number number' l false is so comes says n same_line same_number done = absurd (cc)
+
+-- ticks write nothing
+line_entries : (p : PlayerState) (line : Line) (es : List Event) (q : PlayerState) → DoesLine p line es q → (n : ℕ) → line ≡ lines.Tick n → entries_in es ≡ []
+line_entries p line es q Skips n e = refl
+line_entries p line es q (Commands m c reply course d) n e = absurd (cc)
+line_entries p line es q (Begins course d) n e = refl
+line_entries p line es q (Goes_on d) n e = refl
+line_entries p line es q (Spends budget units phase course d) n e = refl
+line_entries p line es q (Ticks k fs r small w none) n e = due_entries (p.timetable.clock + k) p es r w
+
+pub tick_written : (taken : List ℕ) (p q : PlayerState) (line : Line) (n : ℕ) (es : List Event) → line ≡ lines.Tick n → DoesLine p line es q → taken ≡ taken ++ replies_of (entries_in es)
+tick_written taken p q line n es e d = sym (append-nil taken) ∙ ap (λ t. taken ++ replies_of t) (sym (line_entries p line es q d n e))

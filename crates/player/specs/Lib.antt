@@ -1,2 +1,4 @@
+pub mod Player
 pub mod Playing
 pub mod Progress
+pub mod Ticking

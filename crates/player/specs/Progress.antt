@@ -1,39 +1,51 @@
 -- One line, and the lines so far.
-use Rattle.std.specs.Prelude.{◌≡◌, ℕ, ◌⊎◌, List, [], ◌∷◌, ◌++◌, length, Result, Ok, Err}
-use Rattle.graph_heap.specs.declared.command.Entry.{Entry}
+use Rattle.std.specs.Prelude.{◌≡◌, ℕ, List, [], ◌∷◌, ◌++◌, length, Result, Ok, Err}
+use Rattle.graph_heap.specs.declared.command.Command.{Command}
+use Rattle.graph_heap.specs.declared.command.Reply.{Reply}
+use Rattle.heap_model.specs.Event.{Event, Command_done}
+use Rattle.trace.specs.declared.line.Line.{Line}
 use Rattle.trace.specs.declared.line.Line.TheVariants as lines
 use Rattle.trace.specs.declared.line_reader.NoLine.{NoLine}
 use Rattle.trace.specs.declared.line_reader.NoLine.TheVariants.{Fault, Failed}
-use Rattle.trace.specs.Spelling.{Spells, IsSkipped}
+use Rattle.trace.specs.Spelling.{Spells}
 use Rattle.trace.specs.Streams.{Splits, GrowsByPart}
 use Rattle.player.specs.declared.fault.PlayFault.{PlayFault}
 use Rattle.player.specs.declared.fault.PlayFault.TheVariants.{Line as At_line, Read, Write, NoMemory}
-use Rattle.player.specs.Playing.{Plays, IsCommand, reply_line, replies_of, LineIs}
+use Rattle.player.specs.Player.{PlayerState, DoesLine, entries_in}
+use Rattle.player.specs.Playing.{Plays, WantsMemory, reply_line, replies_of, LineIs}
 
 -- why there is no line
 abbrev pub fault_of : NoLine → PlayFault
 fault_of (Fault number fault) = At_line number fault
 fault_of Failed = Read
 
--- What a line did to the history and to the text that the sink took.
-abbrev pub LineDone : List ℕ → ℕ → List Entry → List Entry → List ℕ → List ℕ → Result (Unit {0}) PlayFault → Type 0
-LineDone line number history history' taken taken' (Ok done) =
-    (IsSkipped line × (history' ≡ history) × (taken' ≡ taken))
-    ⊎ ((e : Entry) × Spells line (lines.Command e.mutator e.command) × (history' ≡ history ++ e ∷ []) × (taken' ≡ taken ++ reply_line e))
-LineDone line number history history' taken taken' (Err (At_line k fault)) = (k ≡ number) × LineIs fault line × (history' ≡ history) × (taken' ≡ taken)
-LineDone line number history history' taken taken' (Err Read) = ⊥
-LineDone line number history history' taken taken' (Err Write) =
-    (e : Entry) × Spells line (lines.Command e.mutator e.command) × (history' ≡ history ++ e ∷ []) × GrowsByPart taken taken' (reply_line e)
-LineDone line number history history' taken taken' (Err NoMemory) = IsCommand line × (history' ≡ history) × (taken' ≡ taken)
+-- What a command did to the player, and to the text that the sink took.
+abbrev pub CommandDone : ℕ → Command → PlayerState → PlayerState → List ℕ → List ℕ → Result (Unit {0}) PlayFault → Type 0
+CommandDone m c old new taken taken' (Ok done) =
+    (reply : Reply) × DoesLine old (lines.Command m c) (Command_done m c reply ∷ []) new × (taken' ≡ taken ++ reply_line (record { mutator = m; command = c; reply = reply }))
+CommandDone m c old new taken taken' (Err Write) =
+    (reply : Reply) × DoesLine old (lines.Command m c) (Command_done m c reply ∷ []) new × GrowsByPart taken taken' (reply_line (record { mutator = m; command = c; reply = reply }))
+CommandDone m c old new taken taken' (Err NoMemory) = (new ≡ old) × (taken' ≡ taken)
+CommandDone m c old new taken taken' (Err fault) = ⊥
+
+-- What a line did to the player, and to the text that the sink took.
+abbrev pub LineDone : List ℕ → ℕ → PlayerState → PlayerState → List ℕ → List ℕ → Result (Unit {0}) PlayFault → Type 0
+LineDone bytes number old new taken taken' (Ok done) =
+    (line : Line) × (es : List Event) × Spells bytes line × DoesLine old line es new × (taken' ≡ taken ++ replies_of (entries_in es))
+LineDone bytes number old new taken taken' (Err (At_line k fault)) = (k ≡ number) × LineIs fault bytes old × (new ≡ old) × (taken' ≡ taken)
+LineDone bytes number old new taken taken' (Err Read) = ⊥
+LineDone bytes number old new taken taken' (Err Write) =
+    (m : ℕ) × (c : Command) × (reply : Reply) × Spells bytes (lines.Command m c) × DoesLine old (lines.Command m c) (Command_done m c reply ∷ []) new
+    × GrowsByPart taken taken' (reply_line (record { mutator = m; command = c; reply = reply }))
+LineDone bytes number old new taken taken' (Err NoMemory) = WantsMemory bytes old new × (taken' ≡ taken)
 
 -- the lines so far, with what is kept of the bytes behind them
-pub record SoFar (given given' : List ℕ) (history history' : List Entry) (taken taken' kept : List ℕ) (number : ℕ) : Type 0 where
+pub record SoFar (given given' : List ℕ) (old new : PlayerState) (taken taken' kept : List ℕ) (number : ℕ) : Type 0 where
   pub text : List ℕ
   pub lines : List (List ℕ)
-  pub entries : List Entry
+  pub events : List Event
   pub came : given' ≡ given ++ text
   pub splits : Splits text lines kept
-  pub plays : Plays lines entries
-  pub grows : history' ≡ history ++ entries
-  pub written : taken' ≡ taken ++ replies_of entries
+  pub plays : Plays old lines events new
+  pub written : taken' ≡ taken ++ replies_of (entries_in events)
   pub counted : number ≡ length lines

@@ -17,7 +17,7 @@ pub enum PlayFault {
     /// A write failed. The last command is done, and its reply may be out in part.
     #[error("cannot write")]
     Write,
-    /// Memory was refused for the next entry of the history.
+    /// Memory was refused, for the next entry of the history or the next interval.
     #[error("no memory")]
     NoMemory,
 }

@@ -1,11 +1,14 @@
-//! Plays a trace: each command line is done on a heap, and its reply is written.
+//! Plays a trace on a heap: commands are done and their replies written, cycles of the collector begin,
+//! quanta are spent, and ticks pass, in which quanta are due.
 #![tactic(auto)]
 
 mod fault;
 mod line;
+mod player;
 mod playing;
 
 pub use fault::PlayFault;
+pub use player::{Player, TickFault};
 pub use playing::play;
 
 #[cfg(test)]

@@ -1,7 +1,8 @@
 //! Runs worked out by hand.
+mod collecting;
+
 use super::*;
 use graph_heap::{Command, NoMemory, Reference, Reply};
-use machine::Recorded;
 use size_classes::{Config, Settings};
 use std::alloc::Global;
 use std::process::Abort;
@@ -29,11 +30,12 @@ const ONE_PAGE: Settings = Settings {
     ..FOUR_PAGES
 };
 
-fn recorded(rt: &(impl Abort + AllocGlobal), settings: &Settings) -> Result<Recorded, NoMemory> {
-    match Config::check(settings) {
-        Ok(config) => Recorded::new(rt.alloc(), &config),
-        Err(_) => panic!(rt; "the settings are good"),
-    }
+fn player(rt: &(impl Abort + AllocGlobal), settings: &Settings) -> Result<Player, NoMemory> {
+    let Ok(config) = Config::check(settings) else {
+        panic!(rt; "the settings are good");
+    };
+    assert!(rt; config.defrag_pages == 0);
+    Player::new(rt.alloc(), &config)
 }
 
 /// Plays a trace under settings, and compares the answer and what was written.
@@ -44,10 +46,10 @@ fn expect(
     answer: Result<(), PlayFault>,
     written: &str,
 ) -> Result<(), Fail> {
-    let mut heap = recorded(rt, settings)?;
+    let mut player = player(rt, settings)?;
     let mut source = MemorySource::new(trace.as_bytes());
     let mut sink = MemorySink::new(rt.alloc());
-    assert_eq!(rt; play(&mut source, &mut sink, &mut heap), answer, "{trace}");
+    assert_eq!(rt; play(&mut source, &mut sink, &mut player), answer, "{trace}");
     assert_eq!(rt; sink.bytes(), written.as_bytes(), "{trace}");
     Ok(())
 }
@@ -112,9 +114,17 @@ fn a_line_in_fault_ends_the_run(rt: HostRuntime) -> Result<(), Fail> {
             2,
             LineFault::NotAnEvent,
         ),
-        ("0 new 0 plain 0 0\n\n#\nbegin\n", 4, LineFault::NotYet),
-        ("0 new 0 plain 0 0\nquantum 256\n", 2, LineFault::NotYet),
-        ("0 new 0 plain 0 0\ntick 1\n", 2, LineFault::NotYet),
+        (
+            "0 new 0 plain 0 0\n\n#\nbegins\n",
+            4,
+            LineFault::NotAnEvent,
+        ),
+        (
+            "0 new 0 plain 0 0\nquantum 255\n",
+            2,
+            LineFault::NotAnEvent,
+        ),
+        ("0 new 0 plain 0 0\ntick 0\n", 2, LineFault::NotAnEvent),
     ];
     for (trace, line, fault) in runs {
         let answer = Err(PlayFault::Line(line, fault));
@@ -204,15 +214,15 @@ fn large_arrays(rt: HostRuntime) -> Result<(), Fail> {
 
 /// Plays a trace on a heap and on the slow heap of the definition, and compares the histories.
 fn compare(rt: &(impl Abort + AllocGlobal), settings: &Settings, trace: &str) -> Result<(), Fail> {
-    let mut heap = recorded(rt, settings)?;
+    let mut player = player(rt, settings)?;
     let mut source = MemorySource::new(trace.as_bytes());
     let mut sink = MemorySink::new(rt.alloc());
-    play(&mut source, &mut sink, &mut heap)?;
+    play(&mut source, &mut sink, &mut player)?;
     let Ok(config) = Config::check(settings) else {
         panic!(rt; "the settings are good");
     };
     let mut reference = Reference::new(rt.alloc(), &config.limits())?;
-    for entry in heap.history() {
+    for entry in player.recorded().history() {
         assert!(rt; reference.accepts(entry)?, "{trace}");
     }
     Ok(())
@@ -262,12 +272,12 @@ const REPLIES: [&str; 4] = ["", "made 1\n", "made 1\ndone\n", "made 1\ndone\nwor
 #[test]
 fn each_write_fails_in_turn(rt: HostRuntime) -> Result<(), Fail> {
     for call in 1..4usize {
-        let mut heap = recorded(&rt, &FOUR_PAGES)?;
+        let mut player = player(&rt, &FOUR_PAGES)?;
         let mut source = MemorySource::new(TRACE.as_bytes());
         let mut sink = FailAt::new(MemorySink::new(rt.alloc()), call as u64);
-        let answer = play(&mut source, &mut sink, &mut heap);
+        let answer = play(&mut source, &mut sink, &mut player);
         assert_eq!(rt; answer, Err(PlayFault::Write), "{call}");
-        assert_eq!(rt; heap.history().len(), call);
+        assert_eq!(rt; player.recorded().history().len(), call);
         assert_eq!(rt; sink.get_ref().bytes(), REPLIES[call - 1].as_bytes());
     }
     Ok(())
@@ -276,12 +286,12 @@ fn each_write_fails_in_turn(rt: HostRuntime) -> Result<(), Fail> {
 #[test]
 fn each_read_fails_in_turn(rt: HostRuntime) -> Result<(), Fail> {
     for (call, lines) in [(1u64, 0usize), (2, 3)] {
-        let mut heap = recorded(&rt, &FOUR_PAGES)?;
+        let mut player = player(&rt, &FOUR_PAGES)?;
         let mut source = FailAt::new(ReadSource::new(TRACE.as_bytes()), call);
         let mut sink = MemorySink::new(rt.alloc());
-        let answer = play(&mut source, &mut sink, &mut heap);
+        let answer = play(&mut source, &mut sink, &mut player);
         assert_eq!(rt; answer, Err(PlayFault::Read), "{call}");
-        assert_eq!(rt; heap.history().len(), lines);
+        assert_eq!(rt; player.recorded().history().len(), lines);
         assert_eq!(rt; sink.bytes(), REPLIES[lines].as_bytes());
     }
     Ok(())
@@ -289,12 +299,12 @@ fn each_read_fails_in_turn(rt: HostRuntime) -> Result<(), Fail> {
 
 #[test]
 fn the_history_has_the_commands_and_replies(rt: HostRuntime) -> Result<(), Fail> {
-    let mut heap = recorded(&rt, &FOUR_PAGES)?;
+    let mut player = player(&rt, &FOUR_PAGES)?;
     let mut source = MemorySource::new(TRACE.as_bytes());
     let mut sink = MemorySink::new(rt.alloc());
-    play(&mut source, &mut sink, &mut heap)?;
-    assert_eq!(rt; heap.history().len(), 3);
-    let entry = heap.history()[1];
+    play(&mut source, &mut sink, &mut player)?;
+    assert_eq!(rt; player.recorded().history().len(), 3);
+    let entry = player.recorded().history()[1];
     let put = Command::Put {
         obj: 0,
         i: 0,

@@ -1,12 +1,11 @@
 -- A main copy shaded, in whatever heap it is.
-use Rattle.std.proofs.Common.{◌≡◌, ◌≢◌, ℕ, ◌-◌, ◌/◌, ◌%◌, ◌==◌, Bool, true, false, cond, List, ◌∷◌, ap, ◌∙◌, sym, subst, refl, arith}
-use Rattle.std.proofs.lemmas.Bool.{ne_eqb}
+use Rattle.std.proofs.Common.{◌≡◌, ℕ, ◌-◌, ◌/◌, ◌%◌, Bool, true, false, List, ◌∷◌, ap, sym, subst}
 use Rattle.heap_model.specs.Block.{with_colour}
 use Rattle.heap_model.specs.Store.{Store, Writes, held_in, is_held, node_of}
 use Rattle.heap_model.specs.Pages.{page_at}
 use Rattle.heap_model.specs.State.{HeapState, seen}
 use Rattle.heap_model.specs.Action.{Shades, Was_marked, Is_marked}
-use Rattle.satb_barrier.specs.Grey.{is_marked, ShadesIn}
+use Rattle.satb_barrier.specs.Grey.{is_marked}
 
 module _ (sense : Bool) (x : ℕ) (store : Store) (grey : List ℕ) (h : HeapState) (es : h.store ≡ store) (eg : h.grey ≡ grey) (eh : h.sense ≡ sense) where
   marked_here : (b : Bool) → is_marked sense store x ≡ b → (seen h).marked x ≡ b

@@ -1,10 +1,13 @@
 //! The grey set, and shading.
 ghost use Rattle.std.specs.Prelude.{ℕ, if◌then◌else◌, ◌≡◌, ◌≢◌, ◌↔◌, ◌-◌, ◌<◌, ◌≤◌, [], ◌∷◌, true, false, length, IfOk, IfSome, IsNone, IsTrue};
 ghost use Rattle.heap_model.specs.Store.{is_held};
-ghost use Rattle.satb_barrier.specs.Grey.{ShadesIn};
+ghost use Rattle.heap_model.specs.Written as written;
+ghost use Rattle.nodes.specs.Referent.{CanFollow};
+ghost use Rattle.satb_barrier.specs.Grey.{ShadesIn, HasRoom, RecordsIn};
 ghost use Rattle.satb_barrier.specs.Grey as grey;
 
 use graph_heap::NoMemory;
+use heap_model::phase::Phase;
 use nodes::Nodes;
 use std::alloc::Global;
 use std::marker::Model;
@@ -34,6 +37,13 @@ pub fn is_marked(nodes: &Nodes, sense: bool, reference: u64) -> bool
     reference == 0 || nodes.has_colour(reference as usize - 1, sense)
 }
 
+/// Whether a phase is one in which what is overwritten is recorded: roots and marking.
+pub fn records(phase: Phase) -> bool
+    ensures { result ≡ written.records phase }
+{
+    matches!(phase, Phase::Roots { .. } | Phase::Marking { .. })
+}
+
 impl Grey {
     /// No grey part, and memory for so many. Only want of memory is refused.
     pub fn new(alloc: Global, most: usize) -> Result<Grey, NoMemory>
@@ -50,6 +60,14 @@ impl Grey {
         ensures { IsTrue result ↔ (self.now.parts ≡ []) }
     {
         self.parts.is_empty()
+    }
+
+    /// No part is grey any more.
+    pub fn clear(&mut self)
+        ensures empty { self.new.parts ≡ [] }
+        ensures room { self.new.room ≡ self.old.room }
+    {
+        self.parts.clear();
     }
 
     /// Takes the part that became grey last.
@@ -70,6 +88,7 @@ impl Grey {
         ensures parts { self.new.parts ≡ (if grey.is_marked sense nodes.old reference then self.old.parts else reference ∷ self.old.parts) }
         ensures shades { ShadesIn sense reference nodes.old self.old.parts nodes.new self.new.parts }
         ensures held { (b : ℕ) → is_held nodes.new b ≡ is_held nodes.old b }
+        ensures pages { nodes.new.pages ≡ nodes.old.pages }
         ensures room { self.old.room ≤ self.new.room }
     {
         if is_marked(nodes, sense, reference) {
@@ -77,5 +96,21 @@ impl Grey {
         }
         nodes.set_colour(reference as usize - 1, sense);
         self.parts.push(reference).unwrap();
+    }
+
+    /// What a command overwrites, in a phase that records: its main copy is shaded (Yuasa, 1990). In
+    /// other phases nothing is done.
+    pub fn record(&mut self, nodes: &mut Nodes, sense: bool, phase: Phase, reference: u64)
+        requires leads { CanFollow nodes.old reference }
+        requires room { written.records phase ≡ true → HasRoom sense nodes.old self.old }
+        ensures records { RecordsIn sense phase reference nodes.old self.old.parts nodes.new self.new.parts }
+        ensures held { (b : ℕ) → is_held nodes.new b ≡ is_held nodes.old b }
+        ensures pages { nodes.new.pages ≡ nodes.old.pages }
+        ensures room { self.old.room ≤ self.new.room }
+    {
+        if records(phase) {
+            let main = nodes.resolve(reference).reference;
+            self.shade(nodes, sense, main);
+        }
     }
 }

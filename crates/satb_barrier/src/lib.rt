@@ -4,7 +4,7 @@
 
 pub mod grey;
 
-pub use grey::{Grey, is_marked};
+pub use grey::{Grey, is_marked, records};
 
 #[cfg(test)]
 mod tests;

@@ -25,7 +25,4 @@ pub enum LineFault {
     /// Its ticks would pass the clock's limit.
     #[error("clock spent")]
     ClockSpent,
-    /// Its event isn't there yet.
-    #[error("not yet")]
-    NotYet,
 }

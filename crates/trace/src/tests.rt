@@ -554,7 +554,6 @@ fn faults_have_their_texts(rt: HostRuntime) -> Result<(), Fail> {
         (LineFault::NoSuchMutator, "no such mutator"),
         (LineFault::NotAnEntry, "not an entry"),
         (LineFault::ClockSpent, "clock spent"),
-        (LineFault::NotYet, "not yet"),
     ];
     for (fault, text) in faults {
         assert_eq!(rt; format!(in rt.alloc(); "{fault}")?.as_str(), text);

@@ -1,7 +1,7 @@
 use Rattle.std.proofs.Common.{◌≡◌, ◌<◌, ◌∙◌, ap, subst, get_or, arith, refl, length, length-set}
 use Rattle.size_classes.specs.Parts.{cells_of, parts_in}
 use Rattle.heap_model.specs.Making.{Making, Nothing_made}
-use Rattle.arraylets.specs.Taking.{Nothing_taken, Part_taken}
+use Rattle.heap_model.specs.Taking.{Nothing_taken, Part_taken}
 use Rattle.arraylets.proofs.Linking.{zeros_small, within_more, made_more, spine_more}
 use Rattle.arraylets.proofs.making.make_parts.Goals as goal
 

@@ -4,7 +4,7 @@ use Rattle.heap_model.specs.Pages.{has_room}
 use Rattle.heap_model.specs.Room.{needed_from}
 use Rattle.heap_model.specs.Store.{is_held, node_of}
 use Rattle.heap_model.specs.Making.{Making}
-use Rattle.arraylets.specs.Taking.{Takes}
+use Rattle.heap_model.specs.Taking.{Takes}
 use Rattle.arraylets.proofs.making.make_parts.Given as goal
 
 -- so many parts are made, there is room for the others, and the first one stays

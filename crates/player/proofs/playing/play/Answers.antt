@@ -1,17 +1,16 @@
 use Rattle.std.proofs.Common.{arith, ◌∙◌, refl}
 use Rattle.std.proofs.lemmas.Result.{err_from_is_err_and}
 use Rattle.player.proofs.Lines.{at_first, handed_out, stays_same, stays_on}
-use Rattle.player.proofs.Ending.{ends_without, ends_in}
+use Rattle.player.proofs.Ending.{ends_over, ends_without, ends_in}
 use Rattle.player.proofs.playing.play.Goals as goal
 
 pub loop-reader-init : goal.loop-reader-init
 loop-reader-init g c = rw c.new-reader.ensures (record {
-  done = at_first (g.S.Source.given c.args.source.now) (g.K.Sink.taken c.args.sink.now) c.args.heap.now.history;
+  done = at_first (g.S.Source.given c.args.source.now) (g.K.Sink.taken c.args.sink.now) c.args.player.now;
   behind = omega arith;
   reads = refl;
   writes = refl;
   input = stays_same (g.S.Source.input c.args.source.now);
-  limits = refl;
 })
 
 pub returns-in_err-next_line-clause-played : goal.returns-in_err-next_line-clause-played
@@ -31,7 +30,6 @@ loop-reader-preserved g c =
       reads = omega (arith, e.cause, i.reads);
       writes = omega (arith, d.writes, i.writes);
       input = stays_on (g.S.Source.input c.args.source.now) _ _ i.input (e.input (refl {a = 0}));
-      limits = d.limits ∙ i.limits;
     }
 
 pub returns-in_err-play_line-clause-played : goal.returns-in_err-play_line-clause-played
@@ -41,3 +39,8 @@ returns-in_err-play_line-clause-played g c =
     let i = c.loop-reader.invariant in
     let p = err_from_is_err_and c.from_residual-in_err-play_line.result c.from_residual-in_err-play_line.ensures.1 in
     rw (p.1, p.2) (ends_in _ _ _ (g.S.Source.ended c.next_line.new.source) _ _ _ _ _ _ _ _ _ _ c.next_line.new.self c.in_ok-next_line.field-0 c.if-branch.true i.done e.text e.says e.number c.line.ensures c.number.ensures c.in_err-play_line.field-0.0 d.done)
+
+pub returns-clause-played : goal.returns-clause-played
+returns-clause-played g c =
+    let e = c.in_ok-next_line.ensures in
+    ends_over _ _ _ (g.S.Source.ended c.next_line.new.source) _ _ _ _ _ _ c.next_line.new.self c.in_ok-next_line.field-0 c.if-branch.false c.loop-reader.invariant.done e.text e.says

@@ -17,7 +17,7 @@ named h t is w root r names =
     subst (λ (x : HeapState). Names x w.present (slice_index w.present.roots root) r) (sym is) (names w.present (subst (λ (x : HeapState). Agrees x w.present) is (present_agrees h w)))
 
 pub shape-shape-requires : goal.shape-shape-requires
-shape-shape-requires c = object_held _ c.self.invariant c.held-held.result c.if-held-eq0.false _ (named _ _ c.self.view_is c.self.invariant c.args.root c.held-held.result c.held-held.ensures)
+shape-shape-requires c = object_held _ c.self.invariant.0 c.held-held.result c.if-held-eq0.false _ (named _ _ c.self.view_is c.self.invariant.0 c.args.root c.held-held.result c.held-held.ensures)
 
 pub returns-then-held-eq0-clause-finds : goal.returns-then-held-eq0-clause-finds
 returns-then-held-eq0-clause-finds c g a = null_object _ g _ c.held-held.result (c.held-held.ensures g a) c.if-held-eq0.true
@@ -25,18 +25,18 @@ returns-then-held-eq0-clause-finds c g a = null_object _ g _ c.held-held.result 
 pub returns-clause-finds : goal.returns-clause-finds
 returns-clause-finds c g a =
     subst (λ (x : HeapState). IsFound x g (slice_index g.roots c.args.root) (record { block = c.held-held.result.reference - 1; id = c.held-held.result.identity; shape = c.shape-shape.result })) c.self.view_is
-    (finds_by _ c.self.invariant c.held-held.result c.if-held-eq0.false g (subst (λ (x : HeapState). Agrees x g) (sym c.self.view_is) a) _
+    (finds_by _ c.self.invariant.0 c.held-held.result c.if-held-eq0.false g (subst (λ (x : HeapState). Agrees x g) (sym c.self.view_is) a) _
     (subst (λ (x : HeapState). Names x g (slice_index g.roots c.args.root) c.held-held.result) (sym c.self.view_is) (c.held-held.ensures g a)) c.shape-shape.result c.shape-shape.ensures)
 
 pub returns-clause-held : goal.returns-clause-held
 returns-clause-held c =
     subst (λ (x : HeapState). is_held x.store (c.held-held.result.reference - 1) ≡ true) c.self.view_is
-    (object_held _ c.self.invariant c.held-held.result c.if-held-eq0.false _ (named _ _ c.self.view_is c.self.invariant c.args.root c.held-held.result c.held-held.ensures))
+    (object_held _ c.self.invariant.0 c.held-held.result c.if-held-eq0.false _ (named _ _ c.self.view_is c.self.invariant.0 c.args.root c.held-held.result c.held-held.ensures))
 
 pub returns-clause-cells : goal.returns-clause-cells
 returns-clause-cells c =
     subst (λ (x : HeapState). length (node_of x.store (c.held-held.result.reference - 1)).cells ≡ part_cells (cells_of c.shape-shape.result) 0) c.self.view_is
-    (object_cells _ c.self.invariant c.held-held.result c.if-held-eq0.false _ (named _ _ c.self.view_is c.self.invariant c.args.root c.held-held.result c.held-held.ensures) c.shape-shape.result c.shape-shape.ensures)
+    (object_cells _ c.self.invariant.0 c.held-held.result c.if-held-eq0.false _ (named _ _ c.self.view_is c.self.invariant.0 c.args.root c.held-held.result c.held-held.ensures) c.shape-shape.result c.shape-shape.ensures)
 
 pub returns-clause-fits : goal.returns-clause-fits
-returns-clause-fits c = object_fits _ c.self.invariant c.held-held.result c.if-held-eq0.false _ (named _ _ c.self.view_is c.self.invariant c.args.root c.held-held.result c.held-held.ensures) c.shape-shape.result c.shape-shape.ensures
+returns-clause-fits c = object_fits _ c.self.invariant.0 c.held-held.result c.if-held-eq0.false _ (named _ _ c.self.view_is c.self.invariant.0 c.args.root c.held-held.result c.held-held.ensures) c.shape-shape.result c.shape-shape.ensures

@@ -1,24 +1,33 @@
-use Rattle.std.proofs.Common.{ℕ, subst, sym, refl}
-use Rattle.graph_heap.specs.Graph.{Graph}
-use Rattle.heap_model.specs.State.{HeapState}
-use Rattle.heap_model.specs.Agreement.{Agrees}
-use Rattle.machine.specs.Reading.{IsWordPlace}
-use Rattle.machine.proofs.Doing.{word_held, word_within, word_heap, word_each}
+use Rattle.std.proofs.Common.{◌≡◌, length, ap, refl}
+use Rattle.machine.specs.Heap.{state_of}
+use Rattle.machine.specs.declared.plan.Write.TheVariants as writes
+use Rattle.machine.proofs.Writing.{planned_here, stays_heap, does_for, agrees_for, word_held, word_within, word_does, memory_left, none_less}
 use Rattle.machine.proofs.heap.Heap.write_word.Goals as goal
 
-abbrev Planned : ℕ → ℕ → ℕ → ℕ → HeapState → Type 0
-Planned block cell id i h = (g : Graph) → Agrees h g → IsWordPlace h g id i block cell
-
 pub set_cell-requires-clause-held : goal.set_cell-requires-clause-held
-set_cell-requires-clause-held c = word_held _ c.self.invariant refl c.args.block c.args.cell c.args.id c.args.i (subst (Planned c.args.block c.args.cell c.args.id c.args.i) (sym c.self.view_is) c.requires)
+set_cell-requires-clause-held c =
+    let w = writes.Word c.args.id c.args.i c.args.word c.args.block c.args.cell in
+    word_held (state_of c.self.inside) c.self.invariant.0 c.args.id c.args.i c.args.word c.args.block c.args.cell (planned_here _ _ c.self.view_is c.self.invariant.0 w c.requires)
 
 pub set_cell-requires-clause-within : goal.set_cell-requires-clause-within
-set_cell-requires-clause-within c = word_within _ c.self.invariant refl c.args.block c.args.cell c.args.id c.args.i (subst (Planned c.args.block c.args.cell c.args.id c.args.i) (sym c.self.view_is) c.requires)
+set_cell-requires-clause-within c =
+    let w = writes.Word c.args.id c.args.i c.args.word c.args.block c.args.cell in
+    word_within (state_of c.self.inside) c.self.invariant.0 c.args.id c.args.i c.args.word c.args.block c.args.cell (planned_here _ _ c.self.view_is c.self.invariant.0 w c.requires)
 
 pub invariant_of-self : goal.invariant_of-self
-invariant_of-self c = word_heap _ c.self.invariant refl c.args.block c.args.cell c.args.id c.args.i (subst (Planned c.args.block c.args.cell c.args.id c.args.i) (sym c.self.view_is) c.requires) c.args.word _ c.set_cell.ensures
+invariant_of-self c =
+    let w = writes.Word c.args.id c.args.i c.args.word c.args.block c.args.cell in
+    let does = word_does (state_of c.self.inside) c.self.invariant.0 c.args.id c.args.i c.args.word c.args.block c.args.cell (planned_here _ _ c.self.view_is c.self.invariant.0 w c.requires) _ c.set_cell.ensures in
+    (stays_heap _ _ c.self.view_is c.self.invariant.0 w c.requires _ does, memory_left _ _ _ c.self.inside.grey.room c.self.invariant.1 (ap length c.set_cell.ensures.pages) (none_less c.self.inside.grey.room))
 
-pub returns : goal.returns
-returns c g a =
-    word_each _ c.self.invariant refl c.args.block c.args.cell c.args.id c.args.i (subst (Planned c.args.block c.args.cell c.args.id c.args.i) (sym c.self.view_is) c.requires) c.args.word _ c.set_cell.ensures
-    g (subst (λ (x : HeapState). Agrees x g) (sym c.self.view_is) a)
+pub returns-clause-does : goal.returns-clause-does
+returns-clause-does c =
+    let w = writes.Word c.args.id c.args.i c.args.word c.args.block c.args.cell in
+    let does = word_does (state_of c.self.inside) c.self.invariant.0 c.args.id c.args.i c.args.word c.args.block c.args.cell (planned_here _ _ c.self.view_is c.self.invariant.0 w c.requires) _ c.set_cell.ensures in
+    does_for _ _ c.self.view_is c.self.invariant.0 w c.requires _ does
+
+pub returns-clause-agrees : goal.returns-clause-agrees
+returns-clause-agrees c =
+    let w = writes.Word c.args.id c.args.i c.args.word c.args.block c.args.cell in
+    let does = word_does (state_of c.self.inside) c.self.invariant.0 c.args.id c.args.i c.args.word c.args.block c.args.cell (planned_here _ _ c.self.view_is c.self.invariant.0 w c.requires) _ c.set_cell.ensures in
+    agrees_for _ _ c.self.view_is c.self.invariant.0 w c.requires _ does

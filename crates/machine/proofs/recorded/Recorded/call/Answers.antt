@@ -1,30 +1,21 @@
-use Rattle.std.proofs.Common.{ap, ◌∙◌}
+use Rattle.std.proofs.Common.{◌≡◌, ◌∷◌, ◌++◌, [], List, refl, sym, subst, ap}
 use Rattle.graph_heap.specs.declared.command.Entry.{Entry}
-use Rattle.machine.specs.Plan.{room_for}
-use Rattle.machine.specs.Recorded.{RecordedHeap}
-use Rattle.machine.proofs.Recording.{recorded_more, limits_stay}
+use Rattle.heap_model.specs.Event.{Course, Command_done, Enters, IsCourse, present_of, snapshot_of}
+use Rattle.heap_model.proofs.Agreements.{consistent_agrees}
+use Rattle.heap_model.proofs.Course.{does_course}
+use Rattle.machine.specs.Recorded.{RecordedHeap, recorded_of}
 use Rattle.machine.proofs.recorded.Recorded.call.Goals as goal
 
 pub invariant_of-self-2 : goal.invariant_of-self-2
 invariant_of-self-2 c =
-    let e : Entry = record { mutator = c.args.mutator; command = c.args.command; reply = c.answer-reply.result } in
-    rw c.in_ok-push.ensures.items
-    (recorded_more _ c.self.invariant e (room_for c.self.inside.heap c.args.command) c.step.new.self (c.answer-reply.ensures _ c.self.invariant.agrees) (c.step.ensures.agrees _ c.self.invariant.agrees))
+    let r = (recorded_of c.self.inside).course in
+    let a = consistent_agrees r.heap (present_of r) (snapshot_of r) c.self.invariant.stands.consistent in
+    does_course r (Command_done c.args.mutator c.args.command c.answer-reply.result) (record r { heap = c.step.new.self; history = c.push.new.self.items }) c.self.invariant
+    (record { replies = c.answer-reply.ensures (present_of r) a; change = c.step.ensures.does (present_of r) a; history = c.in_ok-push.ensures.items; place = refl })
 
-pub returns-clause-limits : goal.returns-clause-limits
-returns-clause-limits c =
-    let e : Entry = record { mutator = c.args.mutator; command = c.args.command; reply = c.answer-reply.result } in
-    limits_stay _ c.self.invariant e (room_for c.self.inside.heap c.args.command) c.step.new.self (c.answer-reply.ensures _ c.self.invariant.agrees) (c.step.ensures.agrees _ c.self.invariant.agrees)
-    ∙ ap (λ (x : RecordedHeap). x.heap.limits) c.self.view_is
-
-pub returns-clause-legal : goal.returns-clause-legal
-returns-clause-legal c =
-    let e : Entry = record { mutator = c.args.mutator; command = c.args.command; reply = c.answer-reply.result } in
-    let r = recorded_more _ c.self.invariant e (room_for c.self.inside.heap c.args.command) c.step.new.self (c.answer-reply.ensures _ c.self.invariant.agrees) (c.step.ensures.agrees _ c.self.invariant.agrees) in
-    rw c.in_ok-push.ensures.items r.legal
-
-pub returns-clause-agrees : goal.returns-clause-agrees
-returns-clause-agrees c =
-    let e : Entry = record { mutator = c.args.mutator; command = c.args.command; reply = c.answer-reply.result } in
-    let r = recorded_more _ c.self.invariant e (room_for c.self.inside.heap c.args.command) c.step.new.self (c.answer-reply.ensures _ c.self.invariant.agrees) (c.step.ensures.agrees _ c.self.invariant.agrees) in
-    rw c.in_ok-push.ensures.items r.agrees
+pub returns-clause-does : goal.returns-clause-does
+returns-clause-does c =
+    let r = (recorded_of c.self.inside).course in
+    let a = consistent_agrees r.heap (present_of r) (snapshot_of r) c.self.invariant.stands.consistent in
+    subst (λ (x : RecordedHeap). Enters x.course c.args.mutator c.args.command c.answer-reply.result (record r { heap = c.step.new.self; history = c.push.new.self.items })) c.self.view_is
+    (record { replies = c.answer-reply.ensures (present_of r) a; change = c.step.ensures.does (present_of r) a; history = c.in_ok-push.ensures.items; place = refl })

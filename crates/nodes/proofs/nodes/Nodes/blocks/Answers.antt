@@ -1,4 +1,4 @@
-use Rattle.std.proofs.Common.{◌∙◌, sym}
+use Rattle.std.proofs.Common.{sym}
 use Rattle.nodes.proofs.Freeing.{blocks_by, none_by}
 use Rattle.nodes.proofs.nodes.Nodes.blocks.Goals as goal
 

@@ -1,5 +1,5 @@
 use Rattle.std.proofs.Common.{arith}
-use Rattle.nodes.proofs.Writing.{header_inside, recolours_by, still_store}
+use Rattle.nodes.proofs.Writing.{header_inside, recolours_by}
 use Rattle.nodes.proofs.nodes.Nodes.set_colour.Goals as goal
 
 pub set_colour-requires : goal.set_colour-requires

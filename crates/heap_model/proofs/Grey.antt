@@ -1,0 +1,146 @@
+-- How many grey parts there can be.
+use Rattle.std.proofs.Common.{◌≡◌, ◌≢◌, ℕ, zero, suc, ◌+◌, ◌-◌, ◌*◌, ◌/◌, ◌<◌, ◌≤◌, ◌⊎◌, inl, inr, Bool, true, false, List, [], ◌∷◌, length, arith, ap, subst, sym, refl, ◌∙◌, ◌==◌, ◌||◌}
+use Rattle.std.specs.Prelude.{map}
+use Rattle.std.specs.List.{AllByRecursion, IsDistinct, list_any}
+use Rattle.std.proofs.Math.Dec.{eqb}
+use Rattle.std.proofs.lemmas.Bool.{ne_eqb, eqb-true}
+use Rattle.std.proofs.lemmas.List.{length-map}
+use Rattle.std.proofs.lemmas.Map.Steps.{length-le_from_distinct_below}
+use Rattle.graph_heap.specs.Graph.{Graph}
+use Rattle.heap_model.specs.declared.phase.Phase.{Phase}
+use Rattle.heap_model.specs.declared.phase.Phase.TheVariants as phases
+use Rattle.heap_model.specs.Core.{Heap}
+use Rattle.heap_model.specs.Collector.{Collector, contains, Once, Greys, Stage}
+use Rattle.heap_model.specs.Units.{LieApart}
+use Rattle.heap_model.specs.State.{HeapState, seen, collector_of, collector_by, progress_of}
+use Rattle.heap_model.specs.Store.{is_held}
+use Rattle.heap_model.specs.Cut.{view}
+use Rattle.heap_model.specs.Pages.{ArePages}
+use Rattle.heap_model.specs.Agreement.{Consistent, IsWhole}
+use Rattle.heap_model.specs.Written.{records}
+use Rattle.heap_model.specs.Spent.{IsWithin, arena_words}
+use Rattle.heap_model.specs.Standing.{Stands}
+use Rattle.heap_model.proofs.Apart.{lie_apart, size_behind}
+
+-- a part, by the quarter of the arena's words in which it begins
+abbrev quarter : ℕ → ℕ
+quarter x = (x - 1) / 4
+
+apart_by : (x y : ℕ) → 0 < x → x + 4 ≤ y → quarter x ≢ quarter y
+apart_by x y p l e = omega (arith, e)
+
+first_of : (y x : ℕ) (c : Bool) → ((y == x) || c) ≡ false → (y ≢ x) × (c ≡ false)
+first_of y x c e = (grind arith, grind arith)
+
+here_of : (x : ℕ) (c : Bool) → ((x == x) || c) ≡ true
+here_of x c = grind arith
+
+behind_of : (y x : ℕ) (c : Bool) → c ≡ true → ((y == x) || c) ≡ true
+behind_of y x c e = grind arith
+
+module _ (h : Heap) (size : ℕ → ℕ) (n : ℕ) (a : LieApart h size (4 * n)) where
+  -- parts that are held, and not null
+  abbrev AreHeld : List ℕ → Type 0
+  AreHeld xs = (y : ℕ) → contains xs y ≡ true → (h.held y ≡ true) × (0 < y)
+
+  held_here : (x : ℕ) (xs : List ℕ) → AreHeld (x ∷ xs) → (h.held x ≡ true) × (0 < x)
+  unfolding contains
+  held_here x xs w = w x (here_of x (contains xs x))
+
+  held_behind : (x : ℕ) (xs : List ℕ) → AreHeld (x ∷ xs) → AreHeld xs
+  unfolding contains
+  held_behind x xs w y e = w y (behind_of x y (contains xs y) e)
+
+  other_quarter : (x y : ℕ) → (h.held x ≡ true) × (0 < x) → (h.held y ≡ true) × (0 < y) → x ≢ y → quarter x ≢ quarter y
+  other_quarter x y p q d e =
+      let fx = a.fits x p.0 p.1 in
+      let fy = a.fits y q.0 q.1 in
+      elim (less x y d) [
+        | inl l ↦ (let b = a.apart x y p.0 q.0 p.1 l in apart_by x y p.1 (omega arith) e)
+        | inr l ↦ (let b = a.apart y x q.0 p.0 q.1 l in apart_by y x q.1 (omega arith) (sym e))
+      ]
+    where
+      less : (i j : ℕ) → i ≢ j → (i < j) ⊎ (j < i)
+      less i j d = grind arith
+
+  others : (x : ℕ) → (h.held x ≡ true) × (0 < x) → (xs : List ℕ) → contains xs x ≡ false → AreHeld xs → AllByRecursion (λ y. eqb (quarter x) y ≡ false) (map quarter xs)
+  unfolding contains
+  others x p [] e w = tt
+  others x p (y ∷ ys) e w =
+      let s = first_of y x (contains ys x) e in
+      (ne_eqb (quarter x) (quarter y) (λ z. other_quarter x y p (held_here y ys w) (λ t. s.0 (sym t)) z), others x p ys s.1 (held_behind y ys w))
+
+  distinct : (xs : List ℕ) → Once xs → AreHeld xs → IsDistinct eqb (map quarter xs)
+  unfolding Once IsDistinct
+  distinct [] o w = tt
+  distinct (x ∷ xs) o w = (others x (held_here x xs w) xs o.0 (held_behind x xs w), distinct xs o.1 (held_behind x xs w))
+
+  quarter_below : (x : ℕ) → (h.held x ≡ true) × (0 < x) → quarter x < n
+  quarter_below x p = let f = a.fits x p.0 p.1 in let i = a.inside x p.0 p.1 in omega arith
+
+  below : (xs : List ℕ) → AreHeld xs → (q : ℕ) → list_any (eqb q) (map quarter xs) ≡ true → q < n
+  below [] w q e = absurd (let z : false ≡ true = e in cc)
+  below (x ∷ xs) w q e = by_case (eqb q (quarter x)) refl e (below xs (held_behind x xs w) q)
+    where
+      by_case : (b : Bool) → eqb q (quarter x) ≡ b → (b || list_any (eqb q) (map quarter xs)) ≡ true → (list_any (eqb q) (map quarter xs) ≡ true → q < n) → q < n
+      by_case true t z more = let l = quarter_below x (held_here x xs w) in let u : q ≡ quarter x = grind arith in subst (λ k. k < n) (sym u) l
+      by_case false t z more = more z
+
+  pub few : (xs : List ℕ) → Once xs → AreHeld xs → length xs ≤ n
+  few xs o w = subst (λ k. k ≤ n) (length-map xs quarter) (length-le_from_distinct_below (map quarter xs) n (distinct xs o w) (below xs w))
+
+-- the four words of each block's header alone take so many words of the arena
+quarters : (h : HeapState) → arena_words h ≡ 4 * (512 * length h.store.pages)
+quarters h = omega arith
+
+nonzero : (xs : List ℕ) (y : ℕ) → contains xs 0 ≡ false → contains xs y ≡ true → 0 < y
+nonzero xs y n e = by_zero y e
+  where
+    by_zero : (k : ℕ) → contains xs k ≡ true → 0 < k
+    by_zero zero e = absurd (let z : false ≡ true = sym n ∙ e in cc)
+    by_zero (suc k) e = omega arith
+
+one_more : (xs : List ℕ) (x n : ℕ) → length (x ∷ xs) ≤ n → length xs + 1 ≤ n
+one_more xs x n l = omega (arith, l)
+
+-- a held part that isn't marked makes the grey parts one more, held as they are
+module _ (h : HeapState) (pages : ArePages h.store.pages) (whole : IsWhole h.store) (x : ℕ) (held : is_held h.store (x - 1) ≡ true) (unmarked : (seen h).marked x ≡ false) where
+  some : 0 < x
+  some = by_zero x unmarked
+    where
+      by_zero : (k : ℕ) → (seen h).marked k ≡ false → 0 < k
+      by_zero zero e = absurd (let z : true ≡ false = e in cc)
+      by_zero (suc k) e = omega arith
+
+  seen_held : (seen h).held x ≡ true
+  seen_held = let e : (x == 0) ≡ false = (let p = some in grind arith) in rw e held
+
+  pub few_greys : (p : Phase) → Greys (collector_by (seen h) h.store.pages p h.grey) → contains h.grey 0 ≡ false → length h.grey + 1 ≤ 512 * length h.store.pages
+  unfolding Once contains
+  few_greys p g null =
+      one_more h.grey x (512 * length h.store.pages) (few (seen h) (size_behind h) (512 * length h.store.pages) (subst (LieApart (seen h) (size_behind h)) (quarters h) (lie_apart h pages whole)) (x ∷ h.grey) once all)
+    where
+      fresh : (b : Bool) → contains h.grey x ≡ b → contains h.grey x ≡ false
+      fresh false e = e
+      fresh true e = absurd (let z : true ≡ false = sym (g.marked x e) ∙ unmarked in cc)
+
+      once : Once (x ∷ h.grey)
+      once = (fresh (contains h.grey x) refl, g.once)
+
+      by_place : (y : ℕ) (b : Bool) → (x == y) ≡ b → (b || contains h.grey y) ≡ true → ((seen h).held y ≡ true) × (0 < y)
+      by_place y true e c = let z : x ≡ y = eqb-true x y e in subst (λ k. ((seen h).held k ≡ true) × (0 < k)) z (seen_held, some)
+      by_place y false e c = (g.held y c, nonzero h.grey y null c)
+
+      all : (y : ℕ) → contains (x ∷ h.grey) y ≡ true → ((seen h).held y ≡ true) × (0 < y)
+      all y e = by_place y (x == y) refl e
+
+-- In roots and marking there is a quarter of the arena's words for the grey parts and one more.
+pub grey_fit : (h : HeapState) (present snapshot : Graph) (x : ℕ) → Stands h present snapshot → records h.phase ≡ true → is_held h.store (x - 1) ≡ true → (seen h).marked x ≡ false → length h.grey + 1 ≤ 512 * length h.store.pages
+grey_fit h p s x w r held unmarked = by_phase h.phase r w.within w.consistent.parts.stage refl
+  where
+    by_phase : (q : Phase) → records q ≡ true → IsWithin h q → Stage (collector_of h) (view p) (view s) w.consistent.parts.at (progress_of h.store.pages q) → h.phase ≡ q → length h.grey + 1 ≤ 512 * length h.store.pages
+    by_phase phases.Idle r within stage e = absurd (let z : false ≡ true = r in cc)
+    by_phase (phases.Roots next) r within stage e = few_greys h w.pages w.consistent.whole x held unmarked h.phase stage.1 within.2
+    by_phase (phases.Marking part cell) r within stage e = few_greys h w.pages w.consistent.whole x held unmarked h.phase stage.1 within.1
+    by_phase (phases.Sweeping page block) r within stage e = absurd (let z : false ≡ true = r in cc)
+    by_phase (phases.Moving m) r within stage e = absurd (let z : false ≡ true = r in cc)

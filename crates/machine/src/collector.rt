@@ -1,0 +1,20 @@
+//! What the collector is asked for, and what it answers.
+use heap_model::phase::Phase;
+use thiserror::Error;
+
+/// A cycle is on already. Its number among the refusals is 11.
+#[derive(Clone, Copy, Debug, PartialEq, Eq, Error)]
+#[error("busy")]
+pub struct Busy;
+
+/// The budget of a quantum isn't 256 to 1000000 units. Its number among the refusals is 12.
+#[derive(Clone, Copy, Debug, PartialEq, Eq, Error)]
+#[error("budget out of range")]
+pub struct BudgetOutOfRange;
+
+/// What a quantum did: the units that it spent, and the phase in which it ended.
+#[derive(Clone, Copy, Debug, PartialEq, Eq)]
+pub struct Spent {
+    pub units: u32,
+    pub phase: Phase,
+}

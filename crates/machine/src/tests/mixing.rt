@@ -1,0 +1,214 @@
+//! A long mix of commands and cycles, against the slow heap of the definition.
+
+use super::*;
+use graph_heap::{Entry, Reference};
+use heap_model::phase::Phase;
+
+const EIGHT_PAGES: Settings = Settings {
+    pages: 8,
+    mutators: 2,
+    slots: 4,
+    statics: 1,
+    ..ONE_PAGE
+};
+
+/// How many commands are mixed.
+const COMMANDS: u32 = 3000;
+
+/// A linear congruential generator.
+#[derive(Clone, Copy, Debug, PartialEq, Eq)]
+struct Random(u64);
+
+impl Random {
+    /// The next number, of 31 bits.
+    fn next(&mut self) -> u32 {
+        let times = self.0.wrapping_mul(6364136223846793005);
+        self.0 = times.wrapping_add(1442695040888963407);
+        ((self.0 >> 33) & 0x7fff_ffff) as u32
+    }
+
+    /// A slot. One in five isn't there.
+    fn slot(&mut self) -> u32 {
+        self.next() % 5
+    }
+
+    /// A cell, mostly at an end of a piece of an array.
+    fn cell(&mut self) -> u32 {
+        let cells = [0, 0, 0, 1, 2, 251, 252, 503, 504, 900];
+        cells[(self.next() % 10) as usize]
+    }
+
+    /// A word, of few.
+    fn word(&mut self) -> u64 {
+        u64::from(self.next() % 3)
+    }
+
+    /// A shape. Some arrays are long, and some too long.
+    fn shape(&mut self) -> Shape {
+        match self.next() % 8 {
+            0..=2 => Shape::Plain {
+                refs: self.next() % 4,
+                words: self.next() % 4,
+            },
+            3 => Shape::Plain {
+                refs: self.next() % 140,
+                words: self.next() % 140,
+            },
+            4 | 5 => Shape::RefArray(self.next() % 1000),
+            6 => Shape::WordArray(self.next() % 2000),
+            _ => Shape::WordArray(self.next() % 70000),
+        }
+    }
+}
+
+/// A command of one of 14 kinds, counted from 0. All numbers from 13 on are for a new object.
+fn command_of(kind: usize, random: &mut Random) -> Command {
+    let (a, b, c) = (random.slot(), random.slot(), random.slot());
+    let k = random.next() % 2;
+    match kind {
+        0 => Command::Load {
+            dst: a,
+            obj: b,
+            i: random.cell(),
+        },
+        1 => Command::Store {
+            obj: a,
+            i: random.cell(),
+            src: b,
+        },
+        2 => Command::CompareStore {
+            obj: a,
+            i: random.cell(),
+            expect: b,
+            new: c,
+        },
+        3 => Command::Copy { dst: a, src: b },
+        4 => Command::Clear { dst: a },
+        5 => Command::LoadStatic { dst: a, k },
+        6 => Command::StoreStatic { k, src: a },
+        7 => Command::CompareStatic {
+            k,
+            expect: a,
+            new: b,
+        },
+        _ => word_command_of(kind, random, a, b),
+    }
+}
+
+/// A command of a kind that has to do with words, with shapes, or with what slots hold.
+fn word_command_of(kind: usize, random: &mut Random, a: u32, b: u32) -> Command {
+    match kind {
+        8 => Command::Get {
+            obj: a,
+            i: random.cell(),
+        },
+        9 => Command::Put {
+            obj: a,
+            i: random.cell(),
+            word: random.word(),
+        },
+        10 => Command::ComparePut {
+            obj: a,
+            i: random.cell(),
+            old: random.word(),
+            new: random.word(),
+        },
+        11 => Command::Same { a, b },
+        12 => Command::Describe { a },
+        _ => Command::New {
+            dst: a,
+            shape: random.shape(),
+        },
+    }
+}
+
+/// What came of a mix: which kinds of commands were done, 14 for each mutator, and how many cycles ended.
+#[derive(Clone, Copy, Debug, PartialEq, Eq)]
+struct Mixed {
+    done: [bool; 28],
+    cycles: u32,
+}
+
+/// Mixes commands of two mutators, with a beginning before every fiftieth one and a quantum after each.
+fn mix(rt: &impl Abort, heap: &mut Recorded) -> Result<Mixed, NoMemory> {
+    let mut random = Random(1);
+    let mut done = [false; 28];
+    let mut cycles = 0u32;
+    for k in 0..COMMANDS {
+        if k % 50 == 0 {
+            let _on = heap.begin();
+        }
+        let mutator = random.next() % 2;
+        let kind = (random.next() % 17) as usize;
+        let command = command_of(kind, &mut random);
+        let reply = heap.call(mutator, command)?.entry.reply;
+        if !matches!(reply, Reply::Refused(_)) {
+            done[14 * mutator as usize + kind.min(13)] = true;
+        }
+        let Ok(spent) = heap.quantum(256) else {
+            panic!(rt; "the budget is in range");
+        };
+        if spent.units > 0 && spent.phase == Phase::Idle {
+            cycles = cycles.saturating_add(1);
+        }
+    }
+    Ok(Mixed { done, cycles })
+}
+
+/// What came in a history: want of room, an object made after that, and one of several parts.
+#[derive(Clone, Copy, Debug, PartialEq, Eq)]
+struct Seen {
+    no_space: bool,
+    made_after: bool,
+    made_large: bool,
+}
+
+impl Seen {
+    /// Looks at the next entry.
+    fn note(&mut self, entry: &Entry) {
+        match entry.reply {
+            Reply::Refused(Refusal::NoSpace) => self.no_space = true,
+            Reply::Made(_) => {
+                self.made_after = self.made_after || self.no_space;
+                self.made_large = self.made_large || is_large(&entry.command);
+            }
+            _ => {}
+        }
+    }
+}
+
+/// Whether a command asks for an array of more than one part.
+fn is_large(command: &Command) -> bool {
+    match *command {
+        Command::New { shape, .. } => match shape {
+            Shape::Plain { .. } => false,
+            Shape::RefArray(n) | Shape::WordArray(n) => n > 252,
+        },
+        _ => false,
+    }
+}
+
+#[test]
+fn a_long_mix_is_accepted(rt: HostRuntime) -> Result<(), NoMemory> {
+    let config = config_of(&rt, &EIGHT_PAGES);
+    let mut heap = Recorded::new(rt.alloc(), &config)?;
+    let mixed = mix(&rt, &mut heap)?;
+    assert_eq!(rt; mixed.done, [true; 28]);
+    assert!(rt; mixed.cycles >= 30, "{mixed:?}");
+    assert_eq!(rt; heap.history().len(), COMMANDS as usize);
+    let mut reference = Reference::new(rt.alloc(), &config.limits())?;
+    let mut seen = Seen {
+        no_space: false,
+        made_after: false,
+        made_large: false,
+    };
+    for entry in heap.history() {
+        assert!(rt; reference.accepts(entry)?, "{entry:?}");
+        seen.note(entry);
+    }
+    assert!(rt;
+        seen.no_space && seen.made_after && seen.made_large,
+        "{seen:?}"
+    );
+    Ok(())
+}

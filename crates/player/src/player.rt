@@ -1,0 +1,158 @@
+//! A player: a heap with its history, and the schedule of its collector.
+ghost use Rattle.std.specs.Prelude.{◌≡◌, ◌+◌, ◌*◌, ◌<◌, ◌≤◌, [], ◌∷◌, ◌↔◌, IfOk, IfErr, IsTrue, None};
+ghost use Rattle.heap_model.specs.declared.phase.Phase.TheVariants as phases;
+ghost use Rattle.heap_model.specs.Event.{IsBudget, Command_done, Does};
+ghost use Rattle.heap_model.specs.Opening.{IsOpening};
+ghost use Rattle.size_classes.specs.Config.{limits_of};
+ghost use Rattle.quanta.specs.Timetable as timetables;
+ghost use Rattle.trace.specs.declared.line.Line.{Line};
+ghost use Rattle.player.specs.Player.{DoesLine};
+ghost use Rattle.player.specs.Ticking.{DueDone, Ticked, Begun, Spent};
+
+use graph_heap::{Command, NoMemory};
+use heap_model::phase::Phase;
+use machine::{Receipt, Recorded};
+use quanta::{CLOCK_LIMIT, Schedule};
+use size_classes::Config;
+use std::alloc::Global;
+use std::marker::Model;
+
+/// A heap with its history, and the schedule of its collector: when quanta are due, and the intervals
+/// that they took. Contracts see the course of the heap, the timetable, and the budget of a quantum.
+#[derive(Drop)]
+pub struct Player {
+    recorded: Recorded,
+    schedule: Schedule,
+    budget: u32,
+}
+
+impl Model for Player {
+    ghost use Rattle.heap_model.specs.Event.{IsBudget};
+    ghost use Rattle.player.specs.Player.{PlayerState, player_of};
+
+    ghost Value = { PlayerState };
+
+    ghost view = { player_of };
+
+    ghost invariant = { λ a. IsBudget a.budget };
+}
+
+/// Why ticks could not pass.
+#[derive(Clone, Copy, Debug, PartialEq, Eq)]
+pub enum TickFault {
+    /// The clock would pass its limit. Nothing was done.
+    ClockSpent,
+    /// Memory was refused for the interval of a quantum. Those due before it are done, and the clock
+    /// has not moved.
+    NoMemory,
+}
+
+impl From<NoMemory> for TickFault {
+    ghost use Rattle.player.specs.declared.player.TickFault.TheVariants as faults;
+
+    ghost from_gives = { λ why fault. fault ≡ faults.NoMemory };
+
+    fn from(_why: NoMemory) -> TickFault {
+        TickFault::NoMemory
+    }
+}
+
+/// Whether no cycle is on in a phase.
+fn is_idle(phase: Phase) -> bool
+    ensures { IsTrue result ↔ (phase ≡ phases.Idle) }
+{
+    matches!(phase, Phase::Idle)
+}
+
+impl Player {
+    /// A new heap without history, at time 0. Only want of memory is refused. Nothing is moved yet, so no
+    /// page may be asked to be emptied.
+    pub fn new(alloc: Global, config: &Config) -> Result<Player, NoMemory>
+        requires { config.now.defrag_pages ≡ 0 }
+        ensures heap { IfOk result (λ p. IsOpening p.course.heap) }
+        ensures limits { IfOk result (λ p. p.course.heap.limits ≡ limits_of config.now) }
+        ensures history { IfOk result (λ p. p.course.history ≡ []) }
+        ensures place { IfOk result (λ p. p.course.place ≡ 0) }
+        ensures timetable { IfOk result (λ p. p.timetable ≡ timetables.opening config.now.collector_ticks config.now.mutator_ticks) }
+        ensures budget { IfOk result (λ p. p.budget ≡ config.now.collector_ticks * config.now.rate) }
+    {
+        Ok(Player {
+            recorded: Recorded::new(alloc, config)?,
+            schedule: Schedule::new(alloc, config),
+            budget: config.collector_ticks * config.rate,
+        })
+    }
+
+    /// The heap with its history.
+    pub fn recorded(&self) -> &Recorded
+        ensures { result.now.course ≡ self.now.course }
+    {
+        &self.recorded
+    }
+
+    /// The schedule.
+    pub fn schedule(&self) -> &Schedule
+        ensures { timetables.with_reserved result.now 0 ≡ self.now.timetable }
+    {
+        &self.schedule
+    }
+
+    /// Does a command of a mutator. Where memory is refused for its entry, nothing has changed.
+    pub fn call(&mut self, mutator: u32, command: Command) -> Result<Receipt, NoMemory>
+        ensures entry { IfOk result (λ r. (r.entry.mutator ≡ mutator) × (r.entry.command ≡ command)) }
+        ensures does { IfOk result (λ r. DoesLine self.old (Line.Command mutator command) (Command_done mutator command r.entry.reply ∷ []) self.new) }
+        ensures err { IfErr result (λ e. self.new ≡ self.old) }
+    {
+        self.recorded.call(mutator, command)
+    }
+
+    /// Begins a cycle, and its schedule. A cycle that is on goes on.
+    pub fn begin(&mut self)
+        ensures { Begun self.old self.new }
+    {
+        if self.recorded.begin().is_ok() {
+            self.schedule.start_cycle();
+        }
+    }
+
+    /// Spends units of a budget. Where the quantum ends in idle, the schedule's cycle ends.
+    pub fn quantum(&mut self, budget: u32)
+        requires { IsBudget budget }
+        ensures { Spent self.old budget self.new }
+    {
+        let spent = self.recorded.quantum(budget).unwrap();
+        if is_idle(spent.phase) {
+            self.schedule.end_cycle();
+        }
+    }
+
+    /// Does the quantum that is due below a time, with its interval. Answers whether there was one.
+    fn due_quantum(&mut self, until: u64) -> Result<bool, NoMemory>
+        requires { until ≤ CLOCK_LIMIT }
+        ensures done { DueDone until self.old self.new result }
+        ensures ticks { 1 ≤ self.old.timetable.collector_ticks }
+    {
+        let budget = self.budget;
+        let Some(_due) = self.schedule.next_quantum(until) else {
+            return Ok(false);
+        };
+        self.schedule.reserve()?;
+        self.schedule.place();
+        self.quantum(budget);
+        Ok(true)
+    }
+
+    /// So many ticks pass: the quanta that are due in them are done, in order and each with its
+    /// interval, while the cycle is on; then the clock moves.
+    pub fn tick(&mut self, ticks: u64) -> Result<(), TickFault>
+        ensures { Ticked ticks self.old self.new result }
+    {
+        if ticks > CLOCK_LIMIT - self.schedule.now() {
+            return Err(TickFault::ClockSpent);
+        }
+        let until = self.schedule.now() + ticks;
+        while self.due_quantum(until)? {}
+        self.schedule.advance(ticks).unwrap();
+        Ok(())
+    }
+}

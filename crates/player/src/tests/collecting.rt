@@ -1,0 +1,164 @@
+//! Runs with a collector, worked out by hand.
+use super::*;
+use quanta::Interval;
+
+const TWO_PAGES: Settings = Settings {
+    pages: 2,
+    mutators: 1,
+    slots: 2,
+    statics: 0,
+    ..FOUR_PAGES
+};
+
+const MANY_SLOTS: Settings = Settings {
+    slots: 256,
+    statics: 0,
+    ..FOUR_PAGES
+};
+
+/// Plays a trace under settings, compares what was written, and tells the player.
+fn played(
+    rt: &(impl Abort + AllocGlobal),
+    settings: &Settings,
+    trace: &str,
+    written: &str,
+) -> Result<Player, Fail> {
+    let mut player = player(rt, settings)?;
+    let mut source = MemorySource::new(trace.as_bytes());
+    let mut sink = MemorySink::new(rt.alloc());
+    play(&mut source, &mut sink, &mut player)?;
+    assert_eq!(rt; sink.bytes(), written.as_bytes(), "{trace}");
+    Ok(player)
+}
+
+/// The units of the last cycle.
+fn units(player: &Player) -> u64 {
+    player.recorded().heap().units()
+}
+
+#[test]
+fn a_dead_block_is_used_again(rt: HostRuntime) -> Result<(), Fail> {
+    let trace = "0 new 0 words 252\n0 new 1 words 252\n0 new 2 words 252\n0 new 3 words 252\n\
+        0 new 4 words 252\n0 new 5 words 252\n0 new 6 words 252\n0 new 7 words 252\n\
+        0 new 8 words 252\n0 describe 7\n0 describe 8\n0 clear 3\nbegin\nquantum 256\n\
+        0 new 3 words 252\n";
+    let written = "made 1\nmade 2\nmade 3\nmade 4\nmade 5\nmade 6\nmade 7\nmade 8\n\
+        refused 7\ndescribed 8 words 252\nrefused 2\ndone\nmade 9\n";
+    let player = played(&rt, &ONE_PAGE, trace, written)?;
+    assert_eq!(rt; units(&player), 28);
+    Ok(())
+}
+
+#[test]
+fn what_is_overwritten_in_a_cell_is_kept(rt: HostRuntime) -> Result<(), Fail> {
+    let trace = "0 new 0 plain 1 0\n0 new 1 plain 0 1\n0 put 1 0 77\n0 store 0 0 1\n0 clear 1\n\
+        begin\nquantum 256\n0 load 2 0 0\n0 store 0 0 5\nquantum 256\nquantum 256\nquantum 256\n\
+        0 get 2 0\n";
+    let written = "made 1\nmade 2\ndone\ndone\ndone\nref 2\ndone\nword 77\n";
+    let player = played(&rt, &MANY_SLOTS, trace, written)?;
+    assert_eq!(rt; units(&player), 931);
+    Ok(())
+}
+
+#[test]
+fn what_is_overwritten_in_a_root_is_kept(rt: HostRuntime) -> Result<(), Fail> {
+    let trace = "1 new 100 plain 0 1\n1 put 100 0 78\nbegin\nquantum 300\n1 copy 0 100\n1 clear 100\n\
+        quantum 1000\n1 get 0 0\n";
+    let player = played(
+        &rt,
+        &MANY_SLOTS,
+        trace,
+        "made 1\ndone\ndone\ndone\nword 78\n",
+    )?;
+    assert_eq!(rt; units(&player), 929);
+    Ok(())
+}
+
+#[test]
+fn a_ring_goes_when_its_roots_are_gone(rt: HostRuntime) -> Result<(), Fail> {
+    let ring = "0 new 0 plain 1 0\n0 new 1 plain 1 0\n0 store 0 0 1\n0 store 1 0 0\n";
+    let written = "made 1\nmade 2\ndone\ndone\ndone\ndone\n";
+    let runs = [
+        ("0 clear 0\n0 clear 1\nbegin\nquantum 1000\n", 416),
+        ("begin\n0 clear 0\n0 clear 1\nquantum 1000\n", 420),
+        (
+            "begin\n0 clear 0\n0 clear 1\nquantum 1000\nbegin\nquantum 1000\n",
+            416,
+        ),
+    ];
+    for (lines, spent) in runs {
+        let trace = format!(in rt.alloc(); "{ring}{lines}")?;
+        let player = played(&rt, &TWO_PAGES, &trace, written)?;
+        assert_eq!(rt; units(&player), spent, "{trace}");
+    }
+    Ok(())
+}
+
+#[test]
+fn an_object_is_made_in_a_sweep(rt: HostRuntime) -> Result<(), Fail> {
+    let settings = Settings {
+        pages: 1,
+        ..TWO_PAGES
+    };
+    let trace = "0 new 0 plain 0 1\n0 new 1 plain 0 1\n0 clear 0\nbegin\nquantum 256\n\
+        0 new 0 plain 0 1\n0 put 0 0 9\nquantum 256\n0 get 0 0\n";
+    let written = "made 1\nmade 2\ndone\nmade 3\ndone\nword 9\n";
+    let player = played(&rt, &settings, trace, written)?;
+    assert_eq!(rt; units(&player), 416);
+    Ok(())
+}
+
+#[test]
+fn ticks_place_quanta(rt: HostRuntime) -> Result<(), Fail> {
+    let player = played(
+        &rt,
+        &TWO_PAGES,
+        "begin\ntick 5\nbegin\ntick 30\n",
+        "",
+    )?;
+    let placed = [
+        Interval { start: 0, end: 10 },
+        Interval { start: 22, end: 32 },
+    ];
+    assert_eq!(rt; player.schedule().intervals(), placed.as_slice());
+    assert_eq!(rt; player.schedule().now(), 35);
+    assert_eq!(rt; units(&player), 7);
+    let first = played(&rt, &TWO_PAGES, "begin\ntick 5\n", "")?;
+    assert_eq!(rt; units(&first), 7);
+    Ok(())
+}
+
+#[test]
+fn a_long_cycle_takes_many_quanta(rt: HostRuntime) -> Result<(), Fail> {
+    let settings = Settings {
+        mutators: 64,
+        slots: 256,
+        statics: 0,
+        ..FOUR_PAGES
+    };
+    let player = played(&rt, &settings, "begin\ntick 66\n", "")?;
+    let placed = [
+        Interval { start: 0, end: 10 },
+        Interval { start: 22, end: 32 },
+        Interval { start: 44, end: 54 },
+    ];
+    assert_eq!(rt; player.schedule().intervals(), placed.as_slice());
+    assert_eq!(rt; player.schedule().now(), 66);
+    assert_eq!(rt; units(&player), 3000);
+    Ok(())
+}
+
+#[test]
+fn quanta_that_are_asked_for_have_no_interval(rt: HostRuntime) -> Result<(), Fail> {
+    let player = played(&rt, &TWO_PAGES, "begin\nquantum 1000\ntick 40\n", "")?;
+    assert!(rt; player.schedule().intervals().is_empty());
+    assert_eq!(rt; units(&player), 7);
+    Ok(())
+}
+
+#[test]
+fn the_clock_has_a_limit(rt: HostRuntime) -> Result<(), Fail> {
+    let fault = PlayFault::Line(2, LineFault::ClockSpent);
+    let trace = "tick 1099511627776\ntick 1\n";
+    expect(&rt, &TWO_PAGES, trace, Err(fault), "")
+}

@@ -83,11 +83,16 @@ module _ (old mid new : RecordedHeap) (xs : List Event) (i : ℕ) (d : Event) (b
 
   pub more_refused : ((es : List done.Event) × (m : ℕ) × (c : Command) × (rest : List Event) × Runs mid.course es new.course × ((e ∷ []) ≡ map asked es ++ events.Command m c ∷ rest))
       → (result : Result (Unit {0}) NoMemory) → IsErr result → RunsFront old.course xs new.course result
-  more_refused w result err = refused_front old.course new.course xs result err
-      (so.front ++ w.0, w.1, w.2, w.3 ++ drop (i + 1) xs, runs_then so.front w.0 old.course mid.course new.course so.runs w.4,
-       whole ∙ ap (λ ys. ys ++ (e ∷ [] ++ drop (i + 1) xs)) so.asks ∙ ap (λ ys. map asked so.front ++ (ys ++ drop (i + 1) xs)) w.5
-       ∙ ap (λ ys. map asked so.front ++ ys) (append_assoc (map asked w.0) (events.Command w.1 w.2 ∷ w.3) (drop (i + 1) xs))
-       ∙ sym (append_assoc (map asked so.front) (map asked w.0) (events.Command w.1 w.2 ∷ (w.3 ++ drop (i + 1) xs))) ∙ ap (λ ys. ys ++ events.Command w.1 w.2 ∷ (w.3 ++ drop (i + 1) xs)) (sym (map-append asked so.front w.0)))
+  more_refused w result err = refused_front old.course new.course xs result err (
+    so.front ++ w.0,
+    w.1,
+    w.2,
+    w.3 ++ drop (i + 1) xs,
+    runs_then so.front w.0 old.course mid.course new.course so.runs w.4,
+    whole ∙ ap (λ ys. ys ++ (e ∷ [] ++ drop (i + 1) xs)) so.asks ∙ ap (λ ys. map asked so.front ++ (ys ++ drop (i + 1) xs)) w.5
+        ∙ ap (λ ys. map asked so.front ++ ys) (append_assoc (map asked w.0) (events.Command w.1 w.2 ∷ w.3) (drop (i + 1) xs))
+        ∙ sym (append_assoc (map asked so.front) (map asked w.0) (events.Command w.1 w.2 ∷ (w.3 ++ drop (i + 1) xs))) ∙ ap (λ ys. ys ++ events.Command w.1 w.2 ∷ (w.3 ++ drop (i + 1) xs)) (sym (map-append asked so.front w.0)),
+  )
 
   -- memory isn't refused where there is enough
   pub more_room : (commands_in (e ∷ []) ≤ mid.room → ⊥) → commands_in xs ≤ old.room → ⊥

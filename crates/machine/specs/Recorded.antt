@@ -77,4 +77,3 @@ HoldsKept r = r.heap.phase ≡ phases.Idle → (id : ℕ) → 0 < id → IsHeld 
 abbrev pub EndsSoon : Course → Type 0
 EndsSoon r =
     (k : ℕ) (es : List done.Event) (new : Course) → 256 ≤ k → Runs r es new → HaveBudgets k es → most_quanta r.heap k ≤ quanta_in es → OneIsLast es
-

@@ -6,4 +6,3 @@
 pub mod scan;
 
 pub use scan::{Scanned, scan_one};
-

@@ -1,5 +1,6 @@
 //! Plays a trace from standard input on a heap, and writes the replies to standard output.
 #![tactic(auto)]
+
 ghost use Rattle.std.specs.Prelude.{◌≡◌};
 
 use player::{PlayFault, Player, play};

@@ -50,10 +50,12 @@ module _ (old new : PlayerState) (until : ℕ) (d : DueDone until old new (Ok tr
 pub ticked : (p q r : PlayerState) (n until : ℕ) (t : Timetable) → until ≤ CLOCK_LIMIT → until ≡ p.timetable.clock + n → ((es : List Event) × QuantaDue until p es q) → DueDone until q r (Ok false)
     → t ≡ record r.timetable { clock = p.timetable.clock + n } → (es : List Event) × DoesLine p (lines.Tick n) es (record r { timetable = t })
 ticked p q r n until t small e w d is =
-    let due = subst (λ u. QuantaDue u p w.0 q) e w.1 in
-    (w.0, subst (λ z. DoesLine p (lines.Tick n) w.0 (record r { timetable = z })) (sym is)
-     (subst (λ (x : PlayerState). DoesLine p (lines.Tick n) w.0 (record x { timetable = record x.timetable { clock = p.timetable.clock + n } })) (sym d.1)
-      (Ticks n w.0 q (subst (λ u. u ≤ CLOCK_LIMIT) e small) due (subst (λ u. due_below u q.timetable.due ≡ None) e d.0))))
+    let due = subst (λ u. QuantaDue u p w.0 q) e w.1 in (
+      w.0,
+      subst (λ z. DoesLine p (lines.Tick n) w.0 (record r { timetable = z })) (sym is)
+          (subst (λ (x : PlayerState). DoesLine p (lines.Tick n) w.0 (record x { timetable = record x.timetable { clock = p.timetable.clock + n } })) (sym d.1)
+          (Ticks n w.0 q (subst (λ u. u ≤ CLOCK_LIMIT) e small) due (subst (λ u. due_below u q.timetable.due ≡ None) e d.0))),
+    )
 
 -- the same, where the clock has stood still and the player is told by its fields
 pub ticked_by : (p q r s : PlayerState) (n until : ℕ) (t : Timetable) → until ≤ CLOCK_LIMIT → until ≡ p.timetable.clock + n → q.timetable.clock ≡ p.timetable.clock → ((es : List Event) × QuantaDue until p es q) → DueDone until q r (Ok false)

@@ -49,7 +49,11 @@ fn expect(
     let mut player = player(rt, settings)?;
     let mut source = MemorySource::new(trace.as_bytes());
     let mut sink = MemorySink::new(rt.alloc());
-    assert_eq!(rt; play(&mut source, &mut sink, &mut player), answer, "{trace}");
+    assert_eq!(rt;
+        play(&mut source, &mut sink, &mut player),
+        answer,
+        "{trace}"
+    );
     assert_eq!(rt; sink.bytes(), written.as_bytes(), "{trace}");
     Ok(())
 }
@@ -114,16 +118,8 @@ fn a_line_in_fault_ends_the_run(rt: HostRuntime) -> Result<(), Fail> {
             2,
             LineFault::NotAnEvent,
         ),
-        (
-            "0 new 0 plain 0 0\n\n#\nbegins\n",
-            4,
-            LineFault::NotAnEvent,
-        ),
-        (
-            "0 new 0 plain 0 0\nquantum 255\n",
-            2,
-            LineFault::NotAnEvent,
-        ),
+        ("0 new 0 plain 0 0\n\n#\nbegins\n", 4, LineFault::NotAnEvent),
+        ("0 new 0 plain 0 0\nquantum 255\n", 2, LineFault::NotAnEvent),
         ("0 new 0 plain 0 0\ntick 0\n", 2, LineFault::NotAnEvent),
     ];
     for (trace, line, fault) in runs {

@@ -19,13 +19,7 @@ use satb_barrier::Grey;
 use sweeper::{Swept, sweep_one};
 
 /// One step of the roots or of marking, and the place of the phase after it.
-fn mark(
-    nodes: &mut Nodes,
-    roots: &mut Roots,
-    grey: &mut Grey,
-    sense: bool,
-    phase: Phase,
-) -> Phase
+fn mark(nodes: &mut Nodes, roots: &mut Roots, grey: &mut Grey, sense: bool, phase: Phase) -> Phase
     requires traces { written.records phase ≡ true }
     requires place { CanScan nodes.old roots.old.cells phase }
     requires room { HasRoom sense nodes.old grey.old }

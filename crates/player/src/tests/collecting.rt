@@ -62,7 +62,8 @@ fn what_is_overwritten_in_a_cell_is_kept(rt: HostRuntime) -> Result<(), Fail> {
 
 #[test]
 fn what_is_overwritten_in_a_root_is_kept(rt: HostRuntime) -> Result<(), Fail> {
-    let trace = "1 new 100 plain 0 1\n1 put 100 0 78\nbegin\nquantum 300\n1 copy 0 100\n1 clear 100\n\
+    let trace =
+        "1 new 100 plain 0 1\n1 put 100 0 78\nbegin\nquantum 300\n1 copy 0 100\n1 clear 100\n\
         quantum 1000\n1 get 0 0\n";
     let player = played(
         &rt,
@@ -110,12 +111,7 @@ fn an_object_is_made_in_a_sweep(rt: HostRuntime) -> Result<(), Fail> {
 
 #[test]
 fn ticks_place_quanta(rt: HostRuntime) -> Result<(), Fail> {
-    let player = played(
-        &rt,
-        &TWO_PAGES,
-        "begin\ntick 5\nbegin\ntick 30\n",
-        "",
-    )?;
+    let player = played(&rt, &TWO_PAGES, "begin\ntick 5\nbegin\ntick 30\n", "")?;
     let placed = [
         Interval { start: 0, end: 10 },
         Interval { start: 22, end: 32 },

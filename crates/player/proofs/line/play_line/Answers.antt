@@ -12,10 +12,13 @@ returns-in-Skip-clause-done g c = (lines.Skip, [], subst (Spells c.args.bytes.no
 
 pub returns-in-Quantum-clause-done : goal.returns-in-Quantum-clause-done
 returns-in-Quantum-clause-done g c =
-    let s = c.quantum.ensures in
-    (lines.Quantum c.in-Quantum.budget, Quantum_done c.in-Quantum.budget s.0 s.1 ∷ [], subst (Spells c.args.bytes.now) c.in-Quantum.is c.in-Some.ensures.found,
-     subst (λ (x : PlayerState). DoesLine c.args.player.now (lines.Quantum c.in-Quantum.budget) (Quantum_done c.in-Quantum.budget s.0 s.1 ∷ []) x) (sym s.4) (Spends c.in-Quantum.budget s.0 s.1 s.2 s.3),
-     sym (append-nil (g.K.Sink.taken c.args.sink.now)))
+    let s = c.quantum.ensures in (
+      lines.Quantum c.in-Quantum.budget,
+      Quantum_done c.in-Quantum.budget s.0 s.1 ∷ [],
+      subst (Spells c.args.bytes.now) c.in-Quantum.is c.in-Some.ensures.found,
+      subst (λ (x : PlayerState). DoesLine c.args.player.now (lines.Quantum c.in-Quantum.budget) (Quantum_done c.in-Quantum.budget s.0 s.1 ∷ []) x) (sym s.4) (Spends c.in-Quantum.budget s.0 s.1 s.2 s.3),
+      sym (append-nil (g.K.Sink.taken c.args.sink.now)),
+    )
 
 pub returns-in-Ok-clause-done : goal.returns-in-Ok-clause-done
 returns-in-Ok-clause-done g c =

@@ -11,9 +11,10 @@ use Rattle.machine.proofs.heap.Heap.begin.Goals as goal
 pub invariant_of-self : goal.invariant_of-self
 invariant_of-self c =
     let h = state_of c.self.inside in
-    let idle = subst (λ (x : HeapState). x.phase ≡ phases.Idle) (sym c.self.view_is) (c.is_idle.ensures.0 (subst IsTrue (sym c.if-not-is_idle.false) refl)) in
-    (subst (λ (l : List ℕ). IsHeap (record (begun h) { grey = l })) (sym c.clear.ensures.empty) (begun_heap h c.self.invariant.0 idle),
-     subst (λ n. 512 * length c.self.inside.nodes.pages ≤ n) (sym c.clear.ensures.room) c.self.invariant.1)
+    let idle = subst (λ (x : HeapState). x.phase ≡ phases.Idle) (sym c.self.view_is) (c.is_idle.ensures.0 (subst IsTrue (sym c.if-not-is_idle.false) refl)) in (
+      subst (λ (l : List ℕ). IsHeap (record (begun h) { grey = l })) (sym c.clear.ensures.empty) (begun_heap h c.self.invariant.0 idle),
+      subst (λ n. 512 * length c.self.inside.nodes.pages ≤ n) (sym c.clear.ensures.room) c.self.invariant.1,
+    )
 
 pub returns-clause-agrees : goal.returns-clause-agrees
 returns-clause-agrees c g a =

@@ -27,9 +27,10 @@ pub invariant_of-self : goal.invariant_of-self
 invariant_of-self c =
     let h = state_of c.self.inside in
     let after : HeapState = goes_to (record h { store = c.mark-self-inside.new.nodes; roots = c.mark-self-inside.new.roots.cells; grey = c.mark-self-inside.new.grey.parts }) 1 c.mark-self-inside.result in
-    let a = subst (λ (l : Limits). Action h 1 (record after { limits = l })) (sym c.mark-self-inside.ensures.limits) (c.mark-self-inside.ensures.marks h refl refl refl refl refl) in
-    (acted_heap h (record after { limits = c.mark-self-inside.new.roots.limits }) c.self.invariant.0 1 a,
-     acted_memory h (record after { limits = c.mark-self-inside.new.roots.limits }) 1 c.self.inside.grey.room c.mark-self-inside.new.grey.room a c.self.invariant.1 c.mark-self-inside.ensures.room)
+    let a = subst (λ (l : Limits). Action h 1 (record after { limits = l })) (sym c.mark-self-inside.ensures.limits) (c.mark-self-inside.ensures.marks h refl refl refl refl refl) in (
+      acted_heap h (record after { limits = c.mark-self-inside.new.roots.limits }) c.self.invariant.0 1 a,
+      acted_memory h (record after { limits = c.mark-self-inside.new.roots.limits }) 1 c.self.inside.grey.room c.mark-self-inside.new.grey.room a c.self.invariant.1 c.mark-self-inside.ensures.room,
+    )
 
 pub returns-clause-acts : goal.returns-clause-acts
 returns-clause-acts c =

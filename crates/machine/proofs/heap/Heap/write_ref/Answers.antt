@@ -44,7 +44,7 @@ invariant_of-self c =
     let h = state_of c.self.inside in
     let k : HeapState = record h { store = c.record.new.nodes; grey = c.record.new.self.parts } in
     let does = ref_does h c.self.invariant.0 c.args.id c.args.i c.args.value c.args.block c.args.cell c.args.reference (planned_here _ _ c.self.view_is c.self.invariant.0 w c.requires)
-        k c.cell-before.result c.cell-before.ensures (c.record.ensures.records h refl refl refl refl) _ c.set_cell.ensures in
+    k c.cell-before.result c.cell-before.ensures (c.record.ensures.records h refl refl refl refl) _ c.set_cell.ensures in
     (stays_heap _ _ c.self.view_is c.self.invariant.0 w c.requires _ does, memory_left _ _ _ _ c.self.invariant.1 (ap length (c.set_cell.ensures.pages ∙ c.record.ensures.pages)) c.record.ensures.room)
 
 pub returns-clause-does : goal.returns-clause-does
@@ -53,7 +53,7 @@ returns-clause-does c =
     let h = state_of c.self.inside in
     let k : HeapState = record h { store = c.record.new.nodes; grey = c.record.new.self.parts } in
     let does = ref_does h c.self.invariant.0 c.args.id c.args.i c.args.value c.args.block c.args.cell c.args.reference (planned_here _ _ c.self.view_is c.self.invariant.0 w c.requires)
-        k c.cell-before.result c.cell-before.ensures (c.record.ensures.records h refl refl refl refl) _ c.set_cell.ensures in
+    k c.cell-before.result c.cell-before.ensures (c.record.ensures.records h refl refl refl refl) _ c.set_cell.ensures in
     does_for _ _ c.self.view_is c.self.invariant.0 w c.requires _ does
 
 pub returns-clause-agrees : goal.returns-clause-agrees
@@ -62,5 +62,5 @@ returns-clause-agrees c =
     let h = state_of c.self.inside in
     let k : HeapState = record h { store = c.record.new.nodes; grey = c.record.new.self.parts } in
     let does = ref_does h c.self.invariant.0 c.args.id c.args.i c.args.value c.args.block c.args.cell c.args.reference (planned_here _ _ c.self.view_is c.self.invariant.0 w c.requires)
-        k c.cell-before.result c.cell-before.ensures (c.record.ensures.records h refl refl refl refl) _ c.set_cell.ensures in
+    k c.cell-before.result c.cell-before.ensures (c.record.ensures.records h refl refl refl refl) _ c.set_cell.ensures in
     agrees_for _ _ c.self.view_is c.self.invariant.0 w c.requires _ does

@@ -30,5 +30,5 @@ returns c =
     let d = subst (λ b. DueDone (c.now-2.result + c.args.ticks) c.loop.self c.due_quantum.new.self (Ok b)) c.if-branch.false c.in_ok-due_quantum.ensures.done in
     let q = player_of c.self-2.inside in
     let moved : with_reserved c.advance.new.self 0 ≡ record q.timetable { clock = q.timetable.clock + c.args.ticks } =
-        ap (λ (t : Timetable). with_reserved t 0) (subst (λ r. OnOk r (c.advance.new.self ≡ record c.self-2.inside.schedule { clock = c.self-2.inside.schedule.clock + c.args.ticks })) c.unwrap.ensures c.advance.ensures.ok) in
+    ap (λ (t : Timetable). with_reserved t 0) (subst (λ r. OnOk r (c.advance.new.self ≡ record c.self-2.inside.schedule { clock = c.self-2.inside.schedule.clock + c.args.ticks })) c.unwrap.ensures c.advance.ensures.ok) in
     ticked_by c.args.self.now c.loop.self c.due_quantum.new.self q c.args.ticks (c.now-2.result + c.args.ticks) (with_reserved c.advance.new.self 0) i.0 i.1 i.2 (i.3, i.4) d c.self-2.view_is moved

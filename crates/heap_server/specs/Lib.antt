@@ -1,0 +1,4 @@
+pub mod Views
+pub mod Kept
+pub mod Paced
+pub mod Seats

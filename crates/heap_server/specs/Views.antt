@@ -1,0 +1,28 @@
+-- What a seat, the pacer and the locked state show.
+use Rattle.std.specs.Prelude.{ℕ}
+use Rattle.heap_model.specs.Event.{Course}
+
+-- a seat's mutator, and how many calls it has made
+pub record SeatView : Type 0 where
+  pub mutator : ℕ
+  pub calls : ℕ
+
+-- how many cycles the pacer has begun and seen end, and the units that it has spent
+pub record PacerView : Type 0 where
+  pub begun : ℕ
+  pub ended : ℕ
+  pub spent : ℕ
+
+-- The locked heap with its history, for how many more entries there is memory, and the totals of the four
+-- books: calls made, cycles begun, cycles ended, units spent.
+pub record LockedView : Type 0 where
+  pub course : Course
+  pub room : ℕ
+  pub calls : ℕ
+  pub begun : ℕ
+  pub ended : ℕ
+  pub spent : ℕ
+
+-- what the pacer shows where its numbers are the totals of the books
+abbrev pub pacer_of : LockedView → PacerView
+pacer_of v = record { begun = v.begun; ended = v.ended; spent = v.spent }

@@ -1,0 +1,203 @@
+//! What lies under the lock, and the calls that are done while it is held.
+ghost use Rattle.std.specs.Prelude.{◌≡◌, ◌≢◌, ◌↔◌, ◌+◌, ◌<◌, ◌≤◌, length, IfOk, IsOk, OnErr, OnOk};
+ghost use Rattle.heap_model.specs.Event.{Does, IsBudget};
+ghost use Rattle.heap_model.specs.Event as done;
+ghost use Rattle.machine.specs.Recorded.{begin_done, quantum_done};
+ghost use Rattle.heap_server.specs.Views.{pacer_of};
+ghost use Rattle.heap_server.specs.Kept.{cycles_on};
+ghost use Rattle.heap_server.specs.Paced.{IsPaced};
+
+use crate::naming::{Begun, Calls, Ended, Naming, Units};
+use graph_heap::{Command, NoMemory};
+use heap_model::phase::Phase;
+use machine::{BudgetOutOfRange, Busy, Receipt, Recorded, Spent};
+use std::marker::Model;
+use std::sync::ledger::{Book, Share};
+
+/// A mutator's place at a server. Contracts see the mutator's number and how many calls the seat has made.
+#[derive(Drop)]
+pub struct Seat<N: Naming> {
+    pub(crate) mutator: u32,
+    pub(crate) made: u64,
+    pub(crate) calls: Share<Calls<N>>,
+}
+
+impl<N: Naming> Model for Seat<N> {
+    ghost use Rattle.std.specs.Prelude.{◌≡◌};
+    ghost use Rattle.heap_server.specs.Views.{SeatView};
+
+    ghost Value = { SeatView };
+
+    ghost view = { λ s. record { mutator = s.mutator; calls = s.calls.amount } };
+
+    ghost invariant = { λ s. (s.calls.parts ≡ 1) × (s.calls.amount ≡ s.made) };
+}
+
+impl<N: Naming> Seat<N> {
+    /// The number of the mutator whose commands are called from this seat.
+    pub fn mutator(&self) -> u32
+        ensures { result ≡ self.now.mutator }
+    {
+        self.mutator
+    }
+
+    /// How many calls were made from this seat. A refused call isn't counted.
+    pub fn made(&self) -> u64
+        ensures { result ≡ self.now.calls }
+    {
+        self.made
+    }
+}
+
+/// The collector's place at a server. Contracts see how many cycles were begun, how many have ended, and
+/// the units that were spent.
+#[derive(Drop)]
+pub struct Pacer<N: Naming> {
+    pub(crate) begun: Share<Begun<N>>,
+    pub(crate) ended: Share<Ended<N>>,
+    pub(crate) units: Share<Units<N>>,
+}
+
+impl<N: Naming> Model for Pacer<N> {
+    ghost use Rattle.std.specs.Prelude.{◌≡◌};
+    ghost use Rattle.heap_server.specs.Views.{PacerView};
+
+    ghost Value = { PacerView };
+
+    ghost view = { λ p. record { begun = p.begun.amount; ended = p.ended.amount; spent = p.units.amount } };
+
+    ghost invariant = { λ p. (p.begun.parts ≡ 1) × (p.ended.parts ≡ 1) × (p.units.parts ≡ 1) };
+}
+
+/// What lies under the lock: a heap with its history, and the books of calls made, cycles begun, cycles
+/// ended and units spent. The history is always legal, the heap agrees with the graph heap to which it
+/// leads, and the books count the events that led there.
+#[derive(Drop)]
+pub struct Locked<N: Naming> {
+    pub(crate) recorded: Recorded,
+    pub(crate) calls: Book<Calls<N>>,
+    pub(crate) begun: Book<Begun<N>>,
+    pub(crate) ended: Book<Ended<N>>,
+    pub(crate) units: Book<Units<N>>,
+}
+
+impl<N: Naming> Model for Locked<N> {
+    ghost use Rattle.heap_server.specs.Views.{LockedView};
+    ghost use Rattle.heap_server.specs.Kept.{IsKept};
+
+    ghost Value = { LockedView };
+
+    ghost view = { λ l. record { course = l.recorded.course; room = l.recorded.room; calls = l.calls.total; begun = l.begun.total; ended = l.ended.total; spent = l.units.total } };
+
+    ghost invariant = { λ l. IsKept N.limits (record { course = l.recorded.course; room = l.recorded.room; calls = l.calls.total; begun = l.begun.total; ended = l.ended.total; spent = l.units.total }) };
+}
+
+impl<N: Naming> Locked<N> {
+    ghost use Rattle.heap_server.specs.Kept.{IsKept};
+
+    /// The heap with its history.
+    pub fn recorded(&self) -> &Recorded
+        ensures recorded { result.now.course ≡ self.now.course }
+        ensures kept { IsKept N.limits self.now }
+    {
+        &self.recorded
+    }
+
+    /// Makes room for so many more calls: the next so many aren't refused memory.
+    pub fn reserve(&mut self, calls: usize) -> Result<(), NoMemory>
+        ensures room { OnOk result (calls ≤ self.new.room) }
+        ensures kept { self.old.room ≤ self.new.room }
+        ensures same { self.new ≡ record self.old { room = self.new.room } }
+    {
+        self.recorded.reserve(calls)
+    }
+
+    /// Does a command of the seat's mutator, whole, and enters it with its reply. Where memory for the
+    /// entry is refused, nothing has changed.
+    pub fn transact(&mut self, seat: &mut Seat<N>, command: Command) -> Result<Receipt, NoMemory>
+        ensures does { IfOk result (λ r. Does self.old.course (done.Command_done seat.old.mutator command r.entry.reply) self.new.course) }
+        ensures entry { IfOk result (λ r. (r.entry.mutator ≡ seat.old.mutator) × (r.entry.command ≡ command)) }
+        ensures place { IfOk result (λ r. r.place ≡ length self.old.course.history) }
+        ensures seat { OnOk result (seat.new ≡ record seat.old { calls = seat.old.calls + 1 }) }
+        ensures books { OnOk result (self.new ≡ record self.old { course = self.new.course; room = self.new.room; calls = self.old.calls + 1 }) }
+        ensures err { OnErr result ((self.new ≡ record self.old { room = self.new.room }) × (seat.new ≡ seat.old)) }
+        ensures room { 0 < self.old.room → IsOk result }
+        ensures left { self.old.room ≤ self.new.room + 1 }
+    {
+        let Locked {
+            recorded,
+            calls,
+            ..
+        } = self;
+        let Seat {
+            mutator,
+            made,
+            calls: mine,
+        } = seat;
+        calls.audit(mine);
+        let _before = recorded.history().len();
+        let receipt = recorded.call(*mutator, command)?;
+        calls.add(mine, 1);
+        *made += 1;
+        Ok(receipt)
+    }
+
+    /// Begins a cycle of the collector, unless one is on.
+    pub fn begin(&mut self, pacer: &mut Pacer<N>) -> Result<(), Busy>
+        ensures does { Does self.old.course (begin_done result) self.new.course }
+        ensures was { pacer.old ≡ pacer_of self.old }
+        ensures begun { OnOk result ((pacer.old.ended ≡ pacer.old.begun) × (pacer.new ≡ record pacer.old { begun = pacer.old.begun + 1 })) }
+        ensures books { OnOk result (self.new ≡ record self.old { course = self.new.course; begun = self.old.begun + 1 }) }
+        ensures busy { OnErr result ((pacer.old.ended ≢ pacer.old.begun) × (self.new ≡ self.old) × (pacer.new ≡ pacer.old)) }
+    {
+        let Locked {
+            recorded,
+            begun,
+            ended,
+            units,
+            ..
+        } = self;
+        begun.audit(&mut pacer.begun);
+        ended.audit(&mut pacer.ended);
+        units.audit(&mut pacer.units);
+        recorded.begin()?;
+        begun.add(&mut pacer.begun, 1);
+        Ok(())
+    }
+
+    /// Spends units of a budget on the cycle that is on.
+    pub fn quantum(&mut self, pacer: &mut Pacer<N>, budget: u32) -> Result<Spent, BudgetOutOfRange>
+        ensures does { Does self.old.course (quantum_done budget result) self.new.course }
+        ensures was { pacer.old ≡ pacer_of self.old }
+        ensures range { IsOk result ↔ IsBudget budget }
+        ensures paced { IfOk result (λ s. IsPaced pacer.old budget s pacer.new) }
+        ensures books { OnOk result ((self.new ≡ record self.old { course = self.new.course; ended = self.new.ended; spent = self.new.spent }) × (pacer.new ≡ pacer_of self.new)) }
+        ensures err { OnErr result ((self.new ≡ self.old) × (pacer.new ≡ pacer.old)) }
+    {
+        let Locked {
+            recorded,
+            begun,
+            ended,
+            units,
+            ..
+        } = self;
+        begun.audit(&mut pacer.begun);
+        ended.audit(&mut pacer.ended);
+        units.audit(&mut pacer.units);
+        let on = cycles_on(recorded.heap().phase());
+        let spent = recorded.quantum(budget)?;
+        units.add(&mut pacer.units, u64::from(spent.units));
+        ended.add(&mut pacer.ended, on - cycles_on(spent.phase));
+        Ok(spent)
+    }
+}
+
+/// How many cycles are on in a phase: 0 in idle, else 1.
+fn cycles_on(phase: Phase) -> u64
+    ensures { result ≡ cycles_on phase }
+{
+    match phase {
+        Phase::Idle => 0,
+        _ => 1,
+    }
+}

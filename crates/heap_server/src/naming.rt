@@ -1,0 +1,106 @@
+//! The ledgers of a server: what names them, and how they are opened.
+ghost use Rattle.std.specs.Prelude.{◌≡◌, ℕ};
+ghost use Rattle.graph_heap.specs.declared.command.Limits.{Limits};
+
+use size_classes::Config;
+use std::marker::{Brand, PhantomData};
+use std::sync::ledger::{Blank, Ledger};
+
+/// Which server it is: the limits of its heap, and the names of its ledgers. Each call of a program picks
+/// them.
+pub trait Naming {
+    ghost limits: { Limits };
+
+    ghost calls: { ℕ };
+
+    ghost begun: { ℕ };
+
+    ghost ended: { ℕ };
+
+    ghost units: { ℕ };
+}
+
+impl Naming for Brand {
+    ghost limits = { record { mutators = 1; slots = 1; statics = 0; identities = 1 } };
+
+    ghost calls = { 0 };
+
+    ghost begun = { 0 };
+
+    ghost ended = { 0 };
+
+    ghost units = { 0 };
+}
+
+/// Names the ledger of calls, which has a part for each mutator.
+pub struct Calls<N: Naming> {
+    of: PhantomData<N>,
+}
+
+impl<N: Naming> Ledger for Calls<N> {
+    ghost name = { N.calls };
+
+    ghost parts = { N.limits.mutators };
+}
+
+/// Names the ledger of cycles begun.
+pub struct Begun<N: Naming> {
+    of: PhantomData<N>,
+}
+
+impl<N: Naming> Ledger for Begun<N> {
+    ghost name = { N.begun };
+
+    ghost parts = { 1 };
+}
+
+/// Names the ledger of cycles ended.
+pub struct Ended<N: Naming> {
+    of: PhantomData<N>,
+}
+
+impl<N: Naming> Ledger for Ended<N> {
+    ghost name = { N.ended };
+
+    ghost parts = { 1 };
+}
+
+/// Names the ledger of units spent.
+pub struct Units<N: Naming> {
+    of: PhantomData<N>,
+}
+
+impl<N: Naming> Ledger for Units<N> {
+    ghost name = { N.units };
+
+    ghost parts = { 1 };
+}
+
+/// What a server is made of: the configuration of its heap, and ledgers that have no name yet.
+#[derive(Drop)]
+pub struct Opening {
+    pub config: Config,
+    pub calls: Blank,
+    pub begun: Blank,
+    pub ended: Blank,
+    pub units: Blank,
+    ghost calls_parts: { calls.parts ≡ config.mutators },
+    ghost begun_parts: { begun.parts ≡ 1 },
+    ghost ended_parts: { ended.parts ≡ 1 },
+    ghost units_parts: { units.parts ≡ 1 },
+}
+
+impl Opening {
+    /// Blank ledgers for a heap of this configuration.
+    pub fn new(config: &Config) -> Opening
+        ensures { result.config ≡ config.now }
+    {
+        Opening {
+            config: *config,
+            calls: Blank::new(u64::from(config.mutators)),
+            begun: Blank::new(1),
+            ended: Blank::new(1),
+            units: Blank::new(1),
+        }
+    }
+}

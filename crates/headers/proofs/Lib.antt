@@ -1,3 +1,4 @@
+pub mod Copied
 pub mod Fields
 pub mod Frames
 pub mod Fresh

@@ -1,7 +1,7 @@
 //! The arena of words, block by block.
 ghost use Rattle.std.specs.Prelude.{◌≡◌, ◌+◌, ◌-◌, ◌<◌, ◌≤◌, ◌*◌, ◌∷◌, IfOk, length, replicate, slice_index, slice_set};
 ghost use Rattle.heap_model.specs.Header.{Header, header_in, header_word, shape_in, recoloured, ShapeFits};
-ghost use Rattle.heap_model.specs.Block.{spliced};
+ghost use Rattle.heap_model.specs.Block.{spliced, words_at};
 
 use crate::header::{colour_of, pack, part_of, recolour, shape_of};
 use graph_heap::{NoMemory, Shape};
@@ -123,6 +123,15 @@ impl Arena {
         ensures { self.new ≡ slice_set self.old (block + (4 + i)) value }
     {
         self.words[block + (4 + i)] = value;
+    }
+
+    /// Copies so many words of a block to another place.
+    pub fn copy_block(&mut self, from: usize, to: usize, size: usize)
+        requires from { from + size ≤ length self.old }
+        requires to { to + size ≤ length self.old }
+        ensures { self.new ≡ spliced self.old to (words_at self.old from size) }
+    {
+        self.words.copy_within(from..from + size, to);
     }
 
     /// Makes a part in a block: its header, forwarding to itself, and so many cells of 0.

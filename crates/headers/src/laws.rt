@@ -1,7 +1,7 @@
 //! Laws of the words of blocks. Each function does nothing: its contract is the law.
 ghost use Rattle.std.specs.Prelude.{◌≡◌, ℕ, ◌+◌, ◌<◌, ◌≤◌, ◌⊎◌, Bool, List, length, slice_index, slice_set};
 ghost use Rattle.heap_model.specs.Header.{Header, header_in, header_word, recoloured, HeaderFits};
-ghost use Rattle.heap_model.specs.Block.{node_at, cell_count, with_forward, with_colour, with_link, with_cell, new_node, new_words, spliced};
+ghost use Rattle.heap_model.specs.Block.{node_at, cell_count, with_forward, with_colour, with_link, with_cell, new_node, new_words, spliced, words_at};
 
 /// What was packed into word 1 is read from it again.
 pub fn header_packed()
@@ -44,4 +44,12 @@ pub fn new_block()
         → node_at (spliced words address (new_words address h identity)) address size ≡ new_node address h identity }
     ensures others { (words : List ℕ) (address size identity b t : ℕ) (h : Header) → cell_count h + 4 ≤ size → address + size ≤ length words
         → (b + t ≤ address) ⊎ (address + size ≤ b) → node_at (spliced words address (new_words address h identity)) b t ≡ node_at words b t }
+{}
+
+/// A copied block has the record of the one that it was copied from, and each other block keeps its own.
+pub fn copied_block()
+    ensures here { (words : List ℕ) (from to size : ℕ) → from + size ≤ length words → to + size ≤ length words
+        → node_at (spliced words to (words_at words from size)) to size ≡ node_at words from size }
+    ensures others { (words : List ℕ) (from to size b t : ℕ) → from + size ≤ length words → to + size ≤ length words
+        → (b + t ≤ to) ⊎ (to + size ≤ b) → node_at (spliced words to (words_at words from size)) b t ≡ node_at words b t }
 {}

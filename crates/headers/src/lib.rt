@@ -7,8 +7,8 @@ mod laws;
 
 pub use arena::Arena;
 pub use laws::{
-    cell_written, colour_written, forward_written, header_packed, link_written, new_block,
-    other_blocks,
+    cell_written, colour_written, copied_block, forward_written, header_packed, link_written,
+    new_block, other_blocks,
 };
 
 #[cfg(test)]

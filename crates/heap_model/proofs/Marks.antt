@@ -112,6 +112,18 @@ in_use old new page k p v at l e = by_place (page == k) (ap (λ z. page_at z pag
     by_place true f = (v, f)
     by_place false f = (p, f ∙ at)
 
+-- a page that is leaving stays so where another changes that isn't
+stays_leaving : (old new : List (Option Page)) (page k : ℕ) (p q v : Page) → page_at old page ≡ Some p → p.leaving ≡ true → page_at old k ≡ Some q → k < length old → new ≡ set old k (Some v) → q.leaving ≡ false
+    → (r : Page) × (page_at new page ≡ Some r) × (r.leaving ≡ true)
+stays_leaving old new page k p q v at is there l e off = by_place (page == k) refl (ap (λ z. page_at z page) e ∙ set_page old k page (Some v) l)
+  where
+    by_place : (t : Bool) → (page == k) ≡ t → page_at new page ≡ (if t then Some v else page_at old page) → (r : Page) × (page_at new page ≡ Some r) × (r.leaving ≡ true)
+    by_place true t f =
+        let same : page ≡ k = same_number page k t in
+        let one : p ≡ q = same_Some p q (sym at ∙ ap (page_at old) same ∙ there) in
+        absurd (let z : true ≡ false = sym is ∙ ap (λ (z : Page). z.leaving) one ∙ off in cc)
+    by_place false t f = (p, f ∙ at, is)
+
 used_placed : (pages : List (Option Page)) (page block : ℕ) (q : Page) → page_at pages page ≡ Some q → page_at pages page ≡ None → block ≡ 0
 used_placed pages page block q e f = absurd (let z : None ≡ Some q = sym f ∙ e in cc)
 
@@ -133,10 +145,11 @@ action_placed h after cost (Ends_sweep page block e l) = by_sparse (is_sparse h)
     by_sparse false = tt
 action_placed h after cost (Looks_at_page class page best chosen at few more) = tt
 action_placed h after cost (Chooses_page class page best chosen c p new at few last is good there w0 pages) =
-    in_use h.store.pages new.pages c.page c.page p (record p { leaving = true }) there (page_within h.store.pages c.page p there) pages
+    let v = record p { leaving = true } in (v, ap (λ z. page_at z c.page) pages ∙ set_page_here h.store.pages c.page (Some v) (page_within h.store.pages c.page p there), refl)
 action_placed h after cost (Chooses_none class page best chosen at few last is) = tt
 action_placed h after cost (Moves_block class page block chosen i to j p q new e at leaving next place there empty w0 pages) =
-    in_use h.store.pages new.pages page to p (record (with_held q j true) { receiving = true }) at (page_within h.store.pages to q there) pages
+    stays_leaving h.store.pages new.pages page to p q (record (with_held q j true) { receiving = true }) at leaving there (page_within h.store.pages to q there) pages
+    (usable_fits p.class q (ap (is_usable p.class) (sym there) ∙ (position-Some (is_usable p.class) h.store.pages to None place).1)).1
 action_placed h after cost (Ends_moving done) = tt
 
 -- a closed page has no mark
@@ -196,7 +209,7 @@ taken_placed old new (phases.Sweeping page block) i w = λ e. by_page (page_at o
     by_page None q e = i q
     by_page (Some p) q e = let r = w.used page p q in absurd (let z : None ≡ Some r.0 = sym e ∙ r.1 in cc)
 taken_placed old new (phases.Moving (moves.Pass class page best chosen)) i w = tt
-taken_placed old new (phases.Moving (moves.Emptying class page block chosen)) i w = let r = w.used page i.0 i.1 in (r.0, r.1)
+taken_placed old new (phases.Moving (moves.Emptying class page block chosen)) i w = let r = w.used page i.0 i.1 in (r.0, r.1, r.2.leaving ∙ i.2)
 
 pub unmarked_kept : (old new : List (Option Page)) (k : ℕ) → KeepsPages old new → HasNoMark (page_at old k) → HasNoMark (page_at new k)
 unmarked_kept old new k w n = by_page (page_at old k) refl (page_at new k) refl n

@@ -209,7 +209,7 @@ sweep_end_within h page block some i = by_sparse (is_sparse h) refl
 pass_within : (h : HeapState) (class page : ℕ) (best : Option Candidate) (chosen : ℕ) → AtPass h class page best chosen → IsWithin h h.phase → IsWithin h (phases.Moving (moves.Pass class page best chosen))
 pass_within h class page best chosen (In_pass class0 page0 best0 chosen0 e) i = subst (λ z. IsWithin h z) e i
 pass_within h class page best chosen (After_page class0 page0 block chosen0 p e at l done more) i =
-    let w = subst (λ z. IsWithin h z) e i in let a = w.0 in let b = w.1 in (omega arith, omega arith, omega arith, more)
+    let w = subst (λ z. IsWithin h z) e i in let a = w.0 in let b = w.1 in let n = page_within h.store.pages page0 p at in (omega arith, omega arith, omega arith, more)
 
 next_pass : (a b p : ℕ) → a + 1 ≡ b → a * p + p ≡ b * p
 next_pass a b p e = subst (λ z. a * p + p ≡ z * p) e (grind arith)

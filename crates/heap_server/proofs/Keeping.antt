@@ -1,5 +1,5 @@
 -- Each event keeps what the lock keeps.
-use Rattle.std.proofs.Common.{◌≡◌, ℕ, ◌+◌, ◌-◌, ◌<◌, List, [], ◌∷◌, length, refl, sym, ap, ◌∙◌, subst, inl, arith, length-append}
+use Rattle.std.proofs.Common.{◌≡◌, ℕ, ◌+◌, ◌-◌, ◌<◌, List, [], ◌∷◌, length, refl, sym, ap, ◌∙◌, subst, arith, length-append}
 use Rattle.graph_heap.specs.declared.command.Command.{Command}
 use Rattle.graph_heap.specs.declared.command.Reply.{Reply}
 use Rattle.graph_heap.specs.declared.command.Entry.{Entry}
@@ -28,7 +28,7 @@ course_sound limits r w e = record {
   limits_are = e;
   legal = subst (λ (l : Limits). IsLegal (opening l) r.history) e w.legal;
   agrees = consistent_agrees r.heap (present_of r) (snapshot_of r) w.stands.consistent;
-  held = λ idle. held_is_kept r.heap (present_of r) (snapshot_of r) w.stands.consistent (inl idle);
+  held = λ rests. held_is_kept r.heap (present_of r) (snapshot_of r) w.stands.consistent rests;
   units = stands_limit r.heap (present_of r) (snapshot_of r) w.stands;
 }
 

@@ -13,7 +13,8 @@ use Rattle.machine.specs.Recorded.{HoldsKept}
 use Rattle.heap_server.specs.Views.{LockedView}
 
 -- A heap of these limits is sound: its history is legal, it agrees with the graph heap to which the
--- history leads, in idle it holds exactly what is kept, and its units are within the limit of a cycle.
+-- history leads, in idle and while blocks are moved it holds exactly what is kept, and its units are
+-- within the limit of a cycle.
 pub record IsSound (limits : Limits) (r : Course) : Type 0 where
   pub limits_are : r.heap.limits ≡ limits
   pub legal : IsLegal (opening limits) r.history

@@ -27,7 +27,7 @@ pub struct Server<N: Naming> {
 
 impl<N: Naming> Server<N> {
     /// A new heap without history, a seat for each mutator in rising order, and the pacer. It waits for
-    /// nobody. Nothing is moved yet, so no page may be asked to be emptied.
+    /// nobody.
     pub fn new(
         alloc: Global,
         opening: Opening,
@@ -36,7 +36,6 @@ impl<N: Naming> Server<N> {
         requires begun { opening.begun.name ≡ N.begun }
         requires ended { opening.ended.name ≡ N.ended }
         requires units { opening.units.name ≡ N.units }
-        requires still { opening.config.defrag_pages ≡ 0 }
         ensures seats { IfOk result (λ r. r.1.items ≡ new_seats N.limits.mutators) }
         ensures mutators { IfOk result (λ r. mutators_of r.1.items ≡ upto N.limits.mutators) }
         ensures len { IfOk result (λ r. vec_len r.1 ≡ N.limits.mutators) }

@@ -98,7 +98,6 @@ fn play<N: Naming, R: Wait + Abort>(
     requires begun { opening.begun.name ≡ N.begun }
     requires ended { opening.ended.name ≡ N.ended }
     requires units { opening.units.name ≡ N.units }
-    requires still { opening.config.defrag_pages ≡ 0 }
 {
     let (server, mut seats, mut pacer) = Server::<N>::new(alloc, opening)?;
     server.reserve_history(11, rt)?;

@@ -1,71 +1,41 @@
 -- The collector's actions: what is scanned next can be followed, and an action leaves a heap.
-use Rattle.std.proofs.Common.{◌≡◌, ◌≢◌, ℕ, ◌+◌, ◌-◌, ◌*◌, ◌<◌, ◌≤◌, ◌^◌, ◌⊎◌, inl, inr, Bool, true, false, not, ◌&&◌, ◌==◌, nat_lt, length, get_or, ap, ◌∙◌, sym, subst, arith, refl, Option}
+use Rattle.std.proofs.Common.{◌≡◌, ◌≢◌, ℕ, ◌+◌, ◌-◌, ◌*◌, ◌<◌, ◌≤◌, ◌^◌, inl, inr, Bool, true, false, ◌==◌, length, get_or, ap, ◌∙◌, sym, subst, arith, refl}
 use Rattle.graph_heap.specs.Graph.{Graph}
-use Rattle.graph_heap.specs.Shape.{ref_cells, word_cells}
 use Rattle.heap_model.specs.declared.phase.Phase.{Phase}
 use Rattle.heap_model.specs.declared.phase.Phase.TheVariants as phases
 use Rattle.heap_model.specs.declared.phase.Moving.{Moving as Place}
-use Rattle.heap_model.specs.declared.phase.Moving.TheVariants as moves
-use Rattle.heap_model.specs.declared.phase.Candidate.{Candidate}
 use Rattle.heap_model.specs.Store.{Store, is_held, node_of}
 use Rattle.heap_model.specs.Cut.{view}
 use Rattle.heap_model.specs.State.{HeapState, seen, width_at, collector_by}
 use Rattle.heap_model.specs.Collector.{Collector, Coherent}
-use Rattle.heap_model.specs.Spent.{IsWithin, cycle_limit, arena_words}
-use Rattle.heap_model.specs.Standing.{Stands}
+use Rattle.heap_model.specs.Spent.{IsWithin}
 use Rattle.heap_model.specs.Agreement.{Agrees}
-use Rattle.heap_model.specs.Action.{Action, AtPass, In_pass, After_page, Chain, Nothing_done, Then, goes_to, begun, after_sweep, Ends_sweep, Scans_root, Ends_roots, Scans_header, Scans_cell, Ends_marking, Frees_block, Passes_block, Closes_page, Looks_at_page, Chooses_page, Chooses_none, Moves_block, Ends_moving}
-use Rattle.heap_model.specs.Turn.{SpendsTurn, NextCosts, Of_other, MovesNext}
+use Rattle.heap_model.specs.Action.{Action, Chain, Nothing_done, Then, goes_to, begun, after_sweep, Ends_sweep}
+use Rattle.heap_model.specs.Turn.{SpendsTurn, NextCosts, Of_other}
 use Rattle.heap_model.specs.Written.{records}
 use Rattle.heap_model.proofs.Acting.{wide_within, scanned_held, scanned_cell_held, held_behind, at_phase}
 use Rattle.heap_model.proofs.Agreements.{consistent_agrees}
 use Rattle.heap_model.proofs.Apart.{lie_apart}
-use Rattle.heap_model.proofs.Bound.{chain_limit, action_defrag}
+use Rattle.heap_model.proofs.Bound.{chain_limit}
 use Rattle.heap_model.proofs.Marks.{action_count}
 use Rattle.heap_model.proofs.Sameness.{told, agrees_alike}
 use Rattle.heap_model.proofs.Stood.{stands_action, stands_begun, stands_limit}
 use Rattle.nodes.specs.Referent.{CanFollow}
 use Rattle.marker.specs.Scanning.{CanScan, CanScanPart}
-use Rattle.machine.specs.Heap.{IsHeap, is_moving}
+use Rattle.machine.specs.Heap.{IsHeap}
+use Rattle.size_classes.specs.declared.config.Config.{Config}
 use Rattle.machine.specs.Collecting.{IsSmall, SweepsOn}
+use Rattle.machine.specs.Moving.{is_emptying}
 use Rattle.machine.proofs.Doing.{present_agrees}
 use Rattle.machine.proofs.Writing.{root_follows}
 
 -- a cycle begins
 pub begun_heap : (h : HeapState) → IsHeap h → h.phase ≡ phases.Idle → IsHeap (begun h)
-begun_heap h w e = record { present = w.present; snapshot = w.present; stands = stands_begun h w.present w.snapshot w.stands e; fits = w.fits; still = refl; unmoved = w.unmoved; small = w.small }
+begun_heap h w e = record { present = w.present; snapshot = w.present; stands = stands_begun h w.present w.snapshot w.stands e; fits = w.fits; small = w.small }
 
 pub begun_agrees : (h : HeapState) (w : IsHeap h) → h.phase ≡ phases.Idle → (g : Graph) → Agrees h g → Agrees (begun h) g
 begun_agrees h w e g a =
     agrees_alike (begun h) w.present g (consistent_agrees (begun h) w.present w.present (stands_begun h w.present w.snapshot w.stands e).consistent) (told h w.present g (present_agrees h w) a)
-
-moving : (h : HeapState) (q : Place) → h.phase ≡ phases.Moving q → is_moving h.phase ≡ false → ⊥
-moving h q e s = let z : true ≡ false = sym (ap is_moving e) ∙ s in cc
-
-passing : (h : HeapState) (class page : ℕ) (best : Option Candidate) (chosen : ℕ) → AtPass h class page best chosen → is_moving h.phase ≡ false → ⊥
-passing h class page best chosen (In_pass c k b n e) s = moving h (moves.Pass c k b n) e s
-passing h class page best chosen (After_page c k block n p e at leaving done more) s = moving h (moves.Emptying c k block n) e s
-
--- a sweep ends in idle
-unmoved_sweep : (h : HeapState) → h.defrag_pages ≡ 0 → after_sweep h ≡ phases.Idle
-unmoved_sweep h e = let z : nat_lt 0 h.defrag_pages ≡ false = grind arith in rw z refl
-
--- nothing but a sweep leads to moving, and only where pages may be emptied
-action_still : (h after : HeapState) (cost : ℕ) → h.defrag_pages ≡ 0 → is_moving h.phase ≡ false → Action h cost after → is_moving after.phase ≡ false
-action_still h after cost d s (Scans_root next k e l sh) = refl
-action_still h after cost d s (Ends_roots next e l) = refl
-action_still h after cost d s (Scans_header part cell x front back e f n) = refl
-action_still h after cost d s (Scans_cell part cell new k e l w sh) = refl
-action_still h after cost d s (Ends_marking part cell e f n) = refl
-action_still h after cost d s (Frees_block page block p new e f was unmarked w pages) = refl
-action_still h after cost d s (Passes_block page block p e f l marked) = refl
-action_still h after cost d s (Closes_page page block new e l f w pages) = refl
-action_still h after cost d s (Ends_sweep page block e l) = ap is_moving (unmoved_sweep h d)
-action_still h after cost d s (Looks_at_page class page best chosen at few more) = absurd (passing h class page best chosen at s)
-action_still h after cost d s (Chooses_page class page best chosen c p new at few last is good there w pages) = absurd (passing h class page best chosen at s)
-action_still h after cost d s (Chooses_none class page best chosen at few last is) = absurd (passing h class page best chosen at s)
-action_still h after cost d s (Moves_block class page block chosen i to j p q new e at leaving next place there empty w pages) = absurd (moving h (moves.Emptying class page block chosen) e s)
-action_still h after cost d s (Ends_moving done) = refl
 
 -- an action leaves a heap
 pub acted_heap : (h after : HeapState) (w : IsHeap h) (cost : ℕ) → Action h cost after → IsHeap after
@@ -74,8 +44,6 @@ acted_heap h after w cost a = record {
   snapshot = w.snapshot;
   stands = stands_action h after cost w.present w.snapshot w.stands a;
   fits = w.fits;
-  still = action_still h after cost w.unmoved w.still a;
-  unmoved = (action_defrag h after cost a).1 ∙ w.unmoved;
   small = subst (λ n. n < 2 ^ 31) (sym (chain_limit h after (0 + cost) (Then 0 cost h after Nothing_done a))) w.small;
 }
 
@@ -87,8 +55,11 @@ pub acted_memory : (h after : HeapState) (cost room more : ℕ) → Action h cos
 acted_memory h after cost room more a m l = let e = action_count h after cost a in omega arith
 
 -- units are counted on
+pub units_small : (h : HeapState) → IsHeap h → h.units < 2 ^ 31
+units_small h w = let l = stands_limit h w.present w.snapshot w.stands in let s = w.small in omega arith
+
 pub units_fit : (h : HeapState) → IsHeap h → h.units + 1 < 2 ^ 64
-units_fit h w = let l = stands_limit h w.present w.snapshot w.stands in let s = w.small in omega arith
+units_fit h w = let l = units_small h w in omega arith
 
 -- the root that is scanned next
 module _ (h : HeapState) (w : IsHeap h) (next : ℕ) (e : h.phase ≡ phases.Roots next) where
@@ -184,41 +155,32 @@ module _ (h : HeapState) (w : IsHeap h) where
   sweep_small page block e = let i = subst (IsWithin h) e w.stands.within in let s = w.small in (let p = i.2 in omega arith, let b = i.1 in omega arith)
 
   -- the roots and marking go on, where no sweep does
-  pub traces : h.phase ≢ phases.Idle → ((page block : ℕ) → h.phase ≢ phases.Sweeping page block) → records h.phase ≡ true
-  traces busy other = by_phase h.phase refl
+  pub traces : h.phase ≢ phases.Idle → ((page block : ℕ) → h.phase ≢ phases.Sweeping page block) → ((q : Place) → h.phase ≢ phases.Moving q) → records h.phase ≡ true
+  traces busy other still = by_phase h.phase refl
     where
       by_phase : (q : Phase) → h.phase ≡ q → records q ≡ true
       by_phase phases.Idle e = absurd (busy e)
       by_phase (phases.Roots next) e = refl
       by_phase (phases.Marking part cell) e = refl
       by_phase (phases.Sweeping page block) e = absurd (other page block e)
-      by_phase (phases.Moving q) e = absurd (let z : true ≡ false = sym (ap is_moving e) ∙ w.still in cc)
+      by_phase (phases.Moving q) e = absurd (still q e)
 
-  -- no next action is a move
-  pub costs_one : h.phase ≢ phases.Idle → NextCosts h 1
-  costs_one busy = Of_other busy (λ p n. let z : true ≡ false = sym (ap is_moving n.phase) ∙ w.still in cc)
+-- where no page is emptied the next action costs one unit
+pub costs_one : (h : HeapState) → h.phase ≢ phases.Idle → is_emptying h.phase ≡ false → NextCosts h 1
+costs_one h busy other = Of_other busy (λ p n. let z : true ≡ false = sym (ap is_emptying n.phase) ∙ other in cc)
 
--- where all pages are closed the sweep ends, in idle
-pub sweep_over : (sense : Bool) (page block : ℕ) (s s' : Store) → (length s.pages ≤ page) × (s' ≡ s) → SweepsOn sense page block s s' phases.Idle
-sweep_over sense page block s s' done h is same e unmoved =
+-- where all pages are closed the sweep ends
+pub sweep_over : (config : Config) (sense : Bool) (page block : ℕ) (s s' : Store) (next : Phase) → (length s.pages ≤ page) × (s' ≡ s)
+    → ((h : HeapState) → h.store ≡ s' → h.defrag_below ≡ config.defrag_below → h.defrag_pages ≡ config.defrag_pages → next ≡ after_sweep h) → SweepsOn config sense page block s s' next
+sweep_over config sense page block s s' next done after h is same e below most =
     let over : length h.store.pages ≤ page = subst (λ (x : Store). length x.pages ≤ page) (sym is) done.0 in
-    let a = subst (λ q. Action h 1 (goes_to h 1 q)) (unmoved_sweep h unmoved) (Ends_sweep page block e over) in
-    subst (λ (x : Store). Action h 1 (goes_to (record h { store = x }) 1 phases.Idle)) (is ∙ sym done.1) a
+    let a = subst (λ q. Action h 1 (goes_to h 1 q)) (sym (after h (is ∙ sym done.1) below most)) (Ends_sweep page block e over) in
+    subst (λ (x : Store). Action h 1 (goes_to (record h { store = x }) 1 next)) (is ∙ sym done.1) a
 
--- a turn of actions that cost one unit each, up to idle or to the end of the budget
-module _ (old : HeapState) (budget units : ℕ) (h t : HeapState) (is : h ≡ t) (w : IsHeap h) (chain : Chain old units t) (within : units ≤ budget) where
+-- a turn of actions ends in idle, or before one that doesn't fit
+module _ (old : HeapState) (budget units : ℕ) (t : HeapState) (chain : Chain old units t) (within : units ≤ budget) where
   pub ends_idle : t.phase ≡ phases.Idle → SpendsTurn old budget t units
   ends_idle e = record { chain = chain; within = within; ends = inl e }
 
-  pub ends_spent : budget ≤ units → SpendsTurn old budget t units
-  ends_spent l = by_phase t.phase refl
-    where
-      busy : t.phase ≢ phases.Idle → SpendsTurn old budget t units
-      busy b = record { chain = chain; within = within; ends = inr (1, subst (λ (x : HeapState). x.phase ≢ phases.Idle → NextCosts x 1) is (costs_one h w) b, omega (arith, l)) }
-
-      by_phase : (q : Phase) → t.phase ≡ q → SpendsTurn old budget t units
-      by_phase phases.Idle e = ends_idle e
-      by_phase (phases.Roots next) e = busy (λ i. let z : phases.Roots next ≡ phases.Idle = sym e ∙ i in cc)
-      by_phase (phases.Marking part cell) e = busy (λ i. let z : phases.Marking part cell ≡ phases.Idle = sym e ∙ i in cc)
-      by_phase (phases.Sweeping page block) e = busy (λ i. let z : phases.Sweeping page block ≡ phases.Idle = sym e ∙ i in cc)
-      by_phase (phases.Moving q) e = busy (λ i. let z : phases.Moving q ≡ phases.Idle = sym e ∙ i in cc)
+  pub ends_full : (cost : ℕ) → NextCosts t cost → budget - units < cost → SpendsTurn old budget t units
+  ends_full cost n l = record { chain = chain; within = within; ends = inr (cost, n, omega arith) }

@@ -6,7 +6,6 @@ use Rattle.graph_heap.specs.Shape.{fits}
 use Rattle.graph_heap.specs.Graph.{Graph, Object, object_of, changed, with_ref, with_word, new_object}
 use Rattle.size_classes.specs.Parts.{cells_of, parts_in}
 use Rattle.heap_model.specs.State.{HeapState}
-use Rattle.heap_model.specs.Spent.{cycle_limit}
 use Rattle.heap_model.specs.Standing.{Stands}
 use Rattle.heap_model.specs.Agreement.{Agrees}
 use Rattle.heap_model.specs.Alike.{IsFounded}
@@ -18,7 +17,7 @@ use Rattle.heap_model.proofs.Changed.{stands_changed}
 use Rattle.heap_model.proofs.Recorded.{records_stay}
 use Rattle.heap_model.proofs.Taken.{takes_count}
 use Rattle.heap_model.proofs.Left.{change_left}
-use Rattle.machine.specs.Heap.{IsHeap, is_moving}
+use Rattle.machine.specs.Heap.{IsHeap}
 use Rattle.machine.specs.Plan.{IsPlanned, change_of}
 use Rattle.machine.specs.declared.plan.Write.{Write}
 use Rattle.machine.specs.declared.plan.Write.TheVariants as writes
@@ -39,14 +38,6 @@ fits_changed g (changes.New cell id shape) f w = λ k. by_last k (k == length g.
     by_last : (k : ℕ) (b : Bool) → (k == length g.objects + 1) ≡ b → fits (object_of (changed g (changes.New cell id shape)).objects k).shape ≡ true
     by_last k true e = ap (λ (o : Object). fits o.shape) (object-append g.objects (new_object shape) k ∙ ap (λ t. if t then new_object shape else object_of g.objects k) e) ∙ f.2
     by_last k false e = ap (λ (o : Object). fits o.shape) (object-append g.objects (new_object shape) k ∙ ap (λ t. if t then new_object shape else object_of g.objects k) e) ∙ w k
-
--- what isn't of the cycle stays
-change_defrag : (h after : HeapState) (g : Graph) (c : Change) → DoesChange h g c after → after.defrag_pages ≡ h.defrag_pages
-change_defrag h after g c Does_nothing = refl
-change_defrag h after g c (Does_root cell id y k r i) = (records_stay h k _ r).defrag
-change_defrag h after g c (Does_ref id i value address y k new at r main w) = (records_stay h k _ r).defrag
-change_defrag h after g c (Does_word id i word address new at w) = refl
-change_defrag h after g c (Does_new cell id shape k new at r makes takes) = (records_stay h k _ r).defrag
 
 pub change_count : (h after : HeapState) (g : Graph) (c : Change) → DoesChange h g c after → length after.store.pages ≡ length h.store.pages
 change_count h after g c Does_nothing = refl
@@ -74,8 +65,6 @@ module _ (h after : HeapState) (w : IsHeap h) (c : Change) (is_founded : IsFound
     snapshot = w.snapshot;
     stands = stands_after;
     fits = fits_changed w.present c is_founded w.fits;
-    still = ap is_moving left.phase ∙ w.still;
-    unmoved = change_defrag h after w.present c does ∙ w.unmoved;
     small = subst (λ n. n < 2 ^ 31) (sym left.limit) w.small;
   }
 

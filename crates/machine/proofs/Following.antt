@@ -1,9 +1,6 @@
 -- What is recorded or scanned can be followed, and there is memory to shade it.
-use Rattle.std.proofs.Common.{◌≡◌, ◌≢◌, ℕ, ◌+◌, ◌-◌, ◌*◌, ◌<◌, ◌≤◌, Bool, true, false, length, ap, ◌∙◌, sym, subst, arith, refl}
-use Rattle.graph_heap.specs.Graph.{Graph}
-use Rattle.heap_model.specs.Store.{Store, is_held, node_of}
+use Rattle.std.proofs.Common.{◌≡◌, ℕ, ◌*◌, ◌≤◌, true, length, arith}
 use Rattle.heap_model.specs.Agree.{Reads}
-use Rattle.heap_model.specs.Cut.{name_of}
 use Rattle.heap_model.specs.State.{HeapState, seen}
 use Rattle.heap_model.specs.Written.{records}
 use Rattle.heap_model.specs.Core.{Name}

@@ -1,32 +1,31 @@
 -- The opening heap.
 use Rattle.std.proofs.Common.{◌≡◌, ℕ, ◌+◌, ◌*◌, ◌<◌, ◌≤◌, ◌^◌, true, [], List, Option, None, length, replicate, ap, ◌∙◌, sym, arith}
+use Rattle.std.proofs.Math.Nat.{mul-le-mul_right}
 use Rattle.std.proofs.lemmas.List.{length-replicate}
 use Rattle.graph_heap.specs.Shape.{fits}
 use Rattle.graph_heap.specs.Graph.{opening, object_of}
-use Rattle.heap_model.specs.Pages.{Page, page_at}
-use Rattle.heap_model.specs.Store.{Store, is_held, held_in}
+use Rattle.heap_model.specs.Pages.{Page}
+use Rattle.heap_model.specs.Store.{Store}
 use Rattle.heap_model.specs.State.{HeapState}
 use Rattle.heap_model.specs.Opening.{IsOpening}
 use Rattle.heap_model.specs.Spent.{cycle_limit}
 use Rattle.heap_model.proofs.Stood.{stands_opening}
-use Rattle.machine.specs.Heap.{IsHeap, is_moving}
+use Rattle.machine.specs.Heap.{IsHeap}
 
 no_object_fits : (id : ℕ) → fits (object_of [] id).shape ≡ true
 unfolding object_of
 no_object_fits id = grind arith
 
--- What a cycle may spend is small, with at most 4096 pages and 16640 roots.
-small_limit : (h : HeapState) → length h.store.pages ≤ 4096 → length h.roots ≤ 16640 → h.defrag_pages ≡ 0 → cycle_limit h < 2 ^ 31
-small_limit h p r d = let z : (h.defrag_pages + 38) * length h.store.pages ≡ 38 * length h.store.pages = ap (λ n. (n + 38) * length h.store.pages) d in omega (arith, z)
+-- What a cycle may spend is small, with at most 4096 pages, to be emptied too, and 16640 roots.
+small_limit : (h : HeapState) → length h.store.pages ≤ 4096 → length h.roots ≤ 16640 → h.defrag_pages ≤ 4096 → cycle_limit h < 2 ^ 31
+small_limit h p r d = let z : (h.defrag_pages + 38) * length h.store.pages ≤ 4134 * length h.store.pages = mul-le-mul_right (length h.store.pages) (omega (arith, d)) in omega (arith, z)
 
-pub opening_heap : (h : HeapState) → IsOpening h → 0 < length h.store.pages → length h.store.pages ≤ 4096 → length h.roots ≤ 16640 → h.defrag_pages ≡ 0 → IsHeap h
+pub opening_heap : (h : HeapState) → IsOpening h → 0 < length h.store.pages → length h.store.pages ≤ 4096 → length h.roots ≤ 16640 → h.defrag_pages ≤ 4096 → IsHeap h
 opening_heap h o some few row d = record {
   present = opening h.limits;
   snapshot = opening h.limits;
   stands = stands_opening h o some;
   fits = no_object_fits;
-  still = ap is_moving o.phase;
-  unmoved = d;
   small = small_limit h few row d;
 }
 

@@ -1,7 +1,6 @@
 -- The writes of the heap, each a change of the graph heap.
 use Rattle.std.proofs.Common.{◌≡◌, ℕ, ◌+◌, ◌*◌, ◌<◌, ◌≤◌, true, length, get_or, set, ap, ◌∙◌, sym, subst, arith}
 use Rattle.graph_heap.specs.declared.command.Shape.{Shape}
-use Rattle.graph_heap.specs.declared.command.Change.{Change}
 use Rattle.graph_heap.specs.declared.command.Change.TheVariants as changes
 use Rattle.graph_heap.specs.Shape.{fits}
 use Rattle.graph_heap.specs.Graph.{Graph, object_of, changed}
@@ -9,7 +8,7 @@ use Rattle.size_classes.specs.Parts.{cells_of, parts_in}
 use Rattle.heap_model.specs.Block.{with_cell}
 use Rattle.heap_model.specs.Store.{Store, is_held, node_of, Writes}
 use Rattle.heap_model.specs.Agree.{Reads}
-use Rattle.heap_model.specs.Cut.{name_of, column_in}
+use Rattle.heap_model.specs.Cut.{name_of}
 use Rattle.heap_model.specs.State.{HeapState, seen}
 use Rattle.heap_model.specs.Agreement.{Agrees}
 use Rattle.heap_model.specs.Change.{DoesChange, Does_root, Does_ref, Does_word, Does_new, Records}

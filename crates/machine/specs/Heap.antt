@@ -1,9 +1,7 @@
 -- The heap's fields, as the heap in words.
-use Rattle.std.specs.Prelude.{◌≡◌, ◌*◌, ◌<◌, ◌≤◌, ◌^◌, ℕ, Bool, true, false, length}
+use Rattle.std.specs.Prelude.{◌≡◌, ◌*◌, ◌<◌, ◌≤◌, ◌^◌, ℕ, true, length}
 use Rattle.graph_heap.specs.Graph.{Graph, object_of}
 use Rattle.graph_heap.specs.Shape.{fits}
-use Rattle.heap_model.specs.declared.phase.Phase.{Phase}
-use Rattle.heap_model.specs.declared.phase.Phase.TheVariants as phases
 use Rattle.heap_model.specs.State.{HeapState}
 use Rattle.heap_model.specs.Spent.{cycle_limit}
 use Rattle.heap_model.specs.Standing.{Stands}
@@ -23,23 +21,13 @@ state_of a = record {
   grey = a.grey.parts;
 }
 
--- whether blocks are being moved
-abbrev pub is_moving : Phase → Bool
-is_moving phases.Idle = false
-is_moving (phases.Roots next) = false
-is_moving (phases.Marking part cell) = false
-is_moving (phases.Sweeping page block) = false
-is_moving (phases.Moving m) = true
-
--- The heap stands for some graph heaps, no object of which is too large. Nothing is moved, and what a
--- cycle may spend is a small number.
+-- The heap stands for some graph heaps, no object of which is too large, and what a cycle may spend is a
+-- small number.
 pub record IsHeap (h : HeapState) : Type 0 where
   pub present : Graph
   pub snapshot : Graph
   pub stands : Stands h present snapshot
   pub fits : (id : ℕ) → fits (object_of present.objects id).shape ≡ true
-  pub still : is_moving h.phase ≡ false
-  pub unmoved : h.defrag_pages ≡ 0
   pub small : cycle_limit h < 2 ^ 31
 
 -- there is memory for as many grey parts as there can be: a block has four words at least

@@ -1,8 +1,9 @@
 -- A heap and its history.
-use Rattle.std.specs.Prelude.{◌≡◌, ◌↔◌, ℕ, ◌+◌, ◌-◌, ◌<◌, ◌≤◌, true, false, List, [], ◌∷◌, ◌++◌, length, map, Result, Ok, Err, vec_len, vec_capacity}
+use Rattle.std.specs.Prelude.{◌≡◌, ◌↔◌, ◌⊎◌, ℕ, ◌+◌, ◌-◌, ◌<◌, ◌≤◌, true, false, List, [], ◌∷◌, ◌++◌, map, Result, Ok, Err, vec_len, vec_capacity}
 use Rattle.graph_heap.specs.declared.command.Command.{Command}
 use Rattle.graph_heap.specs.declared.no_memory.NoMemory.{NoMemory}
 use Rattle.heap_model.specs.declared.phase.Phase.TheVariants as phases
+use Rattle.heap_model.specs.declared.phase.Moving.{Moving}
 use Rattle.heap_model.specs.Pages.{page_at}
 use Rattle.heap_model.specs.State.{HeapState}
 use Rattle.heap_model.specs.Action.{Action, Chain}
@@ -68,9 +69,9 @@ EachSweepEnds r =
     (spent cost : ℕ) (h after : HeapState) → Chain r.heap spent h → Action h cost after → is_sweeping h.phase ≡ true → is_sweeping after.phase ≡ false
     → IsSwept after (present_of r) (snapshot_of r) × ((k : ℕ) → HasNoMark (page_at after.store.pages k))
 
--- in idle the held objects are exactly those that are kept
+-- in idle, and while blocks are moved, the held objects are exactly those that are kept
 abbrev pub HoldsKept : Course → Type 0
-HoldsKept r = r.heap.phase ≡ phases.Idle → (id : ℕ) → 0 < id → IsHeld r.heap (present_of r) id ↔ IsKept (present_of r) (snapshot_of r) id
+HoldsKept r = (r.heap.phase ≡ phases.Idle) ⊎ ((place : Moving) × (r.heap.phase ≡ phases.Moving place)) → (id : ℕ) → 0 < id → IsHeld r.heap (present_of r) id ↔ IsKept (present_of r) (snapshot_of r) id
 
 -- Behind a cycle that has begun, one of the first quanta of budgets of at least k ends in idle, for any k
 -- from 256 on, whatever comes between them.

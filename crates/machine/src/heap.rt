@@ -20,6 +20,7 @@ use std::alloc::Global;
 use std::marker::Model;
 
 mod collecting;
+mod moving;
 mod planning;
 mod reading;
 mod writing;
@@ -50,9 +51,8 @@ impl Model for Heap {
 
 impl Heap {
     /// A heap of free pages, with null roots and no object, and memory for all that it will ever hold.
-    /// Only want of memory is refused. Nothing is moved yet, so no page may be asked to be emptied.
+    /// Only want of memory is refused.
     pub fn new(alloc: Global, config: &Config) -> Result<Heap, NoMemory>
-        requires { config.now.defrag_pages ≡ 0 }
         ensures opening { IfOk result IsOpening }
         ensures limits { IfOk result (λ h. h.limits ≡ limits_of config.now) }
         ensures pages { IfOk result (λ h. length h.store.pages ≡ config.now.pages) }

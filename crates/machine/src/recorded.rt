@@ -9,6 +9,7 @@ ghost use Rattle.heap_model.specs.Event as done;
 ghost use Rattle.heap_model.specs.declared.phase.Phase.TheVariants as phases;
 ghost use Rattle.heap_model.specs.Opening.{IsOpening};
 ghost use Rattle.heap_model.specs.Spent.{cycle_limit};
+ghost use Rattle.machine.specs.Headline.{AlwaysHolds};
 ghost use Rattle.machine.specs.Recorded.{begin_done, quantum_done, RunsFront, commands_in, EachSweepEnds, EndsSoon, HoldsKept};
 
 use crate::collector::{BudgetOutOfRange, Busy, Spent};
@@ -21,8 +22,8 @@ use std::marker::Model;
 
 /// A heap with the history of its commands and replies, which only grows. Contracts see both, with the
 /// place of the history at which the last cycle began: the history is always legal, the heap agrees
-/// with the graph heap to which it leads, and in idle it holds exactly what is kept. They also see for
-/// how many more entries there is memory.
+/// with the graph heap to which it leads, and in idle and moving it holds exactly what is kept. They also
+/// see for how many more entries there is memory.
 #[derive(Drop)]
 pub struct Recorded {
     heap: Heap,
@@ -49,10 +50,8 @@ pub struct Receipt {
 }
 
 impl Recorded {
-    /// A new heap, without history. Only want of memory is refused. Nothing is moved yet, so no page may
-    /// be asked to be emptied.
+    /// A new heap, without history. Only want of memory is refused.
     pub fn new(alloc: Global, config: &Config) -> Result<Recorded, NoMemory>
-        requires { config.now.defrag_pages ≡ 0 }
         ensures heap { IfOk result (λ r. IsOpening r.course.heap) }
         ensures limits { IfOk result (λ r. r.course.heap.limits ≡ limits_of config.now) }
         ensures pages { IfOk result (λ r. length r.course.heap.store.pages ≡ config.now.pages) }
@@ -140,12 +139,24 @@ impl Recorded {
         Ok(())
     }
 
+    /// What the type promises of whatever events are done next. It does nothing.
+    fn promise(&self)
+        ensures { AlwaysHolds self.now.course }
+    {
+        let _history = &self.history;
+    }
+
     /// Does events one after the other, in whatever order. It stops where memory is refused for the
-    /// entry of a command, and that command isn't done.
+    /// entry of a command, and that command isn't done. Whatever events are done, each reply is that of
+    /// one sequential heap, which never moves or frees an object, at the command's place in one history
+    /// that only grows; what is freed is unreachable there; when a sweep ends, the heap holds exactly
+    /// what was reachable when its cycle began and what was made since; and a cycle ends soon.
     pub fn run(&mut self, events: &[Event]) -> Result<(), NoMemory>
+        ensures headline { AlwaysHolds self.old.course }
         ensures runs { RunsFront self.old.course events.now self.new.course result }
         ensures room { commands_in events.now ≤ self.old.room → IsOk result }
     {
+        self.promise();
         for event in events {
             self.event(*event)?;
         }

@@ -1,13 +1,13 @@
 //! Replies worked out by hand.
-ghost use Rattle.std.specs.Prelude.{◌≡◌};
-
 use super::*;
 use graph_heap::{Command, NoMemory, Refusal, Reply, Shape};
+use heap_model::phase::Phase;
 use size_classes::{Config, Settings};
 use std::process::Abort;
 
 mod collecting;
 mod mixing;
+mod moving;
 mod refusing;
 
 const ONE_PAGE: Settings = Settings {
@@ -30,14 +30,11 @@ const MANY_SLOTS: Settings = Settings {
     ..ONE_PAGE
 };
 
-/// The configuration of settings by which no page is to be emptied.
-fn config_of(rt: &impl Abort, settings: &Settings) -> Config
-    ensures { result.defrag_pages ≡ 0 }
-{
+/// The configuration of settings.
+fn config_of(rt: &impl Abort, settings: &Settings) -> Config {
     let Ok(config) = Config::check(settings) else {
         panic!(rt; "the settings are good");
     };
-    assert!(rt; config.defrag_pages == 0);
     config
 }
 
@@ -83,6 +80,16 @@ fn told(heap: &mut Recorded, command: Command) -> Result<Reply, NoMemory> {
 /// The reply to a request for an object of so many words.
 fn made(heap: &mut Recorded, dst: u32, words: u32) -> Result<Reply, NoMemory> {
     told(heap, plain(dst, 0, words))
+}
+
+/// Spends a budget, and compares the units that were spent and whether no cycle is on afterwards.
+fn spend(rt: &impl Abort, heap: &mut Recorded, budget: u32, units: u32, is_over: bool) {
+    let Ok(spent) = heap.quantum(budget) else {
+        panic!(rt; "the budget is in range");
+    };
+    assert_eq!(rt; spent.units, units);
+    assert_eq!(rt; spent.phase == Phase::Idle, is_over);
+    assert_eq!(rt; heap.heap().phase(), spent.phase);
 }
 
 #[test]

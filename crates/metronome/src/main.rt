@@ -29,9 +29,7 @@ const SETTINGS: Settings = Settings {
 
 /// The checked configuration of a run.
 #[tactic(auto, unfolding(size_classes::specs::Config::is_between))]
-fn config() -> Config
-    ensures { result.defrag_pages ≡ 0 }
-{
+fn config() -> Config {
     match Config::check(&SETTINGS) {
         Ok(config) => config,
         Err(_) => unreachable!(),

@@ -18,7 +18,7 @@ and_false : (b : Bool) → (b && false) ≡ false
 and_false true = refl
 and_false false = refl
 
-same_or : (a b : ℕ) → (a ≡ b) ⊎ (a ≢ b)
+pub same_or : (a b : ℕ) → (a ≡ b) ⊎ (a ≢ b)
 same_or a b = grind arith
 
 -- a flag that is taken away is no other
@@ -32,14 +32,14 @@ other_flag flags i o s ne = by_place (same_or (o / s) i)
     by_place (inl e) = let z : eqb (o % s) 0 ≡ false = ne_eqb (o % s) 0 (not_whole e) in ap (λ b. b && get_or (set flags i false) (o / s) false) z ∙ sym (ap (λ b. b && get_or flags (o / s) false) z)
     by_place (inr d) = ap (λ b. eqb (o % s) 0 && b) (get_or-set_other flags i (o / s) false false d)
 
-offset_place : (k i s a : ℕ) → 4 ≤ s → (i + 1) * s ≤ 2048 → a ≡ 2048 * k + i * s → (a / 2048 ≡ k) × (a % 2048 ≡ i * s)
+pub offset_place : (k i s a : ℕ) → 4 ≤ s → (i + 1) * s ≤ 2048 → a ≡ 2048 * k + i * s → (a / 2048 ≡ k) × (a % 2048 ≡ i * s)
 offset_place k i s a low fit e =
     let small : i * s < 2048 = grind arith in (omega (arith, small), omega (arith, small))
 
-divided : (i s : ℕ) → 4 ≤ s → ((i * s) % s ≡ 0) × ((i * s) / s ≡ i)
+pub divided : (i s : ℕ) → 4 ≤ s → ((i * s) % s ≡ 0) × ((i * s) / s ≡ i)
 divided i s low = (grind arith, grind arith)
 
-page_within : (pages : List (Option Page)) (k : ℕ) (p : Page) → page_at pages k ≡ Some p → k < length pages
+pub page_within : (pages : List (Option Page)) (k : ℕ) (p : Page) → page_at pages k ≡ Some p → k < length pages
 page_within pages k p e = elim (below_or k (length pages)) [
   | inl h ↦ h
   | inr h ↦ let past : page_at pages k ≡ None = get_or_past pages k None h in absurd (cc)
@@ -50,10 +50,10 @@ page_within pages k p e = elim (below_or k (length pages)) [
 
 -- another page in the place of one
 module _ (s : Store) (k : ℕ) (q : Option Page) (within : k < length s.pages) where
-  page_here : page_at (set s.pages k q) k ≡ q
+  pub page_here : page_at (set s.pages k q) k ≡ q
   page_here = get_or-set_same s.pages k q None within
 
-  page_other : (j : ℕ) → j ≢ k → page_at (set s.pages k q) j ≡ page_at s.pages j
+  pub page_other : (j : ℕ) → j ≢ k → page_at (set s.pages k q) j ≡ page_at s.pages j
   page_other j d = get_or-set_other s.pages k j q None d
 
   pub held_change : (words : List ℕ) (b : ℕ) → (b / 2048 ≡ k → held_in q (b % 2048) ≡ held_in (page_at s.pages k) (b % 2048)) → is_held (record { pages = set s.pages k q; words = words }) b ≡ is_held s b

@@ -1,6 +1,9 @@
+pub mod Blocks
 pub mod Following
 pub mod Freeing
+pub mod Leaving
 pub mod Made
 pub mod Making
+pub mod Moving
 pub mod Places
 pub mod Writing

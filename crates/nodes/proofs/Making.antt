@@ -43,7 +43,7 @@ chosen_page pages class k e = elim (first_case (position (is_usable class) pages
 ]
 
 -- flags of which one is set
-other_flag : (flags : List Bool) (i o s : ℕ) → (o ≡ i * s → ⊥) → (eqb (o % s) 0 && get_or (set flags i true) (o / s) false) ≡ (eqb (o % s) 0 && get_or flags (o / s) false)
+pub other_flag : (flags : List Bool) (i o s : ℕ) → (o ≡ i * s → ⊥) → (eqb (o % s) 0 && get_or (set flags i true) (o / s) false) ≡ (eqb (o % s) 0 && get_or flags (o / s) false)
 other_flag flags i o s ne = by_place (three (o / s) i)
   where
     three : (a b : ℕ) → (a ≡ b) ⊎ (a ≢ b)

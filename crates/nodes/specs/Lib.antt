@@ -1,3 +1,4 @@
+pub mod Moving
 pub mod Place
 pub mod Referent
 pub mod Pages

@@ -1,15 +1,17 @@
 //! Pages and words together.
-ghost use Rattle.std.specs.Prelude.{IsSome, IsSomeAnd, slice_get, ◌≡◌, ◌≢◌, ℕ, ◌+◌, ◌-◌, ◌*◌, ◌/◌, ◌<◌, ◌≤◌, ◌↔◌, length, replicate, slice_index, slice_set, true, false, None, Some, IfOk, IfSome, IsNone};
+ghost use Rattle.std.specs.Prelude.{IsSome, IsSomeAnd, slice_get, option_map, position, ◌≡◌, ◌≢◌, ℕ, ◌+◌, ◌-◌, ◌*◌, ◌/◌, ◌<◌, ◌≤◌, ◌↔◌, length, replicate, slice_index, slice_set, true, false, None, Some, IfOk, IfSome, IsNone};
 ghost use Rattle.size_classes.specs.Sizes.{size_of};
 ghost use Rattle.size_classes.specs.Parts.{part_cells, cells_of};
 ghost use Rattle.heap_model.specs.Header.{ShapeFits};
 ghost use Rattle.heap_model.specs.Block.{cell_count, with_forward, with_colour, with_link, with_cell, new_node};
-ghost use Rattle.heap_model.specs.Pages.{has_room, page_for, page_at, with_held, TakesBlock};
+ghost use Rattle.heap_model.specs.Pages.{has_room, page_for, page_at, is_usable, free_on, free_blocks, with_held, TakesBlock};
 ghost use Rattle.heap_model.specs.Pages as page_list;
-ghost use Rattle.heap_model.specs.Action.{Frees, KeepsBlocks, closed};
+ghost use Rattle.heap_model.specs.Action.{Frees, KeepsBlocks, MovesBlock, closed, held_on, is_choosable};
 ghost use Rattle.heap_model.specs.State.{same_colour, width_at};
 ghost use Rattle.heap_model.specs.Cut.{width_in};
-ghost use Rattle.heap_model.specs.Store.{is_held, node_of, address_of, Writes, Adds};
+ghost use Rattle.heap_model.specs.Store.{size_in, is_held, node_of, address_of, Writes, Adds};
+ghost use Rattle.pages.specs.Places.{first_open, FindsHeld};
+ghost use Rattle.nodes.specs.Moving.{CanMove};
 ghost use Rattle.nodes.specs.Pages.{blocks_on};
 ghost use Rattle.nodes.specs.Referent.{referent_of};
 
@@ -235,6 +237,125 @@ impl Nodes {
             Some(class) => class.blocks_per_page() as usize,
             None => 0,
         }
+    }
+
+    /// The class of a page that is in use; None for a free page.
+    pub fn class(&self, page: usize) -> Option<Class>
+        requires { page < length self.now.pages }
+        ensures { result ≡ option_map (λ p. p.class) (page_at self.now.pages page) }
+    {
+        self.table.class(page)
+    }
+
+    /// The size of the blocks of a page, in words; 0 for a free page.
+    pub fn block_size(&self, page: usize) -> usize
+        requires { page < length self.now.pages }
+        ensures size { result ≡ size_in (page_at self.now.pages page) }
+        ensures within { result ≤ 256 }
+    {
+        match self.table.class(page) {
+            Some(class) => class.size() as usize,
+            None => 0,
+        }
+    }
+
+    /// How many blocks of a page are held.
+    pub fn held(&self, page: usize) -> usize
+        requires { page < length self.now.pages }
+        ensures held { result ≡ held_on (page_at self.now.pages page) }
+        ensures within { result ≤ 512 }
+    {
+        self.table.held(page)
+    }
+
+    /// Whether a page is of the class, and neither leaving nor receiving.
+    pub fn is_choosable(&self, class: Class, page: usize) -> bool
+        requires { page < length self.now.pages }
+        ensures { result ≡ is_choosable class (page_at self.now.pages page) }
+    {
+        self.table.is_choosable(class, page)
+    }
+
+    /// How many free blocks of a class a page has, none if it is leaving.
+    pub fn free_on(&self, class: Class, page: usize) -> usize
+        requires { page < length self.now.pages }
+        ensures free { result ≡ free_on class (page_at self.now.pages page) }
+        ensures within { result ≤ 512 }
+    {
+        self.table.free_on(class, page)
+    }
+
+    /// How many blocks of a class are free, on pages that aren't leaving.
+    pub fn free_blocks(&self, class: Class) -> usize
+        ensures free { result ≡ free_blocks self.now.pages class }
+        ensures within { result ≤ 2097152 }
+    {
+        self.table.free_blocks(class)
+    }
+
+    /// The first page of the class that isn't leaving and has a free block.
+    pub fn usable(&self, class: Class) -> Option<usize>
+        ensures { result ≡ position (is_usable class) self.now.pages }
+    {
+        self.table.usable(class)
+    }
+
+    /// The first free block of a page in use.
+    pub fn open_block(&self, page: usize) -> Option<usize>
+        requires { page < length self.now.pages }
+        ensures { result ≡ first_open (page_at self.now.pages page) }
+    {
+        self.table.open_block(page)
+    }
+
+    /// The first held block of a page from a place on. On a free page none is.
+    pub fn next_held(&self, page: usize, from: usize) -> Option<usize>
+        requires { page < length self.now.pages }
+        ensures finds { FindsHeld (page_at self.now.pages page) from result }
+        ensures within { IfSome result (λ i. i < 512) }
+    {
+        self.table.next_held(page, from)
+    }
+
+    /// Marks a page in use as leaving: it gets no block from then on. The same blocks are held, and say
+    /// what they said.
+    pub fn leave(&mut self, page: usize)
+        requires page { page < length self.old.pages }
+        requires receiving { IsSomeAnd (page_at self.old.pages page) (λ p. p.receiving ≡ false) }
+        ensures kept { KeepsBlocks self.old self.new }
+        ensures pages { IfSome (page_at self.old.pages page) (λ p. self.new.pages ≡ slice_set self.old.pages page (Some (record p { leaving = true }))) }
+    {
+        self.table.leave(page);
+    }
+
+    /// The address of a block of a page, held or not, by its number there.
+    fn address(&self, page: usize, index: usize) -> usize
+        requires page { page < length self.now.pages }
+        requires block { IsSomeAnd (page_at self.now.pages page) (λ p. index < length p.held) }
+        ensures address { IfSome (page_at self.now.pages page) (λ p. result ≡ address_of p.class page index) }
+        ensures within { result + size_in (page_at self.now.pages page) ≤ length self.now.words }
+    {
+        // The words are read here only to know how many there are.
+        let _words = &self.arena;
+        2048 * page + index * self.block_size(page)
+    }
+
+    /// Moves a held block to a free one of a page of the same class that isn't leaving: it is copied, both
+    /// forward to the copy, and the page is receiving. Every other block is held or not, and says, as before.
+    pub fn move_block(&mut self, page: usize, index: usize, to: usize, place: usize)
+        requires { CanMove self.old.pages page index to place }
+        ensures moved { IfSome (page_at self.old.pages page) (λ p. MovesBlock self.old self.new (address_of p.class page index) (address_of p.class to place)) }
+        ensures pages { IfSome (page_at self.old.pages to) (λ q. self.new.pages ≡ slice_set self.old.pages to (Some (record (with_held q place true) { receiving = true }))) }
+    {
+        let size = self.block_size(page);
+        let from = self.address(page, index);
+        let target = self.address(to, place);
+        self.table.receive(Block {
+            page: to,
+            index: place,
+        });
+        self.arena.set_forward(from, target as u64);
+        self.arena.copy_block(from, target, size);
     }
 
     /// The address of a block of a page, by its number there, if it is held.

@@ -1,5 +1,5 @@
--- A block given back, and a page closed.
-use Rattle.std.proofs.Common.{◌≡◌, ℕ, ◌<◌, Bool, true, false, List, length, take, set, get_or, map, Option, Some, None, ap, ◌∙◌, sym, subst, refl, arith}
+-- A block given back, or held from then on, and a page closed.
+use Rattle.std.proofs.Common.{◌≡◌, ℕ, ◌<◌, Bool, true, false, List, length, take, set, get_or, map, Option, Some, None, ap, ◌∙◌, sym, subst, arith}
 use Rattle.std.specs.Prelude.{option_map, slice_get, slice_set, IfSome, IsSomeAnd}
 use Rattle.std.proofs.lemmas.List.{map-set, length-take, get_or-map}
 use Rattle.std.proofs.lemmas.Option.{slice_get_within}
@@ -10,7 +10,7 @@ use Rattle.heap_model.specs.Action.{closed}
 use Rattle.pages.specs.declared.row.Row.{Row}
 use Rattle.pages.specs.Row.{page_in}
 
-abbrev page_by : Bool → Bool → List Bool → Option ℕ → Option Page
+abbrev pub page_by : Bool → Bool → List Bool → Option ℕ → Option Page
 page_by leaving receiving flags o = option_map (λ c. let p : Page = record { class = c; leaving = leaving; receiving = receiving; held = take (blocks_in c) flags } in p) o
 
 -- one flag is taken away
@@ -19,6 +19,14 @@ given_back l r flags None i h = tt
 given_back l r flags (Some c) i h =
     let below : i < blocks_in c = (let w = slice_get_within (take (blocks_in c) flags) i true h in omega (arith, w, length-take (blocks_in c) flags)) in
     ap (λ (x : List Bool). let p : Page = record { class = c; leaving = l; receiving = r; held = x } in Some p) (take-set-lt (blocks_in c) flags i false below)
+
+-- one flag is set, and the page is receiving
+pub held_there : (l r : Bool) (flags : List Bool) (o : Option ℕ) (i : ℕ) → IsSomeAnd (page_by l r flags o) (λ p. slice_get p.held i ≡ Some false)
+    → IfSome (page_by l r flags o) (λ p. page_by l true (set flags i true) o ≡ Some (record (with_held p i true) { receiving = true }))
+held_there l r flags None i h = tt
+held_there l r flags (Some c) i h =
+    let below : i < blocks_in c = (let w = slice_get_within (take (blocks_in c) flags) i false h in omega (arith, w, length-take (blocks_in c) flags)) in
+    ap (λ (x : List Bool). let p : Page = record { class = c; leaving = l; receiving = true; held = x } in Some p) (take-set-lt (blocks_in c) flags i true below)
 
 -- the row of pages, with another page in the place of one
 module _ (rows : List Row) (pages : List (Option Page)) (is : map page_in rows ≡ pages) (page : ℕ) (row : Row) (there : row ≡ get_or rows page row) (below : page < length rows) where
@@ -31,12 +39,12 @@ module _ (rows : List Row) (pages : List (Option Page)) (is : map page_in rows �
   pub row_closed : (new : Row) → page_in new ≡ closed (page_in row) → map page_in (set rows page new) ≡ slice_set pages page (closed (page_at pages page))
   row_closed new e = row_changed new (closed (page_at pages page)) (e ∙ ap closed (sym page_read))
 
-  pub may_give : (i : ℕ) → IsSomeAnd (page_at pages page) (λ p. slice_get p.held i ≡ Some true) → IsSomeAnd (page_in row) (λ p. slice_get p.held i ≡ Some true)
-  may_give i h = subst (λ o. IsSomeAnd o (λ p. slice_get p.held i ≡ Some true)) page_read h
+  pub at_row : (P : Page → Type 0) → IsSomeAnd (page_at pages page) P → IsSomeAnd (page_in row) P
+  at_row P h = subst (λ o. IsSomeAnd o P) page_read h
 
-  pub row_given : (i : ℕ) (new : Row) → IfSome (page_in row) (λ p. page_in new ≡ Some (with_held p i false)) → IfSome (page_at pages page) (λ p. map page_in (set rows page new) ≡ slice_set pages page (Some (with_held p i false)))
-  row_given i new e = subst (λ o. IfSome o (λ p. map page_in (set rows page new) ≡ slice_set pages page (Some (with_held p i false)))) (sym page_read) (by_row (page_in row) e)
+  pub row_becomes : (f : Page → Page) (new : Row) → IfSome (page_in row) (λ p. page_in new ≡ Some (f p)) → IfSome (page_at pages page) (λ p. map page_in (set rows page new) ≡ slice_set pages page (Some (f p)))
+  row_becomes f new e = subst (λ o. IfSome o (λ p. map page_in (set rows page new) ≡ slice_set pages page (Some (f p)))) (sym page_read) (by_row (page_in row) e)
     where
-      by_row : (o : Option Page) → IfSome o (λ p. page_in new ≡ Some (with_held p i false)) → IfSome o (λ p. map page_in (set rows page new) ≡ slice_set pages page (Some (with_held p i false)))
+      by_row : (o : Option Page) → IfSome o (λ p. page_in new ≡ Some (f p)) → IfSome o (λ p. map page_in (set rows page new) ≡ slice_set pages page (Some (f p)))
       by_row None w = tt
-      by_row (Some p) w = row_changed new (Some (with_held p i false)) w
+      by_row (Some p) w = row_changed new (Some (f p)) w

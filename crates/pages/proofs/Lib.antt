@@ -1,3 +1,4 @@
+mod Few
 mod Giving
 pub mod Needing
 pub mod Places

@@ -1,8 +1,9 @@
 //! One page.
-ghost use Rattle.std.specs.Prelude.{◌≡◌, ◌↔◌, ◌⊎◌, option_map, slice_get, IfSome, IsSomeAnd, length, true, false, IsTrue, slice_set, replicate, take, not, position, ◌<◌, ◌≤◌, Some, IfOk, count_by};
+ghost use Rattle.std.specs.Prelude.{◌≡◌, ◌≢◌, ◌↔◌, ◌⊎◌, ℕ, option_map, slice_get, IfSome, IsSomeAnd, IsNone, length, true, false, IsTrue, slice_set, replicate, take, not, position, ◌<◌, ◌≤◌, Some, None, IfOk, count_by};
 ghost use Rattle.size_classes.specs.Sizes.{blocks_in};
 ghost use Rattle.heap_model.specs.Pages.{is_free, is_usable, page_of_class, with_held, IsOpen, free_on};
-ghost use Rattle.heap_model.specs.Action.{held_on, closed};
+ghost use Rattle.heap_model.specs.Action.{held_on, closed, is_choosable};
+ghost use Rattle.pages.specs.Places.{first_open, FindsHeld};
 
 use graph_heap::NoMemory;
 use size_classes::Class;
@@ -140,6 +141,49 @@ impl Row {
         self.held[index] = false;
     }
 
+    /// Whether the page is of the class, and neither leaving nor receiving.
+    pub fn is_choosable(&self, class: Class) -> bool
+        ensures { result ≡ is_choosable class (page_in self.now) }
+    {
+        match self.class {
+            None => false,
+            Some(own) => own == class && !self.leaving && !self.receiving,
+        }
+    }
+
+    /// The first free block of a page in use.
+    pub fn first_open(&self) -> Option<usize>
+        ensures { result ≡ first_open (page_in self.now) }
+    {
+        self.open_block(self.class?)
+    }
+
+    /// The first held block from a place on.
+    pub fn next_held(&self, from: usize) -> Option<usize>
+        ensures finds { FindsHeld (page_in self.now) from result }
+        ensures within { IfSome result (λ i. i < 512) }
+    {
+        let blocks = self.class?.blocks_per_page() as usize;
+        next_flag(&self.held[..blocks], from)
+    }
+
+    /// Marks a page in use as leaving.
+    pub fn leave(&mut self)
+        requires { IsSomeAnd (page_in self.old) (λ p. p.receiving ≡ false) }
+        ensures { IfSome (page_in self.old) (λ p. page_in self.new ≡ Some (record p { leaving = true })) }
+    {
+        self.leaving = true;
+    }
+
+    /// Takes a free block for one that is moved: it is held, and the page receiving.
+    pub fn receive(&mut self, index: usize)
+        requires { IsSomeAnd (page_in self.old) (λ p. IsOpen p index) }
+        ensures { IfSome (page_in self.old) (λ p. page_in self.new ≡ Some (record (with_held p index true) { receiving = true })) }
+    {
+        self.held[index] = true;
+        self.receiving = true;
+    }
+
     /// Closes the page: its marks go, and if no block is held it becomes free.
     pub fn close(&mut self)
         ensures { page_in self.new ≡ closed (page_in self.old) }
@@ -150,6 +194,20 @@ impl Row {
             self.class = None;
         }
     }
+}
+
+/// The first flag from a place on that is set.
+fn next_flag(held: &[bool], from: usize) -> Option<usize>
+    ensures within { IfSome result (λ i. i < length held.now) }
+    ensures some { IfSome result (λ i. (from ≤ i) × (slice_get held.now i ≡ Some true) × ((k : ℕ) → from ≤ k → k < i → slice_get held.now k ≡ Some false)) }
+    ensures none { IsNone result → (k : ℕ) → from ≤ k → slice_get held.now k ≢ Some true }
+{
+    for i in from..held.len() {
+        if held[i] {
+            return Some(i);
+        }
+    }
+    None
 }
 
 /// Lets only the first of so many blocks be held.

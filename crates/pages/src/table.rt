@@ -2,8 +2,9 @@
 ghost use Rattle.std.specs.Prelude.{◌≡◌, ◌<◌, ◌≤◌, option_map, slice_get, IsTrue, IsSomeAnd, false, ◌^◌, ◌-◌, ◌↔◌, position, length, replicate, IsNone, IfSome, Some, None, true, IfOk, slice_set, slice_index, count_by, sum_by};
 ghost use Rattle.heap_model.specs.Pages.{is_free, is_usable, page_for, page_at, page_of_class, with_held, IsOpen, free_on, free_blocks, has_room, pages_needed, whole_pages};
 ghost use Rattle.heap_model.specs.Pages as pages;
-ghost use Rattle.heap_model.specs.Action.{held_on, closed};
+ghost use Rattle.heap_model.specs.Action.{held_on, closed, is_choosable};
 ghost use Rattle.size_classes.specs.Sizes.{blocks_in};
+ghost use Rattle.pages.specs.Places.{first_open, FindsHeld};
 ghost use Rattle.pages.specs.Row.{page_in};
 
 use crate::row::Row;
@@ -60,8 +61,9 @@ impl PageTable {
     }
 
     /// How many blocks of a class are free, on pages that aren't leaving.
-    fn free_blocks(&self, class: Class) -> usize
-        ensures { result ≡ free_blocks self.now class }
+    pub fn free_blocks(&self, class: Class) -> usize
+        ensures free { result ≡ free_blocks self.now class }
+        ensures within { result ≤ 2097152 }
     {
         free_on_rows(self.rows.as_slice(), class)
     }
@@ -93,7 +95,7 @@ impl PageTable {
 
     /// The first page of the class that isn't leaving and has a free block.
     #[tactic(auto, using(crate::proofs::Places::places))]
-    fn usable(&self, class: Class) -> Option<usize>
+    pub fn usable(&self, class: Class) -> Option<usize>
         ensures { result ≡ position (is_usable class) self.now }
     {
         usable_row(self.rows.as_slice(), class)
@@ -173,6 +175,58 @@ impl PageTable {
         ensures { IfSome (page_at self.old block.page) (λ p. self.new ≡ slice_set self.old block.page (Some (with_held p block.index false))) }
     {
         self.rows[block.page].give(block.index);
+    }
+
+    /// Whether a page is of the class, and neither leaving nor receiving.
+    pub fn is_choosable(&self, class: Class, page: usize) -> bool
+        requires { page < length self.now }
+        ensures { result ≡ is_choosable class (page_at self.now page) }
+    {
+        self.rows[page].is_choosable(class)
+    }
+
+    /// How many free blocks of a class a page has, none if it is leaving.
+    pub fn free_on(&self, class: Class, page: usize) -> usize
+        requires { page < length self.now }
+        ensures free { result ≡ free_on class (page_at self.now page) }
+        ensures within { result ≤ 512 }
+    {
+        self.rows[page].free_on(class)
+    }
+
+    /// The first free block of a page in use.
+    pub fn open_block(&self, page: usize) -> Option<usize>
+        requires { page < length self.now }
+        ensures { result ≡ first_open (page_at self.now page) }
+    {
+        self.rows[page].first_open()
+    }
+
+    /// The first held block of a page from a place on. On a free page none is.
+    pub fn next_held(&self, page: usize, from: usize) -> Option<usize>
+        requires { page < length self.now }
+        ensures finds { FindsHeld (page_at self.now page) from result }
+        ensures within { IfSome result (λ i. i < 512) }
+    {
+        self.rows[page].next_held(from)
+    }
+
+    /// Marks a page in use as leaving: it gets no block from then on.
+    pub fn leave(&mut self, page: usize)
+        requires page { page < length self.old }
+        requires receiving { IsSomeAnd (page_at self.old page) (λ p. p.receiving ≡ false) }
+        ensures { IfSome (page_at self.old page) (λ p. self.new ≡ slice_set self.old page (Some (record p { leaving = true }))) }
+    {
+        self.rows[page].leave();
+    }
+
+    /// Takes a free block of a page for one that is moved there: it is held, and the page receiving.
+    pub fn receive(&mut self, block: Block)
+        requires page { block.page < length self.old }
+        requires free { IsSomeAnd (page_at self.old block.page) (λ p. IsOpen p block.index) }
+        ensures { IfSome (page_at self.old block.page) (λ p. self.new ≡ slice_set self.old block.page (Some (record (with_held p block.index true) { receiving = true }))) }
+    {
+        self.rows[block.page].receive(block.index);
     }
 
     /// Closes a page, as the sweeper does when it has looked at all its blocks: the marks leaving and

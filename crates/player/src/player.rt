@@ -65,10 +65,8 @@ fn is_idle(phase: Phase) -> bool
 }
 
 impl Player {
-    /// A new heap without history, at time 0. Only want of memory is refused. Nothing is moved yet, so no
-    /// page may be asked to be emptied.
+    /// A new heap without history, at time 0. Only want of memory is refused.
     pub fn new(alloc: Global, config: &Config) -> Result<Player, NoMemory>
-        requires { config.now.defrag_pages ≡ 0 }
         ensures heap { IfOk result (λ p. IsOpening p.course.heap) }
         ensures limits { IfOk result (λ p. p.course.heap.limits ≡ limits_of config.now) }
         ensures history { IfOk result (λ p. p.course.history ≡ []) }

@@ -34,7 +34,6 @@ fn player(rt: &(impl Abort + AllocGlobal), settings: &Settings) -> Result<Player
     let Ok(config) = Config::check(settings) else {
         panic!(rt; "the settings are good");
     };
-    assert!(rt; config.defrag_pages == 0);
     Player::new(rt.alloc(), &config)
 }
 

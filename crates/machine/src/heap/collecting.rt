@@ -1,21 +1,25 @@
 //! The collector: a cycle is begun, and goes on by quanta.
-ghost use Rattle.std.specs.Prelude.{◌≡◌, ◌≢◌, ◌↔◌, ◌⊎◌, ◌+◌, ◌<◌, ◌≤◌, IfOk, IsTrue, true};
+ghost use Rattle.std.specs.Prelude.{◌≡◌, ◌≢◌, ◌↔◌, ◌⊎◌, ◌+◌, ◌<◌, ◌≤◌, IfOk, IsTrue, true, false};
 ghost use Rattle.graph_heap.specs.Graph.{Graph};
 ghost use Rattle.heap_model.specs.declared.phase.Phase.TheVariants as phases;
+ghost use Rattle.heap_model.specs.State.{HeapState};
 ghost use Rattle.heap_model.specs.Agreement.{Agrees};
 ghost use Rattle.heap_model.specs.Action.{Action};
+ghost use Rattle.heap_model.specs.Action as actions;
 ghost use Rattle.heap_model.specs.Written as written;
 ghost use Rattle.satb_barrier.specs.Grey.{HasRoom};
 ghost use Rattle.marker.specs.Scanning.{CanScan};
-ghost use Rattle.machine.specs.Collecting.{Begins, Spends, MarksIn, SweepsOn, IsSmall};
+ghost use Rattle.machine.specs.Collecting.{Begins, Spends, MarksIn, SweepsOn, ActsIn, IsSmall};
+ghost use Rattle.machine.specs.Moving.{is_emptying};
 
 use super::Heap;
 use crate::collector::{BudgetOutOfRange, Busy, Spent};
-use heap_model::phase::Phase;
+use heap_model::phase::{Moving, Phase};
 use marker::{Scanned, scan_one};
 use nodes::Nodes;
 use roots::Roots;
 use satb_barrier::Grey;
+use size_classes::Config;
 use sweeper::{Swept, sweep_one};
 
 /// One step of the roots or of marking, and the place of the phase after it.
@@ -46,11 +50,10 @@ fn mark(nodes: &mut Nodes, roots: &mut Roots, grey: &mut Grey, sense: bool, phas
     }
 }
 
-/// One step of the sweep, and the place of the phase after it. Nothing is moved yet, so idle follows the
-/// sweep.
-fn sweep(nodes: &mut Nodes, sense: bool, page: u32, block: u32) -> Phase
+/// One step of the sweep, and the place of the phase after it.
+fn sweep(nodes: &mut Nodes, config: &Config, sense: bool, page: u32, block: u32) -> Phase
     requires small { IsSmall (phases.Sweeping page block) }
-    ensures { SweepsOn sense page block nodes.old nodes.new result }
+    ensures { SweepsOn config.now sense page block nodes.old nodes.new result }
 {
     match sweep_one(nodes, sense, page as usize, block as usize) {
         Swept::Looked | Swept::Freed => Phase::Sweeping {
@@ -61,8 +64,24 @@ fn sweep(nodes: &mut Nodes, sense: bool, page: u32, block: u32) -> Phase
             page: page + 1,
             block: 0,
         },
-        Swept::Nothing => Phase::Idle,
+        Swept::Nothing => after_sweep(nodes, config),
     }
+}
+
+/// The phase behind a sweep: moving begins where pages may be emptied, and fewer are free than the
+/// configuration wants.
+fn after_sweep(nodes: &Nodes, config: &Config) -> Phase
+    ensures { (h : HeapState) → h.store ≡ nodes.now → h.defrag_below ≡ config.now.defrag_below → h.defrag_pages ≡ config.now.defrag_pages → result ≡ actions.after_sweep h }
+{
+    if 0 < config.defrag_pages && nodes.free_pages() < config.defrag_below as usize {
+        return Phase::Moving(Moving::Pass {
+            class: 0,
+            page: 0,
+            candidate: None,
+            chosen: 0,
+        });
+    }
+    Phase::Idle
 }
 
 impl Heap {
@@ -125,19 +144,53 @@ impl Heap {
         ensures acts { Action self.old 1 self.new }
         ensures agrees { (g : Graph) → Agrees self.old g → Agrees self.new g }
     {
-        self.phase = sweep(&mut self.nodes, self.sense, page, block);
+        self.phase = sweep(&mut self.nodes, &self.config, self.sense, page, block);
         self.units += 1;
     }
 
-    /// Does the next action of the collector. Each costs one unit.
-    fn act(&mut self)
+    /// Does the next action of the collector where no page is emptied, if there is room for its one
+    /// unit.
+    fn act_once(&mut self, room: u32) -> Option<u32>
+        requires busy { self.old.phase ≢ phases.Idle }
+        requires other { is_emptying self.old.phase ≡ false }
+        ensures acts { ActsIn self.old room self.new result }
+        ensures agrees { (g : Graph) → Agrees self.old g → Agrees self.new g }
+    {
+        if room == 0 {
+            return None;
+        }
+        match self.phase {
+            Phase::Sweeping { page, block } => self.sweep_next(page, block),
+            Phase::Moving(
+                Moving::Pass {
+                    class,
+                    page,
+                    candidate,
+                    chosen,
+                },
+            ) => self.pass_next(class, page, candidate, chosen),
+            _ => self.mark_next(),
+        }
+        Some(1)
+    }
+
+    /// Does the next action of the collector if its units fit in the room that is left, and answers
+    /// them. Else nothing changes.
+    fn act(&mut self, room: u32) -> Option<u32>
         requires { self.old.phase ≢ phases.Idle }
-        ensures acts { Action self.old 1 self.new }
+        ensures acts { ActsIn self.old room self.new result }
         ensures agrees { (g : Graph) → Agrees self.old g → Agrees self.new g }
     {
         match self.phase {
-            Phase::Sweeping { page, block } => self.sweep_next(page, block),
-            _ => self.mark_next(),
+            Phase::Moving(
+                Moving::Emptying {
+                    class,
+                    page,
+                    block,
+                    chosen,
+                },
+            ) => self.empty_next(class, page, block, chosen, room),
+            _ => self.act_once(room),
         }
     }
 
@@ -153,9 +206,11 @@ impl Heap {
             return Err(BudgetOutOfRange);
         }
         let mut units = 0;
-        while units < budget && !self.is_idle() {
-            self.act();
-            units += 1;
+        while !self.is_idle() {
+            let Some(cost) = self.act(budget - units) else {
+                break;
+            };
+            units += cost;
         }
         Ok(Spent {
             units,

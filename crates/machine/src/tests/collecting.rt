@@ -14,16 +14,6 @@ const ONE_PAGE_TWO_SLOTS: Settings = Settings {
     ..ONE_PAGE
 };
 
-/// Spends a budget, and compares the units that were spent and whether no cycle is on afterwards.
-fn spend(rt: &impl Abort, heap: &mut Recorded, budget: u32, units: u32, is_over: bool) {
-    let Ok(spent) = heap.quantum(budget) else {
-        panic!(rt; "the budget is in range");
-    };
-    assert_eq!(rt; spent.units, units);
-    assert_eq!(rt; spent.phase == Phase::Idle, is_over);
-    assert_eq!(rt; heap.heap().phase(), spent.phase);
-}
-
 /// Does a whole cycle in quanta of 256 units, with commands of a mutator after the first one, and
 /// compares the sum of the units that were spent.
 fn cycle(

@@ -12,6 +12,21 @@ const EIGHT_PAGES: Settings = Settings {
     ..ONE_PAGE
 };
 
+/// Every cycle empties a page, if there is one.
+const ONE_EMPTIED: Settings = Settings {
+    defrag_below: 9,
+    defrag_pages: 1,
+    ..EIGHT_PAGES
+};
+
+/// Cycles that leave few free pages empty up to three.
+const THREE_EMPTIED: Settings = Settings {
+    pages: 6,
+    defrag_below: 5,
+    defrag_pages: 3,
+    ..EIGHT_PAGES
+};
+
 /// How many commands are mixed.
 const COMMANDS: u32 = 3000;
 
@@ -122,18 +137,22 @@ fn word_command_of(kind: usize, random: &mut Random, a: u32, b: u32) -> Command 
     }
 }
 
-/// What came of a mix: which kinds of commands were done, 14 for each mutator, and how many cycles ended.
+/// What came of a mix: which kinds of commands were done, 14 for each mutator, how many cycles ended, and
+/// how many quanta ended in moving.
 #[derive(Clone, Copy, Debug, PartialEq, Eq)]
 struct Mixed {
     done: [bool; 28],
     cycles: u32,
+    moving: u32,
 }
 
 /// Mixes commands of two mutators, with a beginning before every fiftieth one and a quantum after each.
-fn mix(rt: &impl Abort, heap: &mut Recorded) -> Result<Mixed, NoMemory> {
+/// No more units than a cycle may spend are ever spent.
+fn mix(rt: &impl Abort, heap: &mut Recorded, limit: u64) -> Result<Mixed, NoMemory> {
     let mut random = Random(1);
     let mut done = [false; 28];
     let mut cycles = 0u32;
+    let mut moving = 0u32;
     for k in 0..COMMANDS {
         if k % 50 == 0 {
             let _on = heap.begin();
@@ -148,11 +167,18 @@ fn mix(rt: &impl Abort, heap: &mut Recorded) -> Result<Mixed, NoMemory> {
         let Ok(spent) = heap.quantum(256) else {
             panic!(rt; "the budget is in range");
         };
-        if spent.units > 0 && spent.phase == Phase::Idle {
-            cycles = cycles.saturating_add(1);
+        assert!(rt; heap.heap().units() <= limit);
+        match spent.phase {
+            Phase::Idle if spent.units > 0 => cycles = cycles.saturating_add(1),
+            Phase::Moving(_) => moving = moving.saturating_add(1),
+            _ => {}
         }
     }
-    Ok(Mixed { done, cycles })
+    Ok(Mixed {
+        done,
+        cycles,
+        moving,
+    })
 }
 
 /// What came in a history: want of room, an object made after that, and one of several parts.
@@ -188,13 +214,14 @@ fn is_large(command: &Command) -> bool {
     }
 }
 
-#[test]
-fn a_long_mix_is_accepted(rt: HostRuntime) -> Result<(), NoMemory> {
-    let config = config_of(&rt, &EIGHT_PAGES);
+/// Mixes commands on a heap of such settings, and asks the slow heap for each entry.
+fn accepted(
+    rt: &(impl Abort + AllocGlobal),
+    settings: &Settings,
+) -> Result<(Mixed, Seen), NoMemory> {
+    let config = config_of(rt, settings);
     let mut heap = Recorded::new(rt.alloc(), &config)?;
-    let mixed = mix(&rt, &mut heap)?;
-    assert_eq!(rt; mixed.done, [true; 28]);
-    assert!(rt; mixed.cycles >= 30, "{mixed:?}");
+    let mixed = mix(rt, &mut heap, config.cycle_limit())?;
     assert_eq!(rt; heap.history().len(), COMMANDS as usize);
     let mut reference = Reference::new(rt.alloc(), &config.limits())?;
     let mut seen = Seen {
@@ -206,9 +233,38 @@ fn a_long_mix_is_accepted(rt: HostRuntime) -> Result<(), NoMemory> {
         assert!(rt; reference.accepts(entry)?, "{entry:?}");
         seen.note(entry);
     }
-    assert!(rt;
-        seen.no_space && seen.made_after && seen.made_large,
-        "{seen:?}"
-    );
+    Ok((mixed, seen))
+}
+
+const ALL_SEEN: Seen = Seen {
+    no_space: true,
+    made_after: true,
+    made_large: true,
+};
+
+#[test]
+fn a_long_mix_is_accepted(rt: HostRuntime) -> Result<(), NoMemory> {
+    let (mixed, seen) = accepted(&rt, &EIGHT_PAGES)?;
+    assert_eq!(rt; mixed.done, [true; 28]);
+    assert!(rt; mixed.cycles >= 30 && mixed.moving == 0, "{mixed:?}");
+    assert_eq!(rt; seen, ALL_SEEN);
+    Ok(())
+}
+
+#[test]
+fn a_long_mix_with_moves_is_accepted(rt: HostRuntime) -> Result<(), NoMemory> {
+    let (mixed, seen) = accepted(&rt, &ONE_EMPTIED)?;
+    assert_eq!(rt; mixed.done, [true; 28]);
+    assert!(rt; mixed.cycles >= 20 && mixed.moving > 0, "{mixed:?}");
+    assert_eq!(rt; seen, ALL_SEEN);
+    Ok(())
+}
+
+#[test]
+fn a_long_mix_with_many_moves_is_accepted(rt: HostRuntime) -> Result<(), NoMemory> {
+    let (mixed, seen) = accepted(&rt, &THREE_EMPTIED)?;
+    assert_eq!(rt; mixed.done, [true; 28]);
+    assert!(rt; mixed.cycles >= 20 && mixed.moving > 0, "{mixed:?}");
+    assert_eq!(rt; seen, ALL_SEEN);
     Ok(())
 }

@@ -1,5 +1,4 @@
 use Rattle.std.proofs.Common.{◌≡◌, ◌<◌, length, subst, sym, ap, refl, true, ◌∙◌}
-use Rattle.graph_heap.specs.declared.command.Change.TheVariants as changes
 use Rattle.size_classes.specs.Need.{needed}
 use Rattle.size_classes.specs.Parts.{cells_of, parts_in}
 use Rattle.heap_model.specs.Pages as page_list

@@ -1,4 +1,4 @@
-use Rattle.std.proofs.Common.{◌≡◌, ◌*◌, ◌<◌, ◌≤◌, ℕ, length, subst, sym, refl, rules, arith}
+use Rattle.std.proofs.Common.{◌≡◌, ◌*◌, ◌<◌, ◌≤◌, length, subst, sym, refl, rules, arith}
 use Rattle.roots.specs.Row.{Row}
 use Rattle.machine.proofs.Opening.{opening_heap, all_free, new_count}
 use Rattle.machine.proofs.heap.Heap.new.Goals as goal
@@ -9,6 +9,6 @@ invariant_of-result c =
     let some : 0 < length c.in_ok-nodes.nodes.pages = (let p = c.args.config.now.pages_in_range.0 in omega arith) in
     let few : length c.in_ok-nodes.nodes.pages ≤ 4096 = (let p = c.args.config.now.pages_in_range.1 in omega arith) in
     let row : length c.in_ok-roots.roots.cells ≤ 16640 = subst (λ (x : Row). length x.cells ≤ 16640) c.roots.view_is (subst (λ n. n ≤ 16640) (sym c.roots.invariant.whole) c.roots.invariant.few) in (
-      opening_heap _ (record { pages = all_free _ _ _ c.in_ok-nodes.ensures; roots = search rules; next = refl; phase = refl; units = refl; grey = c.in_ok-grey.ensures.empty }) some few row c.requires,
+      opening_heap _ (record { pages = all_free _ _ _ c.in_ok-nodes.ensures; roots = search rules; next = refl; phase = refl; units = refl; grey = c.in_ok-grey.ensures.empty }) some few row c.args.config.now.defrag_pages_in_range,
       subst (λ n. 512 * n ≤ c.in_ok-grey.grey.room) (sym count) c.in_ok-grey.ensures.room,
     )

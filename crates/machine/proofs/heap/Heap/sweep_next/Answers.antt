@@ -20,7 +20,7 @@ invariant_of-self c =
     let h = state_of c.self.inside in
     let e = subst (λ (x : HeapState). x.phase ≡ phases.Sweeping c.args.page c.args.block) (sym c.self.view_is) c.requires in
     let after : HeapState = goes_to (record h { store = c.sweep-self-inside.new.nodes }) 1 c.sweep-self-inside.result in
-    let a = c.sweep-self-inside.ensures h refl refl e c.self.invariant.0.unmoved in
+    let a = c.sweep-self-inside.ensures h refl refl e refl refl in
     (acted_heap h after c.self.invariant.0 1 a, acted_memory h after 1 c.self.inside.grey.room c.self.inside.grey.room a c.self.invariant.1 (none_less c.self.inside.grey.room))
 
 pub returns-clause-acts : goal.returns-clause-acts
@@ -28,11 +28,11 @@ returns-clause-acts c =
     let h = state_of c.self.inside in
     let e = subst (λ (x : HeapState). x.phase ≡ phases.Sweeping c.args.page c.args.block) (sym c.self.view_is) c.requires in
     let after : HeapState = goes_to (record h { store = c.sweep-self-inside.new.nodes }) 1 c.sweep-self-inside.result in
-    subst (λ (x : HeapState). Action x 1 after) c.self.view_is (c.sweep-self-inside.ensures h refl refl e c.self.invariant.0.unmoved)
+    subst (λ (x : HeapState). Action x 1 after) c.self.view_is (c.sweep-self-inside.ensures h refl refl e refl refl)
 
 pub returns-clause-agrees : goal.returns-clause-agrees
 returns-clause-agrees c =
     let h = state_of c.self.inside in
     let e = subst (λ (x : HeapState). x.phase ≡ phases.Sweeping c.args.page c.args.block) (sym c.self.view_is) c.requires in
     let after : HeapState = goes_to (record h { store = c.sweep-self-inside.new.nodes }) 1 c.sweep-self-inside.result in
-    subst (λ (x : HeapState). (g : Graph) → Agrees x g → Agrees after g) c.self.view_is (acted_agrees h after c.self.invariant.0 1 (c.sweep-self-inside.ensures h refl refl e c.self.invariant.0.unmoved))
+    subst (λ (x : HeapState). (g : Graph) → Agrees x g → Agrees after g) c.self.view_is (acted_agrees h after c.self.invariant.0 1 (c.sweep-self-inside.ensures h refl refl e refl refl))

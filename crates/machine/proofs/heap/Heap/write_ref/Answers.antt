@@ -1,7 +1,6 @@
-use Rattle.std.proofs.Common.{◌≡◌, ◌*◌, ◌≤◌, length, subst, sym, ap, refl, ◌∙◌}
+use Rattle.std.proofs.Common.{length, ap, refl, ◌∙◌}
 use Rattle.heap_model.specs.State.{HeapState}
 use Rattle.machine.specs.Heap.{state_of}
-use Rattle.machine.specs.declared.plan.Write.{Write}
 use Rattle.machine.specs.declared.plan.Write.TheVariants as writes
 use Rattle.machine.proofs.Writing.{planned_here, stays_heap, does_for, agrees_for, ref_held, ref_within, ref_follows, ref_still_within, ref_does, memory_left}
 use Rattle.machine.proofs.Following.{has_room}

@@ -1,7 +1,6 @@
-use Rattle.std.proofs.Common.{◌≡◌, ◌*◌, ◌≤◌, length, set, subst, sym, ap, refl, arith}
+use Rattle.std.proofs.Common.{length, set, ap, refl}
 use Rattle.heap_model.specs.State.{HeapState}
 use Rattle.machine.specs.declared.plan.Write.TheVariants as writes
-use Rattle.machine.proofs.Doing.{change_count}
 use Rattle.machine.proofs.Writing.{planned_here, planned_now, stays_heap, does_for, agrees_for, root_follows, root_does, memory_left}
 use Rattle.machine.proofs.Following.{has_room}
 use Rattle.machine.specs.Heap.{state_of}

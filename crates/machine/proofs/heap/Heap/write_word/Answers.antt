@@ -1,4 +1,4 @@
-use Rattle.std.proofs.Common.{◌≡◌, length, ap, refl}
+use Rattle.std.proofs.Common.{length, ap}
 use Rattle.machine.specs.Heap.{state_of}
 use Rattle.machine.specs.declared.plan.Write.TheVariants as writes
 use Rattle.machine.proofs.Writing.{planned_here, stays_heap, does_for, agrees_for, word_held, word_within, word_does, memory_left, none_less}

@@ -1,7 +1,5 @@
-use Rattle.std.proofs.Common.{◌≡◌, ◌*◌, ◌-◌, ◌≤◌, ap, ◌∙◌, sym, refl, rules}
-use Rattle.heap_model.specs.declared.phase.Phase.TheVariants as phases
-use Rattle.heap_model.specs.State.{HeapState}
-use Rattle.heap_model.specs.Event.{Course, Cycle_begun, Begins}
+use Rattle.std.proofs.Common.{refl, rules}
+use Rattle.heap_model.specs.Event.{Cycle_begun}
 use Rattle.heap_model.proofs.Course.{does_course}
 use Rattle.machine.specs.Recorded.{recorded_of}
 use Rattle.machine.proofs.Courses.{ends_soon}

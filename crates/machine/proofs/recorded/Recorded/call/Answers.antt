@@ -1,6 +1,5 @@
-use Rattle.std.proofs.Common.{◌≡◌, ◌∷◌, ◌++◌, [], List, refl, sym, subst, ap}
-use Rattle.graph_heap.specs.declared.command.Entry.{Entry}
-use Rattle.heap_model.specs.Event.{Course, Command_done, Enters, IsCourse, present_of, snapshot_of}
+use Rattle.std.proofs.Common.{refl, subst}
+use Rattle.heap_model.specs.Event.{Command_done, Enters, present_of, snapshot_of}
 use Rattle.heap_model.proofs.Agreements.{consistent_agrees}
 use Rattle.heap_model.proofs.Course.{does_course}
 use Rattle.machine.specs.Recorded.{RecordedHeap, recorded_of}

@@ -1,7 +1,6 @@
-use Rattle.std.proofs.Common.{◌≡◌, ◌<◌, length, sym, subst}
-use Rattle.heap_model.specs.declared.phase.Phase.TheVariants as phases
+use Rattle.std.proofs.Common.{◌<◌, length, sym, subst}
 use Rattle.graph_heap.specs.declared.command.Entry.{Entry}
-use Rattle.std.proofs.Common.{List, [], arith}
+use Rattle.std.proofs.Common.{List, arith}
 use Rattle.heap_model.specs.Event.{IsCourse}
 use Rattle.heap_model.proofs.Course.{opening_course}
 use Rattle.machine.proofs.recorded.Recorded.new.Goals as goal

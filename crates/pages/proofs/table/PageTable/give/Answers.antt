@@ -1,10 +1,11 @@
-use Rattle.std.proofs.Common.{◌<◌, length, ap, arith}
+use Rattle.std.proofs.Common.{◌<◌, length, ap, arith, false}
 use Rattle.std.proofs.lemmas.List.{length-map}
+use Rattle.heap_model.specs.Pages.{Page, with_held}
 use Rattle.pages.specs.Row.{page_in}
-use Rattle.pages.proofs.Giving.{row_given}
+use Rattle.pages.proofs.Giving.{row_becomes}
 use Rattle.pages.proofs.table.PageTable.give.Goals as goal
 
 pub returns : goal.returns
 returns c =
     let below : c.args.block.page < length c.self.inside.rows.items = omega (arith, c.requires.page, ap length c.self.view_is, length-map c.self.inside.rows.items page_in) in
-    row_given c.self.inside.rows.items c.args.self.now c.self.view_is c.args.block.page c.index_mut.result.now c.index_mut.ensures.value below c.args.block.index c.give.new.self c.give.ensures
+    row_becomes c.self.inside.rows.items c.args.self.now c.self.view_is c.args.block.page c.index_mut.result.now c.index_mut.ensures.value below (λ (p : Page). with_held p c.args.block.index false) c.give.new.self c.give.ensures

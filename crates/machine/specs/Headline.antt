@@ -1,0 +1,37 @@
+-- What is promised of a heap with its history, whatever comes.
+use Rattle.std.specs.Prelude.{◌≡◌, ℕ, ◌≤◌, List, ◌++◌, length}
+use Rattle.graph_heap.specs.declared.command.Entry.{Entry}
+use Rattle.graph_heap.specs.Graph.{opening}
+use Rattle.graph_heap.specs.History.{IsLegal}
+use Rattle.graph_heap.specs.Reach.{Reaches}
+use Rattle.heap_model.specs.State.{HeapState}
+use Rattle.heap_model.specs.Agreement.{Agrees}
+use Rattle.heap_model.specs.Action.{Chain}
+use Rattle.heap_model.specs.Swept.{IsHeld}
+use Rattle.heap_model.specs.Spent.{cycle_limit}
+use Rattle.heap_model.specs.Event.{Course, Event, present_of, Begins, Runs}
+use Rattle.machine.specs.Recorded.{EachSweepEnds, HoldsKept, EndsSoon}
+
+-- The history is one of the graph heap, which never moves or frees an object. The heap agrees with the
+-- graph heap to which it leads, also within a quantum, after each action. All that can be reached there is
+-- held, so what was freed can't be reached. When a sweep ends the heap holds exactly what was reachable
+-- when its cycle began and what was made since, and so it does in idle and while blocks are moved. No
+-- more units are spent than a cycle may, and a cycle that begins ends soon.
+pub record Holds (r : Course) : Type 0 where
+  pub legal : IsLegal (opening r.heap.limits) r.history
+  pub agrees : (spent : ℕ) (h : HeapState) → Chain r.heap spent h → Agrees h (present_of r)
+  pub held : (id : ℕ) → Reaches (present_of r) id → IsHeld r.heap (present_of r) id
+  pub swept : EachSweepEnds r
+  pub kept : HoldsKept r
+  pub units : r.heap.units ≤ cycle_limit r.heap
+  pub ends : (start : Course) → Begins r start → EndsSoon start
+
+-- The history only grows, and an object that was made and can't be reached is never reached again.
+pub record Follows (old new : Course) : Type 0 where
+  pub grows : (rest : List Entry) × (new.history ≡ old.history ++ rest)
+  pub lost : (id : ℕ) → id ≤ length (present_of old).objects → Reaches (present_of new) id → Reaches (present_of old) id
+
+-- Whatever events are done, in whatever order: that holds of the heap after them, with a history that
+-- follows.
+abbrev pub AlwaysHolds : Course → Type 0
+AlwaysHolds r = (es : List Event) (new : Course) → Runs r es new → Holds new × Follows r new

@@ -1,0 +1,121 @@
+//! Cycles that move blocks, worked out by hand.
+
+use super::*;
+
+const THREE_PAGES: Settings = Settings {
+    pages: 3,
+    slots: 12,
+    defrag_below: 4,
+    defrag_pages: 1,
+    ..ONE_PAGE
+};
+
+/// A heap with a page of eight arrays of words, of which two are dropped, with a ninth on a page of its
+/// own, and with an object on the third page, whose reference cell names the ninth.
+fn sparse(rt: &(impl Abort + AllocGlobal), settings: &Settings) -> Result<Recorded, NoMemory> {
+    let mut heap = recorded(rt, settings)?;
+    for k in 0..9u32 {
+        assert_eq!(rt;
+            told(&mut heap, words(k, 252))?,
+            Reply::Made(u64::from(k) + 1)
+        );
+    }
+    let store = Command::Store {
+        obj: 9,
+        i: 0,
+        src: 8,
+    };
+    let steps = [
+        (plain(9, 1, 0), Reply::Made(10)),
+        (store, Reply::Done),
+        (Command::Clear { dst: 0 }, Reply::Done),
+        (Command::Clear { dst: 1 }, Reply::Done),
+    ];
+    expect(rt, &mut heap, 0, &steps)?;
+    Ok(heap)
+}
+
+/// The ninth object, which is moved, is still itself by the reference in the cell, and is compared as
+/// itself.
+fn seen_after() -> [(Command, Reply); 4] {
+    let load = Command::Load {
+        dst: 10,
+        obj: 9,
+        i: 0,
+    };
+    let store = Command::CompareStore {
+        obj: 9,
+        i: 0,
+        expect: 10,
+        new: 11,
+    };
+    [
+        (load, Reply::Ref(9)),
+        (Command::Same { a: 8, b: 10 }, Reply::Is(true)),
+        (store, Reply::Stored),
+        (
+            Command::Describe { a: 8 },
+            Reply::Described(9, Shape::WordArray(252)),
+        ),
+    ]
+}
+
+#[test]
+fn a_moved_object_is_itself(rt: HostRuntime) -> Result<(), NoMemory> {
+    let mut heap = sparse(&rt, &THREE_PAGES)?;
+    assert_eq!(rt; heap.begin(), Ok(()));
+    spend(&rt, &mut heap, 1000, 823, true);
+    expect(&rt, &mut heap, 0, &seen_after())?;
+    assert_eq!(rt; heap.begin(), Ok(()));
+    spend(&rt, &mut heap, 1000, 567, true);
+    Ok(())
+}
+
+#[test]
+fn a_move_waits_for_room(rt: HostRuntime) -> Result<(), NoMemory> {
+    let mut heap = sparse(&rt, &THREE_PAGES)?;
+    assert_eq!(rt; heap.begin(), Ok(()));
+    spend(&rt, &mut heap, 256, 256, false);
+    assert_eq!(rt; heap.begin(), Err(Busy));
+    spend(&rt, &mut heap, 256, 256, false);
+    spend(&rt, &mut heap, 256, 54, false);
+    assert!(rt; matches!(heap.heap().phase(), Phase::Moving(_)));
+    assert_eq!(rt; heap.quantum(255), Err(BudgetOutOfRange));
+    spend(&rt, &mut heap, 256, 256, false);
+    spend(&rt, &mut heap, 256, 1, true);
+    spend(&rt, &mut heap, 256, 0, true);
+    assert_eq!(rt; heap.heap().units(), 823);
+    expect(&rt, &mut heap, 0, &seen_after())
+}
+
+#[test]
+fn a_class_gets_another_pass(rt: HostRuntime) -> Result<(), NoMemory> {
+    let settings = Settings {
+        defrag_pages: 2,
+        ..THREE_PAGES
+    };
+    let mut heap = sparse(&rt, &settings)?;
+    assert_eq!(rt; heap.begin(), Ok(()));
+    spend(&rt, &mut heap, 1000, 826, true);
+    Ok(())
+}
+
+#[test]
+fn a_leaving_page_gets_no_object(rt: HostRuntime) -> Result<(), NoMemory> {
+    let mut heap = sparse(&rt, &THREE_PAGES)?;
+    assert_eq!(rt; heap.begin(), Ok(()));
+    spend(&rt, &mut heap, 1000, 823, true);
+    let before = [
+        (words(11, 252), Reply::Made(11)),
+        (words(10, 252), Reply::Refused(Refusal::NoSpace)),
+    ];
+    expect(&rt, &mut heap, 0, &before)?;
+    assert_eq!(rt; heap.begin(), Ok(()));
+    spend(&rt, &mut heap, 1000, 568, true);
+    expect(&rt, &mut heap, 0, &[(words(10, 252), Reply::Made(12))])
+}
+
+#[test]
+fn the_limit_of_a_cycle_that_moves(rt: HostRuntime) {
+    assert_eq!(rt; config_of(&rt, &THREE_PAGES).cycle_limit(), 18565);
+}

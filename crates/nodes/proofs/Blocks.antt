@@ -1,0 +1,73 @@
+-- A block of a page in use, held or not.
+use Rattle.std.proofs.Common.{◌≡◌, ℕ, ◌+◌, ◌*◌, ◌/◌, ◌%◌, ◌<◌, ◌≤◌, ◌&&◌, eqb, false, Some, None, Option, length, get_or, ap, ◌∙◌, sym, subst, arith, refl}
+use Rattle.std.specs.Prelude.{IsSomeAnd}
+use Rattle.std.proofs.lemmas.Option.{slice_get-get_or}
+use Rattle.size_classes.specs.Sizes.{size_of, blocks_in}
+use Rattle.size_classes.proofs.Table.{size_low}
+use Rattle.heap_model.specs.Pages.{Page, IsPage, page_at}
+use Rattle.heap_model.specs.Store.{Store, IsStore, size_in, held_in, size_at, is_held, address_of}
+use Rattle.nodes.specs.Place.{IsPlace}
+use Rattle.nodes.proofs.Places.{count_in}
+use Rattle.nodes.proofs.Freeing.{offset_place, divided, page_within}
+
+module _ (s : Store) (whole : IsStore s) (k i : ℕ) (p : Page) (there : page_at s.pages k ≡ Some p) (below : i < length p.held) where
+  pub page_below : k < length s.pages
+  page_below = page_within s.pages k p there
+
+  pub is_page : IsPage p
+  is_page = whole.pages k p (slice_get-get_or s.pages k None page_below ∙ ap Some there)
+
+  pub low : 4 ≤ size_of p.class
+  low = size_low p.class is_page.class
+
+  pub fit : (i + 1) * size_of p.class ≤ 2048
+  unfolding blocks_in
+  fit = count_in (size_of p.class) (2048 / size_of p.class) i refl low (omega (arith, below, is_page.blocks))
+
+  place : ((address_of p.class k i) / 2048 ≡ k) × ((address_of p.class k i) % 2048 ≡ i * size_of p.class)
+  place = offset_place k i (size_of p.class) (address_of p.class k i) low fit refl
+
+  pub size_is : size_at s (address_of p.class k i) ≡ size_of p.class
+  unfolding size_at
+  size_is = ap (λ n. size_in (page_at s.pages n)) place.0 ∙ ap size_in there
+
+  flag_is : held_in (Some p) (i * size_of p.class) ≡ get_or p.held i false
+  flag_is =
+      let d = divided i (size_of p.class) low in
+      ap (λ n. eqb n 0 && get_or p.held ((i * size_of p.class) / size_of p.class) false) d.0 ∙ ap (λ n. get_or p.held n false) d.1
+
+  -- it is held if its flag is set
+  pub held_is : is_held s (address_of p.class k i) ≡ get_or p.held i false
+  unfolding is_held
+  held_is =
+      ap (λ n. held_in (page_at s.pages n) ((address_of p.class k i) % 2048)) place.0
+      ∙ ap (λ o. held_in o ((address_of p.class k i) % 2048)) there ∙ ap (held_in (Some p)) place.1 ∙ flag_is
+
+  pub is_place : IsPlace s (address_of p.class k i)
+  is_place = record {
+    page = subst (λ n. n < length s.pages) (sym place.0) page_below;
+    size = subst (λ n. 4 ≤ n) (sym size_is) low;
+    index = i;
+    place = ap (λ n. 2048 * n + i * size_of p.class) (sym place.0) ∙ ap (λ n. 2048 * ((address_of p.class k i) / 2048) + i * n) (sym size_is);
+    whole = subst (λ n. (i + 1) * n ≤ 2048) (sym size_is) fit;
+  }
+
+  pub words_there : address_of p.class k i + size_of p.class ≤ length s.words
+  words_there = omega (arith, fit, page_below, whole.words)
+
+  -- where an address begins in its page, it is the block's
+  pub address_is : (b : ℕ) → b / 2048 ≡ k → b % 2048 ≡ i * size_of p.class → b ≡ address_of p.class k i
+  address_is b e f = omega (arith, e, f)
+
+-- where a block begins, and that it ends within its page, by the size that the code knows
+pub address_by : (s : Store) → IsStore s → (k i size : ℕ) → IsSomeAnd (page_at s.pages k) (λ p. i < length p.held) → size ≡ size_in (page_at s.pages k)
+    → (i * size + size ≤ 2048) × (k < 4096) × (2048 * k + i * size + size ≤ length s.words)
+address_by s whole k i size h e = by_page (page_at s.pages k) refl h e
+  where
+    by_page : (o : Option Page) → page_at s.pages k ≡ o → IsSomeAnd o (λ p. i < length p.held) → size ≡ size_in o → (i * size + size ≤ 2048) × (k < 4096) × (2048 * k + i * size + size ≤ length s.words)
+    by_page None there h e = absurd h
+    by_page (Some p) there h e =
+        let f : (i + 1) * size ≤ 2048 = subst (λ n. (i + 1) * n ≤ 2048) (sym e) (fit s whole k i p there h) in
+        let d : (i + 1) * size ≡ i * size + size = grind arith in
+        let b : k < length s.pages = page_below s whole k i p there h in
+        (omega (arith, f, d), omega (arith, b, whole.few), omega (arith, f, d, b, whole.words))

@@ -1,0 +1,46 @@
+-- A page is marked as leaving.
+use Rattle.std.proofs.Common.{◌≡◌, ℕ, ◌%◌, ◌<◌, true, false, List, Option, Some, None, length, set, ap, ◌∙◌, sym, subst, refl}
+use Rattle.std.specs.Prelude.{IfSome, IsSomeAnd}
+use Rattle.std.proofs.lemmas.Option.{slice_get-get_or}
+use Rattle.heap_model.specs.Pages.{Page, IsPage, page_at}
+use Rattle.heap_model.specs.Store.{Store, IsStore, size_in, held_in}
+use Rattle.heap_model.specs.Action.{KeepsBlocks}
+use Rattle.nodes.proofs.Freeing.{page_within, held_change, node_change, store_change}
+
+module _ (s : Store) (whole : IsStore s) (k : ℕ) (p : Page) (there : page_at s.pages k ≡ Some p) (receiving : p.receiving ≡ false) where
+  within : k < length s.pages
+  within = page_within s.pages k p there
+
+  pub keeps : KeepsBlocks s (record { pages = set s.pages k (Some (record p { leaving = true })); words = s.words })
+  keeps = record {
+    held = λ b. held_change s k (Some (record p { leaving = true })) within s.words b (λ e. ap (λ o. held_in o (b % 2048)) (sym there));
+    nodes = λ b h. node_change s k (Some (record p { leaving = true })) within b (λ e. ap size_in (sym there));
+  }
+
+  pub left_store : IsStore (record { pages = set s.pages k (Some (record p { leaving = true })); words = s.words })
+  left_store =
+      let w = whole.pages k p (slice_get-get_or s.pages k None within ∙ ap Some there) in
+      store_change s k (Some (record p { leaving = true })) within whole (λ q e. subst IsPage (same_page e) (record { class = w.class; blocks = w.blocks; marks = receiving }))
+    where
+      same_page : {a b : Page} → Some a ≡ Some b → a ≡ b
+      same_page e = cc
+
+-- the same, of a value t as which the fields s are seen
+module _ (s t : Store) (is : s ≡ t) (whole : IsStore s) (k : ℕ) (receiving : IsSomeAnd (page_at t.pages k) (λ p. p.receiving ≡ false)) (new : List (Option Page))
+    (given : IfSome (page_at s.pages k) (λ p. new ≡ set s.pages k (Some (record p { leaving = true })))) where
+  by_page : (o : Option Page) → page_at s.pages k ≡ o → IsSomeAnd o (λ p. p.receiving ≡ false) → IfSome o (λ p. new ≡ set s.pages k (Some (record p { leaving = true })))
+      → KeepsBlocks s (record { pages = new; words = s.words }) × IsStore (record { pages = new; words = s.words })
+  by_page None e r g = absurd r
+  by_page (Some p) e r g = (
+    subst (λ l. KeepsBlocks s (record { pages = l; words = s.words })) (sym g) (keeps s whole k p e r),
+    subst (λ l. IsStore (record { pages = l; words = s.words })) (sym g) (left_store s whole k p e r),
+  )
+
+  both : KeepsBlocks s (record { pages = new; words = s.words }) × IsStore (record { pages = new; words = s.words })
+  both = by_page (page_at s.pages k) refl (subst (λ (x : Store). IsSomeAnd (page_at x.pages k) (λ p. p.receiving ≡ false)) (sym is) receiving) given
+
+  pub keeps_by : KeepsBlocks t (record { pages = new; words = s.words })
+  keeps_by = subst (λ (x : Store). KeepsBlocks x (record { pages = new; words = s.words })) is both.0
+
+  pub left_store_by : IsStore (record { pages = new; words = s.words })
+  left_store_by = both.1

@@ -1,0 +1,193 @@
+-- A block is moved.
+use Rattle.std.proofs.Common.{◌≡◌, ◌≢◌, ℕ, ◌+◌, ◌/◌, ◌%◌, ◌<◌, ◌≤◌, ◌⊎◌, inl, inr, Bool, true, false, ◌&&◌, List, Option, Some, length, set, ap, ◌∙◌, sym, subst, arith, length-set}
+use Rattle.std.specs.Prelude.{IfSome}
+use Rattle.std.proofs.lemmas.List.{get_or-set_same}
+use Rattle.std.proofs.lemmas.Option.{slice_get_within, get_or_from_slice_get}
+use Rattle.size_classes.specs.Sizes.{size_of}
+use Rattle.heap_model.specs.Block.{node_at, words_at, spliced, with_forward}
+use Rattle.heap_model.specs.Pages.{Page, IsPage, page_at, with_held}
+use Rattle.heap_model.specs.Store.{Store, IsStore, size_in, held_in, size_at, is_held, node_of, address_of}
+use Rattle.heap_model.specs.Action.{MovesBlock}
+use Rattle.headers.proofs.Copied.{copied_here, copied_others, copied_length}
+use Rattle.headers.proofs.Frames.{node_at-other}
+use Rattle.headers.proofs.Written.{forward_written}
+use Rattle.nodes.specs.Moving.{CanMove}
+use Rattle.nodes.proofs.Places.{held_place, apart}
+use Rattle.nodes.proofs.Freeing.{same_or, page_here, page_other, held_change, store_change}
+use Rattle.nodes.proofs.Making.{other_flag}
+use Rattle.nodes.proofs.Blocks as blocks
+
+clash : {b : Bool} → b ≡ true → b ≡ false → ⊥
+clash x y = cc
+
+module _ (s : Store) (whole : IsStore s) (page index to place : ℕ) (m : CanMove s.pages page index to place) where
+  abbrev pub from : ℕ
+  from = address_of m.source.class page index
+
+  abbrev pub target : ℕ
+  target = address_of m.target.class to place
+
+  abbrev pub size : ℕ
+  size = size_of m.source.class
+
+  abbrev pub received : Page
+  received = record (with_held m.target place true) { receiving = true }
+
+  abbrev pub forwarded : List ℕ
+  forwarded = set s.words from target
+
+  abbrev pub words : List ℕ
+  words = spliced forwarded target (words_at forwarded from size)
+
+  abbrev pub after : Store
+  after = record { pages = set s.pages to (Some received); words = words }
+
+  source_below : index < length m.source.held
+  source_below = slice_get_within m.source.held index true m.held
+
+  target_below : place < length m.target.held
+  target_below = slice_get_within m.target.held place false m.free
+
+  within : to < length s.pages
+  within = blocks.page_below s whole to place m.target m.into target_below
+
+  source_size : size_at s from ≡ size
+  source_size = blocks.size_is s whole page index m.source m.from source_below
+
+  target_size : size_at s target ≡ size
+  target_size = blocks.size_is s whole to place m.target m.into target_below ∙ ap size_of m.class
+
+  four : 4 ≤ size
+  four = blocks.low s whole page index m.source m.from source_below
+
+  source_words : from + size ≤ length s.words
+  source_words = blocks.words_there s whole page index m.source m.from source_below
+
+  target_words : target + size ≤ length s.words
+  target_words = let w = blocks.words_there s whole to place m.target m.into target_below in subst (λ c. target + size_of c ≤ length s.words) m.class w
+
+  source_fits : from + size ≤ length forwarded
+  source_fits = subst (λ n. from + size ≤ n) (sym (length-set s.words from target)) source_words
+
+  target_fits : target + size ≤ length forwarded
+  target_fits = subst (λ n. target + size ≤ n) (sym (length-set s.words from target)) target_words
+
+  source_held : is_held s from ≡ true
+  source_held = blocks.held_is s whole page index m.source m.from source_below ∙ get_or_from_slice_get m.source.held index true false m.held
+
+  target_free : is_held s target ≡ false
+  target_free = blocks.held_is s whole to place m.target m.into target_below ∙ get_or_from_slice_get m.target.held place false false m.free
+
+  -- the place is apart from each held block
+  apart_from : (b : ℕ) → is_held s b ≡ true → (b + size_at s b ≤ target) ⊎ (target + size ≤ b)
+  apart_from b h =
+      subst (λ n. (b + size_at s b ≤ target) ⊎ (target + n ≤ b)) target_size
+      (apart s b target (held_place s b whole h) (blocks.is_place s whole to place m.target m.into target_below) (λ e. clash h (ap (is_held s) e ∙ target_free)))
+
+  source_apart : (from + size ≤ target) ⊎ (target + size ≤ from)
+  source_apart = subst (λ n. (from + n ≤ target) ⊎ (target + size ≤ from)) source_size (apart_from from source_held)
+
+  size_after : (w : List ℕ) (b : ℕ) → size_at (record { pages = set s.pages to (Some received); words = w }) b ≡ size_at s b
+  unfolding size_at
+  size_after w b = elim (same_or (b / 2048) to) [
+    | inl e ↦ ap (λ n. size_in (page_at (set s.pages to (Some received)) n)) e ∙ ap size_in (page_here s to (Some received) within) ∙ ap size_in (sym m.into) ∙ ap (λ n. size_in (page_at s.pages n)) (sym e)
+    | inr d ↦ ap size_in (page_other s to (Some received) within (b / 2048) d)
+  ]
+
+  forward_here : node_at forwarded from size ≡ with_forward (node_of s from) target
+  unfolding node_of
+  forward_here = forward_written s.words from size four source_words target ∙ ap (λ n. with_forward (node_at s.words from n) target) (sym source_size)
+
+  copy_is : node_of after target ≡ with_forward (node_of s from) target
+  unfolding node_of
+  copy_is = ap (node_at words target) (size_after words target ∙ target_size) ∙ copied_here forwarded from target size source_fits target_fits ∙ forward_here
+
+  forward_is : node_of after from ≡ with_forward (node_of s from) target
+  unfolding node_of
+  forward_is = ap (node_at words from) (size_after words from ∙ source_size) ∙ copied_others forwarded from target size source_fits target_fits from size source_apart ∙ forward_here
+
+  outside : (b : ℕ) → is_held s b ≡ true → b ≢ from → (from < b) ⊎ (b + size_at s b ≤ from)
+  outside b h ne = elim (apart s from b (held_place s from whole source_held) (held_place s b whole h) (λ e. ne (sym e))) [
+    | inl x ↦ inl (omega (arith, x, source_size, four))
+    | inr y ↦ inr y
+  ]
+
+  others : (b : ℕ) → b ≢ from → is_held s b ≡ true → node_of after b ≡ node_of s b
+  unfolding node_of
+  others b ne h =
+      ap (node_at words b) (size_after words b) ∙ copied_others forwarded from target size source_fits target_fits b (size_at s b) (apart_from b h)
+      ∙ node_at-other s.words from target b (size_at s b) (outside b h ne)
+
+  same_held : (b : ℕ) → b ≢ target → is_held after b ≡ is_held s b
+  same_held b ne =
+      held_change s to (Some received) within words b
+      (λ e. other_flag m.target.held place (b % 2048) (size_of m.target.class) (λ z. ne (blocks.address_is s whole to place m.target m.into target_below b e z)) ∙ ap (λ o. held_in o (b % 2048)) (sym m.into))
+
+  is_received : IsPage received
+  is_received =
+      let p = blocks.is_page s whole to place m.target m.into target_below in
+      record { class = p.class; blocks = length-set m.target.held place true ∙ p.blocks; marks = ap (λ b. b && true) m.leaving }
+
+  pub moved_store : IsStore after
+  moved_store =
+      let w = store_change s to (Some received) within whole (λ p e. subst IsPage (same_page e) is_received) in
+      record { pages = w.pages; words = copied_length forwarded from target size source_fits target_fits ∙ length-set s.words from target ∙ w.words; few = w.few }
+    where
+      same_page : {a b : Page} → Some a ≡ Some b → a ≡ b
+      same_page e = cc
+
+  target_held : is_held after target ≡ true
+  target_held =
+      blocks.held_is after moved_store to place received (page_here s to (Some received) within) (subst (λ n. place < n) (sym (length-set m.target.held place true)) target_below)
+      ∙ get_or-set_same m.target.held place true false target_below
+
+  pub moves : MovesBlock s after from (address_of m.source.class to place)
+  moves = subst (λ c. MovesBlock s after from (address_of c to place)) m.class (record { free = target_free; held = target_held; copy = copy_is; forward = forward_is; same = same_held; nodes = others })
+
+if_some : (P : Page → Type 0) (o : Option Page) (p : Page) → o ≡ Some p → IfSome o P → P p
+if_some P o p e h = subst (λ x. IfSome x P) e h
+
+-- the same, of a value t as which the fields s are seen
+module _ (s t : Store) (is : s ≡ t) (whole : IsStore s) (page index to place : ℕ) (m : CanMove t.pages page index to place) (a b n : ℕ)
+    (ea : IfSome (page_at t.pages page) (λ p. a ≡ address_of p.class page index)) (eb : IfSome (page_at t.pages to) (λ q. b ≡ address_of q.class to place)) (en : n ≡ size_in (page_at t.pages page))
+    (pages : List (Option Page)) (ep : IfSome (page_at s.pages to) (λ q. pages ≡ set s.pages to (Some (record (with_held q place true) { receiving = true }))))
+    (first second : List ℕ) (e1 : first ≡ set s.words a b) (e2 : second ≡ spliced first b (words_at first a n)) where
+  whole_t : IsStore t
+  whole_t = subst IsStore is whole
+
+  pages_are : pages ≡ set t.pages to (Some (record (with_held m.target place true) { receiving = true }))
+  pages_are =
+      if_some (λ q. pages ≡ set t.pages to (Some (record (with_held q place true) { receiving = true }))) (page_at t.pages to) m.target m.into
+      (subst (λ (x : Store). IfSome (page_at x.pages to) (λ q. pages ≡ set x.pages to (Some (record (with_held q place true) { receiving = true })))) is ep)
+
+  from_is : a ≡ address_of m.source.class page index
+  from_is = if_some (λ p. a ≡ address_of p.class page index) (page_at t.pages page) m.source m.from ea
+
+  target_is : b ≡ address_of m.target.class to place
+  target_is = if_some (λ q. b ≡ address_of q.class to place) (page_at t.pages to) m.target m.into eb
+
+  size_is : n ≡ size_of m.source.class
+  size_is = en ∙ ap size_in m.from
+
+  first_is : first ≡ set t.words (address_of m.source.class page index) (address_of m.target.class to place)
+  first_is = e1 ∙ ap (λ (x : Store). set x.words a b) is ∙ ap (λ k. set t.words k b) from_is ∙ ap (set t.words (address_of m.source.class page index)) target_is
+
+  words_are : second ≡ words t whole_t page index to place m
+  words_are =
+      e2 ∙ ap (λ l. spliced l b (words_at l a n)) first_is
+      ∙ ap (λ k. spliced (forwarded t whole_t page index to place m) b (words_at (forwarded t whole_t page index to place m) k n)) from_is
+      ∙ ap (λ k. spliced (forwarded t whole_t page index to place m) k (words_at (forwarded t whole_t page index to place m) (from t whole_t page index to place m) n)) target_is
+      ∙ ap (λ k. spliced (forwarded t whole_t page index to place m) (target t whole_t page index to place m) (words_at (forwarded t whole_t page index to place m) (from t whole_t page index to place m) k)) size_is
+
+  both : (P : Store → Type 0) → P (after t whole_t page index to place m) → P (record { pages = pages; words = second })
+  both P p =
+      subst (λ w. P (record { pages = pages; words = w })) (sym words_are)
+      (subst (λ g. P (record { pages = g; words = words t whole_t page index to place m })) (sym pages_are) p)
+
+  pub moved_store_by : IsStore (record { pages = pages; words = second })
+  moved_store_by = both IsStore (moved_store t whole_t page index to place m)
+
+  pub moves_by : IfSome (page_at t.pages page) (λ p. MovesBlock t (record { pages = pages; words = second }) (address_of p.class page index) (address_of p.class to place))
+  moves_by =
+      subst (λ o. IfSome o (λ p. MovesBlock t (record { pages = pages; words = second }) (address_of p.class page index) (address_of p.class to place))) (sym m.from)
+      (both (λ x. MovesBlock t x (address_of m.source.class page index) (address_of m.source.class to place)) (moves t whole_t page index to place m))

@@ -3,13 +3,18 @@
 #![tactic(auto)]
 
 mod fault;
+mod gate;
 mod locked;
 mod naming;
+mod play;
 mod server;
+mod workers;
 
 pub use fault::ServerFault;
+pub use gate::{Gate, OpenGate};
 pub use locked::{Locked, Pacer, Seat};
 pub use naming::{Begun, Calls, Ended, Naming, Opening, Units};
+pub use play::{Outcome, play_threads};
 pub use server::Server;
 
 #[cfg(test)]

@@ -1,4 +1,4 @@
-//! A server of two seats, called from one thread. Replies and units are worked out by hand.
+//! Servers, called from one thread and from many. Replies and units are worked out by hand.
 ghost use Rattle.std.specs.Prelude.{◌≡◌, ◌<◌, vec_len};
 ghost use Rattle.size_classes.specs.Config.{limits_of};
 ghost use Rattle.heap_server.specs.Seats.{mutators_of, upto};
@@ -12,6 +12,10 @@ use std::alloc::Global;
 use std::marker::Brand;
 use std::process::Abort;
 use std::sync::Wait;
+
+mod crowd;
+mod meeting;
+mod playing;
 
 const TWO_SEATS: Settings = Settings {
     pages: 1,
@@ -128,4 +132,33 @@ fn a_page_fills_up(rt: HostRuntime) -> Result<(), ServerFault> {
     assert!(rt; history[10].mutator == 1 && history[10].reply == Reply::Made(9));
     assert!(rt; recorded.heap().units() == 28);
     Ok(())
+}
+
+/// Reserves room for six calls, and makes them: a race for the static, from each seat.
+fn six_calls<N: Naming, R: Wait + Abort>(
+    rt: &R,
+    alloc: Global,
+    opening: Opening,
+) -> Result<(), ServerFault>
+    requires calls { (opening.calls.name ≡ N.calls) × (limits_of opening.config ≡ N.limits) × (N.limits.mutators ≡ 2) }
+    requires begun { opening.begun.name ≡ N.begun }
+    requires ended { opening.ended.name ≡ N.ended }
+    requires units { opening.units.name ≡ N.units }
+{
+    let (server, mut seats, _pacer) = Server::<N>::new(alloc, opening)?;
+    server.reserve_history(6, rt)?;
+    for k in 0..6u32 {
+        let seat = (k % 2) as usize;
+        let command = playing::RACE[(k / 2) as usize];
+        assert!(rt; server.call(&mut seats[seat], command, rt).is_ok());
+    }
+    Ok(())
+}
+
+#[test]
+fn reserved_calls_are_sure(rt: HostRuntime) -> Result<(), ServerFault> {
+    let Ok(config) = Config::check(&playing::FOUR_PAGES) else {
+        panic!(rt; "the settings are good");
+    };
+    six_calls::<Brand, _>(&rt, rt.alloc(), Opening::new(&config))
 }

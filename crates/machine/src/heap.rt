@@ -20,6 +20,7 @@ use std::alloc::Global;
 use std::marker::Model;
 
 mod collecting;
+mod inspecting;
 mod moving;
 mod planning;
 mod reading;

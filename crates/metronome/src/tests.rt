@@ -1,82 +1,92 @@
-//! Whole runs of the program: what it writes, what it says, and its exit status.
-use super::*;
+//! Runs of the program on texts in memory.
+use super::files::Opener;
+use super::run::run;
+use graph_heap::NoMemory;
+use std::io::{self, ErrorKind};
 use std::process::Abort;
-use std::test::Fail;
+use std::sync::Wait;
+use std::thread::Threads;
 
-fn expect(
-    rt: &(impl Abort + AllocGlobal),
-    trace: &str,
+mod checking;
+mod faults;
+mod playing;
+mod reporting;
+mod windows;
+
+/// The files of a test: the configuration, called `config`, and a text, called `text`.
+#[derive(Clone, Copy, Debug, PartialEq, Eq)]
+struct Texts {
+    config: &'static str,
+    text: &'static str,
+}
+
+impl Opener for Texts {
+    type File = &'static [u8];
+
+    fn open(&self, name: &str) -> io::Result<&'static [u8]> {
+        match name {
+            "config" => Ok(self.config.as_bytes()),
+            "text" => Ok(self.text.as_bytes()),
+            _ => Err(io::Error::from(ErrorKind::NotFound)),
+        }
+    }
+}
+
+/// Four pages, two mutators of four slots, and a static.
+const FOUR_PAGES: &str = "pages = 4\nmutators = 2\nslots = 4\nstatics = 1\n";
+
+/// One page and nine slots.
+const ONE_PAGE: &str = "pages = 1\nmutators = 1\nslots = 9\n";
+
+/// Four pages and many slots.
+const MANY_SLOTS: &str = "pages = 4\nmutators = 2\nslots = 256\n";
+
+/// Two pages and two slots.
+const TWO_SLOTS: &str = "pages = 2\nmutators = 1\nslots = 2\n";
+
+/// Three pages, of which one is emptied in a cycle.
+const THREE_PAGES: &str =
+    "pages = 3\nmutators = 1\nslots = 12\ndefrag_below = 4\ndefrag_pages = 1\n";
+
+/// A run: the words behind the program's name, and what must come of it.
+#[derive(Clone, Copy, Debug, PartialEq, Eq)]
+struct Run {
+    words: &'static [&'static str],
+    config: &'static str,
+    text: &'static str,
+    output: &'static str,
+    errors: &'static str,
     status: u8,
-    written: &str,
-    told: &str,
-) -> Result<(), Fail> {
-    let mut output = Vec::new(rt.alloc());
-    let mut errors = Vec::new(rt.alloc());
-    let answer = run(rt.alloc(), trace.as_bytes(), &mut output, &mut errors);
-    assert_eq!(rt; answer, status, "{trace}");
-    assert_eq!(rt; output.as_slice(), written.as_bytes(), "{trace}");
-    assert_eq!(rt; errors.as_slice(), told.as_bytes(), "{trace}");
-    Ok(())
 }
 
-#[test]
-fn runs_end_with_a_status(rt: HostRuntime) -> Result<(), Fail> {
-    expect(&rt, "", 0, "", "")?;
-    let first = "0 new 0 plain 0 1\n0 put 0 0 7\n0 get 0 0\n0 describe 0\n";
-    let replies = "made 1\ndone\nword 7\ndescribed 1 plain 0 1\n";
-    expect(&rt, first, 0, replies, "")?;
-    let unended = "0 new 0 plain 0 0\n0 describe 0";
-    expect(
-        &rt,
-        unended,
-        4,
-        "made 1\n",
-        "metronome: line 2: line not ended\n",
-    )?;
-    let two_blanks = "0 new 0 plain 0 0\n0  describe 0\n";
-    expect(
-        &rt,
-        two_blanks,
-        4,
-        "made 1\n",
-        "metronome: line 2: not an event\n",
-    )?;
-    let twice = "tick 1099511627776\ntick 1\n";
-    expect(&rt, twice, 4, "", "metronome: line 2: clock spent\n")?;
-    let cycle = "0 new 0 plain 0 1\n0 clear 0\nbegin\nquantum 1000\ntick 40\n";
-    expect(&rt, cycle, 0, "made 1\ndone\n", "")
-}
-
-/// A reader and writer that fails.
-#[derive(Drop)]
-struct Broken;
-
-impl Read for Broken {
-    fn read(&mut self, _buffer: &mut [u8]) -> io::Result<usize> {
-        Err(io::Error::from(io::ErrorKind::Other))
+/// Makes a run, and compares the exit status and what was written to the output and to the error stream.
+fn expect<T: Threads + Wait + Sync + Abort + AllocGlobal>(
+    rt: &T,
+    wanted: &Run,
+) -> Result<(), NoMemory> {
+    let alloc = rt.alloc();
+    let mut words = Vec::new(alloc);
+    words.push("metronome")?;
+    for word in wanted.words {
+        words.push(*word)?;
     }
-}
-
-impl Write for Broken {
-    fn write(&mut self, _bytes: &[u8]) -> io::Result<usize> {
-        Err(io::Error::from(io::ErrorKind::Other))
-    }
-
-    fn flush(&mut self) -> io::Result<()> {
-        Ok(())
-    }
-}
-
-#[test]
-fn streams_fail(rt: HostRuntime) -> Result<(), Fail> {
-    let mut output = Vec::new(rt.alloc());
-    let mut errors = Vec::new(rt.alloc());
-    assert_eq!(rt; run(rt.alloc(), Broken, &mut output, &mut errors), 5);
-    assert_eq!(rt; errors.as_slice(), b"metronome: cannot read\n".as_slice());
-    let mut errors = Vec::new(rt.alloc());
-    let trace = b"0 clear 0\n".as_slice();
-    assert_eq!(rt; run(rt.alloc(), trace, Broken, &mut errors), 5);
-    assert_eq!(rt; errors.as_slice(), b"metronome: cannot write\n".as_slice());
-    assert_eq!(rt; run(rt.alloc(), trace, Broken, &mut Broken), 5);
+    let texts = Texts {
+        config: wanted.config,
+        text: wanted.text,
+    };
+    let mut output = Vec::new(alloc);
+    let mut errors = Vec::new(alloc);
+    let status = run(
+        rt,
+        alloc,
+        words.as_slice(),
+        &texts,
+        wanted.text.as_bytes(),
+        &mut output,
+        &mut errors,
+    );
+    assert_eq!(rt; output.as_slice(), wanted.output.as_bytes());
+    assert_eq!(rt; errors.as_slice(), wanted.errors.as_bytes());
+    assert_eq!(rt; status, wanted.status);
     Ok(())
 }

@@ -1,4 +1,5 @@
 pub mod Blocks
+pub mod Counting
 pub mod Following
 pub mod Freeing
 pub mod Leaving

@@ -2,3 +2,4 @@ pub mod Moving
 pub mod Place
 pub mod Referent
 pub mod Pages
+pub mod Copies

@@ -4,4 +4,5 @@
 
 pub mod nodes;
 
+pub use nodes::counting::Copies;
 pub use nodes::{Nodes, Referent};

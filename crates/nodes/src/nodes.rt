@@ -22,6 +22,8 @@ use size_classes::{Class, Need};
 use std::alloc::Global;
 use std::marker::Model;
 
+pub mod counting;
+
 /// What a reference names: an object, by its identity and the reference of its main copy, which is
 /// the copy's address plus one. For null both are 0.
 #[derive(Clone, Copy, Debug, PartialEq, Eq)]

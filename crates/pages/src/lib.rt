@@ -4,6 +4,8 @@
 
 pub mod row;
 pub mod table;
+pub mod view;
 
 pub use row::Row;
 pub use table::{Block, PageTable};
+pub use view::PageView;

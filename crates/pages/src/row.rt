@@ -4,7 +4,9 @@ ghost use Rattle.size_classes.specs.Sizes.{blocks_in};
 ghost use Rattle.heap_model.specs.Pages.{is_free, is_usable, page_of_class, with_held, IsOpen, free_on};
 ghost use Rattle.heap_model.specs.Action.{held_on, closed, is_choosable};
 ghost use Rattle.pages.specs.Places.{first_open, FindsHeld};
+ghost use Rattle.pages.specs.View.{view_of};
 
+use crate::view::PageView;
 use graph_heap::NoMemory;
 use size_classes::Class;
 use std::alloc::Global;
@@ -131,6 +133,18 @@ impl Row {
             }
             None => 0,
         }
+    }
+
+    /// What is told of the page; None for a free page.
+    pub fn view(&self) -> Option<PageView>
+        ensures view { result ≡ view_of (page_in self.now) }
+        ensures within { IfSome result (λ v. v.held ≤ 512) }
+    {
+        Some(PageView {
+            class: self.class?,
+            held: self.held(),
+            leaving: self.leaving,
+        })
     }
 
     /// Gives a held block back.

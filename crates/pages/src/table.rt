@@ -6,8 +6,10 @@ ghost use Rattle.heap_model.specs.Action.{held_on, closed, is_choosable};
 ghost use Rattle.size_classes.specs.Sizes.{blocks_in};
 ghost use Rattle.pages.specs.Places.{first_open, FindsHeld};
 ghost use Rattle.pages.specs.Row.{page_in};
+ghost use Rattle.pages.specs.View.{view_of};
 
 use crate::row::Row;
+use crate::view::PageView;
 use graph_heap::NoMemory;
 use size_classes::{Class, Need};
 use std::alloc::Global;
@@ -166,6 +168,14 @@ impl PageTable {
         ensures within { result ≤ 512 }
     {
         self.rows[page].held()
+    }
+
+    /// What is told of a page: None where it is free, or where there is no such page.
+    pub fn page(&self, page: usize) -> Option<PageView>
+        ensures view { result ≡ view_of (page_at self.now page) }
+        ensures within { IfSome result (λ v. v.held ≤ 512) }
+    {
+        self.rows.get(page)?.view()
     }
 
     /// Gives a held block back. Every other block, and every other page, stays.

@@ -1,11 +1,11 @@
 -- What calls do to a player.
-use Rattle.std.proofs.Common.{◌≡◌, ◌≢◌, ℕ, ◌+◌, ◌<◌, Bool, true, false, List, [], ◌∷◌, ◌++◌, Ok, Err, ap, ◌∙◌, sym, subst, refl}
-use Rattle.std.specs.Prelude.{Result, Option, Some, None, IfOk, IfSome, IsErr, is_ok}
+use Rattle.std.proofs.Common.{◌≡◌, ◌≢◌, ℕ, ◌<◌, Bool, true, false, [], ◌∷◌, Ok, Err, ap, ◌∙◌, sym, subst, refl}
+use Rattle.std.specs.Prelude.{Result, Some, None, IfOk, IfSome, IsErr, is_ok}
 use Rattle.graph_heap.specs.declared.command.Command.{Command}
 use Rattle.graph_heap.specs.declared.no_memory.NoMemory.{NoMemory}
 use Rattle.heap_model.specs.declared.phase.Phase.{Phase}
 use Rattle.heap_model.specs.declared.phase.Phase.TheVariants as phases
-use Rattle.heap_model.specs.Event.{Course, Event, Command_done, Cycle_begun, Cycle_on, Quantum_done, Does}
+use Rattle.heap_model.specs.Event.{Course, Command_done, Cycle_begun, Cycle_on, Does}
 use Rattle.quanta.specs.Timetable.{Timetable, with_reserved, IsPlacedAt}
 use Rattle.machine.specs.declared.recorded.Receipt.{Receipt}
 use Rattle.machine.specs.declared.collector.Busy.{Busy}

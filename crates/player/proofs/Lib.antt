@@ -1,4 +1,5 @@
 pub mod Doing
 pub mod Ending
+pub mod First
 pub mod Lines
 pub mod Ticking

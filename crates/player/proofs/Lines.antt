@@ -12,7 +12,8 @@ use Rattle.trace.specs.LineReader.{Lines, text_by, Says, lines_by}
 use Rattle.trace.specs.Streams.{IsLine, Splits, Comes, Stays, text_of}
 use Rattle.trace.proofs.Cutting.{one_more}
 use Rattle.player.specs.Player.{PlayerState, QuantaDue, None_yet, One_more, DoesLine, Skips, Commands, Begins, Goes_on, Spends, Ticks, entries_in}
-use Rattle.player.specs.Playing.{Plays, reply_line, replies_of}
+use Rattle.player.specs.declared.style.Style.{Style}
+use Rattle.player.specs.Playing.{Plays, written_line, written_of}
 use Rattle.player.specs.Progress.{LineDone, SoFar}
 
 -- a line more
@@ -22,7 +23,7 @@ plays_more [] es fs bytes line old mid new p s d =
 plays_more (l ∷ ls) es fs bytes line old mid new p s d =
     (p.0, p.1, p.2 ++ fs, p.3, p.4, p.5, ap (λ l. l ++ fs) p.6 ∙ append_assoc p.1 p.2 fs, plays_more ls p.2 fs bytes line p.3 mid new p.7 s d)
 
--- the entries and the replies of more events
+-- the entries of more events, and what is written of them
 pub entries_more : (es fs : List Event) → entries_in (es ++ fs) ≡ entries_in es ++ entries_in fs
 entries_more [] fs = refl
 entries_more (Command_done m c reply ∷ es) fs = ap (λ l. (record { mutator = m; command = c; reply = reply }) ∷ l) (entries_more es fs)
@@ -31,8 +32,8 @@ entries_more (Cycle_on ∷ es) fs = entries_more es fs
 entries_more (Quantum_done budget units phase ∷ es) fs = entries_more es fs
 entries_more (Quantum_refused budget ∷ es) fs = entries_more es fs
 
-pub replies_more : (es fs : List Entry) → replies_of (es ++ fs) ≡ replies_of es ++ replies_of fs
-replies_more es fs = flat_map-append reply_line es fs
+pub text_more : (style : Style) (es fs : List Entry) → written_of style (es ++ fs) ≡ written_of style es ++ written_of style fs
+text_more style es fs = flat_map-append (written_line style) es fs
 
 -- quanta make no entry
 pub due_entries : (until : ℕ) (p : PlayerState) (es : List Event) (q : PlayerState) → QuantaDue until p es q → entries_in es ≡ []
@@ -67,21 +68,21 @@ history_grows (Cycle_on ∷ es) r new w = history_grows es w.0 new w.2 ∙ ap (�
 history_grows (Quantum_done budget units phase ∷ es) r new w = history_grows es w.0 new w.2 ∙ ap (λ h. h ++ entries_in es) w.1.history
 history_grows (Quantum_refused budget ∷ es) r new w = history_grows es w.0 new w.2 ∙ ap (λ (x : Course). x.history ++ entries_in es) w.1.1
 
-pub written_more : (taken taken' taken'' : List ℕ) (es fs : List Event) → taken' ≡ taken ++ replies_of (entries_in es) → taken'' ≡ taken' ++ replies_of (entries_in fs) → taken'' ≡ taken ++ replies_of (entries_in (es ++ fs))
-written_more taken taken' taken'' es fs old new =
-    new ∙ ap (λ t. t ++ replies_of (entries_in fs)) old ∙ append_assoc taken (replies_of (entries_in es)) (replies_of (entries_in fs))
-    ∙ ap (λ t. taken ++ t) (sym (replies_more (entries_in es) (entries_in fs)) ∙ ap replies_of (sym (entries_more es fs)))
+pub written_more : (style : Style) (taken taken' taken'' : List ℕ) (es fs : List Event) → taken' ≡ taken ++ written_of style (entries_in es) → taken'' ≡ taken' ++ written_of style (entries_in fs) → taken'' ≡ taken ++ written_of style (entries_in (es ++ fs))
+written_more style taken taken' taken'' es fs old new =
+    new ∙ ap (λ t. t ++ written_of style (entries_in fs)) old ∙ append_assoc taken (written_of style (entries_in es)) (written_of style (entries_in fs))
+    ∙ ap (λ t. taken ++ t) (sym (text_more style (entries_in es) (entries_in fs)) ∙ ap (written_of style) (sym (entries_more es fs)))
 
 -- what came, and more of it
 pub came_more : (given given' given'' text more : List ℕ) → given' ≡ given ++ text → given'' ≡ given' ++ more → given'' ≡ given ++ (text ++ more)
 came_more given given' given'' text more old new = new ∙ ap (λ t. t ++ more) old ∙ append_assoc given text more
 
-counts_more : (ls : List (List ℕ)) (line : List ℕ) (number : ℕ) → number ≡ length ls → number + 1 ≡ length (ls ++ line ∷ [])
+pub counts_more : (ls : List (List ℕ)) (line : List ℕ) (number : ℕ) → number ≡ length ls → number + 1 ≡ length (ls ++ line ∷ [])
 counts_more ls line number e = omega (arith, e, length-append ls (line ∷ []))
 
 -- before the first line
-pub at_first : (given taken : List ℕ) (p : PlayerState) → SoFar given given p p taken taken [] 0
-at_first given taken p = record {
+abbrev pub at_first : (style : Style) (given taken : List ℕ) (p : PlayerState) → SoFar style given given p p taken taken [] 0
+at_first style given taken p = record {
   text = [];
   lines = [];
   events = [];
@@ -92,10 +93,10 @@ at_first given taken p = record {
   counted = refl;
 }
 
-module _ (given given' given'' : List ℕ) (old mid new : PlayerState) (taken taken' taken'' kept kept' line : List ℕ) (number : ℕ) where
+module _ (style : Style) (given given' given'' : List ℕ) (old mid new : PlayerState) (taken taken' taken'' kept kept' line : List ℕ) (number : ℕ) where
   -- a line more that is done
-  pub one_line_more : SoFar given given' old mid taken taken' kept number → Comes given' given'' kept (line ++ 10 ∷ kept') → IsLine line → LineDone line (number + 1) mid new taken' taken'' (Ok tt)
-      → SoFar given given'' old new taken taken'' kept' (number + 1)
+  abbrev pub one_line_more : SoFar style given given' old mid taken taken' kept number → Comes given' given'' kept (line ++ 10 ∷ kept') → IsLine line → LineDone style line (number + 1) mid new taken' taken'' (Ok tt)
+      → SoFar style given given'' old new taken taken'' kept' (number + 1)
   one_line_more so comes is k = record {
     text = so.text ++ comes.more;
     lines = so.lines ++ line ∷ [];
@@ -103,7 +104,7 @@ module _ (given given' given'' : List ℕ) (old mid new : PlayerState) (taken ta
     came = came_more given given' given'' so.text comes.more so.came comes.given_more;
     splits = one_more so.text comes.more kept kept' line so.lines so.splits comes.makes is;
     plays = plays_more so.lines so.events k.1 line k.0 old mid new so.plays k.2 k.3;
-    written = written_more taken taken' taken'' so.events k.1 so.written k.4;
+    written = written_more style taken taken' taken'' so.events k.1 so.written k.4;
     counted = counts_more so.lines line number so.counted;
   }
 
@@ -124,15 +125,15 @@ stays_on None b c p q = tt
 stays_on (Some all) b c p q = (subst (λ (o : Option (List ℕ)). Stays o c) p q)
 
 -- a line more, as the reader of lines hands it out
-pub handed_out : (given given' given'' : List ℕ) (ended : Bool) (old mid new : PlayerState) (taken taken' taken'' kept line : List ℕ) (number number' : ℕ) (l : Lines) (b : Bool) → b ≡ true
-    → SoFar given given' old mid taken taken' kept number → Comes given' given'' kept (text_by (Ok b) l) → Says (Ok b) l ended → l.number ≡ number + lines_by (Ok b)
-    → line ≡ l.line → number' ≡ l.number → LineDone line number' mid new taken' taken'' (Ok tt)
-    → SoFar given given'' old new taken taken'' l.kept l.number
-handed_out given given' given'' ended old mid new taken taken' taken'' kept line number number' l true is so comes says n same_line same_number done =
-    subst (λ m. SoFar given given'' old new taken taken'' l.kept m) (sym n)
-    (one_line_more given given' given'' old mid new taken taken' taken'' kept l.kept l.line number so comes says
-    (subst (λ m. LineDone l.line m mid new taken' taken'' (Ok tt)) (same_number ∙ n) (subst (λ t. LineDone t number' mid new taken' taken'' (Ok tt)) same_line done)))
-handed_out given given' given'' ended old mid new taken taken' taken'' kept line number number' l false is so comes says n same_line same_number done = absurd (cc)
+pub handed_out : (style : Style) (given given' given'' : List ℕ) (ended : Bool) (old mid new : PlayerState) (taken taken' taken'' kept line : List ℕ) (number number' : ℕ) (l : Lines) (b : Bool) → b ≡ true
+    → SoFar style given given' old mid taken taken' kept number → Comes given' given'' kept (text_by (Ok b) l) → Says (Ok b) l ended → l.number ≡ number + lines_by (Ok b)
+    → line ≡ l.line → number' ≡ l.number → LineDone style line number' mid new taken' taken'' (Ok tt)
+    → SoFar style given given'' old new taken taken'' l.kept l.number
+handed_out style given given' given'' ended old mid new taken taken' taken'' kept line number number' l true is so comes says n same_line same_number done =
+    subst (λ m. SoFar style given given'' old new taken taken'' l.kept m) (sym n)
+    (one_line_more style given given' given'' old mid new taken taken' taken'' kept l.kept l.line number so comes says
+    (subst (λ m. LineDone style l.line m mid new taken' taken'' (Ok tt)) (same_number ∙ n) (subst (λ t. LineDone style t number' mid new taken' taken'' (Ok tt)) same_line done)))
+handed_out style given given' given'' ended old mid new taken taken' taken'' kept line number number' l false is so comes says n same_line same_number done = absurd (cc)
 
 -- ticks write nothing
 line_entries : (p : PlayerState) (line : Line) (es : List Event) (q : PlayerState) → DoesLine p line es q → (n : ℕ) → line ≡ lines.Tick n → entries_in es ≡ []
@@ -143,5 +144,5 @@ line_entries p line es q (Goes_on d) n e = refl
 line_entries p line es q (Spends budget units phase course d) n e = refl
 line_entries p line es q (Ticks k fs r small w none) n e = due_entries (p.timetable.clock + k) p es r w
 
-pub tick_written : (taken : List ℕ) (p q : PlayerState) (line : Line) (n : ℕ) (es : List Event) → line ≡ lines.Tick n → DoesLine p line es q → taken ≡ taken ++ replies_of (entries_in es)
-tick_written taken p q line n es e d = sym (append-nil taken) ∙ ap (λ t. taken ++ replies_of t) (sym (line_entries p line es q d n e))
+pub tick_written : (style : Style) (taken : List ℕ) (p q : PlayerState) (line : Line) (n : ℕ) (es : List Event) → line ≡ lines.Tick n → DoesLine p line es q → taken ≡ taken ++ written_of style (entries_in es)
+tick_written style taken p q line n es e d = sym (append-nil taken) ∙ ap (λ t. taken ++ written_of style t) (sym (line_entries p line es q d n e))

@@ -1,14 +1,13 @@
 -- Ticks that pass.
-use Rattle.std.proofs.Common.{◌≡◌, ℕ, ◌+◌, ◌-◌, ◌<◌, ◌≤◌, Bool, true, false, List, [], ◌∷◌, ◌++◌, Ok, Err, ap, ◌∙◌, sym, subst, refl, arith}
-use Rattle.std.specs.Prelude.{Option, Some, None, Result}
-use Rattle.graph_heap.specs.declared.no_memory.NoMemory.{NoMemory}
+use Rattle.std.proofs.Common.{◌≡◌, ℕ, ◌+◌, ◌-◌, ◌<◌, ◌≤◌, true, false, List, [], ◌∷◌, ◌++◌, Ok, ap, ◌∙◌, sym, subst, refl, arith}
+use Rattle.std.specs.Prelude.{Option, Some, None}
 use Rattle.heap_model.specs.declared.phase.Phase.{Phase}
 use Rattle.heap_model.specs.declared.phase.Phase.TheVariants as phases
 use Rattle.heap_model.specs.Event.{Event, Quantum_done}
 use Rattle.quanta.specs.declared.schedule.TheConstants.{CLOCK_LIMIT}
-use Rattle.quanta.specs.Timetable.{Timetable, due_below, with_reserved}
+use Rattle.quanta.specs.Timetable.{Timetable, due_below}
 use Rattle.trace.specs.declared.line.Line.TheVariants as lines
-use Rattle.player.specs.Player.{PlayerState, QuantaDue, None_yet, One_more, quantum_behind, behind_quantum, placed, DoesLine, Ticks}
+use Rattle.player.specs.Player.{PlayerState, QuantaDue, One_more, behind_quantum, placed, DoesLine, Ticks}
 use Rattle.player.specs.Ticking.{DueDone}
 
 -- the ticks from the next quantum on, below a time

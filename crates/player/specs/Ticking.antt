@@ -1,5 +1,5 @@
 -- What single calls do to a player.
-use Rattle.std.specs.Prelude.{◌≡◌, ℕ, ◌+◌, ◌<◌, Bool, true, false, List, [], ◌∷◌, Some, None, Result, Ok, Err}
+use Rattle.std.specs.Prelude.{◌≡◌, ℕ, ◌+◌, ◌<◌, Bool, true, false, List, Some, None, Result, Ok, Err}
 use Rattle.graph_heap.specs.declared.no_memory.NoMemory.{NoMemory}
 use Rattle.heap_model.specs.declared.phase.Phase.{Phase}
 use Rattle.heap_model.specs.Event.{Course, Event, Quantum_done, Does}

@@ -6,10 +6,12 @@ mod fault;
 mod line;
 mod player;
 mod playing;
+mod style;
 
 pub use fault::PlayFault;
 pub use player::{Player, TickFault};
-pub use playing::play;
+pub use playing::{play, play_first};
+pub use style::Style;
 
 #[cfg(test)]
 mod tests;

@@ -1,54 +1,82 @@
 //! One line of a trace.
-ghost use Rattle.std.specs.Prelude.{◌≡◌, ◌+◌, ◌∷◌, ◌++◌, [], OnOk, OnErr};
-ghost use Rattle.trace.specs.Spelling.{reply_text};
+ghost use Rattle.std.specs.Prelude.{◌≡◌, ◌+◌, ◌<◌, ◌∷◌, ◌++◌, [], take, OnOk, OnErr};
 ghost use Rattle.trace.specs.Streams.{GrowsByPart, failed};
-ghost use Rattle.player.specs.Playing.{writes_failed};
+ghost use Rattle.player.specs.Playing.{written_line, is_event, writes_failed};
 ghost use Rattle.player.specs.Progress.{CommandDone, LineDone};
 
 use crate::fault::PlayFault;
 use crate::player::{Player, TickFault};
-use graph_heap::{Command, Reply};
-use trace::{Line, LineFault, Sink, WriteFailed, read_line, write_all, write_reply};
+use crate::style::Style;
+use graph_heap::{Command, Entry};
+use trace::{Line, LineFault, Sink, WriteFailed, read_line, write_all, write_entry, write_reply};
 
-/// Writes a reply and an LF.
-fn write_line<K: Sink>(sink: &mut K, reply: &Reply) -> Result<(), WriteFailed>
-    ensures ok { OnOk result (K.taken sink.new ≡ K.taken sink.old ++ (reply_text reply.now ++ 10 ∷ [])) }
-    ensures err { OnErr result (GrowsByPart (K.taken sink.old) (K.taken sink.new) (reply_text reply.now ++ 10 ∷ [])) }
+/// Writes the text at the front of a buffer, and an LF.
+fn write_ended<K: Sink>(sink: &mut K, out: &mut [u8; 256], end: usize) -> Result<(), WriteFailed>
+    requires { end < 256 }
+    ensures ok { OnOk result (K.taken sink.new ≡ K.taken sink.old ++ (take end out.old ++ 10 ∷ [])) }
+    ensures err { OnErr result (GrowsByPart (K.taken sink.old) (K.taken sink.new) (take end out.old ++ 10 ∷ [])) }
     ensures cause { K.failures sink.new ≡ K.failures sink.old + failed result }
 {
-    let mut out = [0; 256];
-    let end = write_reply(reply, &mut out, 0);
     out[end] = b'\n';
     write_all(sink, &out[..end + 1])
 }
 
-/// Does a command, and writes its reply.
+/// Writes the line of an entry, in a style.
+fn write_line<K: Sink>(sink: &mut K, style: Style, entry: &Entry) -> Result<(), WriteFailed>
+    ensures ok { OnOk result (K.taken sink.new ≡ K.taken sink.old ++ written_line style entry.now) }
+    ensures err { OnErr result (GrowsByPart (K.taken sink.old) (K.taken sink.new) (written_line style entry.now)) }
+    ensures cause { K.failures sink.new ≡ K.failures sink.old + failed result }
+{
+    let mut out = [0; 256];
+    match style {
+        Style::Replies => {
+            let end = write_reply(&entry.reply, &mut out, 0);
+            write_ended(sink, &mut out, end)
+        }
+        Style::Entries => {
+            let end = write_entry(entry, &mut out);
+            write_ended(sink, &mut out, end)
+        }
+        Style::Nothing => Ok(()),
+    }
+}
+
+/// Does a command, and writes its line.
 fn play_command<K: Sink>(
     mutator: u32,
     command: Command,
     sink: &mut K,
     player: &mut Player,
+    style: Style,
 ) -> Result<(), PlayFault>
-    ensures done { CommandDone mutator command player.old player.new (K.taken sink.old) (K.taken sink.new) result }
+    ensures done { CommandDone style mutator command player.old player.new (K.taken sink.old) (K.taken sink.new) result }
     ensures writes { K.failures sink.new ≡ K.failures sink.old + writes_failed result }
 {
     let Ok(receipt) = player.call(mutator, command) else {
         return Err(PlayFault::NoMemory);
     };
-    match write_line(sink, &receipt.entry.reply) {
+    match write_line(sink, style, &receipt.entry) {
         Ok(()) => Ok(()),
         Err(WriteFailed) => Err(PlayFault::Write),
     }
 }
 
-/// Does a line, and writes the reply if there is one.
+/// Whether a line isn't skipped. One that is done is then that of an event.
+pub fn is_event(bytes: &[u8]) -> bool
+    ensures { result ≡ is_event bytes.now }
+{
+    !matches!(bytes, [] | [b'#', ..])
+}
+
+/// Does a line, and writes what is written of it.
 pub fn play_line<K: Sink>(
     bytes: &[u8],
     number: u64,
     sink: &mut K,
     player: &mut Player,
+    style: Style,
 ) -> Result<(), PlayFault>
-    ensures done { LineDone bytes.now number player.old player.new (K.taken sink.old) (K.taken sink.new) result }
+    ensures done { LineDone style bytes.now number player.old player.new (K.taken sink.old) (K.taken sink.new) result }
     ensures writes { K.failures sink.new ≡ K.failures sink.old + writes_failed result }
 {
     let Some(line) = read_line(bytes) else {
@@ -56,7 +84,7 @@ pub fn play_line<K: Sink>(
     };
     match line {
         Line::Skip => Ok(()),
-        Line::Command { mutator, command } => play_command(mutator, command, sink, player),
+        Line::Command { mutator, command } => play_command(mutator, command, sink, player, style),
         Line::Begin => {
             player.begin();
             Ok(())

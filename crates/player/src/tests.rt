@@ -1,5 +1,6 @@
 //! Runs worked out by hand.
 mod collecting;
+mod first;
 
 use super::*;
 use graph_heap::{Command, NoMemory, Reference, Reply};
@@ -49,7 +50,7 @@ fn expect(
     let mut source = MemorySource::new(trace.as_bytes());
     let mut sink = MemorySink::new(rt.alloc());
     assert_eq!(rt;
-        play(&mut source, &mut sink, &mut player),
+        play(&mut source, &mut sink, &mut player, Style::Replies),
         answer,
         "{trace}"
     );
@@ -212,7 +213,7 @@ fn compare(rt: &(impl Abort + AllocGlobal), settings: &Settings, trace: &str) ->
     let mut player = player(rt, settings)?;
     let mut source = MemorySource::new(trace.as_bytes());
     let mut sink = MemorySink::new(rt.alloc());
-    play(&mut source, &mut sink, &mut player)?;
+    play(&mut source, &mut sink, &mut player, Style::Replies)?;
     let Ok(config) = Config::check(settings) else {
         panic!(rt; "the settings are good");
     };
@@ -270,7 +271,7 @@ fn each_write_fails_in_turn(rt: HostRuntime) -> Result<(), Fail> {
         let mut player = player(&rt, &FOUR_PAGES)?;
         let mut source = MemorySource::new(TRACE.as_bytes());
         let mut sink = FailAt::new(MemorySink::new(rt.alloc()), call as u64);
-        let answer = play(&mut source, &mut sink, &mut player);
+        let answer = play(&mut source, &mut sink, &mut player, Style::Replies);
         assert_eq!(rt; answer, Err(PlayFault::Write), "{call}");
         assert_eq!(rt; player.recorded().history().len(), call);
         assert_eq!(rt; sink.get_ref().bytes(), REPLIES[call - 1].as_bytes());
@@ -284,7 +285,7 @@ fn each_read_fails_in_turn(rt: HostRuntime) -> Result<(), Fail> {
         let mut player = player(&rt, &FOUR_PAGES)?;
         let mut source = FailAt::new(ReadSource::new(TRACE.as_bytes()), call);
         let mut sink = MemorySink::new(rt.alloc());
-        let answer = play(&mut source, &mut sink, &mut player);
+        let answer = play(&mut source, &mut sink, &mut player, Style::Replies);
         assert_eq!(rt; answer, Err(PlayFault::Read), "{call}");
         assert_eq!(rt; player.recorded().history().len(), lines);
         assert_eq!(rt; sink.bytes(), REPLIES[lines].as_bytes());
@@ -297,7 +298,7 @@ fn the_history_has_the_commands_and_replies(rt: HostRuntime) -> Result<(), Fail>
     let mut player = player(&rt, &FOUR_PAGES)?;
     let mut source = MemorySource::new(TRACE.as_bytes());
     let mut sink = MemorySink::new(rt.alloc());
-    play(&mut source, &mut sink, &mut player)?;
+    play(&mut source, &mut sink, &mut player, Style::Replies)?;
     assert_eq!(rt; player.recorded().history().len(), 3);
     let entry = player.recorded().history()[1];
     let put = Command::Put {

@@ -1,8 +1,9 @@
 //! Slots and statics in one row.
-ghost use Rattle.std.specs.Prelude.{◌≡◌, ◌<◌, ◌^◌, length, replicate, slice_index, slice_set, IfOk};
+ghost use Rattle.std.specs.Prelude.{◌≡◌, ◌<◌, ◌≤◌, ◌^◌, length, replicate, slice_index, slice_set, IfOk};
 ghost use Rattle.graph_heap.specs.Graph.{root_cells};
 ghost use Rattle.graph_heap.specs.Effect.{slot_at, static_at};
 ghost use Rattle.size_classes.specs.Config.{limits_of};
+ghost use Rattle.roots.specs.Used.{used_in};
 
 use graph_heap::{Limits, NoMemory, Refusal};
 use size_classes::Config;
@@ -94,5 +95,13 @@ impl Roots {
         ensures { result.now ≡ self.now.cells }
     {
         self.cells.as_slice()
+    }
+
+    /// How many cells aren't null.
+    pub fn used(&self) -> usize
+        ensures used { result ≡ used_in self.now.cells }
+        ensures within { result ≤ length self.now.cells }
+    {
+        self.cells.iter().filter(|cell| **cell != 0).count()
     }
 }

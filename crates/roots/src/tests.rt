@@ -30,8 +30,10 @@ fn slots_come_before_statics(rt: HostRuntime) -> Result<(), NoMemory> {
     assert_eq!(rt; roots.static_cell(1), Err(Refusal::BadStatic));
     assert_eq!(rt; roots.cells().len(), 9);
     assert_eq!(rt; roots.get(8), 0);
+    assert_eq!(rt; roots.used(), 0);
     roots.set(8, 5);
     assert_eq!(rt; roots.get(8), 5);
+    assert_eq!(rt; roots.used(), 1);
     assert_eq!(rt; roots.get(7), 0);
     assert_eq!(rt; roots.limits().slots, 4);
     Ok(())

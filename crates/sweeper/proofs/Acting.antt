@@ -1,6 +1,6 @@
 -- Steps of the sweeper, as actions.
-use Rattle.std.proofs.Common.{◌≡◌, ◌≢◌, ℕ, ◌+◌, ◌<◌, ◌≤◌, Bool, true, false, not, length, set, get_or, Option, Some, None, ap, ◌∙◌, sym, subst, refl, arith}
-use Rattle.std.specs.Prelude.{slice_get, IfSome, IsSomeAnd, IsSome, IsNone, ◌↔◌, is_some}
+use Rattle.std.proofs.Common.{◌≡◌, ℕ, ◌+◌, ◌<◌, ◌≤◌, Bool, true, false, length, set, Option, Some, None, ap, ◌∙◌, sym, subst, refl, arith}
+use Rattle.std.specs.Prelude.{slice_get, IfSome, IsSomeAnd, IsSome, ◌↔◌}
 use Rattle.std.proofs.lemmas.Bool.{le-leb}
 use Rattle.heap_model.specs.declared.phase.Phase.TheVariants as phases
 use Rattle.heap_model.specs.Pages.{Page, page_at, with_held}

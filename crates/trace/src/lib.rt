@@ -29,7 +29,7 @@ pub use memory::{MemorySink, MemorySource};
 pub use sink::{Sink, WriteFailed, write_all};
 pub use source::{ReadFailed, Source};
 pub use standard::{ReadSource, WriteSink};
-pub use write::{write_command, write_reply};
+pub use write::{write_command, write_entry, write_reply};
 
 #[cfg(test)]
 mod tests;

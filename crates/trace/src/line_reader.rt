@@ -124,6 +124,7 @@ impl LineReader {
         ensures end { IfOk result (λ n. n ≡ 0 → IsTrue (S.ended source.new)) }
         ensures cause { S.failures source.new ≡ S.failures source.old + failed result }
         ensures input { OnOk result (Stays (S.input source.old) (S.input source.new)) }
+        ensures small { length self.new.kept ≤ 4096 }
     {
         let kept = self.end - self.start;
         to_front(&mut self.buffer, self.start, self.end);
@@ -150,6 +151,7 @@ impl LineReader {
         ensures number { IsTrue result → self.new.number ≡ self.old.number + 1 }
         ensures none { result ≡ false → NoLf (take 257 self.old.kept) }
         ensures same { result ≡ false → self.new ≡ self.old }
+        ensures small { length self.old.kept ≤ 4096 }
     {
         let Some(length) = line_feed(&self.buffer[self.start..self.end]) else {
             return false;
@@ -179,6 +181,8 @@ impl LineReader {
         ensures number { self.new.number ≡ self.old.number + lines_by result }
         ensures behind { self.new.number + length self.new.kept ≤ length (S.given source.new) }
         ensures counted { self.new.number < 2 ^ 64 }
+        // With what came behind it, the line fits into a buffer.
+        ensures small { length (text_by result self.new) ≤ 4096 }
         ensures cause { S.failures source.new ≡ S.failures source.old + failures_by result }
         ensures input { failures_by result ≡ 0 → Stays (S.input source.old) (S.input source.new) }
     {

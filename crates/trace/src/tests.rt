@@ -339,6 +339,20 @@ const OTHER_ENTRIES: [&str; 13] = [
 ];
 
 #[test]
+fn entries_are_written(rt: HostRuntime) {
+    for (text, command, reply) in ENTRIES {
+        let entry = Entry {
+            mutator: 0,
+            command,
+            reply,
+        };
+        let mut out = [0; 256];
+        let end = write_entry(&entry, &mut out);
+        assert_eq!(rt; &out[..end], text.as_bytes(), "{text}");
+    }
+}
+
+#[test]
 fn entries_are_read(rt: HostRuntime) {
     for (text, command, reply) in ENTRIES {
         let entry = Entry {

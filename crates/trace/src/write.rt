@@ -1,9 +1,9 @@
-//! Writing commands and replies.
+//! Writing commands, replies and entries.
 ghost use Rattle.std.specs.Prelude.{◌≡◌, ◌≤◌, ◌+◌, ◌++◌, ◌∷◌, codes, length, take, slice_index, decimal};
 ghost use Rattle.graph_heap.specs.Refusal.{refusal_number};
-ghost use Rattle.trace.specs.Spelling.{two, three, four, shape_text, command_text, command_line, reply_text};
+ghost use Rattle.trace.specs.Spelling.{two, three, four, shape_text, command_text, command_line, reply_text, entry_line};
 
-use graph_heap::{Command, Reply, Shape};
+use graph_heap::{Command, Entry, Reply, Shape};
 use itoa::Buffer;
 
 /// Writes bytes at a place, and answers the place behind them.
@@ -176,4 +176,15 @@ pub fn write_reply(reply: &Reply, out: &mut [u8; 256], at: usize) -> usize
     ensures place { result ≡ at + length (reply_text reply.now) }
 {
     put_reply(out.as_mut_slice(), at, reply)
+}
+
+/// Writes an entry's line, without LF, at the front, and answers the place behind it.
+pub fn write_entry(entry: &Entry, out: &mut [u8; 256]) -> usize
+    ensures text { take result out.new ≡ entry_line entry.now }
+    ensures short { length (entry_line entry.now) ≤ 193 }
+    ensures place { result ≡ length (entry_line entry.now) }
+{
+    let next = write_command(entry.mutator, &entry.command, out, 0);
+    let next = put(out.as_mut_slice(), next, b" => ");
+    write_reply(&entry.reply, out, next)
 }

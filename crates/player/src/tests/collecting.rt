@@ -26,7 +26,7 @@ fn played(
     let mut player = player(rt, settings)?;
     let mut source = MemorySource::new(trace.as_bytes());
     let mut sink = MemorySink::new(rt.alloc());
-    play(&mut source, &mut sink, &mut player)?;
+    play(&mut source, &mut sink, &mut player, Style::Replies)?;
     assert_eq!(rt; sink.bytes(), written.as_bytes(), "{trace}");
     Ok(player)
 }

@@ -1,6 +1,5 @@
-use Rattle.std.proofs.Common.{◌≡◌, ◌∷◌, ◌++◌, [], List, ℕ, append-nil, ap, sym, subst, refl}
+use Rattle.std.proofs.Common.{◌∷◌, [], append-nil, sym, subst, refl}
 use Rattle.heap_model.specs.Event.{Quantum_done}
-use Rattle.trace.specs.declared.line.Line.{Line}
 use Rattle.trace.specs.declared.line.Line.TheVariants as lines
 use Rattle.trace.specs.Spelling.{Spells}
 use Rattle.player.specs.Player.{PlayerState, DoesLine, Skips, Spends}
@@ -23,4 +22,4 @@ returns-in-Quantum-clause-done g c =
 pub returns-in-Ok-clause-done : goal.returns-in-Ok-clause-done
 returns-in-Ok-clause-done g c =
     let t = c.in-Ok.ensures in
-    (lines.Tick c.in-Tick.ticks, t.0, subst (Spells c.args.bytes.now) c.in-Tick.is c.in-Some.ensures.found, t.1, tick_written (g.K.Sink.taken c.args.sink.now) c.args.player.now c.tick.new.self (lines.Tick c.in-Tick.ticks) c.in-Tick.ticks t.0 refl t.1)
+    (lines.Tick c.in-Tick.ticks, t.0, subst (Spells c.args.bytes.now) c.in-Tick.is c.in-Some.ensures.found, t.1, tick_written c.args.style (g.K.Sink.taken c.args.sink.now) c.args.player.now c.tick.new.self (lines.Tick c.in-Tick.ticks) c.in-Tick.ticks t.0 refl t.1)

@@ -6,7 +6,7 @@ use Rattle.player.proofs.playing.play.Given as goal
 -- the lines so far are done, and no read or write has failed
 abbrev pub invariant-loop-reader : goal.invariant-loop-reader
 invariant-loop-reader g l = record {
-  done : SoFar (g.S.Source.given l.fn.source) (g.S.Source.given l.source) l.fn.player l.player (g.K.Sink.taken l.fn.sink) (g.K.Sink.taken l.sink) l.reader.kept l.reader.number;
+  done : SoFar l.style (g.S.Source.given l.fn.source) (g.S.Source.given l.source) l.fn.player l.player (g.K.Sink.taken l.fn.sink) (g.K.Sink.taken l.sink) l.reader.kept l.reader.number;
   behind : l.reader.number + length l.reader.kept ≤ length (g.S.Source.given l.source);
   reads : g.S.Source.failures l.source ≡ g.S.Source.failures l.fn.source;
   writes : g.K.Sink.failures l.sink ≡ g.K.Sink.failures l.fn.sink;

@@ -1,6 +1,4 @@
-use Rattle.std.proofs.Common.{◌≤◌, ◌<◌, length, arith}
-use Rattle.nodes.specs.Pages.{blocks_on}
-use Rattle.heap_model.specs.Pages.{page_at}
+use Rattle.std.proofs.Common.{arith}
 use Rattle.sweeper.proofs.Acting.{closes}
 use Rattle.sweeper.proofs.sweep.sweep_one.Goals as goal
 

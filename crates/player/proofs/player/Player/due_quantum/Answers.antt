@@ -1,5 +1,4 @@
-use Rattle.std.proofs.Common.{◌<◌, ap, sym, subst, Ok, true}
-use Rattle.std.specs.Prelude.{Some}
+use Rattle.std.proofs.Common.{ap, subst, Ok, true}
 use Rattle.quanta.specs.Timetable.{Timetable, with_reserved}
 use Rattle.player.specs.Player.{PlayerState, player_of}
 use Rattle.player.specs.Ticking.{DueDone}

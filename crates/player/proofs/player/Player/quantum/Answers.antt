@@ -1,5 +1,4 @@
-use Rattle.std.proofs.Common.{◌≡◌, false, true, ap, ◌∙◌, sym, subst}
-use Rattle.std.specs.Bool.{IsTrue}
+use Rattle.std.proofs.Common.{◌≡◌, false, true, ◌∙◌, sym, subst}
 use Rattle.quanta.specs.Timetable.{with_reserved}
 use Rattle.player.specs.Player.{PlayerState, player_of}
 use Rattle.player.specs.Ticking.{Spent}

@@ -1,4 +1,4 @@
-use Rattle.std.proofs.Common.{◌≡◌, ◌+◌, ◌≤◌, [], Ok, ap, ◌∙◌, sym, subst, refl, arith}
+use Rattle.std.proofs.Common.{◌≡◌, ◌+◌, [], Ok, ap, ◌∙◌, sym, subst, refl, arith}
 use Rattle.std.specs.Prelude.{OnOk}
 use Rattle.quanta.specs.Timetable.{Timetable, with_reserved}
 use Rattle.player.specs.Player.{PlayerState, player_of, None_yet}

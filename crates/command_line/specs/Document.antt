@@ -1,0 +1,113 @@
+-- What a configuration file says, and what is wrong with it.
+use Rattle.std.specs.Prelude.{◌≡◌, ℕ, ◌≤◌, nat_lt, ℤ, pos, Bool, false, not, ◌||◌, if◌then◌else◌, List, [], ◌∷◌, ◌++◌, map, length, Option, Some, None, is_some, Result, Ok, Err, String}
+use Rattle.std.specs.Option.{unwrap_or}
+use Rattle.std.specs.Str.{IsUtf8, is_utf8}
+use Rattle.std.specs.BTreeMap.{BTreeMap}
+use Rattle.std.specs.declared.alloc.Global.{Global}
+use Rattle.size_classes.specs.declared.config.Config.{Config}
+use Rattle.size_classes.specs.declared.fault.Key.{Key}
+use Rattle.size_classes.specs.declared.fault.Key.TheVariants as keys_of_files
+use Rattle.size_classes.specs.declared.fault.ConfigFault.{ConfigFault}
+use Rattle.size_classes.specs.declared.fault.ConfigFault.TheVariants as faults
+use Rattle.size_classes.specs.declared.settings.Settings.{Settings}
+use Rattle.size_classes.specs.Config.{is_between, budget_fault, IsOf}
+use Rattle.toml.specs.Data.{Data, integer, get_member, Members, no_members, member}
+use Rattle.toml.specs.Errors.{IsBlank}
+use Rattle.toml.specs.Parse.{parse_document}
+use Rattle.toml.specs.View.{table_view}
+use Rattle.toml.specs.declared.value.Value.{Value}
+use Rattle.command_line.specs.declared.fault.ReadFault.{ReadFault}
+use Rattle.command_line.specs.declared.fault.ReadFault.TheVariants.{Refused, NoMemory}
+use Rattle.command_line.specs.Keys.{row_of, keys, is_known}
+
+-- the members of the document in these bytes, if they are UTF-8 and TOML reads a document in them
+abbrev pub document_of : List ℕ → Option Members
+document_of bytes = if is_utf8 bytes then parse_document bytes else None
+
+-- some member's key isn't known
+abbrev pub has_unknown_key : Members → Bool
+has_unknown_key no_members = false
+has_unknown_key (member name value rest) = not (is_known name) || has_unknown_key rest
+
+-- what is wrong with what stands at a key
+abbrev pub value_fault : Key → Option Data → Option ConfigFault
+value_fault key None = if is_some (row_of key).default then None else Some (faults.Missing key)
+value_fault key (Some (integer n)) = if is_between (row_of key).least (row_of key).greatest n then None else Some (faults.OutOfRange key)
+value_fault key (Some _) = Some (faults.NotWhole key)
+
+abbrev pub key_fault : Members → Key → Option ConfigFault
+key_fault document key = value_fault key (get_member (row_of key).name document)
+
+-- the number at a key, or its default
+abbrev pub number_in : Key → Option Data → ℤ
+number_in key (Some (integer n)) = n
+number_in key _ = unwrap_or (row_of key).default (pos 0)
+
+abbrev pub number_for : Members → Key → ℤ
+number_for document key = number_in key (get_member (row_of key).name document)
+
+abbrev pub settings_of : Members → Settings
+settings_of document = record {
+  pages = number_for document keys_of_files.Pages;
+  mutators = number_for document keys_of_files.Mutators;
+  slots = number_for document keys_of_files.Slots;
+  statics = number_for document keys_of_files.Statics;
+  identities = number_for document keys_of_files.Identities;
+  defrag_below = number_for document keys_of_files.DefragBelow;
+  defrag_pages = number_for document keys_of_files.DefragPages;
+  collector_ticks = number_for document keys_of_files.CollectorTicks;
+  mutator_ticks = number_for document keys_of_files.MutatorTicks;
+  rate = number_for document keys_of_files.Rate;
+}
+
+-- the first that there is
+abbrev pub first_some : List (Option ConfigFault) → Option ConfigFault
+first_some [] = None
+first_some (None ∷ rest) = first_some rest
+first_some (Some fault ∷ rest) = Some fault
+
+-- for each key in turn, what is wrong with it
+abbrev pub keys_faults : Members → List (Option ConfigFault)
+keys_faults document = map (key_fault document) keys
+
+abbrev pub unknown_fault : Members → Option ConfigFault
+unknown_fault document = if has_unknown_key document then Some faults.UnknownKey else None
+
+-- the first fault of a document: a key that isn't known, then the fault of each key in turn, last the budget
+abbrev pub document_fault : Members → Option ConfigFault
+document_fault document = first_some (unknown_fault document ∷ keys_faults document ++ budget_fault (settings_of document) ∷ [])
+
+abbrev pub fault_in : Option Members → Option ConfigFault
+fault_in None = Some faults.NotToml
+fault_in (Some document) = document_fault document
+
+-- the first fault of a file of these bytes: it is too long, it is no document, or the document's
+abbrev pub file_fault : List ℕ → Option ConfigFault
+file_fault bytes = if nat_lt 65536 (length bytes) then Some faults.TooLong else fault_in (document_of bytes)
+
+-- the configuration has the numbers of the document
+abbrev pub Configures : Option Members → Config → Type 0
+Configures None config = ⊥
+Configures (Some document) config = IsOf (settings_of document) config
+
+-- a file for which memory may be refused: it isn't too long, and is a text with more in it than blanks
+pub record NeedsMemory (bytes : List ℕ) : Type 0 where
+  pub short : length bytes ≤ 65536
+  pub text : IsUtf8 bytes
+  pub said : ¬ (IsBlank bytes)
+
+-- what a file of these bytes is answered: a configuration where it has no fault, or its first fault,
+-- or no memory
+abbrev pub IsRead : List ℕ → Result Config ReadFault → Type 0
+IsRead bytes (Ok config) = (file_fault bytes ≡ None) × Configures (document_of bytes) config
+IsRead bytes (Err (Refused fault)) = file_fault bytes ≡ Some fault
+IsRead bytes (Err NoMemory) = NeedsMemory bytes
+
+abbrev pub Table : Type 0
+Table = BTreeMap (String Global) Value
+
+-- the same, of the document alone
+abbrev pub IsOpened : List ℕ → Result Table ReadFault → Type 0
+IsOpened bytes (Ok table) = (length bytes ≤ 65536) × (document_of bytes ≡ Some (table_view table))
+IsOpened bytes (Err (Refused fault)) = file_fault bytes ≡ Some fault
+IsOpened bytes (Err NoMemory) = NeedsMemory bytes

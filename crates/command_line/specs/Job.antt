@@ -1,0 +1,18 @@
+-- What the words of a command line ask for.
+use Rattle.std.specs.Prelude.{ℕ, ◌<◌, ◌≤◌, length}
+use Rattle.std.specs.List.{All}
+use Rattle.std.specs.Option.{IfSome}
+use Rattle.command_line.specs.declared.job.Job.{Job}
+use Rattle.command_line.specs.declared.job.Job.TheVariants.{Play, Check, Threads, Inspect, Mmu}
+
+-- a window has 1 to 1099511627776 ticks
+abbrev pub IsWindow : ℕ → Type 0
+IsWindow ticks = (1 ≤ ticks) × (ticks ≤ 1099511627776)
+
+-- the numbers of a job lie in their ranges
+abbrev pub IsInRange : Job → Type 0
+IsInRange (Play config trace history) = Unit {0}
+IsInRange (Check config history) = Unit {0}
+IsInRange (Threads config scripts turns budget) = (turns ≤ 10000) × (256 ≤ budget) × (budget ≤ 1000000)
+IsInRange (Inspect config trace after) = IfSome after (λ lines. lines ≤ 4294967295)
+IsInRange (Mmu config trace windows) = (0 < length windows.items) × All IsWindow windows.items

@@ -1,0 +1,94 @@
+//! The command line as `clap` reads it.
+use clap::{Arg, ArgAction, Command, value_parser};
+use std::alloc::{AllocError, Global};
+
+/// The program, with its subcommands.
+pub fn program<'a>(alloc: Global) -> Result<Command<'a>, AllocError> {
+    Command::new(alloc, "metronome")
+        .about("A real-time garbage-collected heap: plays, checks and measures its traces")
+        .subcommand_required(true)
+        .subcommand(play(alloc)?)?
+        .subcommand(check(alloc)?)?
+        .subcommand(threads(alloc)?)?
+        .subcommand(inspect(alloc)?)?
+        .subcommand(mmu(alloc)?)
+}
+
+/// A file that a subcommand needs.
+fn file<'a>(alloc: Global, name: &'a str, help: &'a str) -> Arg<'a> {
+    Arg::new(alloc, name).required(true).help(help)
+}
+
+fn config<'a>(alloc: Global) -> Arg<'a> {
+    file(alloc, "CONFIG", "The configuration, in TOML")
+}
+
+fn trace<'a>(alloc: Global) -> Arg<'a> {
+    file(alloc, "TRACE", "The trace, or - for standard input")
+}
+
+fn play<'a>(alloc: Global) -> Result<Command<'a>, AllocError> {
+    let history = Arg::new(alloc, "history")
+        .long("history")
+        .action(ArgAction::SetTrue)
+        .help("Write the entry of each command, and not its reply alone");
+    Command::new(alloc, "play")
+        .about("Play a trace and write its replies")
+        .arg(config(alloc))?
+        .arg(trace(alloc))?
+        .arg(history)
+}
+
+fn check<'a>(alloc: Global) -> Result<Command<'a>, AllocError> {
+    let history = file(alloc, "HISTORY", "The history, or - for standard input");
+    Command::new(alloc, "check")
+        .about("Check the replies of a history")
+        .arg(config(alloc))?
+        .arg(history)
+}
+
+fn threads<'a>(alloc: Global) -> Result<Command<'a>, AllocError> {
+    let scripts = file(alloc, "SCRIPTS", "The scripts, or - for standard input");
+    let turns = Arg::new(alloc, "turns")
+        .long("turns")
+        .value_name("N")
+        .value_parser(value_parser!(u32))
+        .help("Quanta of the collector, 0 to 10000 [default: 100]");
+    let budget = Arg::new(alloc, "budget")
+        .long("budget")
+        .value_name("B")
+        .value_parser(value_parser!(u32))
+        .help("Units of each quantum, 256 to 1000000 [default: 256]");
+    Command::new(alloc, "threads")
+        .about("Run scripts on threads and write their history")
+        .arg(config(alloc))?
+        .arg(scripts)?
+        .arg(turns)?
+        .arg(budget)
+}
+
+fn inspect<'a>(alloc: Global) -> Result<Command<'a>, AllocError> {
+    let after = Arg::new(alloc, "after")
+        .long("after")
+        .value_name("N")
+        .value_parser(value_parser!(u32))
+        .help("Play the first N event lines only");
+    Command::new(alloc, "inspect")
+        .about("Play a trace and report the heap")
+        .arg(config(alloc))?
+        .arg(trace(alloc))?
+        .arg(after)
+}
+
+fn mmu<'a>(alloc: Global) -> Result<Command<'a>, AllocError> {
+    let windows = Arg::new(alloc, "WINDOW")
+        .required(true)
+        .num_args(1..)
+        .value_parser(value_parser!(u64))
+        .help("Windows, each of 1 to 1099511627776 ticks");
+    Command::new(alloc, "mmu")
+        .about("Play a trace and write the least that mutators have of windows")
+        .arg(config(alloc))?
+        .arg(trace(alloc))?
+        .arg(windows)
+}

@@ -1,0 +1,108 @@
+//! The configuration file.
+ghost use Rattle.std.specs.Prelude.{◌≡◌, true, None, IfOk};
+ghost use Rattle.std.specs.Result.{result_err};
+ghost use Rattle.size_classes.specs.Config.{is_between, first_outside, table, IsOf};
+ghost use Rattle.toml.specs.View.{table_view};
+ghost use Rattle.command_line.specs.Keys.{row_of};
+ghost use Rattle.command_line.specs.Document.{IsRead, IsOpened, has_unknown_key, key_fault, number_for, settings_of, first_some, document_fault, keys_faults};
+
+use crate::fault::ReadFault;
+use crate::keys::{is_known, row_of};
+use size_classes::{Config, ConfigFault, Key, Settings};
+use std::alloc::Global;
+use toml::Table;
+
+/// The most bytes that a file may have.
+const GREATEST_LENGTH: usize = 65536;
+
+/// The configuration that a file of these bytes gives, checked, or the first fault: the file is too
+/// long, it isn't TOML, it names a key that isn't known; then for each key in turn it is missing, not
+/// a whole number, or out of its range; last the budget of a quantum is out of range. Where memory is
+/// refused before that is known, it is no memory.
+pub fn read_config(alloc: Global, bytes: &[u8]) -> Result<Config, ReadFault>
+    ensures { IsRead bytes.now result }
+{
+    let document = open(alloc, bytes)?;
+    config_in(&document).map_err(ReadFault::Refused)
+}
+
+/// The document in these bytes.
+fn open(alloc: Global, bytes: &[u8]) -> Result<Table, ReadFault>
+    ensures { IsOpened bytes.now result }
+{
+    if bytes.len() > GREATEST_LENGTH {
+        return Err(ReadFault::Refused(ConfigFault::TooLong));
+    }
+    let Ok(text) = std::str::from_utf8(bytes) else {
+        return Err(ReadFault::Refused(ConfigFault::NotToml));
+    };
+    match toml::table_from_str(alloc, text) {
+        Ok(table) => Ok(table),
+        Err(error) if error.is_memory() => Err(ReadFault::NoMemory),
+        Err(_) => Err(ReadFault::Refused(ConfigFault::NotToml)),
+    }
+}
+
+/// The configuration that a document gives, or its first fault.
+fn config_in(document: &Table) -> Result<Config, ConfigFault>
+    ensures fault { result_err result ≡ document_fault (table_view document.now) }
+    ensures values { IfOk result (IsOf (settings_of (table_view document.now))) }
+{
+    if has_unknown_key(document) {
+        return Err(ConfigFault::UnknownKey);
+    }
+    let settings = settings_in(document)?;
+    Config::check(&settings)
+}
+
+/// Whether a document has a key that isn't known.
+fn has_unknown_key(document: &Table) -> bool
+    ensures { result ≡ has_unknown_key (table_view document.now) }
+{
+    document.keys().any(|key| !is_known(key.as_str()))
+}
+
+/// The settings that a document gives, with the defaults filled in, or the fault of the first key that
+/// has one.
+fn settings_in(document: &Table) -> Result<Settings, ConfigFault>
+    ensures fault { result_err result ≡ first_some (keys_faults (table_view document.now)) }
+    ensures values { IfOk result (λ s. s ≡ settings_of (table_view document.now)) }
+    ensures ranges { IfOk result (λ s. first_outside (table s) ≡ None) }
+{
+    Ok(Settings {
+        pages: number_at(document, Key::Pages)?,
+        mutators: number_at(document, Key::Mutators)?,
+        slots: number_at(document, Key::Slots)?,
+        statics: number_at(document, Key::Statics)?,
+        identities: number_at(document, Key::Identities)?,
+        defrag_below: number_at(document, Key::DefragBelow)?,
+        defrag_pages: number_at(document, Key::DefragPages)?,
+        collector_ticks: number_at(document, Key::CollectorTicks)?,
+        mutator_ticks: number_at(document, Key::MutatorTicks)?,
+        rate: number_at(document, Key::Rate)?,
+    })
+}
+
+/// The number that a document has for a key, else the key's default.
+fn number_at(document: &Table, key: Key) -> Result<i64, ConfigFault>
+    ensures fault { result_err result ≡ key_fault (table_view document.now) key }
+    ensures value { IfOk result (λ n. n ≡ number_for (table_view document.now) key) }
+    ensures within { IfOk result (λ n. is_between (row_of key).least (row_of key).greatest n ≡ true) }
+{
+    let row = row_of(key);
+    let Some(value) = document.get(row.name) else {
+        return row.default.ok_or(ConfigFault::Missing(key));
+    };
+    match value.as_integer() {
+        Some(number) if is_between(number, row.least, row.greatest) => Ok(number),
+        Some(_) => Err(ConfigFault::OutOfRange(key)),
+        None => Err(ConfigFault::NotWhole(key)),
+    }
+}
+
+#[tactic(auto, unfolding(size_classes::specs::Config::is_between))]
+fn is_between(number: i64, least: i64, greatest: i64) -> bool
+    ensures { result ≡ is_between least greatest number }
+{
+    least <= number && number <= greatest
+}

@@ -1,0 +1,51 @@
+//! Why a configuration file or a command line is refused.
+use size_classes::ConfigFault;
+use std::alloc::{AllocError, AllocFailed};
+use thiserror::Error;
+
+/// Why a file gives no configuration. Its text is what a user reads.
+#[derive(Clone, Copy, Debug, PartialEq, Eq, Error)]
+pub enum ReadFault {
+    /// The first thing that is wrong with the file.
+    #[error("{0}")]
+    Refused(ConfigFault),
+    /// Memory was refused while the document was read.
+    #[error("no memory")]
+    NoMemory,
+}
+
+/// Why words give no job.
+#[derive(Debug, PartialEq, Eq, Drop, Error)]
+pub enum WordsFault {
+    /// Help was asked for: the text, for standard output.
+    #[error("{0}")]
+    Help(String),
+    /// The words are refused: the text, for standard error.
+    #[error("{0}")]
+    Refused(String),
+    /// Memory was refused while the words were read.
+    #[error("no memory")]
+    NoMemory,
+}
+
+impl From<AllocError> for WordsFault {
+    ghost use Rattle.std.specs.Prelude.{◌≡◌};
+    ghost use Rattle.command_line.specs.declared.fault.WordsFault.TheVariants as faults;
+
+    ghost from_gives = { λ refused fault. fault ≡ faults.NoMemory };
+
+    fn from(_refused: AllocError) -> WordsFault {
+        WordsFault::NoMemory
+    }
+}
+
+impl<T: Drop> From<AllocFailed<T>> for WordsFault {
+    ghost use Rattle.std.specs.Prelude.{◌≡◌};
+    ghost use Rattle.command_line.specs.declared.fault.WordsFault.TheVariants as faults;
+
+    ghost from_gives = { λ refused fault. fault ≡ faults.NoMemory };
+
+    fn from(_refused: AllocFailed<T>) -> WordsFault {
+        WordsFault::NoMemory
+    }
+}

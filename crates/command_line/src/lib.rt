@@ -1,0 +1,17 @@
+//! What a user hands the program: the words of the command line, and the configuration file.
+#![tactic(auto)]
+
+mod commands;
+mod document;
+mod fault;
+mod job;
+mod keys;
+mod words;
+
+pub use document::read_config;
+pub use fault::{ReadFault, WordsFault};
+pub use job::Job;
+pub use words::read_words;
+
+#[cfg(test)]
+mod tests;

@@ -1,0 +1,3 @@
+//! Configuration files and command lines, with what they give.
+mod config;
+mod line;

@@ -1,0 +1,172 @@
+//! Each fault of a configuration file with its text, and files that are good.
+use crate::{ReadFault, read_config};
+use size_classes::Config;
+use std::alloc::Global;
+use std::process::Abort;
+use std::test::Fail;
+
+/// The text of the fault of a file, or nothing where it is good.
+fn fault_of(alloc: Global, bytes: &[u8]) -> Result<String, Fail> {
+    match read_config(alloc, bytes) {
+        Ok(_) => Ok(String::new(alloc)),
+        Err(fault) => Ok(format!(in alloc; "{fault}")?),
+    }
+}
+
+/// Expects the text of the fault of a file.
+fn expect(rt: &impl Abort, alloc: Global, text: &str, fault: &str) -> Result<(), Fail> {
+    let told = fault_of(alloc, text.as_bytes())?;
+    assert!(rt; told.as_str() == fault, "of {text}: {told}");
+    Ok(())
+}
+
+#[test]
+fn a_file_has_faults(rt: HostRuntime) -> Result<(), Fail> {
+    let rows = [
+        ("pages = 0\n", "pages out of range"),
+        ("pages = \"4\"\n", "pages not a whole number"),
+        ("pages = 4\ncolour = 1\n", "unknown key"),
+        ("pages = 4\n", "mutators missing"),
+        ("pages = 4\npages = 5\n", "not TOML"),
+        ("pages = \n", "not TOML"),
+        ("", "pages missing"),
+        ("# nothing\n", "pages missing"),
+        ("[pages]\nx = 1\n", "pages not a whole number"),
+        ("pages = 4.0\n", "pages not a whole number"),
+        ("pages = -1\n", "pages out of range"),
+    ];
+    for (text, fault) in rows {
+        expect(&rt, rt.alloc(), text, fault)?;
+    }
+    Ok(())
+}
+
+#[test]
+fn the_first_fault_is_told(rt: HostRuntime) -> Result<(), Fail> {
+    let rows = [
+        ("pages = 0\nmutators = 0\n", "pages out of range"),
+        ("pages = 0\ncolour = 1\n", "unknown key"),
+        (
+            "slots = true\nmutators = 65\npages = 4097\n",
+            "pages out of range",
+        ),
+        (
+            "slots = true\nmutators = 65\npages = 4096\n",
+            "mutators out of range",
+        ),
+        (
+            "slots = true\nmutators = 64\npages = 4096\n",
+            "slots not a whole number",
+        ),
+        (
+            "rate = true\nmutators = 64\npages = 4096\n",
+            "slots missing",
+        ),
+        ("[pages.colour]\n[colour]\n", "unknown key"),
+    ];
+    for (text, fault) in rows {
+        expect(&rt, rt.alloc(), text, fault)?;
+    }
+    Ok(())
+}
+
+#[test]
+fn a_key_has_a_range(rt: HostRuntime) -> Result<(), Fail> {
+    let rows = [
+        ("statics = 256", ""),
+        ("statics = 257", "statics out of range"),
+        ("statics = -1", "statics out of range"),
+        ("identities = 1", ""),
+        ("identities = 0", "identities out of range"),
+        ("identities = 9223372036854775807", ""),
+        ("defrag_below = 4097", ""),
+        ("defrag_below = 4098", "defrag_below out of range"),
+        ("defrag_pages = 4096", ""),
+        ("defrag_pages = 4097", "defrag_pages out of range"),
+        ("mutator_ticks = 1000000", ""),
+        ("mutator_ticks = 0", "mutator_ticks out of range"),
+    ];
+    for (line, fault) in rows {
+        expect_with(&rt, rt.alloc(), line, fault)?;
+    }
+    Ok(())
+}
+
+#[test]
+fn a_budget_has_a_range(rt: HostRuntime) -> Result<(), Fail> {
+    let rows = [
+        ("collector_ticks = 1", "budget out of range"),
+        ("collector_ticks = 2", "budget out of range"),
+        ("collector_ticks = 3", ""),
+        ("collector_ticks = 10000", ""),
+        ("collector_ticks = 10001", "budget out of range"),
+        ("collector_ticks = 1000001", "collector_ticks out of range"),
+        ("rate = 25", "budget out of range"),
+        ("rate = 26", ""),
+        ("rate = 1000001", "rate out of range"),
+    ];
+    for (line, fault) in rows {
+        expect_with(&rt, rt.alloc(), line, fault)?;
+    }
+    Ok(())
+}
+
+/// Expects the fault of a file with good required keys and one line more.
+fn expect_with(rt: &impl Abort, alloc: Global, line: &str, fault: &str) -> Result<(), Fail> {
+    let text = format!(in alloc; "pages = 4\nmutators = 2\nslots = 4\n{line}\n")?;
+    expect(rt, alloc, text.as_str(), fault)
+}
+
+#[test]
+fn a_file_has_bytes(rt: HostRuntime) -> Result<(), Fail> {
+    let alloc = rt.alloc();
+    assert!(rt; fault_of(alloc, b"pages = 4 # \xff\n")?.as_str() == "not TOML");
+    let mut long = Vec::new(alloc);
+    for _ in 0..65536 {
+        long.push(b' ')?;
+    }
+    assert!(rt; fault_of(alloc, long.as_slice())?.as_str() == "pages missing");
+    long.push(0xff)?;
+    assert!(rt; fault_of(alloc, long.as_slice())?.as_str() == "too long");
+    Ok(())
+}
+
+#[test]
+fn a_good_file_has_defaults(rt: HostRuntime) -> Result<(), ReadFault> {
+    let text = "pages = 4\nmutators = 2\nslots = 4\nstatics = 1\n";
+    let config = read_config(rt.alloc(), text.as_bytes())?;
+    let wanted = (4, 2, 4, 1, 9223372036854775807);
+    let Config {
+        pages,
+        mutators,
+        slots,
+        statics,
+        identities,
+        ..
+    } = config;
+    assert!(rt; (pages, mutators, slots, statics, identities) == wanted);
+    assert!(rt; config.defrag_below == 0 && config.defrag_pages == 0);
+    assert!(rt; config.collector_ticks == 10 && config.mutator_ticks == 12);
+    assert!(rt; config.rate == 100);
+    Ok(())
+}
+
+#[test]
+fn a_good_file_has_its_numbers(rt: HostRuntime) -> Result<(), ReadFault> {
+    let text =
+        "rate = 7\nmutator_ticks = 5\ncollector_ticks = 50\ndefrag_pages = 6\ndefrag_below = 8\n\
+        identities = 9\nstatics = 0x0a\nslots = 11\nmutators = 12\npages = 1_3\n";
+    let config = read_config(rt.alloc(), text.as_bytes())?;
+    assert!(rt; config.pages == 13 && config.mutators == 12 && config.slots == 11);
+    assert!(rt; config.statics == 10 && config.identities == 9);
+    assert!(rt; config.defrag_below == 8 && config.defrag_pages == 6);
+    assert!(rt; config.collector_ticks == 50 && config.mutator_ticks == 5 && config.rate == 7);
+    Ok(())
+}
+
+#[test]
+fn want_of_memory_has_its_text(rt: HostRuntime) -> Result<(), Fail> {
+    let fault = ReadFault::NoMemory;
+    assert!(rt; format!(in rt.alloc(); "{fault}")?.as_str() == "no memory");
+    Ok(())
+}

@@ -1,0 +1,201 @@
+//! Command lines, with the jobs that they ask for and those that are refused.
+use crate::{Job, WordsFault, read_words};
+use std::alloc::Global;
+use std::test::Fail;
+
+/// Whether the words ask for a job.
+fn asks(alloc: Global, words: &[&str], wanted: &Job<'_>) -> bool {
+    match read_words(alloc, words) {
+        Ok(job) => job == *wanted,
+        Err(_) => false,
+    }
+}
+
+/// Whether the words are refused, with a text.
+fn is_refused(alloc: Global, words: &[&str]) -> bool {
+    match read_words(alloc, words) {
+        Err(WordsFault::Refused(text)) => text.as_str().starts_with("error: "),
+        _ => false,
+    }
+}
+
+/// Whether the words ask for help.
+fn asks_help(alloc: Global, words: &[&str]) -> bool {
+    match read_words(alloc, words) {
+        Err(WordsFault::Help(text)) => text.as_str().contains("Usage: metronome"),
+        _ => false,
+    }
+}
+
+#[test]
+fn play_and_check(rt: HostRuntime) {
+    let alloc = rt.alloc();
+    let plain = Job::Play {
+        config: "a.toml",
+        trace: "-",
+        history: false,
+    };
+    assert!(rt; asks(alloc, &["metronome", "play", "a.toml", "-"], &plain));
+    let whole = Job::Play {
+        config: "a.toml",
+        trace: "b.trace",
+        history: true,
+    };
+    assert!(rt;
+        asks(
+            alloc,
+            &["metronome", "play", "a.toml", "b.trace", "--history"],
+            &whole
+        )
+    );
+    assert!(rt;
+        asks(
+            alloc,
+            &["metronome", "play", "--history", "a.toml", "b.trace"],
+            &whole
+        )
+    );
+    let check = Job::Check {
+        config: "a.toml",
+        history: "-",
+    };
+    assert!(rt; asks(alloc, &["metronome", "check", "a.toml", "-"], &check));
+}
+
+fn threads<'a>(turns: u32, budget: u32) -> Job<'a> {
+    Job::Threads {
+        config: "a.toml",
+        scripts: "b",
+        turns,
+        budget,
+    }
+}
+
+#[test]
+fn threads_have_numbers(rt: HostRuntime) {
+    let alloc = rt.alloc();
+    let words = ["metronome", "threads", "a.toml", "b"];
+    assert!(rt; asks(alloc, &words, &threads(100, 256)));
+    let rows = [("0", "256", 0, 256), ("10000", "1000000", 10000, 1000000)];
+    for (turns, budget, n, b) in rows {
+        let words = [
+            "metronome",
+            "threads",
+            "a.toml",
+            "b",
+            "--turns",
+            turns,
+            "--budget",
+            budget,
+        ];
+        assert!(rt; asks(alloc, &words, &threads(n, b)), "{turns} {budget}");
+    }
+    for (option, number) in [
+        ("--turns", "10001"),
+        ("--turns", "-1"),
+        ("--turns", "many"),
+        ("--turns", "4294967296"),
+        ("--budget", "255"),
+        ("--budget", "1000001"),
+        ("--budget", ""),
+    ] {
+        let words = ["metronome", "threads", "a.toml", "b", option, number];
+        assert!(rt; is_refused(alloc, &words), "{option} {number}");
+    }
+}
+
+fn inspect<'a>(after: Option<u32>) -> Job<'a> {
+    Job::Inspect {
+        config: "a.toml",
+        trace: "-",
+        after,
+    }
+}
+
+#[test]
+fn inspect_has_a_number(rt: HostRuntime) {
+    let alloc = rt.alloc();
+    let all = ["metronome", "inspect", "a.toml", "-"];
+    assert!(rt; asks(alloc, &all, &inspect(None)));
+    let none = ["metronome", "inspect", "a.toml", "-", "--after", "0"];
+    assert!(rt; asks(alloc, &none, &inspect(Some(0))));
+    let most = ["metronome", "inspect", "a.toml", "-", "--after=4294967295"];
+    assert!(rt; asks(alloc, &most, &inspect(Some(4294967295))));
+    let past = [
+        "metronome",
+        "inspect",
+        "a.toml",
+        "-",
+        "--after",
+        "4294967296",
+    ];
+    assert!(rt; is_refused(alloc, &past));
+}
+
+#[test]
+fn mmu_has_windows(rt: HostRuntime) -> Result<(), Fail> {
+    let alloc = rt.alloc();
+    let words = [
+        "metronome",
+        "mmu",
+        "a.toml",
+        "-",
+        "22",
+        "1",
+        "1099511627776",
+    ];
+    let Ok(job) = read_words(alloc, &words) else {
+        panic!(rt; "the words are good");
+    };
+    let wanted = Job::Mmu {
+        config: "a.toml",
+        trace: "-",
+        windows: vec![in alloc; 22, 1, 1099511627776]?,
+    };
+    assert!(rt; job == wanted);
+    for window in ["0", "1099511627777", "x", "18446744073709551616"] {
+        let words = ["metronome", "mmu", "a.toml", "-", "22", window];
+        assert!(rt; is_refused(alloc, &words), "{window}");
+    }
+    assert!(rt; is_refused(alloc, &["metronome", "mmu", "a.toml", "-"]));
+    Ok(())
+}
+
+#[test]
+fn words_are_refused(rt: HostRuntime) {
+    let alloc = rt.alloc();
+    assert!(rt; is_refused(alloc, &["metronome"]));
+    assert!(rt; is_refused(alloc, &["metronome", "run", "a.toml", "-"]));
+    assert!(rt; is_refused(alloc, &["metronome", "play"]));
+    assert!(rt; is_refused(alloc, &["metronome", "play", "a.toml"]));
+    assert!(rt; is_refused(alloc, &["metronome", "play", "a.toml", "-", "c"]));
+    assert!(rt; is_refused(alloc, &["metronome", "play", "a.toml", "-", "--colour"]));
+    assert!(rt; is_refused(alloc, &["metronome", "check", "a.toml"]));
+    assert!(rt; is_refused(alloc, &["metronome", "threads", "a.toml"]));
+    assert!(rt; is_refused(alloc, &["metronome", "inspect", "a.toml"]));
+    assert!(rt; is_refused(alloc, &["metronome", "threads", "a.toml", "b", "--turns"]));
+}
+
+#[test]
+fn help_is_asked_for(rt: HostRuntime) {
+    let alloc = rt.alloc();
+    assert!(rt; asks_help(alloc, &["metronome", "--help"]));
+    assert!(rt; asks_help(alloc, &["metronome", "-h"]));
+    assert!(rt; asks_help(alloc, &["metronome", "help"]));
+    assert!(rt; asks_help(alloc, &["metronome", "play", "--help"]));
+    assert!(rt; asks_help(alloc, &["metronome", "help", "mmu"]));
+}
+
+#[test]
+fn a_number_is_refused_in_the_form_of_the_parser(rt: HostRuntime) {
+    let words = ["metronome", "threads", "a", "b", "--turns", "10001"];
+    let Err(fault) = read_words(rt.alloc(), &words) else {
+        panic!(rt; "the number is too large");
+    };
+    let WordsFault::Refused(text) = fault else {
+        panic!(rt; "the words are refused");
+    };
+    let wanted = "error: invalid value '10001' for '--turns <N>': 10001 is not in 0..=10000\n\n\
+        For more information, try '--help'.\n";
+    assert!(rt; text.as_str() == wanted);
+}

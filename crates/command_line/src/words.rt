@@ -1,0 +1,151 @@
+//! The words of the command line.
+ghost use Rattle.std.specs.Prelude.{◌≡◌, ◌<◌, ◌≤◌, IfOk, OnOk, length};
+ghost use Rattle.std.specs.List.{All};
+ghost use Rattle.command_line.specs.Job.{IsInRange, IsWindow};
+
+use crate::commands::program;
+use crate::fault::WordsFault;
+use crate::job::Job;
+use clap::ArgMatches;
+use clap::error::ErrorKind;
+use std::alloc::Global;
+use std::convert::AsStr;
+
+/// What the words ask for, of which the first is the program's name. Where they ask for help, or are
+/// refused, the answer is the text for the user.
+pub fn read_words<'a, S: AsStr>(alloc: Global, words: &'a [S]) -> Result<Job<'a>, WordsFault>
+    ensures { IfOk result IsInRange }
+{
+    let matches = match program(alloc)?.try_get_matches_from(words) {
+        Ok(matches) => matches,
+        Err(error) => return Err(fault_of(alloc, &error)),
+    };
+    match matches.subcommand() {
+        Some(("play", found)) => play(alloc, found),
+        Some(("check", found)) => check(alloc, found),
+        Some(("threads", found)) => threads(alloc, found),
+        Some(("inspect", found)) => inspect(alloc, found),
+        Some(("mmu", found)) => mmu(alloc, found),
+        _ => Err(refused(alloc, "a subcommand is missing")),
+    }
+}
+
+/// What an error of `clap` tells the user.
+fn fault_of(alloc: Global, error: &clap::Error) -> WordsFault {
+    if error.kind() == ErrorKind::OutOfMemory {
+        return WordsFault::NoMemory;
+    }
+    match format!(in alloc; "{error}") {
+        Ok(text) if error.use_stderr() => WordsFault::Refused(text),
+        Ok(text) => WordsFault::Help(text),
+        Err(_) => WordsFault::NoMemory,
+    }
+}
+
+/// A refusal in the form of those of `clap`.
+fn refused(alloc: Global, why: &str) -> WordsFault {
+    match format!(in alloc; "error: {why}\n\nFor more information, try '--help'.\n") {
+        Ok(text) => WordsFault::Refused(text),
+        Err(_) => WordsFault::NoMemory,
+    }
+}
+
+fn play<'a>(alloc: Global, found: &ArgMatches<'a>) -> Result<Job<'a>, WordsFault>
+    ensures { IfOk result IsInRange }
+{
+    Ok(Job::Play {
+        config: file(alloc, found, "CONFIG")?,
+        trace: file(alloc, found, "TRACE")?,
+        history: found.get_flag("history"),
+    })
+}
+
+fn check<'a>(alloc: Global, found: &ArgMatches<'a>) -> Result<Job<'a>, WordsFault>
+    ensures { IfOk result IsInRange }
+{
+    Ok(Job::Check {
+        config: file(alloc, found, "CONFIG")?,
+        history: file(alloc, found, "HISTORY")?,
+    })
+}
+
+fn threads<'a>(alloc: Global, found: &ArgMatches<'a>) -> Result<Job<'a>, WordsFault>
+    ensures { IfOk result IsInRange }
+{
+    let turns = found.get_one::<u32>("turns").unwrap_or(100);
+    let budget = found.get_one::<u32>("budget").unwrap_or(256);
+    within(alloc, "--turns <N>", u64::from(turns), 0, 10000)?;
+    within(alloc, "--budget <B>", u64::from(budget), 256, 1000000)?;
+    Ok(Job::Threads {
+        config: file(alloc, found, "CONFIG")?,
+        scripts: file(alloc, found, "SCRIPTS")?,
+        turns,
+        budget,
+    })
+}
+
+fn inspect<'a>(alloc: Global, found: &ArgMatches<'a>) -> Result<Job<'a>, WordsFault>
+    ensures { IfOk result IsInRange }
+{
+    Ok(Job::Inspect {
+        config: file(alloc, found, "CONFIG")?,
+        trace: file(alloc, found, "TRACE")?,
+        after: found.get_one("after"),
+    })
+}
+
+fn mmu<'a>(alloc: Global, found: &ArgMatches<'a>) -> Result<Job<'a>, WordsFault>
+    ensures { IfOk result IsInRange }
+{
+    let windows = windows_of(alloc, found.get_strs("WINDOW").unwrap_or(&[]))?;
+    if windows.is_empty() {
+        return Err(refused(alloc, "a window is missing"));
+    }
+    Ok(Job::Mmu {
+        config: file(alloc, found, "CONFIG")?,
+        trace: file(alloc, found, "TRACE")?,
+        windows,
+    })
+}
+
+/// The ticks of each window.
+fn windows_of(alloc: Global, words: &[&str]) -> Result<Vec<u64>, WordsFault>
+    ensures { IfOk result (λ windows. All IsWindow windows.items) }
+{
+    let mut windows = Vec::new(alloc);
+    for word in words {
+        let Ok(ticks) = word.parse::<u64>() else {
+            return Err(refused(alloc, "a window is not a number"));
+        };
+        within(alloc, "<WINDOW>...", ticks, 1, 1099511627776)?;
+        windows.push(ticks)?;
+    }
+    Ok(windows)
+}
+
+/// The name of a file.
+fn file<'a>(alloc: Global, found: &ArgMatches<'a>, name: &str) -> Result<&'a str, WordsFault> {
+    match found.get_str(name) {
+        Some(word) => Ok(word),
+        None => Err(refused(alloc, "a file is missing")),
+    }
+}
+
+/// Refuses a number outside its range, as `clap` does.
+fn within(
+    alloc: Global,
+    name: &str,
+    number: u64,
+    least: u64,
+    greatest: u64,
+) -> Result<(), WordsFault>
+    ensures { OnOk result ((least ≤ number) × (number ≤ greatest)) }
+{
+    if least <= number && number <= greatest {
+        return Ok(());
+    }
+    let why = format!(in alloc;
+        "invalid value '{number}' for '{name}': {number} is not in {least}..={greatest}"
+    )?;
+    Err(refused(alloc, why.as_str()))
+}

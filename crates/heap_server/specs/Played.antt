@@ -1,0 +1,35 @@
+-- What the workers of a play did.
+use Rattle.std.specs.Prelude.{ℕ, ◌≡◌, ◌↔◌, ◌<◌, ◌≤◌, true, List, length, take, All, sum, slice_index}
+use Rattle.std.specs.List.{AllZip}
+use Rattle.graph_heap.specs.declared.command.Command.{Command}
+use Rattle.graph_heap.specs.declared.command.Limits.{Limits}
+use Rattle.heap_model.specs.Event.{IsBudget}
+use Rattle.heap_model.specs.Led.{IsLed}
+use Rattle.heap_server.specs.Views.{SeatView}
+use Rattle.heap_server.specs.Kept.{IsSound}
+use Rattle.heap_server.specs.declared.play.Outcome.{Outcome}
+
+-- for the mutator of a seat that has made no call, at most so many were made as the script has commands
+pub record IsPlayed (script : List Command) (old new : SeatView) : Type 0 where
+  pub mutator : new.mutator ≡ old.mutator
+  pub within : new.calls ≤ length script
+
+-- Budgets were used, all up to the first that no quantum may have: at least one unit of each was spent, and
+-- no more than all. For each budget at most one cycle was begun.
+pub record IsCollected (budgets : List ℕ) (used cycles units : ℕ) : Type 0 where
+  pub within : used ≤ length budgets
+  pub allowed : All IsBudget (take used budgets)
+  pub stops : used < length budgets → ¬ IsBudget (slice_index budgets used)
+  pub begun : cycles ≤ length budgets
+  pub least : used ≤ units
+  pub most : units ≤ sum (take used budgets)
+
+-- What came of scripts of these lengths and of budgets, at a new heap of these limits: it is sound; each entry
+-- of its history is counted once, as one that a script has done; of no script more is done than it has; and
+-- the cycles and units that led to the heap are those of the budgets used. All is done where nothing is left.
+pub record IsOutcome (limits : Limits) (lengths budgets : List ℕ) (o : Outcome) : Type 0 where
+  pub sound : IsSound limits o.recorded.course
+  pub counted : length o.recorded.course.history ≡ sum o.done.items
+  pub within : AllZip (λ n most. n ≤ most) o.done.items lengths
+  pub collected : (cycles : ℕ) × (units : ℕ) × IsLed o.recorded.course cycles units × IsCollected budgets o.used cycles units
+  pub all : o.all ≡ true ↔ (o.done.items ≡ lengths) × (o.used ≡ length budgets)

@@ -1,0 +1,149 @@
+//! A play: scripts of mutators, each in a thread of its own, beside a collector.
+ghost use Rattle.std.specs.Prelude.{◌≡◌, ◌↔◌, ℕ, ◌<◌, ◌≤◌, true, length, map, take, IfOk, slice_index_or, vec_len, vec_capacity};
+ghost use denote.Param.Send.{IsSync, IsSend};
+ghost use Rattle.size_classes.specs.Config.{limits_of};
+ghost use Rattle.heap_server.specs.Views.{SeatView};
+ghost use Rattle.heap_server.specs.Seats.{new_seats, mutators_of, upto};
+ghost use Rattle.heap_server.specs.Played.{IsCollected, IsOutcome};
+
+use crate::gate::Gate;
+use crate::locked::{Pacer, Seat};
+use crate::naming::{Naming, Opening};
+use crate::server::Server;
+use crate::workers::{collect, play_seats};
+use graph_heap::{Command, NoMemory};
+use machine::Recorded;
+use size_classes::Config;
+use std::alloc::Global;
+use std::marker::Brand;
+use std::sync::Wait;
+use std::thread;
+use std::thread::Threads;
+
+/// What came of a play.
+#[derive(Drop)]
+pub struct Outcome {
+    /// The heap, with the history of all commands that were done.
+    pub recorded: Recorded,
+    /// How many commands of each script were done, by the number of the mutator.
+    pub done: Vec<u64>,
+    /// How many budgets were used.
+    pub used: usize,
+    /// Whether all commands were done and all budgets used.
+    pub all: bool,
+}
+
+/// Plays scripts at a new heap, each in a thread of its own, and a collector beside them, which for each
+/// budget begins a cycle, unless one is on, and spends the budget on it. Script m is mutator m's. Each
+/// worker comes by the gate before each of its commands or budgets and after the last. All threads have ended
+/// when the outcome is there. Where a thread can't be started its commands are done in turn.
+///
+/// A script whose command is refused memory ends before that command, and a budget that isn't 256 to 1000000
+/// units ends the collector. NoMemory is answered only where nothing was started.
+pub fn play_threads<G: Gate + Sync, R: Threads + Wait + Sync>(
+    rt: &R,
+    alloc: Global,
+    config: &Config,
+    scripts: &[Vec<Command>],
+    budgets: &[u32],
+    gate: &G,
+) -> Result<Outcome, NoMemory>
+    requires fits { length scripts.now ≤ config.now.mutators }
+    ensures { IfOk result (IsOutcome (limits_of config.now) (map vec_len scripts.now) budgets.now) }
+{
+    played::<Brand, G, R>(rt, alloc, Opening::new(config), scripts, budgets, gate)
+}
+
+/// Plays scripts and a collector at a server of its own.
+fn played<N: Naming + Send + Sync, G: Gate + Sync, R: Threads + Wait + Sync>(
+    rt: &R,
+    alloc: Global,
+    opening: Opening,
+    scripts: &[Vec<Command>],
+    budgets: &[u32],
+    gate: &G,
+) -> Result<Outcome, NoMemory>
+    requires calls { (opening.calls.name ≡ N.calls) × (limits_of opening.config ≡ N.limits) }
+    requires begun { opening.begun.name ≡ N.begun }
+    requires ended { opening.ended.name ≡ N.ended }
+    requires units { opening.units.name ≡ N.units }
+    requires fits { length scripts.now ≤ N.limits.mutators }
+    ensures { IfOk result (IsOutcome N.limits (map vec_len scripts.now) budgets.now) }
+{
+    let number = scripts.len() as u32;
+    let (server, seats, pacer) = Server::<N>::new(alloc, opening)?;
+    let mut done = Vec::new(alloc);
+    done.reserve(scripts.len())?;
+    let shared = &server;
+    let ((used, pacer), seats) = thread::join(
+        rt,
+        move || -> (usize, Pacer<N>)
+            requires { pacer ≡ record { begun = 0; ended = 0; spent = 0 } }
+            ensures { IsCollected budgets.entry.now result.0 result.1.begun result.1.spent }
+        {
+            let mut pacer = pacer;
+            let used = collect(rt, shared, gate, number, budgets, &mut pacer);
+            (used, pacer)
+        },
+        move || -> Vec<Seat<N>>
+            requires { IsSync R.row × IsSync G.row × IsSend N.row × IsSync N.row × (length scripts.now ≤ vec_len seats) × (seats.items ≡ new_seats N.limits.mutators) }
+            ensures { (mutators_of result.items ≡ mutators_of seats.items) × ((i : ℕ) (d : SeatView) (e : _) → i < length scripts.entry.now → (slice_index_or result.items i d).calls ≤ vec_len (slice_index_or scripts.entry.now i e)) × ((i : ℕ) (d : SeatView) → length scripts.entry.now ≤ i → i < vec_len result → (slice_index_or result.items i d).calls ≡ 0) }
+        { play_seats(rt, shared, gate, scripts, seats) },
+    );
+    Ok(settled(server, seats, pacer, scripts, budgets, used, done))
+}
+
+/// Takes the server apart once all threads have ended.
+fn settled<N: Naming>(
+    server: Server<N>,
+    seats: Vec<Seat<N>>,
+    pacer: Pacer<N>,
+    scripts: &[Vec<Command>],
+    budgets: &[u32],
+    used: usize,
+    mut done: Vec<u64>,
+) -> Outcome
+    requires mutators { mutators_of seats.items ≡ upto N.limits.mutators }
+    requires fits { length scripts.now ≤ N.limits.mutators }
+    requires played { (i : ℕ) (d : SeatView) (e : _) → i < length scripts.now → (slice_index_or seats.items i d).calls ≤ vec_len (slice_index_or scripts.now i e) }
+    requires rest { (i : ℕ) (d : SeatView) → length scripts.now ≤ i → i < vec_len seats → (slice_index_or seats.items i d).calls ≡ 0 }
+    requires collected { IsCollected budgets.now used pacer.begun pacer.spent }
+    requires room { (vec_len done ≡ 0) × (length scripts.now ≤ vec_capacity done) }
+    ensures { IsOutcome N.limits (map vec_len scripts.now) budgets.now result }
+{
+    count_calls(seats.as_slice(), scripts.len(), &mut done);
+    let whole = is_whole(scripts, done.as_slice());
+    let recorded = server.close(seats, pacer);
+    Outcome {
+        recorded,
+        done,
+        used,
+        all: whole && used == budgets.len(),
+    }
+}
+
+/// Counts the calls of each of the first seats.
+fn count_calls<N: Naming>(seats: &[Seat<N>], count: usize, done: &mut Vec<u64>)
+    requires count { count ≤ length seats.now }
+    requires room { (vec_len done.old ≡ 0) × (count ≤ vec_capacity done.old) }
+    ensures items { done.new.items ≡ map (λ s. s.calls) (take count seats.now) }
+    ensures len { vec_len done.new ≡ count }
+{
+    for i in 0..count {
+        let seat = &seats[i];
+        done.push_reserved(seat.made());
+    }
+}
+
+/// Whether each script was done whole.
+fn is_whole(scripts: &[Vec<Command>], done: &[u64]) -> bool
+    requires { length scripts.now ≡ length done.now }
+    ensures { result ≡ true ↔ (done.now ≡ map vec_len scripts.now) }
+{
+    for i in 0..scripts.len() {
+        if done[i] != scripts[i].len() as u64 {
+            return false;
+        }
+    }
+    true
+}

@@ -1,0 +1,7 @@
+//! Why a report could not be written.
+use thiserror::Error;
+
+/// The sink failed. It has taken a beginning of the report.
+#[derive(Clone, Copy, Debug, PartialEq, Eq, Error)]
+#[error("cannot write")]
+pub struct WriteFault;

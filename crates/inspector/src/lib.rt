@@ -1,0 +1,13 @@
+//! The report: what a heap and its collector are like, in lines of text.
+#![tactic(auto)]
+
+mod fault;
+mod lines;
+mod reporting;
+mod text;
+
+pub use fault::WriteFault;
+pub use reporting::report;
+
+#[cfg(test)]
+mod tests;

@@ -1,0 +1,155 @@
+//! The lines of a report, one by one.
+ghost use Rattle.std.specs.Prelude.{◌≡◌, ◌≤◌, ◌<◌, ◌+◌, ◌++◌, ◌∷◌, [], length, OnOk, OnErr, take};
+ghost use Rattle.heap_model.specs.Pages.{page_at};
+ghost use Rattle.pages.specs.View.{view_of};
+ghost use Rattle.nodes.specs.Copies.{copies_in};
+ghost use Rattle.trace.specs.Streams.{GrowsByPart, failed, text_of};
+ghost use Rattle.inspector.specs.Report.{phase_name, phase_line, units_line, pages_line, page_line, lines_on, roots_line, copies_line};
+
+use crate::fault::WriteFault;
+use crate::text::{put, put_named, write_line};
+use heap_model::phase::Phase;
+use machine::Heap;
+use nodes::Copies;
+use pages::PageView;
+use trace::Sink;
+
+/// The name of a phase.
+fn name(phase: Phase) -> &'static [u8]
+    ensures name { result.now ≡ phase_name phase }
+    ensures short { length result.now ≤ 8 }
+{
+    match phase {
+        Phase::Idle => b"idle",
+        Phase::Roots { .. } => b"roots",
+        Phase::Marking { .. } => b"marking",
+        Phase::Sweeping { .. } => b"sweeping",
+        Phase::Moving(_) => b"moving",
+    }
+}
+
+/// Writes the phase.
+pub(crate) fn write_phase<K: Sink>(heap: &Heap, sink: &mut K) -> Result<(), WriteFault>
+    ensures ok { OnOk result (K.taken sink.new ≡ K.taken sink.old ++ (phase_line heap.now ++ 10 ∷ [])) }
+    ensures err { OnErr result (GrowsByPart (K.taken sink.old) (K.taken sink.new) (phase_line heap.now ++ 10 ∷ [])) }
+    ensures cause { K.failures sink.new ≡ K.failures sink.old + failed result }
+{
+    let mut out = [0; 256];
+    let end = put(&mut out, 0, b"phase ");
+    let end = put(&mut out, end, name(heap.phase()));
+    write_line(sink, &mut out, end)
+}
+
+/// Writes the units of work that were spent since the last cycle began.
+pub(crate) fn write_units<K: Sink>(heap: &Heap, sink: &mut K) -> Result<(), WriteFault>
+    ensures ok { OnOk result (K.taken sink.new ≡ K.taken sink.old ++ (units_line heap.now ++ 10 ∷ [])) }
+    ensures err { OnErr result (GrowsByPart (K.taken sink.old) (K.taken sink.new) (units_line heap.now ++ 10 ∷ [])) }
+    ensures cause { K.failures sink.new ≡ K.failures sink.old + failed result }
+{
+    let mut out = [0; 256];
+    let end = put_named(&mut out, 0, b"units ", heap.units());
+    write_line(sink, &mut out, end)
+}
+
+/// Puts how many pages there are, and how many are free, at the front of an array, and answers the place
+/// behind it.
+fn put_pages(out: &mut [u8; 256], heap: &Heap) -> usize
+    ensures text { take result out.new ≡ pages_line heap.now }
+    ensures place { result ≤ 60 }
+{
+    let out = out.as_mut_slice();
+    let end = put_named(out, 0, b"pages ", heap.pages() as u64);
+    put_named(out, end, b" free ", heap.free_pages() as u64)
+}
+
+/// Writes how many pages there are, and how many are free.
+pub(crate) fn write_pages<K: Sink>(heap: &Heap, sink: &mut K) -> Result<(), WriteFault>
+    ensures ok { OnOk result (K.taken sink.new ≡ K.taken sink.old ++ (pages_line heap.now ++ 10 ∷ [])) }
+    ensures err { OnErr result (GrowsByPart (K.taken sink.old) (K.taken sink.new) (pages_line heap.now ++ 10 ∷ [])) }
+    ensures cause { K.failures sink.new ≡ K.failures sink.old + failed result }
+{
+    let mut out = [0; 256];
+    let end = put_pages(&mut out, heap);
+    write_line(sink, &mut out, end)
+}
+
+/// Puts what is told of a page in use at the front of an array, and answers the place behind it.
+fn put_page(out: &mut [u8; 256], number: usize, page: PageView) -> usize
+    ensures text { take result out.new ≡ page_line number page }
+    ensures place { result ≤ 120 }
+{
+    let blocks = page.class.blocks_per_page() as u64;
+    let out = out.as_mut_slice();
+    let end = put_named(out, 0, b"page ", number as u64);
+    let end = put_named(out, end, b" size ", page.class.size() as u64);
+    let end = put_named(out, end, b" held ", page.held as u64);
+    let end = put_named(out, end, b" of ", blocks);
+    if page.leaving {
+        put(out, end, b" leaving")
+    } else {
+        end
+    }
+}
+
+/// Writes what is told of a page; nothing for a free one.
+pub(crate) fn write_page<K: Sink>(
+    heap: &Heap,
+    number: usize,
+    sink: &mut K,
+) -> Result<(), WriteFault>
+    ensures ok { OnOk result (K.taken sink.new ≡ K.taken sink.old ++ text_of (lines_on number (view_of (page_at heap.now.store.pages number)))) }
+    ensures err { OnErr result (GrowsByPart (K.taken sink.old) (K.taken sink.new) (text_of (lines_on number (view_of (page_at heap.now.store.pages number))))) }
+    ensures cause { K.failures sink.new ≡ K.failures sink.old + failed result }
+{
+    let Some(page) = heap.page(number) else {
+        return Ok(());
+    };
+    let mut out = [0; 256];
+    let end = put_page(&mut out, number, page);
+    write_line(sink, &mut out, end)
+}
+
+/// Puts how many root cells there are, and how many aren't null, at the front of an array, and answers
+/// the place behind it.
+fn put_roots(out: &mut [u8; 256], heap: &Heap) -> usize
+    ensures text { take result out.new ≡ roots_line heap.now }
+    ensures place { result ≤ 60 }
+{
+    let out = out.as_mut_slice();
+    let end = put_named(out, 0, b"roots ", heap.root_cells() as u64);
+    put_named(out, end, b" used ", heap.roots_used() as u64)
+}
+
+/// Writes how many root cells there are, and how many aren't null.
+pub(crate) fn write_roots<K: Sink>(heap: &Heap, sink: &mut K) -> Result<(), WriteFault>
+    ensures ok { OnOk result (K.taken sink.new ≡ K.taken sink.old ++ (roots_line heap.now ++ 10 ∷ [])) }
+    ensures err { OnErr result (GrowsByPart (K.taken sink.old) (K.taken sink.new) (roots_line heap.now ++ 10 ∷ [])) }
+    ensures cause { K.failures sink.new ≡ K.failures sink.old + failed result }
+{
+    let mut out = [0; 256];
+    let end = put_roots(&mut out, heap);
+    write_line(sink, &mut out, end)
+}
+
+/// Puts how many objects, parts and old copies there are at the front of an array, and answers the place
+/// behind it.
+fn put_copies(out: &mut [u8; 256], copies: Copies) -> usize
+    ensures text { take result out.new ≡ copies_line copies }
+    ensures place { result ≤ 90 }
+{
+    let out = out.as_mut_slice();
+    let end = put_named(out, 0, b"objects ", copies.objects as u64);
+    let end = put_named(out, end, b" parts ", copies.parts as u64);
+    put_named(out, end, b" old ", copies.old as u64)
+}
+
+/// Writes how many objects, parts and old copies there are.
+pub(crate) fn write_copies<K: Sink>(heap: &Heap, sink: &mut K) -> Result<(), WriteFault>
+    ensures ok { OnOk result (K.taken sink.new ≡ K.taken sink.old ++ (copies_line (copies_in heap.now.store) ++ 10 ∷ [])) }
+    ensures err { OnErr result (GrowsByPart (K.taken sink.old) (K.taken sink.new) (copies_line (copies_in heap.now.store) ++ 10 ∷ [])) }
+    ensures cause { K.failures sink.new ≡ K.failures sink.old + failed result }
+{
+    let mut out = [0; 256];
+    let end = put_copies(&mut out, heap.copies());
+    write_line(sink, &mut out, end)
+}

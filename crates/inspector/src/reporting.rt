@@ -1,0 +1,57 @@
+//! The whole report.
+ghost use Rattle.std.specs.Prelude.{◌≡◌, ◌+◌, ◌++◌, OnOk, OnErr};
+ghost use Rattle.trace.specs.Streams.{GrowsByPart, failed, text_of};
+ghost use Rattle.inspector.specs.Report.{head_lines, page_lines, tail_lines, report_of};
+
+use crate::fault::WriteFault;
+use crate::lines::{write_copies, write_page, write_pages, write_phase, write_roots, write_units};
+use machine::Heap;
+use trace::Sink;
+
+/// Writes the lines before those of the pages in use.
+fn write_head<K: Sink>(heap: &Heap, sink: &mut K) -> Result<(), WriteFault>
+    ensures ok { OnOk result (K.taken sink.new ≡ K.taken sink.old ++ text_of (head_lines heap.now)) }
+    ensures err { OnErr result (GrowsByPart (K.taken sink.old) (K.taken sink.new) (text_of (head_lines heap.now))) }
+    ensures cause { K.failures sink.new ≡ K.failures sink.old + failed result }
+{
+    write_phase(heap, sink)?;
+    write_units(heap, sink)?;
+    write_pages(heap, sink)
+}
+
+/// Writes a line for each page in use, in rising number.
+fn write_page_lines<K: Sink>(heap: &Heap, sink: &mut K) -> Result<(), WriteFault>
+    ensures ok { OnOk result (K.taken sink.new ≡ K.taken sink.old ++ text_of (page_lines 0 heap.now.store.pages)) }
+    ensures err { OnErr result (GrowsByPart (K.taken sink.old) (K.taken sink.new) (text_of (page_lines 0 heap.now.store.pages))) }
+    ensures cause { K.failures sink.new ≡ K.failures sink.old + failed result }
+{
+    for page in 0..heap.pages() {
+        write_page(heap, page, sink)?;
+    }
+    Ok(())
+}
+
+/// Writes the lines behind those of the pages in use.
+fn write_tail<K: Sink>(heap: &Heap, sink: &mut K) -> Result<(), WriteFault>
+    ensures ok { OnOk result (K.taken sink.new ≡ K.taken sink.old ++ text_of (tail_lines heap.now)) }
+    ensures err { OnErr result (GrowsByPart (K.taken sink.old) (K.taken sink.new) (text_of (tail_lines heap.now))) }
+    ensures cause { K.failures sink.new ≡ K.failures sink.old + failed result }
+{
+    write_roots(heap, sink)?;
+    write_copies(heap, sink)
+}
+
+/// Writes what the heap and its collector are like to a sink, in lines that end with LF: the phase, the
+/// units of work since the last cycle began, the pages and how many are free, each page in use with the
+/// size of its blocks in words and how many are held, the root cells and how many aren't null, and how
+/// many objects, parts and old copies there are. It takes no memory. After a fault, which comes only
+/// where the sink failed, the sink has taken a beginning of the report.
+pub fn report<K: Sink>(heap: &Heap, sink: &mut K) -> Result<(), WriteFault>
+    ensures ok { OnOk result (K.taken sink.new ≡ K.taken sink.old ++ report_of heap.now) }
+    ensures err { OnErr result (GrowsByPart (K.taken sink.old) (K.taken sink.new) (report_of heap.now)) }
+    ensures cause { K.failures sink.new ≡ K.failures sink.old + failed result }
+{
+    write_head(heap, sink)?;
+    write_page_lines(heap, sink)?;
+    write_tail(heap, sink)
+}

@@ -1,0 +1,59 @@
+//! What is told of the heap as a whole, for a report.
+ghost use Rattle.std.specs.Prelude.{◌≡◌, ◌≤◌, length, IfSome};
+ghost use Rattle.heap_model.specs.Pages.{page_at};
+ghost use Rattle.heap_model.specs.Pages as page_list;
+ghost use Rattle.pages.specs.View.{view_of};
+ghost use Rattle.roots.specs.Used.{used_in};
+ghost use Rattle.nodes.specs.Copies.{copies_in};
+
+use super::Heap;
+use nodes::Copies;
+use pages::PageView;
+
+impl Heap {
+    /// How many pages there are.
+    pub fn pages(&self) -> usize
+        ensures pages { result ≡ length self.now.store.pages }
+        ensures within { result ≤ 4096 }
+    {
+        self.nodes.pages()
+    }
+
+    /// How many pages are free.
+    pub fn free_pages(&self) -> usize
+        ensures free { result ≡ page_list.free_pages self.now.store.pages }
+        ensures within { result ≤ 4096 }
+    {
+        self.nodes.free_pages()
+    }
+
+    /// What is told of a page: None where it is free, or where there is no such page.
+    pub fn page(&self, page: usize) -> Option<PageView>
+        ensures view { result ≡ view_of (page_at self.now.store.pages page) }
+        ensures within { IfSome result (λ v. v.held ≤ 512) }
+    {
+        self.nodes.page(page)
+    }
+
+    /// How many root cells there are.
+    pub fn root_cells(&self) -> usize
+        ensures { result ≡ length self.now.roots }
+    {
+        self.roots.cells().len()
+    }
+
+    /// How many root cells aren't null.
+    pub fn roots_used(&self) -> usize
+        ensures used { result ≡ used_in self.now.roots }
+        ensures within { result ≤ length self.now.roots }
+    {
+        self.roots.used()
+    }
+
+    /// How many main copies and old copies there are.
+    pub fn copies(&self) -> Copies
+        ensures { result ≡ copies_in self.now.store }
+    {
+        self.nodes.copies()
+    }
+}

@@ -1,0 +1,129 @@
+//! How a run ends.
+use command_line::ReadFault;
+use graph_heap::NoMemory;
+use inspector::WriteFault;
+use player::PlayFault;
+use size_classes::ConfigFault;
+use std::alloc::{AllocError, AllocFailed};
+use thiserror::Error;
+use trace::{LineFault, WriteFailed};
+use transcripts::TranscriptFault;
+
+/// How a run ends that meets no fault.
+#[derive(Clone, Copy, Debug, PartialEq, Eq)]
+pub enum Ending {
+    /// All was done.
+    Done,
+    /// The history has a wrong reply, and that was written.
+    WrongReply,
+}
+
+impl Ending {
+    /// The exit status.
+    pub fn status(self) -> u8 {
+        match self {
+            Ending::Done => 0,
+            Ending::WrongReply => 7,
+        }
+    }
+}
+
+/// Why a run came to no good end. What was written before stands.
+#[derive(Debug, Drop, Error)]
+pub enum RunFault {
+    /// The words of the command line are refused.
+    #[error("{0}")]
+    Words(String),
+    /// The configuration is refused.
+    #[error("config: {0}")]
+    Config(ConfigFault),
+    /// A line, by its number from 1, and what is wrong with it.
+    #[error("line {0}: {1}")]
+    Line(u64, LineFault),
+    /// A file can't be opened, or a read failed.
+    #[error("cannot read")]
+    Read,
+    /// A write failed.
+    #[error("cannot write")]
+    Write,
+    /// Memory was refused.
+    #[error("no memory")]
+    NoMemory,
+    /// A script, or the collector's budgets, ended early. The history was written.
+    #[error("run not complete")]
+    NotComplete,
+}
+
+impl RunFault {
+    /// The exit status.
+    pub fn status(&self) -> u8 {
+        match self {
+            RunFault::Words(_) => 2,
+            RunFault::Config(_) => 3,
+            RunFault::Line(..) => 4,
+            RunFault::Read | RunFault::Write => 5,
+            RunFault::NoMemory => 6,
+            RunFault::NotComplete => 8,
+        }
+    }
+}
+
+impl From<NoMemory> for RunFault {
+    fn from(_refused: NoMemory) -> RunFault {
+        RunFault::NoMemory
+    }
+}
+
+impl From<AllocError> for RunFault {
+    fn from(_refused: AllocError) -> RunFault {
+        RunFault::NoMemory
+    }
+}
+
+impl<T: Drop> From<AllocFailed<T>> for RunFault {
+    fn from(_refused: AllocFailed<T>) -> RunFault {
+        RunFault::NoMemory
+    }
+}
+
+impl From<ReadFault> for RunFault {
+    fn from(fault: ReadFault) -> RunFault {
+        match fault {
+            ReadFault::Refused(why) => RunFault::Config(why),
+            ReadFault::NoMemory => RunFault::NoMemory,
+        }
+    }
+}
+
+impl From<PlayFault> for RunFault {
+    fn from(fault: PlayFault) -> RunFault {
+        match fault {
+            PlayFault::Line(number, why) => RunFault::Line(number, why),
+            PlayFault::Read => RunFault::Read,
+            PlayFault::Write => RunFault::Write,
+            PlayFault::NoMemory => RunFault::NoMemory,
+        }
+    }
+}
+
+impl From<TranscriptFault> for RunFault {
+    fn from(fault: TranscriptFault) -> RunFault {
+        match fault {
+            TranscriptFault::Line(number, why) => RunFault::Line(number, why),
+            TranscriptFault::Read => RunFault::Read,
+            TranscriptFault::NoMemory => RunFault::NoMemory,
+        }
+    }
+}
+
+impl From<WriteFailed> for RunFault {
+    fn from(_failed: WriteFailed) -> RunFault {
+        RunFault::Write
+    }
+}
+
+impl From<WriteFault> for RunFault {
+    fn from(_fault: WriteFault) -> RunFault {
+        RunFault::Write
+    }
+}

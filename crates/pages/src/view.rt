@@ -1,0 +1,11 @@
+//! What is told of a page.
+use size_classes::Class;
+
+/// A page in use: its class, how many of its blocks are held, and whether it is leaving, which means that
+/// its blocks are moved away and it gets no new one.
+#[derive(Clone, Copy, Debug, PartialEq, Eq)]
+pub struct PageView {
+    pub class: Class,
+    pub held: usize,
+    pub leaving: bool,
+}

@@ -1,0 +1,73 @@
+//! Histories, checked against a graph heap.
+ghost use Rattle.std.specs.Prelude.{◌≡◌, ◌+◌};
+ghost use Rattle.trace.specs.Streams.{Stays};
+ghost use Rattle.transcripts.specs.Lines.{reads_failed};
+ghost use Rattle.transcripts.specs.Histories.{LineChecked, EntriesChecked};
+
+use crate::fault::TranscriptFault;
+use graph_heap::Reference;
+use trace::{EntryLine, LineFault, LineReader, Source, read_entry};
+
+/// What became of a history that was checked.
+#[derive(Clone, Copy, Debug, PartialEq, Eq)]
+pub enum Checked {
+    /// Each entry is a step of the graph heap at its place. There are so many.
+    Good(u64),
+    /// The entry of this line, counted from 1, is the first that isn't.
+    Wrong(u64),
+}
+
+/// What became of one line.
+#[derive(Clone, Copy)]
+enum Outcome {
+    /// It has no entry.
+    Skipped,
+    /// Its entry is a step, and is done.
+    Done,
+    /// Its entry isn't a step.
+    Wrong,
+}
+
+/// Checks one line, and does its entry if that is a step.
+fn check_line(
+    bytes: &[u8],
+    number: u64,
+    reference: &mut Reference,
+) -> Result<Outcome, TranscriptFault>
+    ensures { LineChecked bytes.now number reference.old reference.new result }
+{
+    let Some(line) = read_entry(bytes) else {
+        return Err(TranscriptFault::Line(number, LineFault::NotAnEntry));
+    };
+    let EntryLine::Entry(entry) = line else {
+        return Ok(Outcome::Skipped);
+    };
+    if reference.accepts(&entry)? {
+        Ok(Outcome::Done)
+    } else {
+        Ok(Outcome::Wrong)
+    }
+}
+
+/// Plays the entries of a source's lines on a graph heap, from where that stands: to the source's end, or
+/// to the first entry that isn't a step, and then no line behind it is looked at. The graph heap is left
+/// behind the entries before.
+pub fn check_entries<S: Source>(
+    source: &mut S,
+    reference: &mut Reference,
+) -> Result<Checked, TranscriptFault>
+    ensures checked { EntriesChecked (S.given source.old) (S.given source.new) (S.ended source.new) reference.old reference.new result }
+    ensures reads { S.failures source.new ≡ S.failures source.old + reads_failed result }
+    ensures input { reads_failed result ≡ 0 → Stays (S.input source.old) (S.input source.new) }
+{
+    let mut reader = LineReader::new();
+    let mut good = 0;
+    while reader.next_line(source)? {
+        match check_line(reader.line(), reader.number(), reference)? {
+            Outcome::Skipped => {}
+            Outcome::Done => good += 1,
+            Outcome::Wrong => return Ok(Checked::Wrong(reader.number())),
+        }
+    }
+    Ok(Checked::Good(good))
+}

@@ -1,0 +1,14 @@
+//! Transcripts that are read whole: scripts, which are the commands of each mutator, and histories,
+//! whose entries are checked against a graph heap.
+#![tactic(auto)]
+
+mod fault;
+mod histories;
+mod scripts;
+
+pub use fault::TranscriptFault;
+pub use histories::{Checked, check_entries};
+pub use scripts::read_scripts;
+
+#[cfg(test)]
+mod tests;

@@ -158,3 +158,33 @@ fn the_clock_has_a_limit(rt: HostRuntime) -> Result<(), Fail> {
     let trace = "tick 1099511627776\ntick 1\n";
     expect(&rt, &TWO_PAGES, trace, Err(fault), "")
 }
+
+/// Four pages of four classes, and quanta of 260 units.
+const SMALL_QUANTA: Settings = Settings {
+    rate: 26,
+    ..FOUR_PAGES
+};
+
+#[test]
+fn ticks_end_where_memory_is_refused(rt: HostRuntime) -> Result<(), Fail> {
+    let trace =
+        "0 new 0 plain 0 0\n0 new 1 plain 0 1\n0 new 2 plain 0 2\n0 new 3 plain 0 3\nbegin\n";
+    let mut player = played(
+        &rt,
+        &SMALL_QUANTA,
+        trace,
+        "made 1\nmade 2\nmade 3\nmade 4\n",
+    )?;
+    let ended = player.tick(200);
+    let placed = player.schedule().intervals().len() as u64;
+    let now = player.schedule().now();
+    match ended {
+        Ok(()) => assert!(rt; placed == 7 && now == 200 && units(&player) == 1574),
+        // The quanta before are done and placed, and the clock hasn't moved.
+        Err(fault) => {
+            assert!(rt; fault == TickFault::NoMemory && placed < 7);
+            assert!(rt; now == 0 && units(&player) == placed.saturating_mul(260));
+        }
+    }
+    Ok(())
+}

@@ -1,3 +1,4 @@
 //! Configuration files and command lines, with what they give.
 mod config;
 mod line;
+mod memory;

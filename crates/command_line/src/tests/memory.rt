@@ -1,0 +1,73 @@
+//! Answers where memory may be refused: the answer that they have with ample memory, or want of memory.
+use crate::{Job, ReadFault, WordsFault, read_config, read_words};
+use size_classes::ConfigFault;
+
+#[test]
+fn a_job(rt: HostRuntime) {
+    let words = ["metronome", "mmu", "a.toml", "-", "22", "15"];
+    match read_words(rt.alloc(), &words) {
+        Ok(Job::Mmu { windows, .. }) => assert!(rt; windows.as_slice() == [22, 15].as_slice()),
+        Err(WordsFault::NoMemory) => {}
+        _ => panic!(rt; "another answer"),
+    }
+}
+
+#[test]
+fn a_number_out_of_range(rt: HostRuntime) {
+    let words = ["metronome", "threads", "a.toml", "-", "--turns", "10001"];
+    match read_words(rt.alloc(), &words) {
+        Err(WordsFault::Refused(text)) => assert!(rt; is_whole(text.as_str())),
+        Err(WordsFault::NoMemory) => {}
+        _ => panic!(rt; "another answer"),
+    }
+}
+
+#[test]
+fn a_word_too_many(rt: HostRuntime) {
+    match read_words(rt.alloc(), &["metronome", "check", "a.toml", "-", "b"]) {
+        Err(WordsFault::Refused(text)) => assert!(rt; is_whole(text.as_str())),
+        Err(WordsFault::NoMemory) => {}
+        _ => panic!(rt; "another answer"),
+    }
+}
+
+/// Whether it is a refusal to its last line.
+fn is_whole(text: &str) -> bool {
+    text.starts_with("error: ") && text.ends_with("For more information, try '--help'.\n")
+}
+
+#[test]
+fn help(rt: HostRuntime) {
+    match read_words(rt.alloc(), &["metronome", "threads", "--help"]) {
+        Err(WordsFault::Help(text)) => assert!(rt; text.as_str().contains("--budget <B>")),
+        Err(WordsFault::NoMemory) => {}
+        _ => panic!(rt; "another answer"),
+    }
+}
+
+#[test]
+fn a_good_file(rt: HostRuntime) {
+    let text = "pages = 4\nmutators = 2\nslots = 5 # and no more\n";
+    match read_config(rt.alloc(), text.as_bytes()) {
+        Ok(config) => assert!(rt; config.pages == 4 && config.mutators == 2 && config.slots == 5),
+        Err(fault) => assert!(rt; fault == ReadFault::NoMemory),
+    }
+}
+
+#[test]
+fn a_file_in_fault(rt: HostRuntime) {
+    let wanted = ReadFault::Refused(ConfigFault::UnknownKey);
+    match read_config(rt.alloc(), b"pages = [4, 5]\ncolour = \"red\"\n") {
+        Ok(_) => panic!(rt; "another answer"),
+        Err(fault) => assert!(rt; fault == wanted || fault == ReadFault::NoMemory),
+    }
+}
+
+#[test]
+fn a_file_that_is_no_document(rt: HostRuntime) {
+    let wanted = ReadFault::Refused(ConfigFault::NotToml);
+    match read_config(rt.alloc(), b"pages = \"4\"\nslots 5\n") {
+        Ok(_) => panic!(rt; "another answer"),
+        Err(fault) => assert!(rt; fault == wanted || fault == ReadFault::NoMemory),
+    }
+}

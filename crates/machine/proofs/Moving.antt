@@ -3,6 +3,7 @@ use Rattle.std.proofs.Common.{◌≡◌, ℕ, ◌+◌, ◌<◌, ◌≤◌, ◌^�
 use Rattle.std.specs.Prelude.{Option, Some, None, slice_get, position}
 use Rattle.std.proofs.Math.Nat.{le-mul_of_pos_right}
 use Rattle.std.proofs.lemmas.Option.{same_Some}
+use Rattle.size_classes.specs.Sizes.{size_of}
 use Rattle.heap_model.specs.declared.phase.Phase.{Phase}
 use Rattle.heap_model.specs.declared.phase.Phase.TheVariants as phases
 use Rattle.heap_model.specs.declared.phase.Moving.TheVariants as moves
@@ -11,7 +12,7 @@ use Rattle.heap_model.specs.Pages.{Page, page_at, is_usable}
 use Rattle.heap_model.specs.Store.{Store}
 use Rattle.heap_model.specs.State.{HeapState}
 use Rattle.heap_model.specs.Action.{Action, In_pass, After_page, No_class, No_page, Ends_moving, IsDone, goes_to}
-use Rattle.heap_model.specs.Turn.{NextCosts, Of_other, MovesNext}
+use Rattle.heap_model.specs.Turn.{NextCosts, Of_move, Of_other, MovesNext}
 use Rattle.heap_model.specs.Spent.{IsWithin}
 use Rattle.heap_model.specs.Placed.{IsPlaced}
 use Rattle.heap_model.proofs.Held.{page_within}
@@ -62,7 +63,25 @@ module _ (most class page block chosen room : ℕ) (s s' : Store) where
   moves_words words next w = (w.0, λ h is d e left. w.1 h class chosen is e (λ p at. ap (λ (z : Page). z.leaving) (same_Some p left.0 (sym at ∙ left.1)) ∙ left.2))
 
   pub does_not_fit : MovesIn page block room s s' moved.DoesNotFit → EmptiesOn most class page block chosen room s s' None
-  does_not_fit w = (w.0, λ h is d e left. w.1 h class chosen is e)
+  does_not_fit w = (
+    w.0,
+    λ h is d e left. (
+      size_of w.1.source.class,
+      Of_move w.1.source (record {
+        class = class;
+        page = page;
+        block = block;
+        chosen = chosen;
+        next = w.1.next;
+        to = w.1.to;
+        phase = e;
+        emptied = ap (λ (x : Store). page_at x.pages page) is ∙ w.1.emptied;
+        is_next = w.1.is_next;
+        place = ap (λ (x : Store). position (is_usable w.1.source.class) x.pages) is ∙ w.1.place;
+      }),
+      w.1.words,
+    ),
+  )
 
   here : (h : HeapState) → h.store ≡ s → (left : IsLeft s page) → page_at h.store.pages page ≡ Some left.0
   here h is left = ap (λ (x : Store). page_at x.pages page) is ∙ left.1

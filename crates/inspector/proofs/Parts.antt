@@ -1,6 +1,6 @@
 -- Texts that are written one behind the other.
 use Rattle.std.proofs.Common.{◌≡◌, ℕ, ◌+◌, ◌≤◌, List, ◌++◌, length, take, ap, ◌∙◌, sym, subst, arith, append_assoc, length-append}
-use Rattle.std.specs.Prelude.{Result, Ok, Err, OnOk, OnErr}
+use Rattle.std.specs.Prelude.{Result, Ok, Err, OnErr}
 use Rattle.std.proofs.lemmas.List.{take-append-le}
 use Rattle.std.proofs.Math.Seq.{take-append-add}
 use Rattle.trace.specs.Streams.{GrowsByPart}
@@ -27,10 +27,6 @@ at_err (Err e) P p = p
 pub err_so : {A E : Type 0} (r : Result A E) (P Q : Type 0) → (P → Q) → OnErr r P → OnErr r Q
 err_so (Ok x) P Q f h = tt
 err_so (Err e) P Q f h = f h
-
-pub ok_so : {A E : Type 0} (r : Result A E) (P Q : Type 0) → (P → Q) → OnOk r P → OnOk r Q
-ok_so (Ok x) P Q f h = f h
-ok_so (Err e) P Q f h = tt
 
 -- a text of three parts
 module _ (a b c all : List ℕ) (whole : all ≡ a ++ (b ++ c)) (t0 t1 : List ℕ) where

@@ -4,7 +4,6 @@
 mod fault;
 mod lines;
 mod reporting;
-mod text;
 
 pub use fault::WriteFault;
 pub use reporting::report;

@@ -6,13 +6,11 @@ ghost use Rattle.nodes.specs.Copies.{copies_in};
 ghost use Rattle.trace.specs.Streams.{GrowsByPart, failed, text_of};
 ghost use Rattle.inspector.specs.Report.{phase_name, phase_line, units_line, pages_line, page_line, lines_on, roots_line, copies_line};
 
-use crate::fault::WriteFault;
-use crate::text::{put, put_named, write_line};
 use heap_model::phase::Phase;
 use machine::Heap;
 use nodes::Copies;
 use pages::PageView;
-use trace::Sink;
+use trace::{Sink, WriteFailed, end_line, put, put_named};
 
 /// The name of a phase.
 fn name(phase: Phase) -> &'static [u8]
@@ -29,7 +27,7 @@ fn name(phase: Phase) -> &'static [u8]
 }
 
 /// Writes the phase.
-pub(crate) fn write_phase<K: Sink>(heap: &Heap, sink: &mut K) -> Result<(), WriteFault>
+pub(crate) fn write_phase<K: Sink>(heap: &Heap, sink: &mut K) -> Result<(), WriteFailed>
     ensures ok { OnOk result (K.taken sink.new ≡ K.taken sink.old ++ (phase_line heap.now ++ 10 ∷ [])) }
     ensures err { OnErr result (GrowsByPart (K.taken sink.old) (K.taken sink.new) (phase_line heap.now ++ 10 ∷ [])) }
     ensures cause { K.failures sink.new ≡ K.failures sink.old + failed result }
@@ -37,18 +35,18 @@ pub(crate) fn write_phase<K: Sink>(heap: &Heap, sink: &mut K) -> Result<(), Writ
     let mut out = [0; 256];
     let end = put(&mut out, 0, b"phase ");
     let end = put(&mut out, end, name(heap.phase()));
-    write_line(sink, &mut out, end)
+    end_line(sink, &mut out, end)
 }
 
 /// Writes the units of work that were spent since the last cycle began.
-pub(crate) fn write_units<K: Sink>(heap: &Heap, sink: &mut K) -> Result<(), WriteFault>
+pub(crate) fn write_units<K: Sink>(heap: &Heap, sink: &mut K) -> Result<(), WriteFailed>
     ensures ok { OnOk result (K.taken sink.new ≡ K.taken sink.old ++ (units_line heap.now ++ 10 ∷ [])) }
     ensures err { OnErr result (GrowsByPart (K.taken sink.old) (K.taken sink.new) (units_line heap.now ++ 10 ∷ [])) }
     ensures cause { K.failures sink.new ≡ K.failures sink.old + failed result }
 {
     let mut out = [0; 256];
     let end = put_named(&mut out, 0, b"units ", heap.units());
-    write_line(sink, &mut out, end)
+    end_line(sink, &mut out, end)
 }
 
 /// Puts how many pages there are, and how many are free, at the front of an array, and answers the place
@@ -63,14 +61,14 @@ fn put_pages(out: &mut [u8; 256], heap: &Heap) -> usize
 }
 
 /// Writes how many pages there are, and how many are free.
-pub(crate) fn write_pages<K: Sink>(heap: &Heap, sink: &mut K) -> Result<(), WriteFault>
+pub(crate) fn write_pages<K: Sink>(heap: &Heap, sink: &mut K) -> Result<(), WriteFailed>
     ensures ok { OnOk result (K.taken sink.new ≡ K.taken sink.old ++ (pages_line heap.now ++ 10 ∷ [])) }
     ensures err { OnErr result (GrowsByPart (K.taken sink.old) (K.taken sink.new) (pages_line heap.now ++ 10 ∷ [])) }
     ensures cause { K.failures sink.new ≡ K.failures sink.old + failed result }
 {
     let mut out = [0; 256];
     let end = put_pages(&mut out, heap);
-    write_line(sink, &mut out, end)
+    end_line(sink, &mut out, end)
 }
 
 /// Puts what is told of a page in use at the front of an array, and answers the place behind it.
@@ -96,7 +94,7 @@ pub(crate) fn write_page<K: Sink>(
     heap: &Heap,
     number: usize,
     sink: &mut K,
-) -> Result<(), WriteFault>
+) -> Result<(), WriteFailed>
     ensures ok { OnOk result (K.taken sink.new ≡ K.taken sink.old ++ text_of (lines_on number (view_of (page_at heap.now.store.pages number)))) }
     ensures err { OnErr result (GrowsByPart (K.taken sink.old) (K.taken sink.new) (text_of (lines_on number (view_of (page_at heap.now.store.pages number))))) }
     ensures cause { K.failures sink.new ≡ K.failures sink.old + failed result }
@@ -106,7 +104,7 @@ pub(crate) fn write_page<K: Sink>(
     };
     let mut out = [0; 256];
     let end = put_page(&mut out, number, page);
-    write_line(sink, &mut out, end)
+    end_line(sink, &mut out, end)
 }
 
 /// Puts how many root cells there are, and how many aren't null, at the front of an array, and answers
@@ -121,14 +119,14 @@ fn put_roots(out: &mut [u8; 256], heap: &Heap) -> usize
 }
 
 /// Writes how many root cells there are, and how many aren't null.
-pub(crate) fn write_roots<K: Sink>(heap: &Heap, sink: &mut K) -> Result<(), WriteFault>
+pub(crate) fn write_roots<K: Sink>(heap: &Heap, sink: &mut K) -> Result<(), WriteFailed>
     ensures ok { OnOk result (K.taken sink.new ≡ K.taken sink.old ++ (roots_line heap.now ++ 10 ∷ [])) }
     ensures err { OnErr result (GrowsByPart (K.taken sink.old) (K.taken sink.new) (roots_line heap.now ++ 10 ∷ [])) }
     ensures cause { K.failures sink.new ≡ K.failures sink.old + failed result }
 {
     let mut out = [0; 256];
     let end = put_roots(&mut out, heap);
-    write_line(sink, &mut out, end)
+    end_line(sink, &mut out, end)
 }
 
 /// Puts how many objects, parts and old copies there are at the front of an array, and answers the place
@@ -144,12 +142,12 @@ fn put_copies(out: &mut [u8; 256], copies: Copies) -> usize
 }
 
 /// Writes how many objects, parts and old copies there are.
-pub(crate) fn write_copies<K: Sink>(heap: &Heap, sink: &mut K) -> Result<(), WriteFault>
+pub(crate) fn write_copies<K: Sink>(heap: &Heap, sink: &mut K) -> Result<(), WriteFailed>
     ensures ok { OnOk result (K.taken sink.new ≡ K.taken sink.old ++ (copies_line (copies_in heap.now.store) ++ 10 ∷ [])) }
     ensures err { OnErr result (GrowsByPart (K.taken sink.old) (K.taken sink.new) (copies_line (copies_in heap.now.store) ++ 10 ∷ [])) }
     ensures cause { K.failures sink.new ≡ K.failures sink.old + failed result }
 {
     let mut out = [0; 256];
     let end = put_copies(&mut out, heap.copies());
-    write_line(sink, &mut out, end)
+    end_line(sink, &mut out, end)
 }

@@ -6,10 +6,10 @@ ghost use Rattle.inspector.specs.Report.{head_lines, page_lines, tail_lines, rep
 use crate::fault::WriteFault;
 use crate::lines::{write_copies, write_page, write_pages, write_phase, write_roots, write_units};
 use machine::Heap;
-use trace::Sink;
+use trace::{Sink, WriteFailed};
 
 /// Writes the lines before those of the pages in use.
-fn write_head<K: Sink>(heap: &Heap, sink: &mut K) -> Result<(), WriteFault>
+fn write_head<K: Sink>(heap: &Heap, sink: &mut K) -> Result<(), WriteFailed>
     ensures ok { OnOk result (K.taken sink.new ≡ K.taken sink.old ++ text_of (head_lines heap.now)) }
     ensures err { OnErr result (GrowsByPart (K.taken sink.old) (K.taken sink.new) (text_of (head_lines heap.now))) }
     ensures cause { K.failures sink.new ≡ K.failures sink.old + failed result }
@@ -20,7 +20,7 @@ fn write_head<K: Sink>(heap: &Heap, sink: &mut K) -> Result<(), WriteFault>
 }
 
 /// Writes a line for each page in use, in rising number.
-fn write_page_lines<K: Sink>(heap: &Heap, sink: &mut K) -> Result<(), WriteFault>
+fn write_page_lines<K: Sink>(heap: &Heap, sink: &mut K) -> Result<(), WriteFailed>
     ensures ok { OnOk result (K.taken sink.new ≡ K.taken sink.old ++ text_of (page_lines 0 heap.now.store.pages)) }
     ensures err { OnErr result (GrowsByPart (K.taken sink.old) (K.taken sink.new) (text_of (page_lines 0 heap.now.store.pages))) }
     ensures cause { K.failures sink.new ≡ K.failures sink.old + failed result }
@@ -32,7 +32,7 @@ fn write_page_lines<K: Sink>(heap: &Heap, sink: &mut K) -> Result<(), WriteFault
 }
 
 /// Writes the lines behind those of the pages in use.
-fn write_tail<K: Sink>(heap: &Heap, sink: &mut K) -> Result<(), WriteFault>
+fn write_tail<K: Sink>(heap: &Heap, sink: &mut K) -> Result<(), WriteFailed>
     ensures ok { OnOk result (K.taken sink.new ≡ K.taken sink.old ++ text_of (tail_lines heap.now)) }
     ensures err { OnErr result (GrowsByPart (K.taken sink.old) (K.taken sink.new) (text_of (tail_lines heap.now))) }
     ensures cause { K.failures sink.new ≡ K.failures sink.old + failed result }
@@ -53,5 +53,5 @@ pub fn report<K: Sink>(heap: &Heap, sink: &mut K) -> Result<(), WriteFault>
 {
     write_head(heap, sink)?;
     write_page_lines(heap, sink)?;
-    write_tail(heap, sink)
+    Ok(write_tail(heap, sink)?)
 }

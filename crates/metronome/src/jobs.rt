@@ -10,7 +10,7 @@ use size_classes::Config;
 use std::alloc::Global;
 use std::sync::Wait;
 use std::thread::Threads;
-use trace::{Sink, Source, write_all, write_entry};
+use trace::{Sink, Source, end_line, write_all, write_entry};
 use transcripts::{Checked, check_entries, read_scripts};
 
 /// Plays a trace, and writes what the style says of each command.
@@ -84,8 +84,7 @@ fn write_history<K: Sink>(sink: &mut K, history: &[Entry]) -> Result<(), RunFaul
     for entry in history {
         let mut out = [0; 256];
         let end = write_entry(entry, &mut out);
-        out[end] = b'\n';
-        write_all(sink, &out[..end + 1])?;
+        end_line(sink, &mut out, end)?;
     }
     Ok(())
 }

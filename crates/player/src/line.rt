@@ -1,5 +1,5 @@
 //! One line of a trace.
-ghost use Rattle.std.specs.Prelude.{◌≡◌, ◌+◌, ◌<◌, ◌∷◌, ◌++◌, [], take, OnOk, OnErr};
+ghost use Rattle.std.specs.Prelude.{◌≡◌, ◌+◌, ◌++◌, OnOk, OnErr};
 ghost use Rattle.trace.specs.Streams.{GrowsByPart, failed};
 ghost use Rattle.player.specs.Playing.{written_line, is_event, writes_failed};
 ghost use Rattle.player.specs.Progress.{CommandDone, LineDone};
@@ -8,18 +8,7 @@ use crate::fault::PlayFault;
 use crate::player::{Player, TickFault};
 use crate::style::Style;
 use graph_heap::{Command, Entry};
-use trace::{Line, LineFault, Sink, WriteFailed, read_line, write_all, write_entry, write_reply};
-
-/// Writes the text at the front of a buffer, and an LF.
-fn write_ended<K: Sink>(sink: &mut K, out: &mut [u8; 256], end: usize) -> Result<(), WriteFailed>
-    requires { end < 256 }
-    ensures ok { OnOk result (K.taken sink.new ≡ K.taken sink.old ++ (take end out.old ++ 10 ∷ [])) }
-    ensures err { OnErr result (GrowsByPart (K.taken sink.old) (K.taken sink.new) (take end out.old ++ 10 ∷ [])) }
-    ensures cause { K.failures sink.new ≡ K.failures sink.old + failed result }
-{
-    out[end] = b'\n';
-    write_all(sink, &out[..end + 1])
-}
+use trace::{Line, LineFault, Sink, WriteFailed, end_line, read_line, write_entry, write_reply};
 
 /// Writes the line of an entry, in a style.
 fn write_line<K: Sink>(sink: &mut K, style: Style, entry: &Entry) -> Result<(), WriteFailed>
@@ -28,17 +17,12 @@ fn write_line<K: Sink>(sink: &mut K, style: Style, entry: &Entry) -> Result<(), 
     ensures cause { K.failures sink.new ≡ K.failures sink.old + failed result }
 {
     let mut out = [0; 256];
-    match style {
-        Style::Replies => {
-            let end = write_reply(&entry.reply, &mut out, 0);
-            write_ended(sink, &mut out, end)
-        }
-        Style::Entries => {
-            let end = write_entry(entry, &mut out);
-            write_ended(sink, &mut out, end)
-        }
-        Style::Nothing => Ok(()),
-    }
+    let end = match style {
+        Style::Replies => write_reply(&entry.reply, &mut out, 0),
+        Style::Entries => write_entry(entry, &mut out),
+        Style::Nothing => return Ok(()),
+    };
+    end_line(sink, &mut out, end)
 }
 
 /// Does a command, and writes its line.

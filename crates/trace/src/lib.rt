@@ -16,6 +16,7 @@ mod replies;
 pub mod sink;
 pub mod source;
 pub mod standard;
+mod text;
 mod transcript;
 pub mod write;
 
@@ -29,6 +30,7 @@ pub use memory::{MemorySink, MemorySource};
 pub use sink::{Sink, WriteFailed, write_all};
 pub use source::{ReadFailed, Source};
 pub use standard::{ReadSource, WriteSink};
+pub use text::{end_line, put, put_named};
 pub use write::{write_command, write_entry, write_reply};
 
 #[cfg(test)]

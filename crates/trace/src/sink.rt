@@ -2,20 +2,12 @@
 ghost use Rattle.std.specs.Prelude.{◌≡◌, ℕ, ◌+◌, ◌<◌, ◌≤◌, ◌++◌, List, length, take, IfOk, OnOk, OnErr};
 ghost use Rattle.trace.specs.Streams.{failed, GrowsByPart};
 
-use std::error::Error;
-use std::fmt;
+use thiserror::Error;
 
 /// A write failed.
-#[derive(Clone, Copy, Debug, PartialEq, Eq)]
+#[derive(Clone, Copy, Debug, PartialEq, Eq, Error)]
+#[error("cannot write")]
 pub struct WriteFailed;
-
-impl fmt::Display for WriteFailed {
-    fn fmt<W: fmt::Write>(&self, f: &mut fmt::Formatter<W>) -> fmt::Result {
-        write!(f, "cannot write")
-    }
-}
-
-impl Error for WriteFailed {}
 
 /// What bytes are written to. Contracts see the bytes that it has taken so far, and how many of its
 /// calls have failed.

@@ -2,20 +2,12 @@
 ghost use Rattle.std.specs.Prelude.{◌≡◌, ℕ, ◌+◌, ◌<◌, ◌≤◌, ◌^◌, ◌++◌, List, Bool, Option, length, take, IfOk, IfSome, OnOk, OnErr, IsTrue};
 ghost use Rattle.trace.specs.Streams.{failed, Begins, Stays};
 
-use std::error::Error;
-use std::fmt;
+use thiserror::Error;
 
 /// A read failed.
-#[derive(Clone, Copy, Debug, PartialEq, Eq)]
+#[derive(Clone, Copy, Debug, PartialEq, Eq, Error)]
+#[error("cannot read")]
 pub struct ReadFailed;
-
-impl fmt::Display for ReadFailed {
-    fn fmt<W: fmt::Write>(&self, f: &mut fmt::Formatter<W>) -> fmt::Result {
-        write!(f, "cannot read")
-    }
-}
-
-impl Error for ReadFailed {}
 
 /// What bytes are read from. Contracts see the bytes that it has given so far, whether its input has
 /// ended, and how many of its calls have failed.

@@ -537,6 +537,21 @@ fn each_write_fails_in_turn(rt: HostRuntime) -> Result<(), Fail> {
     Ok(())
 }
 
+#[test]
+fn a_line_is_put_and_ended(rt: HostRuntime) -> Result<(), Fail> {
+    let alloc = rt.alloc();
+    let mut out = [b'-'; 256];
+    let end = put(&mut out, 0, b"pages");
+    let end = put_named(&mut out, end, b" free ", 12);
+    let mut sink = MemorySink::new(alloc);
+    end_line(&mut sink, &mut out, end)?;
+    assert_eq!(rt; sink.bytes(), b"pages free 12\n".as_slice());
+    let mut sink = FailAt::new(WriteSink::new(Sip(Vec::new(alloc))), 3);
+    assert_eq!(rt; end_line(&mut sink, &mut out, end), Err(WriteFailed));
+    assert_eq!(rt; sink.get_ref().get_ref().0.as_slice(), b"pages ".as_slice());
+    Ok(())
+}
+
 /// A writer that takes nothing.
 #[derive(Drop)]
 struct Shut;

@@ -1,42 +1,10 @@
 //! Writing commands, replies and entries.
-ghost use Rattle.std.specs.Prelude.{◌≡◌, ◌≤◌, ◌+◌, ◌++◌, ◌∷◌, codes, length, take, slice_index, decimal};
+ghost use Rattle.std.specs.Prelude.{◌≡◌, ◌≤◌, ◌+◌, ◌++◌, ◌∷◌, codes, length, take, slice_index};
 ghost use Rattle.graph_heap.specs.Refusal.{refusal_number};
 ghost use Rattle.trace.specs.Spelling.{two, three, four, shape_text, command_text, command_line, reply_text, entry_line};
 
+use crate::text::{put, put_named, put_number};
 use graph_heap::{Command, Entry, Reply, Shape};
-use itoa::Buffer;
-
-/// Writes bytes at a place, and answers the place behind them.
-fn put(out: &mut [u8], at: usize, bytes: &[u8]) -> usize
-    requires { at + length bytes.now ≤ length out.old }
-    ensures text { take result out.new ≡ take at out.old ++ bytes.now }
-    ensures place { result ≡ at + length bytes.now }
-{
-    let end = at + bytes.len();
-    out[at..end].copy_from_slice(bytes);
-    end
-}
-
-/// Writes a number.
-fn put_number(out: &mut [u8], at: usize, n: u64) -> usize
-    requires { at + 20 ≤ length out.old }
-    ensures text { take result out.new ≡ take at out.old ++ decimal n }
-    ensures place { result ≤ at + 20 }
-{
-    let mut buffer = Buffer::new();
-    let text = buffer.format(n);
-    put(out, at, text.as_bytes())
-}
-
-/// Writes a word and a number.
-fn put_named(out: &mut [u8], at: usize, word: &[u8], n: u64) -> usize
-    requires { at + length word.now + 20 ≤ length out.old }
-    ensures text { take result out.new ≡ take at out.old ++ (word.now ++ decimal n) }
-    ensures place { result ≤ at + length word.now + 20 }
-{
-    let next = put(out, at, word);
-    put_number(out, next, n)
-}
 
 /// Writes a word and two numbers.
 fn put_two(out: &mut [u8], at: usize, word: &[u8], numbers: [u32; 2]) -> usize

@@ -1,13 +1,13 @@
-//! Text in an array of 256 bytes.
+//! Text in an array of bytes.
 ghost use Rattle.std.specs.Prelude.{◌≡◌, ◌≤◌, ◌<◌, ◌+◌, ◌++◌, ◌∷◌, [], length, take, decimal, OnOk, OnErr};
 ghost use Rattle.trace.specs.Streams.{GrowsByPart, failed};
 
-use crate::fault::WriteFault;
+use crate::sink::{Sink, WriteFailed, write_all};
 use itoa::Buffer;
-use trace::{Sink, WriteFailed, write_all};
 
-/// Writes bytes at a place, and answers the place behind them.
-pub(crate) fn put(out: &mut [u8], at: usize, bytes: &[u8]) -> usize
+/// Writes bytes at a place, behind which there must be room for them, and answers the place behind
+/// them. What stands before the place stays.
+pub fn put(out: &mut [u8], at: usize, bytes: &[u8]) -> usize
     requires { at + length bytes.now ≤ length out.old }
     ensures text { take result out.new ≡ take at out.old ++ bytes.now }
     ensures place { result ≡ at + length bytes.now }
@@ -18,7 +18,7 @@ pub(crate) fn put(out: &mut [u8], at: usize, bytes: &[u8]) -> usize
 }
 
 /// Writes a number.
-fn put_number(out: &mut [u8], at: usize, n: u64) -> usize
+pub(crate) fn put_number(out: &mut [u8], at: usize, n: u64) -> usize
     requires { at + 20 ≤ length out.old }
     ensures text { take result out.new ≡ take at out.old ++ decimal n }
     ensures place { result ≤ at + 20 }
@@ -28,8 +28,9 @@ fn put_number(out: &mut [u8], at: usize, n: u64) -> usize
     put(out, at, text.as_bytes())
 }
 
-/// Writes a word and a number.
-pub(crate) fn put_named(out: &mut [u8], at: usize, word: &[u8], n: u64) -> usize
+/// Writes a word, and behind it a number in decimal, at a place, and answers the place behind them.
+/// There must be room for the word and 20 digits. What stands before the place stays.
+pub fn put_named(out: &mut [u8], at: usize, word: &[u8], n: u64) -> usize
     requires { at + length word.now + 20 ≤ length out.old }
     ensures text { take result out.new ≡ take at out.old ++ (word.now ++ decimal n) }
     ensures place { result ≤ at + length word.now + 20 }
@@ -38,20 +39,14 @@ pub(crate) fn put_named(out: &mut [u8], at: usize, word: &[u8], n: u64) -> usize
     put_number(out, next, n)
 }
 
-/// Ends a line with LF, and writes it to a sink.
-pub(crate) fn write_line<K: Sink>(
-    sink: &mut K,
-    out: &mut [u8; 256],
-    end: usize,
-) -> Result<(), WriteFault>
+/// Ends the line at the front of an array with LF, and writes it to a sink, all of it. There must be
+/// room for the LF. After an error the sink has taken a beginning of the line.
+pub fn end_line<K: Sink>(sink: &mut K, out: &mut [u8; 256], end: usize) -> Result<(), WriteFailed>
     requires { end < 256 }
     ensures ok { OnOk result (K.taken sink.new ≡ K.taken sink.old ++ (take end out.old ++ 10 ∷ [])) }
     ensures err { OnErr result (GrowsByPart (K.taken sink.old) (K.taken sink.new) (take end out.old ++ 10 ∷ [])) }
     ensures cause { K.failures sink.new ≡ K.failures sink.old + failed result }
 {
     out[end] = b'\n';
-    match write_all(sink, &out[..end + 1]) {
-        Ok(()) => Ok(()),
-        Err(WriteFailed) => Err(WriteFault),
-    }
+    write_all(sink, &out[..end + 1])
 }

@@ -9,8 +9,11 @@ use std::thread::Threads;
 
 mod checking;
 mod faults;
+mod memory;
 mod playing;
+mod racing;
 mod reporting;
+mod streams;
 mod windows;
 
 /// The files of a test: the configuration, called `config`, and a text, called `text`.

@@ -1,0 +1,95 @@
+//! Two scripts that race for a static, run by threads: the output is a history, which is checked.
+use super::*;
+
+/// For each mutator: makes an object, puts it into the static if that is empty, and loads what the static holds.
+const RACE: &str =
+    "0 new 0 plain 0 0\n0 casstatic 0 1 0\n0 loadstatic 1 0\n1 new 0 plain 0 0\n1 casstatic 0 1 0\n1 loadstatic 1 0\n";
+
+/// Runs the program with an input, and answers what it wrote.
+fn output_of<T: Threads + Wait + Sync + Abort + AllocGlobal>(
+    rt: &T,
+    words: &[&str],
+    input: &[u8],
+) -> Vec<u8> {
+    let alloc = rt.alloc();
+    let texts = Texts {
+        config: FOUR_PAGES,
+        text: "",
+    };
+    let mut output = Vec::new(alloc);
+    let mut errors = Vec::new(alloc);
+    let status = run(rt, alloc, words, &texts, input, &mut output, &mut errors);
+    assert_eq!(rt; errors.as_slice(), b"".as_slice());
+    assert_eq!(rt; status, 0);
+    output
+}
+
+/// Whether the lines that begin with a mutator's number are entries of its three commands, in their order.
+fn is_script_of(history: &str, mutator: &str, commands: &[&str]) -> bool {
+    let mut next = 0;
+    for line in history.lines() {
+        if line.starts_with(mutator) {
+            if next >= commands.len() || !line.starts_with(commands[next]) {
+                return false;
+            }
+            next += 1;
+        }
+    }
+    next == commands.len()
+}
+
+/// Whether both loads, and the comparison that came late, found the object of the one that came first.
+fn is_won_by(history: &str, identity: &str) -> bool {
+    let found = history.lines().filter(|line| line.ends_with(identity));
+    found.count() == 4
+}
+
+fn race<T: Threads + Wait + Sync + Abort + AllocGlobal>(rt: &T, words: &[&str]) {
+    let output = output_of(rt, words, RACE.as_bytes());
+    let checked = output_of(
+        rt,
+        &["metronome", "check", "config", "-"],
+        output.as_slice(),
+    );
+    assert_eq!(rt; checked.as_slice(), b"ok 6\n".as_slice());
+    let Ok(history) = str::from_utf8(output.as_slice()) else {
+        panic!(rt; "a history is text");
+    };
+    let first = [
+        "0 new 0 plain 0 0 => made ",
+        "0 casstatic 0 1 0 => ",
+        "0 loadstatic 1 0 => ref ",
+    ];
+    let second = [
+        "1 new 0 plain 0 0 => made ",
+        "1 casstatic 0 1 0 => ",
+        "1 loadstatic 1 0 => ref ",
+    ];
+    assert!(rt; is_script_of(history, "0 ", &first), "{history}");
+    assert!(rt; is_script_of(history, "1 ", &second), "{history}");
+    assert!(rt;
+        is_won_by(history, " 1") != is_won_by(history, " 2"),
+        "{history}"
+    );
+}
+
+#[test]
+fn without_turns(rt: HostRuntime) {
+    let words = ["metronome", "threads", "config", "-", "--turns", "0"];
+    race(&rt, &words);
+}
+
+#[test]
+fn beside_a_collector(rt: HostRuntime) {
+    let words = [
+        "metronome",
+        "threads",
+        "config",
+        "-",
+        "--turns",
+        "100",
+        "--budget",
+        "256",
+    ];
+    race(&rt, &words);
+}

@@ -1,0 +1,242 @@
+//! Readers and writers that fail: the text and the status, and what was written before.
+use super::*;
+use std::io::{Read, Write};
+
+/// A writer with room for so many bytes. The write that finds no room fails, and those behind it find room.
+#[derive(Drop)]
+struct Narrow {
+    bytes: Vec<u8>,
+    room: usize,
+}
+
+impl Write for Narrow {
+    fn write(&mut self, bytes: &[u8]) -> io::Result<usize> {
+        if self.room == 0 {
+            self.room = usize::MAX;
+            return Err(io::Error::from(ErrorKind::StorageFull));
+        }
+        let n = bytes.len().min(self.room);
+        self.bytes.extend_from_slice(&bytes[..n])?;
+        self.room -= n;
+        Ok(n)
+    }
+
+    fn flush(&mut self) -> io::Result<()> {
+        Ok(())
+    }
+}
+
+/// A reader of a text. If it is broken the read behind the last byte fails, and those behind that find the end.
+#[derive(Drop)]
+struct Torn {
+    text: &'static [u8],
+    is_broken: bool,
+}
+
+impl Read for Torn {
+    fn read(&mut self, buffer: &mut [u8]) -> io::Result<usize> {
+        if self.is_broken && self.text.is_empty() {
+            self.is_broken = false;
+            return Err(io::Error::from(ErrorKind::ConnectionReset));
+        }
+        self.text.read(buffer)
+    }
+}
+
+/// Files, one of which is broken.
+#[derive(Clone, Copy)]
+struct TornTexts {
+    texts: Texts,
+    broken: &'static str,
+}
+
+impl Opener for TornTexts {
+    type File = Torn;
+
+    fn open(&self, name: &str) -> io::Result<Torn> {
+        Ok(Torn {
+            text: self.texts.open(name)?,
+            is_broken: name == self.broken,
+        })
+    }
+}
+
+/// A run whose output has room for so many bytes, and what stands there.
+#[derive(Clone, Copy)]
+struct Short {
+    words: &'static [&'static str],
+    text: &'static str,
+    room: usize,
+    output: &'static str,
+}
+
+const REPLIES: Short = Short {
+    words: &["metronome", "play", "config", "text"],
+    text: "0 new 0 plain 0 0\n0 describe 0\n",
+    room: 0,
+    output: "",
+};
+
+const WRONG_REPLY: Short = Short {
+    words: &["metronome", "check", "config", "text"],
+    text: "0 new 0 plain 0 0 => made 2\n",
+    room: 0,
+    output: "",
+};
+
+const ENTRIES: Short = Short {
+    words: &["metronome", "threads", "config", "text"],
+    text: "0 new 0 plain 0 0\n0 describe 0\n",
+    room: 0,
+    output: "",
+};
+
+const REPORT: Short = Short {
+    words: &["metronome", "inspect", "config", "text"],
+    text: "",
+    room: 0,
+    output: "",
+};
+
+const WINDOWS: Short = Short {
+    words: &["metronome", "mmu", "config", "text", "22", "15"],
+    text: "",
+    room: 0,
+    output: "",
+};
+
+const HELP: Short = Short {
+    words: &["metronome", "--help"],
+    text: "",
+    room: 0,
+    output: "",
+};
+
+/// Makes a run whose output is too short.
+fn expect_short<T: Threads + Wait + Sync + Abort + AllocGlobal>(rt: &T, short: &Short) {
+    let alloc = rt.alloc();
+    let texts = Texts {
+        config: FOUR_PAGES,
+        text: short.text,
+    };
+    let mut output = Narrow {
+        bytes: Vec::new(alloc),
+        room: short.room,
+    };
+    let mut errors = Vec::new(alloc);
+    let input = short.text.as_bytes();
+    let status = run(
+        rt,
+        alloc,
+        short.words,
+        &texts,
+        input,
+        &mut output,
+        &mut errors,
+    );
+    assert_eq!(rt; output.bytes.as_slice(), short.output.as_bytes());
+    assert_eq!(rt; errors.as_slice(), b"metronome: cannot write\n".as_slice());
+    assert_eq!(rt; status, 5);
+}
+
+#[test]
+fn a_first_write_fails(rt: HostRuntime) {
+    for short in [REPLIES, WRONG_REPLY, ENTRIES, REPORT, WINDOWS, HELP] {
+        expect_short(&rt, &short);
+    }
+}
+
+#[test]
+fn a_later_write_fails(rt: HostRuntime) {
+    let rows = [
+        (REPLIES, "made 1\n"),
+        (REPLIES, "made 1\ndes"),
+        (WRONG_REPLY, "wrong"),
+        (ENTRIES, "0 new 0 plain 0 0 => made 1\n"),
+        (REPORT, "phase idle\nunits 0\n"),
+        (WINDOWS, "window 22 none\n"),
+    ];
+    for (short, output) in rows {
+        let room = output.len();
+        expect_short(
+            &rt,
+            &Short {
+                room,
+                output,
+                ..short
+            },
+        );
+    }
+}
+
+/// Makes a run one of whose files is broken, and compares the output.
+fn expect_torn<T: Threads + Wait + Sync + Abort + AllocGlobal>(
+    rt: &T,
+    word: &'static str,
+    broken: &'static str,
+    text: &'static str,
+    wanted: &str,
+) {
+    let alloc = rt.alloc();
+    let config = FOUR_PAGES;
+    let texts = Texts { config, text };
+    let files = TornTexts { texts, broken };
+    let words = ["metronome", word, "config", "text", "22"];
+    let count = if word == "mmu" { 5 } else { 4 };
+    let mut output = Vec::new(alloc);
+    let mut errors = Vec::new(alloc);
+    let status = run(
+        rt,
+        alloc,
+        &words[..count],
+        &files,
+        text.as_bytes(),
+        &mut output,
+        &mut errors,
+    );
+    assert_eq!(rt; output.as_slice(), wanted.as_bytes());
+    assert_eq!(rt; errors.as_slice(), b"metronome: cannot read\n".as_slice());
+    assert_eq!(rt; status, 5);
+}
+
+#[test]
+fn a_read_fails(rt: HostRuntime) {
+    let rows = [
+        ("play", "text", "0 new 0 plain 0 0\n", "made 1\n"),
+        ("play", "text", "0 new 0 plain 0 0\n0 des", "made 1\n"),
+        ("check", "text", "0 clear 0 => done\n", ""),
+        ("threads", "text", "0 clear 0\n", ""),
+        ("inspect", "text", "0 clear 0\n", ""),
+        ("mmu", "text", "tick 30\n", ""),
+        ("play", "config", "0 clear 0\n", ""),
+        ("mmu", "config", "tick 30\n", ""),
+    ];
+    for (word, broken, text, wanted) in rows {
+        expect_torn(&rt, word, broken, text, wanted);
+    }
+}
+
+#[test]
+fn a_write_to_the_error_stream_fails(rt: HostRuntime) {
+    let alloc = rt.alloc();
+    let texts = Texts {
+        config: FOUR_PAGES,
+        text: "0 new 0 plain 0 0\nend\n",
+    };
+    let mut output = Vec::new(alloc);
+    let mut errors = Narrow {
+        bytes: Vec::new(alloc),
+        room: 9,
+    };
+    let status = run(
+        &rt,
+        alloc,
+        &["metronome", "play", "config", "text"],
+        &texts,
+        b"".as_slice(),
+        &mut output,
+        &mut errors,
+    );
+    assert_eq!(rt; output.as_slice(), b"made 1\n".as_slice());
+    assert_eq!(rt; status, 4);
+}

@@ -12,14 +12,16 @@ use Rattle.heap_model.specs.declared.phase.Moving.TheVariants as moves
 use Rattle.heap_model.specs.Block.{Node, with_cell, with_colour}
 use Rattle.heap_model.specs.Pages.{ArePages, Page, page_at, with_held}
 use Rattle.heap_model.specs.Store.{Store, Writes, is_held, size_in, node_of, address_of}
-use Rattle.heap_model.specs.Core.{Name, null, PartGraph, Heap, Tracing, shade, set_root, set_cell, free}
-use Rattle.heap_model.specs.Same.{SameBlocks}
+use Rattle.heap_model.specs.Core.{Name, null, PartGraph, Heap, Tracing}
 use Rattle.heap_model.specs.Cut.{view}
-use Rattle.heap_model.specs.Collector.{Progress, In_idle, In_roots, In_marking, In_sweep, In_moves, Collector, done_of, Greys, Coherent, Acts, root_scanned, cell_scanned}
-use Rattle.heap_model.specs.Collector as collector
+use Rattle.heap_model.specs.Collector.{In_idle, In_marking, In_sweep, In_moves, Collector, done_of, Greys, Coherent}
 use Rattle.heap_model.specs.State.{HeapState, seen, width_at, same_colour, collector_by, collector_of, reference_of, is_receiving, is_left, page_of}
 use Rattle.heap_model.specs.Agreement.{IsWhole, Consistent}
 use Rattle.heap_model.specs.Action.{Shades, Was_marked, Is_marked, KeepsBlocks, Frees, goes_to, is_looked_at, after_sweep, is_sparse}
+use Rattle.heap_model.proofs.Acts as collector
+use Rattle.heap_model.proofs.Same.{SameBlocks}
+use Rattle.heap_model.proofs.Edits.{shade, set_root, set_cell, free}
+use Rattle.heap_model.proofs.Acts.{root_scanned, cell_scanned}
 use Rattle.heap_model.proofs.Collector.{acts, same_stands}
 use Rattle.heap_model.proofs.Seen.{held_pages, field_kept, behind, root_seen, cell_seen}
 use Rattle.heap_model.proofs.Written.{whole_write, whole_cell, width_le}

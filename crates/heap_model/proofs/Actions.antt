@@ -3,15 +3,14 @@ use Rattle.std.proofs.Common.{◌≡◌, ℕ, ◌+◌, ◌-◌, Bool, true, fals
 use Rattle.graph_heap.specs.Graph.{Graph}
 use Rattle.heap_model.specs.declared.phase.Phase.TheVariants as phases
 use Rattle.heap_model.specs.Store.{node_of}
-use Rattle.heap_model.specs.Core.{flip}
-use Rattle.heap_model.specs.Same.{SameBlocks}
 use Rattle.heap_model.specs.Cut.{view}
-use Rattle.heap_model.specs.Collector.{Collector, Coherent}
-use Rattle.heap_model.specs.Collector as collector
 use Rattle.heap_model.specs.Pages.{ArePages}
 use Rattle.heap_model.specs.State.{HeapState, seen, same_colour, collector_by}
 use Rattle.heap_model.specs.Agreement.{Consistent}
 use Rattle.heap_model.specs.Action.{Action, Scans_root, Ends_roots, Scans_header, Scans_cell, Ends_marking, Frees_block, Passes_block, Closes_page, Ends_sweep, Looks_at_page, Chooses_page, Chooses_none, Moves_block, Ends_moving, begun}
+use Rattle.heap_model.proofs.Acts as collector
+use Rattle.heap_model.proofs.Same.{SameBlocks}
+use Rattle.heap_model.proofs.Edits.{flip}
 use Rattle.heap_model.proofs.Collector.{begins, same_stands}
 use Rattle.heap_model.proofs.Acting.{at_phase, root_act, roots_end_act, header_act, cell_act, marking_end_act, pass_act, free_act, close_act, sweep_end_act}
 use Rattle.heap_model.proofs.Moved.{pass_on_act, choose_act, move_act, moving_end_act}

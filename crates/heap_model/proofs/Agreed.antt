@@ -1,7 +1,22 @@
 use Rattle.std.proofs.Common.{◌≡◌, ℕ, ◌<◌, true, arith, ap, subst, sym, ◌∙◌}
 use Rattle.heap_model.specs.Core.{Name, PartGraph, Heap, Reach, Kept, Base}
-use Rattle.heap_model.specs.Agree.{Reads, Shows, AgreesByParts, Alike}
+use Rattle.heap_model.specs.Agree.{Reads, Shows}
 use Rattle.heap_model.proofs.Kept.{reach_null, reach_root, reach_step, reach_kept, reach_induction}
+
+-- the heap agrees with a part graph: roots read as its roots, and what can be reached is shown
+pub record AgreesByParts (h : Heap) (g : PartGraph) : Type 0 where
+  pub next : h.next ≡ g.next
+  pub root : (j : ℕ) → j < h.roots → Reads h (h.root j) (g.root j)
+  pub shows : (n : Name) → Reach h.roots g n → Shows h g n
+
+-- two graphs between which no caller can tell
+pub record Alike (roots : ℕ) (f g : PartGraph) : Type 0 where
+  pub next : f.next ≡ g.next
+  pub root : (j : ℕ) → j < roots → f.root j ≡ g.root j
+  pub width : (n : Name) → Reach roots f n → f.width n ≡ g.width n
+  pub words : (n : Name) → Reach roots f n → f.words n ≡ g.words n
+  pub shape : (n : Name) → Reach roots f n → f.shape n ≡ g.shape n
+  pub target : (n : Name) (i : ℕ) → Reach roots f n → i < f.width n → f.target n i ≡ g.target n i
 
 base_reads : (h : Heap) (g s : PartGraph) (at : Name → ℕ) → Base h g s at → (x : ℕ) (n : Name) → h.held x ≡ true → h.forward x ≡ at n → Kept h.roots s g n → Reads h x n
 base_reads h g s at b x n e f k = grind arith

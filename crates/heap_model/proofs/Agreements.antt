@@ -3,13 +3,13 @@ use Rattle.std.proofs.Common.{◌≡◌, ◌≢◌, ℕ, ◌<◌, ◌≤◌, Boo
 use Rattle.graph_heap.specs.Graph.{Graph, no_object, object_of}
 use Rattle.graph_heap.specs.Reach.{Reaches}
 use Rattle.heap_model.specs.Core.{Name, null, Reach, Kept}
-use Rattle.heap_model.specs.Agree.{Shows, AgreesByParts}
+use Rattle.heap_model.specs.Agree.{Shows}
 use Rattle.heap_model.specs.Cut.{is_cut, count_of, width_in, width_of, words_of, name_of, view}
 use Rattle.heap_model.specs.State.{HeapState, seen}
 use Rattle.heap_model.specs.Agreement.{Agrees, Consistent}
 use Rattle.heap_model.specs.Written.{IsKnown}
 use Rattle.heap_model.proofs.Kept.{kept_null, reach_kept}
-use Rattle.heap_model.proofs.Agreed.{agreed}
+use Rattle.heap_model.proofs.Agreed.{AgreesByParts, agreed}
 use Rattle.heap_model.proofs.Cut.{reaches_reach, reach_reaches, count_some, reach_zero}
 
 -- what the graph heap reaches is kept, in parts

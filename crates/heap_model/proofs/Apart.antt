@@ -14,7 +14,7 @@ use Rattle.heap_model.specs.Pages.{ArePages, Page, page_at}
 use Rattle.heap_model.specs.Store.{Store, size_in, size_at, node_of}
 use Rattle.heap_model.specs.State.{HeapState, seen, width_at}
 use Rattle.heap_model.specs.Agreement.{IsWhole}
-use Rattle.heap_model.specs.Units.{LieApart}
+use Rattle.heap_model.proofs.Units.{LieApart}
 use Rattle.heap_model.proofs.Written.{width_le}
 use Rattle.heap_model.proofs.Held.{IsBlockOf, held_block, is_page, block_within, page_within}
 use Rattle.heap_model.proofs.Acting.{held_behind}

@@ -1,14 +1,23 @@
 -- What mutators do keeps the invariant: a record of what is overwritten, one write, and new objects.
-use Rattle.std.proofs.Common.{◌≡◌, ℕ, ◌<◌, true, false, arith, refl, ap, subst, sym, ◌∙◌}
-use Rattle.heap_model.specs.Core.{Name, PartGraph, Heap, Reach, Kept, Base, Tracing, set_root, set_cell, write_root, write_target}
+use Rattle.std.proofs.Common.{◌≡◌, ℕ, ◌<◌, Bool, true, false, arith, refl, ap, subst, sym, ◌∙◌}
+use Rattle.heap_model.specs.Core.{Name, PartGraph, Heap, Reach, Kept, Base, Tracing}
 use Rattle.heap_model.specs.Agree.{IsMain}
-use Rattle.heap_model.specs.Made.{Parts, AreParts, made, Makes, made_at}
-use Rattle.heap_model.specs.Collector.{Progress, In_idle, In_roots, In_marking, In_sweep, In_moves, Collector, done_by, done_of, Greys, Stage, Coherent, shaded}
-use Rattle.heap_model.specs.Barrier.{is_tracing}
+use Rattle.heap_model.specs.Collector.{Progress, In_idle, In_roots, In_marking, In_sweep, In_moves, Collector, done_by, done_of, Greys, Stage, Coherent}
+use Rattle.heap_model.proofs.Parts.{Parts, AreParts, made, Makes, made_at}
+use Rattle.heap_model.proofs.Edits.{set_root, set_cell, write_root, write_target}
+use Rattle.heap_model.proofs.Acts.{shaded}
 use Rattle.heap_model.proofs.Trace.{shade_base, shade_tracing}
 use Rattle.heap_model.proofs.Write.{write_root_base, write_root_tracing, write_root_sweeping, write_root_resting, write_target_base, write_target_tracing, write_target_sweeping, write_target_resting}
 use Rattle.heap_model.proofs.Collector.{shaded_done, shaded_greys, tracing_same, tracing_less, stage_at}
 use Rattle.heap_model.proofs.Made.{made_base, made_tracing, made_sweeping, made_resting, made_moving, made_left, kept_part}
+
+-- In roots and marking, what a command overwrites in a root or in a reference cell is shaded first.
+abbrev pub is_tracing : Progress → Bool
+is_tracing In_idle = false
+is_tracing (In_roots place) = true
+is_tracing In_marking = true
+is_tracing (In_sweep place) = false
+is_tracing In_moves = false
 
 -- in a phase p whose stage holds
 pub staged : (m : Collector) (at : Name → ℕ) (g s : PartGraph) (p : Progress) → m.phase ≡ p → Base m.heap g s at → Stage m g s at p → Coherent m g s

@@ -13,7 +13,7 @@ use Rattle.heap_model.specs.Pages.{Page, ArePages}
 use Rattle.heap_model.specs.Store.{Store, Writes, node_of}
 use Rattle.heap_model.specs.Core.{Name}
 use Rattle.heap_model.specs.Agree.{IsMain, Reads}
-use Rattle.heap_model.specs.Cut.{name_of, count_of, part_in, column_in, width_of, part_at, column_at}
+use Rattle.heap_model.specs.Cut.{name_of, count_of, part_in, column_in, width_of}
 use Rattle.heap_model.specs.State.{HeapState, seen, width_at}
 use Rattle.heap_model.specs.Agreement.{Consistent}
 use Rattle.heap_model.specs.Making.{MakesObject}
@@ -25,7 +25,7 @@ use Rattle.heap_model.specs.Marks.{AreClosed}
 use Rattle.heap_model.specs.Standing.{Stands}
 use Rattle.heap_model.specs.Taking.{Takes}
 use Rattle.heap_model.specs.Change.{Records, HasCell, place_of, DoesChange, Does_nothing, Does_root, Does_ref, Does_word, Does_new}
-use Rattle.heap_model.proofs.Cut.{part_below, column_below}
+use Rattle.heap_model.proofs.Cut.{part_at, column_at, part_below, column_below}
 use Rattle.heap_model.proofs.Agreements.{consistent_agrees, part_kept}
 use Rattle.heap_model.proofs.Sameness.{known_root, known_ref}
 use Rattle.heap_model.proofs.Shown.{main_copy, ref_shown}

@@ -9,9 +9,11 @@ use Rattle.graph_heap.specs.declared.command.Change.TheVariants as changes
 use Rattle.graph_heap.specs.Shape.{ref_cells}
 use Rattle.graph_heap.specs.Graph.{Object, Graph, no_object, object_of, put_object, with_ref, with_word, new_object, changed}
 use Rattle.size_classes.specs.Parts.{pieces_of}
-use Rattle.heap_model.specs.Core.{Name, null, PartGraph, write_root, write_target, write_word}
-use Rattle.heap_model.specs.Made.{AreParts, link_name, made}
-use Rattle.heap_model.specs.Cut.{is_cut, count_of, width_in, width_of, name_of, target_of, words_of, view, part_at, column_at, part_in, column_in, parts_of}
+use Rattle.heap_model.specs.Core.{Name, null, PartGraph}
+use Rattle.heap_model.specs.Cut.{is_cut, count_of, width_in, width_of, name_of, target_of, words_of, view, part_in, column_in}
+use Rattle.heap_model.proofs.Parts.{AreParts, link_name, made, parts_of}
+use Rattle.heap_model.proofs.Edits.{write_root, write_target, write_word}
+use Rattle.heap_model.proofs.Cut.{part_at, column_at}
 
 put_some : (xs : List Object) (id : ℕ) (o : Object) → 0 < id → put_object xs id o ≡ set xs (id - 1) o
 put_some xs id o p = grind arith

@@ -1,11 +1,12 @@
 use Rattle.std.proofs.Common.{◌≡◌, ℕ, ◌+◌, ◌<◌, ◌≤◌, Bool, true, false, List, [], ◌∷◌, ◌++◌, arith, refl, ap, subst, sym, ◌∙◌, ◌==◌, ◌||◌, if◌then◌else◌}
-use Rattle.heap_model.specs.Core.{Name, PartGraph, Heap, Reach, Base, Tracing, Sweeping, Resting, Moving, Left, put, shade, set_root, set_cell, free, flip, move, moved}
-use Rattle.heap_model.specs.Collector.{Progress, In_idle, In_roots, In_marking, In_sweep, In_moves, Collector, contains, Once, done_by, done_of, Greys, Stage, Coherent, shaded, root_scanned, cell_scanned, Acts, Scans_root, Ends_roots, Scans_header, Scans_cell, Ends_marking, Keeps, Frees, Ends_sweep, Ends_sweep_to_move, Moves_block, Goes_past, Ends_moves, begun}
+use Rattle.heap_model.specs.Core.{Name, PartGraph, Heap, Reach, Base, Tracing, Sweeping, Resting, Moving, Left}
+use Rattle.heap_model.specs.Collector.{Progress, In_idle, In_roots, In_marking, In_sweep, In_moves, Collector, contains, Once, done_by, done_of, Greys, Stage, Coherent}
+use Rattle.heap_model.proofs.Edits.{put, shade, set_root, set_cell, free, flip, move, moved}
+use Rattle.heap_model.proofs.Acts.{shaded, root_scanned, cell_scanned, Acts, Scans_root, Ends_roots, Scans_header, Scans_cell, Ends_marking, Keeps, Frees, Ends_sweep, Ends_sweep_to_move, Moves_block, Goes_past, Ends_moves, begun}
 use Rattle.heap_model.proofs.Trace.{shade_base, scan_root_base, scan_root, scan_block_base, scan_block, traced}
 use Rattle.heap_model.proofs.Sweep.{free_base, free_sweeping, sweep_on, swept, begin_base, begin_tracing}
 use Rattle.heap_model.proofs.Move.{move_base, move_resting, move_moving, move_left}
-use Rattle.heap_model.specs.Same.{SameBlocks}
-use Rattle.heap_model.proofs.Same.{same_base, same_tracing, same_sweeping, same_resting, same_moving, same_left}
+use Rattle.heap_model.proofs.Same.{SameBlocks, same_base, same_tracing, same_sweeping, same_resting, same_moving, same_left}
 
 same_heap : (h : Heap) → SameBlocks h h
 same_heap h = grind arith

@@ -3,8 +3,15 @@ use Rattle.std.proofs.Common.{◌≡◌, ℕ, zero, suc, ◌+◌, ◌-◌, ◌*�
 use Rattle.graph_heap.specs.Graph.{Object, Graph, no_object, object_of}
 use Rattle.graph_heap.specs.Reach.{Path, Reaches}
 use Rattle.heap_model.specs.Core.{Name, null, Reach}
-use Rattle.heap_model.specs.Cut.{is_cut, count_of, width_in, width_of, name_of, target_of, view, part_at, column_at, part_in, column_in}
+use Rattle.heap_model.specs.Cut.{is_cut, count_of, width_in, width_of, name_of, target_of, view, part_in, column_in}
 use Rattle.heap_model.proofs.Kept.{reach_root, reach_step, reach_induction}
+
+-- in which part cell i of an object stands, and at which place among its cells of that kind
+abbrev pub part_at : Object → ℕ → ℕ
+part_at o i = part_in (length o.refs + length o.words) i
+
+abbrev pub column_at : Object → ℕ → ℕ
+column_at o i = column_in (length o.refs + length o.words) i
 
 -- a reference cell stands in its part
 pub part_below : (o : Object) (i : ℕ) → i < length o.refs → part_at o i < count_of o

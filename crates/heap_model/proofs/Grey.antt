@@ -1,5 +1,5 @@
 -- How many grey parts there can be.
-use Rattle.std.proofs.Common.{◌≡◌, ◌≢◌, ℕ, zero, suc, ◌+◌, ◌-◌, ◌*◌, ◌/◌, ◌<◌, ◌≤◌, ◌⊎◌, inl, inr, Bool, true, false, List, [], ◌∷◌, length, arith, ap, subst, sym, refl, ◌∙◌, ◌==◌, ◌||◌}
+use Rattle.std.proofs.Common.{◌≡◌, ◌≢◌, ℕ, zero, suc, ◌+◌, ◌-◌, ◌*◌, ◌/◌, ◌<◌, ◌≤◌, ◌⊎◌, inl, inr, Bool, true, false, List, [], ◌∷◌, length, arith, subst, sym, refl, ◌∙◌, ◌==◌, ◌||◌}
 use Rattle.std.specs.Prelude.{map}
 use Rattle.std.specs.List.{AllByRecursion, IsDistinct, list_any}
 use Rattle.std.proofs.Math.Dec.{eqb}
@@ -10,16 +10,16 @@ use Rattle.graph_heap.specs.Graph.{Graph}
 use Rattle.heap_model.specs.declared.phase.Phase.{Phase}
 use Rattle.heap_model.specs.declared.phase.Phase.TheVariants as phases
 use Rattle.heap_model.specs.Core.{Heap}
-use Rattle.heap_model.specs.Collector.{Collector, contains, Once, Greys, Stage}
-use Rattle.heap_model.specs.Units.{LieApart}
+use Rattle.heap_model.specs.Collector.{contains, Once, Greys, Stage}
 use Rattle.heap_model.specs.State.{HeapState, seen, collector_of, collector_by, progress_of}
 use Rattle.heap_model.specs.Store.{is_held}
 use Rattle.heap_model.specs.Cut.{view}
 use Rattle.heap_model.specs.Pages.{ArePages}
-use Rattle.heap_model.specs.Agreement.{Consistent, IsWhole}
+use Rattle.heap_model.specs.Agreement.{IsWhole}
 use Rattle.heap_model.specs.Written.{records}
 use Rattle.heap_model.specs.Spent.{IsWithin, arena_words}
 use Rattle.heap_model.specs.Standing.{Stands}
+use Rattle.heap_model.proofs.Units.{LieApart}
 use Rattle.heap_model.proofs.Apart.{lie_apart, size_behind}
 
 -- a part, by the quarter of the arena's words in which it begins

@@ -1,3 +1,6 @@
+pub mod Edits
+pub mod Parts
+pub mod Acts
 pub mod Kept
 pub mod Trace
 pub mod Sweep

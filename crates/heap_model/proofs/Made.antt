@@ -1,6 +1,6 @@
 use Rattle.std.proofs.Common.{◌≡◌, ℕ, ◌<◌, ◌≤◌, ◌≢◌, inl, inr, Bool, true, false, arith, ◌==◌, if◌then◌else◌}
 use Rattle.heap_model.specs.Core.{Name, null, PartGraph, Heap, Reach, FreshBy, KeptBy, Fresh, Kept, Grows, Base, Tracing, Sweeping, Resting, Moving, Left}
-use Rattle.heap_model.specs.Made.{Parts, AreParts, link_name, made, Makes, made_at}
+use Rattle.heap_model.proofs.Parts.{Parts, AreParts, link_name, made, Makes, made_at}
 use Rattle.heap_model.proofs.Kept.{kept_null, kept_reach, kept_fresh, reach_root, reach_step}
 
 pub kept_more : (roots : ℕ) (s g : PartGraph) (ps : Parts) (n : Name) → Kept roots s g n → Kept roots s (made g ps) n

@@ -9,15 +9,16 @@ use Rattle.size_classes.specs.Parts.{cells_of, pieces_of, parts_in, part_cells}
 use Rattle.heap_model.specs.Header.{Header}
 use Rattle.heap_model.specs.Block.{Node, new_node}
 use Rattle.heap_model.specs.Store.{Store, Adds, is_held, node_of}
-use Rattle.heap_model.specs.Core.{Name, null, Heap, set_cell}
-use Rattle.heap_model.specs.Made.{Parts, Makes, MakesFirst, block_made}
-use Rattle.heap_model.specs.Same.{SameBlocks}
-use Rattle.heap_model.specs.Cut.{is_cut, count_of, width_in, width_of, words_of, parts_of}
+use Rattle.heap_model.specs.Core.{Name, null, Heap}
+use Rattle.heap_model.specs.Cut.{is_cut, count_of, width_in, width_of, words_of}
 use Rattle.heap_model.specs.State.{HeapState, seen, width_at, same_colour}
 use Rattle.heap_model.specs.Agreement.{IsWhole}
 use Rattle.heap_model.specs.Making.{Making, Nothing_made, Part_made, Piece_linked, pieces_in, MakesObject}
+use Rattle.heap_model.proofs.Same.{SameBlocks}
+use Rattle.heap_model.proofs.Parts.{Parts, Makes, parts_of}
+use Rattle.heap_model.proofs.Edits.{set_cell}
 use Rattle.heap_model.proofs.Changes.{no_refs, parts_are}
-use Rattle.heap_model.proofs.Steps.{first_none, first_more, first_link, first_all}
+use Rattle.heap_model.proofs.Steps.{MakesFirst, block_made, first_none, first_more, first_link, first_all}
 use Rattle.heap_model.proofs.Written.{whole_cell}
 use Rattle.heap_model.proofs.Seen.{behind, cell_seen}
 

@@ -1,5 +1,6 @@
 use Rattle.std.proofs.Common.{◌≡◌, ℕ, ◌≢◌, Bool, true, false, arith}
-use Rattle.heap_model.specs.Core.{Name, PartGraph, Heap, Kept, Base, Resting, Moving, Left, move, moved}
+use Rattle.heap_model.specs.Core.{Name, PartGraph, Heap, Kept, Base, Resting, Moving, Left}
+use Rattle.heap_model.proofs.Edits.{move, moved}
 
 -- block x, which is a main copy on a page that leaves, is copied to the free block y of a page that receives
 move_forward : (h : Heap) (at : Name → ℕ) (receiving : ℕ → Bool) (x y : ℕ) → Moving h receiving → h.forward x ≡ x → receiving x ≡ false → h.held y ≡ false

@@ -14,14 +14,15 @@ use Rattle.heap_model.specs.declared.phase.Candidate.{Candidate}
 use Rattle.heap_model.specs.Block.{Node, with_forward}
 use Rattle.heap_model.specs.Pages.{ArePages, Page, page_at, with_held, is_usable}
 use Rattle.heap_model.specs.Store.{Store, is_held, size_in, node_of, address_of}
-use Rattle.heap_model.specs.Core.{Name, null, PartGraph, Heap, move}
-use Rattle.heap_model.specs.Same.{SameBlocks}
+use Rattle.heap_model.specs.Core.{Name, null, PartGraph, Heap}
 use Rattle.heap_model.specs.Cut.{view}
-use Rattle.heap_model.specs.Collector.{In_moves, In_idle, Collector, Coherent}
-use Rattle.heap_model.specs.Collector as collector
+use Rattle.heap_model.specs.Collector.{Collector, Coherent}
 use Rattle.heap_model.specs.State.{HeapState, seen, width_at, same_colour, collector_by, collector_of, is_receiving, is_leaving, is_left, page_of, reference_of}
 use Rattle.heap_model.specs.Agreement.{IsWhole, Consistent}
 use Rattle.heap_model.specs.Action.{KeepsBlocks, MovesBlock, goes_to, is_choosable, is_chosen, IsNext, AtPass, In_pass, After_page, MovingDone, No_class, No_page}
+use Rattle.heap_model.proofs.Acts as collector
+use Rattle.heap_model.proofs.Same.{SameBlocks}
+use Rattle.heap_model.proofs.Edits.{move}
 use Rattle.heap_model.proofs.Collector.{acts, same_stands}
 use Rattle.heap_model.proofs.Seen.{behind}
 use Rattle.heap_model.proofs.Held.{set_page, page_within, is_page, held_at, block_within, size_some, page_of_place}

@@ -12,13 +12,13 @@ use Rattle.heap_model.specs.Pages.{Page}
 use Rattle.heap_model.specs.Store.{Store}
 use Rattle.heap_model.specs.Core.{PartGraph, Heap, Kept}
 use Rattle.heap_model.specs.Agree.{IsMain}
-use Rattle.heap_model.specs.Made.{made}
-use Rattle.heap_model.specs.Cut.{name_of, view, parts_of}
+use Rattle.heap_model.specs.Cut.{name_of, view}
 use Rattle.heap_model.specs.Collector.{In_sweep, Greys, Coherent}
 use Rattle.heap_model.specs.State.{HeapState, seen, collector_by, collector_of, reference_of}
 use Rattle.heap_model.specs.Agreement.{HasItsCells, Consistent}
 use Rattle.heap_model.specs.Written.{IsRecorded, KeepsPlace}
 use Rattle.heap_model.specs.Making.{MakesObject}
+use Rattle.heap_model.proofs.Parts.{made, parts_of}
 use Rattle.heap_model.proofs.Barrier.{news, new_kept, staged}
 use Rattle.heap_model.proofs.Changes.{appended, view-appended, object-append, parts_are}
 use Rattle.heap_model.proofs.Making.{reference, making_whole, makes_object}

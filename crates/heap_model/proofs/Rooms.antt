@@ -65,8 +65,9 @@ term_below pages need (suc c) class h = elim (last c class h) [
   | inr l ↦ (let t = term_below pages need c class l in omega (arith, t))
 ]
 
-pub room_same : (pages : List (Option Page)) (m n : ℕ → ℕ) → ((k : ℕ) → m k ≡ n k) → has_room pages m ≡ has_room pages n
-room_same pages m n e = ap (λ x. leb x (free_pages pages)) (terms_same pages pages n m 38 (λ k l. ap (λ x. whole_pages k (x - free_blocks pages k)) (e k)))
+-- needs that are the same for each class
+pub room_same : (pages : List (Option Page)) (m n : ℕ → ℕ) → ((k : ℕ) → k < 38 → m k ≡ n k) → has_room pages m ≡ has_room pages n
+room_same pages m n e = ap (λ x. leb x (free_pages pages)) (terms_same pages pages n m 38 (λ k l. ap (λ x. whole_pages k (x - free_blocks pages k)) (e k l)))
 
 -- some item passes where a sum of what the passing ones add is above 0
 first_within : {A : Type 0} (p : A → Bool) (f : A → ℕ) (xs : List A) → ((x : A) → p x ≡ false → f x ≡ 0) → 0 < sum_by f xs → position_or_len p xs < length xs
@@ -347,7 +348,7 @@ next_left old new cells part parts class page index h small e room w =
     room_left old new (needed_from cells part parts) (needed_from cells (part + 1) parts) class page index small room (next_own cells part parts class h e) (λ k b d. next_other cells part parts class k e d) w
 
 pub first_same : (pages : List (Option Page)) (shape : Shape) → has_room pages (needed shape) ≡ has_room pages (needed_from (cells_of shape) 0 (parts_in (cells_of shape)))
-first_same pages shape = room_same pages (needed shape) (needed_from (cells_of shape) 0 (parts_in (cells_of shape))) (λ k. less_none (needed shape k))
+first_same pages shape = room_same pages (needed shape) (needed_from (cells_of shape) 0 (parts_in (cells_of shape))) (λ k l. less_none (needed shape k))
   where
     less_none : (n : ℕ) → n ≡ n - 0
     less_none n = omega arith

@@ -10,15 +10,15 @@ use Rattle.std.proofs.lemmas.List.{ext_get_or}
 use Rattle.graph_heap.specs.Graph.{Object, Graph, object_of, put_object, with_ref, with_word, new_object, changed}
 use Rattle.graph_heap.specs.Reach.{Path, Reaches}
 use Rattle.heap_model.specs.Core.{Name, Reach}
-use Rattle.heap_model.specs.Agree.{Reads, Alike}
-use Rattle.heap_model.specs.Cut.{count_of, width_of, words_of, target_of, name_of, view, part_in, column_in, part_at, column_at}
+use Rattle.heap_model.specs.Agree.{Reads}
+use Rattle.heap_model.specs.Cut.{count_of, width_of, words_of, target_of, name_of, view, part_in, column_in}
 use Rattle.heap_model.specs.State.{HeapState, seen}
 use Rattle.heap_model.specs.Agreement.{HasItsCells, Agrees}
 use Rattle.heap_model.specs.Written.{IsKnown}
 use Rattle.heap_model.specs.Alike.{IsAlike, IsFounded}
-use Rattle.heap_model.proofs.Agreed.{alike, alike_reach}
+use Rattle.heap_model.proofs.Agreed.{Alike, alike, alike_reach}
 use Rattle.heap_model.proofs.Agreements.{by_parts}
-use Rattle.heap_model.proofs.Cut.{reaches_reach, reach_reaches, count_some, part_below, column_below, cell_at, word_below}
+use Rattle.heap_model.proofs.Cut.{part_at, column_at, reaches_reach, reach_reaches, count_some, part_below, column_below, cell_at, word_below}
 use Rattle.heap_model.proofs.Shown.{word_at}
 
 name_same : (a b : ℕ) → name_of a ≡ name_of b → a ≡ b

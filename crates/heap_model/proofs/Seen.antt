@@ -4,9 +4,10 @@ use Rattle.std.proofs.lemmas.List.{drop-set-lt, drop-set-add}
 use Rattle.heap_model.specs.Block.{Node, with_cell}
 use Rattle.heap_model.specs.Pages.{page_at}
 use Rattle.heap_model.specs.Store.{Store, Writes, held_in, is_held, node_of}
-use Rattle.heap_model.specs.Core.{Name, null, set_root, set_cell, set_word}
-use Rattle.heap_model.specs.Same.{SameBlocks}
+use Rattle.heap_model.specs.Core.{Name, null}
 use Rattle.heap_model.specs.State.{HeapState, seen, width_at, same_colour}
+use Rattle.heap_model.proofs.Same.{SameBlocks}
+use Rattle.heap_model.proofs.Edits.{set_root, set_cell, set_word}
 use Rattle.heap_model.proofs.Changes.{read-set}
 
 -- which blocks are held, the pages tell

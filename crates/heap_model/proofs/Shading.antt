@@ -1,15 +1,16 @@
 -- The barrier's record: a main copy is shaded.
 use Rattle.std.proofs.Common.{length, ◌≡◌, ℕ, true, false, refl, ap, subst, sym, ◌∙◌, arith, ◌==◌, if◌then◌else◌}
 use Rattle.graph_heap.specs.Graph.{Graph}
-use Rattle.heap_model.specs.Core.{Name, Heap, shade}
+use Rattle.heap_model.specs.Core.{Name, Heap}
 use Rattle.heap_model.specs.Agree.{IsMain}
-use Rattle.heap_model.specs.Same.{SameBlocks}
 use Rattle.heap_model.specs.Cut.{name_of, view}
 use Rattle.heap_model.specs.Collector.{Coherent}
 use Rattle.heap_model.specs.State.{HeapState, seen, collector_by, collector_of}
 use Rattle.heap_model.specs.Agreement.{Consistent}
 use Rattle.heap_model.specs.Written.{IsKnown, records}
 use Rattle.heap_model.specs.Action.{Shades, Was_marked, Is_marked}
+use Rattle.heap_model.proofs.Same.{SameBlocks}
+use Rattle.heap_model.proofs.Edits.{shade}
 use Rattle.heap_model.proofs.Barrier.{shades}
 use Rattle.heap_model.proofs.Written.{records-progress}
 use Rattle.heap_model.proofs.Agreements.{known_kept}

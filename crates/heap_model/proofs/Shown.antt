@@ -7,11 +7,11 @@ use Rattle.size_classes.specs.Parts.{cells_of}
 use Rattle.heap_model.specs.Store.{is_held, node_of}
 use Rattle.heap_model.specs.Core.{Name, null}
 use Rattle.heap_model.specs.Agree.{IsMain, Reads}
-use Rattle.heap_model.specs.Cut.{count_of, width_of, words_of, target_of, name_of, part_in, column_in, part_at, column_at, is_cut}
+use Rattle.heap_model.specs.Cut.{count_of, width_of, words_of, target_of, name_of, part_in, column_in, is_cut}
 use Rattle.heap_model.specs.State.{HeapState, seen, width_at}
 use Rattle.heap_model.specs.Agreement.{Agrees}
 use Rattle.heap_model.specs.Reading.{IsMainCopy, LeadsTo}
-use Rattle.heap_model.proofs.Cut.{part_below, column_below, cell_at, spine_below, spine_cell, word_below}
+use Rattle.heap_model.proofs.Cut.{part_at, column_at, part_below, column_below, cell_at, spine_below, spine_cell, word_below}
 use Rattle.heap_model.proofs.Seen.{behind}
 use Rattle.heap_model.proofs.Written.{cells_sum}
 

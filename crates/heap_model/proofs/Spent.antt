@@ -14,15 +14,17 @@ use Rattle.heap_model.specs.declared.phase.Candidate.{Candidate}
 use Rattle.heap_model.specs.Block.{with_cell}
 use Rattle.heap_model.specs.Pages.{ArePages, Page, page_at, with_held, free_pages}
 use Rattle.heap_model.specs.Store.{Store, Writes, is_held, size_in, size_at, node_of, address_of}
-use Rattle.heap_model.specs.Core.{Heap, shade, set_cell, move}
-use Rattle.heap_model.specs.Same.{SameBlocks}
+use Rattle.heap_model.specs.Core.{Heap}
 use Rattle.heap_model.specs.Cut.{view}
-use Rattle.heap_model.specs.Collector.{In_marking, In_moves, Collector, contains, Once, cell_scanned}
+use Rattle.heap_model.specs.Collector.{In_marking, In_moves, Collector, contains, Once}
 use Rattle.heap_model.specs.State.{HeapState, seen, width_at, collector_by, collector_of, progress_of, reference_of, is_left}
 use Rattle.heap_model.specs.Agreement.{Consistent}
 use Rattle.heap_model.specs.Action.{Action, Scans_root, Ends_roots, Scans_header, Scans_cell, Ends_marking, Frees_block, Passes_block, Closes_page, Ends_sweep, Looks_at_page, Chooses_page, Chooses_none, Moves_block, Ends_moving, IsNext, closed, begun, Shades, Was_marked, Is_marked, KeepsBlocks, MovesBlock, goes_to, after_sweep, is_sparse, AtPass, In_pass, After_page, MovingDone, No_class, No_page}
 use Rattle.heap_model.specs.Units.{total, work, gone}
 use Rattle.heap_model.specs.Spent.{arena_words, cycle_limit, marking_work, moving_work, IsWithin}
+use Rattle.heap_model.proofs.Same.{SameBlocks}
+use Rattle.heap_model.proofs.Edits.{shade, set_cell, move}
+use Rattle.heap_model.proofs.Acts.{cell_scanned}
 use Rattle.heap_model.proofs.Collector.{same_done, stage_at, left_main, contains-here, contains-middle, once_middle}
 use Rattle.heap_model.proofs.Seen.{behind, cell_seen}
 use Rattle.heap_model.proofs.Held.{set_page, page_within, block_within, is_page, held_at, size_some, page_of_place}

@@ -1,6 +1,49 @@
-use Rattle.std.proofs.Common.{◌≡◌, ℕ, ◌+◌, ◌<◌, ◌≤◌, inl, false, arith, refl, ◌==◌, if◌then◌else◌}
-use Rattle.heap_model.specs.Core.{Heap, set_cell}
-use Rattle.heap_model.specs.Made.{Parts, AreParts, Makes, MakesFirst, block_made}
+use Rattle.std.proofs.Common.{◌≡◌, ℕ, ◌+◌, ◌<◌, ◌≤◌, ◌⊎◌, inl, true, false, List, arith, refl, ◌==◌, if◌then◌else◌}
+use Rattle.graph_heap.specs.declared.command.Shape.{Shape}
+use Rattle.heap_model.specs.Core.{Name, Heap}
+use Rattle.heap_model.proofs.Parts.{Parts, AreParts, Makes}
+use Rattle.heap_model.proofs.Edits.{set_cell}
+
+-- one block is made at y, with no cell written
+abbrev pub block_made : Heap → ℕ → Name → Shape → ℕ → List ℕ → Heap
+block_made h y n shape width words = record h {
+  held = λ x. if x == y then true else h.held x;
+  forward = λ x. if x == y then y else h.forward x;
+  name = λ x. if x == y then n else h.name x;
+  width = λ x. if x == y then width else h.width x;
+  cell = λ x i. if x == y then 0 else h.cell x i;
+  words = λ x. if x == y then words else h.words x;
+  shape = λ x. if x == y then shape else h.shape x;
+  marked = λ x. if x == y then true else h.marked x;
+}
+
+-- parts 0 to k - 1 stand, and their cells are null but for the first `linked` of part 0
+pub record MakesFirst (h : Heap) (ps : Parts) (a : ℕ → ℕ) (k linked : ℕ) (h' : Heap) : Type 0 where
+  pub next : h'.next ≡ h.next
+  pub roots : h'.roots ≡ h.roots
+  pub root : (j : ℕ) → j < h.roots → h'.root j ≡ h.root j
+  pub free : (p : ℕ) → p < k → h.held (a p) ≡ false
+  pub still_held : (x : ℕ) → h.held x ≡ true → h'.held x ≡ true
+  pub still_forward : (x : ℕ) → h.held x ≡ true → h'.forward x ≡ h.forward x
+  pub still_name : (x : ℕ) → h.held x ≡ true → h'.name x ≡ h.name x
+  pub still_width : (x : ℕ) → h.held x ≡ true → h'.width x ≡ h.width x
+  pub still_words : (x : ℕ) → h.held x ≡ true → h'.words x ≡ h.words x
+  pub still_shape : (x : ℕ) → h.held x ≡ true → h'.shape x ≡ h.shape x
+  pub still_marked : (x : ℕ) → h.held x ≡ true → h'.marked x ≡ h.marked x
+  pub still_cell : (x i : ℕ) → h.held x ≡ true → i < h.width x → h'.cell x i ≡ h.cell x i
+  pub held : (p : ℕ) → p < k → h'.held (a p) ≡ true
+  pub forward : (p : ℕ) → p < k → h'.forward (a p) ≡ a p
+  pub name : (p : ℕ) → p < k → h'.name (a p) ≡ record { identity = h.next; part = p }
+  pub width : (p : ℕ) → p < k → h'.width (a p) ≡ ps.width p
+  pub words : (p : ℕ) → p < k → h'.words (a p) ≡ ps.words p
+  pub shape : (p : ℕ) → p < k → h'.shape (a p) ≡ ps.shape
+  pub marked : (p : ℕ) → p < k → h'.marked (a p) ≡ true
+  pub apart : (p q : ℕ) → p < k → q < k → a p ≡ a q → p ≡ q
+  pub spine : (i : ℕ) → 0 < k → i < linked → i < ps.width 0 → h'.cell (a 0) i ≡ (if ps.link 0 i == 0 then 0 else a (ps.link 0 i))
+  pub rest : (i : ℕ) → 0 < k → linked ≤ i → i < ps.width 0 → h'.cell (a 0) i ≡ 0
+  pub leaf : (p i : ℕ) → 0 < p → p < k → i < ps.width p → h'.cell (a p) i ≡ 0
+  pub part : ℕ → ℕ
+  pub others : (x : ℕ) → h'.held x ≡ true → (h.held x ≡ true) ⊎ ((part x < k) × (x ≡ a (part x)))
 
 -- nothing is made yet
 pub first_none : (h : Heap) (ps : Parts) (a : ℕ → ℕ) → MakesFirst h ps a 0 0 h

@@ -1,5 +1,6 @@
 use Rattle.std.proofs.Common.{◌≡◌, ℕ, ◌<◌, ◌≤◌, inl, inr, true, false, arith, refl}
-use Rattle.heap_model.specs.Core.{Name, PartGraph, Heap, Kept, Grows, Base, Tracing, Sweeping, Resting, free, flip}
+use Rattle.heap_model.specs.Core.{Name, PartGraph, Heap, Kept, Grows, Base, Tracing, Sweeping, Resting}
+use Rattle.heap_model.proofs.Edits.{free, flip}
 use Rattle.heap_model.proofs.Kept.{kept_null, kept_reach, kept_cases, reach_root, reach_step, reach_kept, kept_again, fresh_none}
 
 -- a block that isn't marked is freed

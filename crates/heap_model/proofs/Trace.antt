@@ -1,6 +1,12 @@
-use Rattle.std.proofs.Common.{◌≡◌, ℕ, ◌+◌, ◌<◌, inl, inr, true, arith, sym, ap, subst, ◌∙◌}
-use Rattle.heap_model.specs.Core.{Name, PartGraph, Heap, Reach, Kept, Base, Tracing, Traced, Sweeping, put, shade, set_root, set_cell}
+use Rattle.std.proofs.Common.{◌≡◌, ℕ, ◌+◌, ◌<◌, ◌≤◌, inl, inr, true, arith, sym, ap, subst, ◌∙◌}
+use Rattle.heap_model.specs.Core.{Name, PartGraph, Heap, Reach, Kept, Base, Tracing, Sweeping}
+use Rattle.heap_model.proofs.Edits.{put, shade, set_root, set_cell}
 use Rattle.heap_model.proofs.Kept.{kept_reach, kept_fresh, kept_cases, reach_null, reach_root, reach_step, reach_induction}
+
+-- nothing is grey
+pub record Traced (h : Heap) (g s : PartGraph) (done : ℕ → ℕ) (place : ℕ) : Type 0 where
+  pub roots : h.roots ≤ place
+  pub cells : (x i : ℕ) → h.held x ≡ true → h.marked x ≡ true → Reach h.roots s (h.name x) → i < h.width x → i < done x
 
 -- shading a main copy of what is kept
 pub shade_base : (h : Heap) (g s : PartGraph) (at : Name → ℕ) (x : ℕ) → Base h g s at → Base (shade h x) g s at

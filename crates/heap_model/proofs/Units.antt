@@ -1,11 +1,19 @@
 use Rattle.std.proofs.Common.{◌≡◌, ℕ, zero, suc, ◌+◌, ◌<◌, ◌≤◌, ◌≢◌, inl, inr, true, false, List, ◌∷◌, ◌++◌, arith, ap, subst, sym, ◌∙◌, ◌==◌, ◌||◌}
 use Rattle.std.proofs.lemmas.Bool.{cases_eq, cases_Bool}
-use Rattle.heap_model.specs.Core.{Heap, move}
-use Rattle.heap_model.specs.Collector.{Collector, contains, done_by, done_of, Greys, shaded, cell_scanned}
-use Rattle.heap_model.specs.Made.{Parts, Makes}
+use Rattle.heap_model.specs.Core.{Heap}
+use Rattle.heap_model.specs.Collector.{Collector, contains, done_by, done_of, Greys}
 use Rattle.heap_model.proofs.Barrier.{made_done}
-use Rattle.heap_model.specs.Units.{total, LieApart, work, gone}
+use Rattle.heap_model.specs.Units.{total, work, gone}
+use Rattle.heap_model.proofs.Parts.{Parts, Makes}
+use Rattle.heap_model.proofs.Edits.{move}
+use Rattle.heap_model.proofs.Acts.{shaded, cell_scanned}
 use Rattle.heap_model.proofs.Collector.{shaded_done, cell_done, header_done, contains-shaded, contains-middle}
+
+-- blocks of some words each lie apart, in the first `words` words (references are addresses and one)
+pub record LieApart (h : Heap) (size : ℕ → ℕ) (words : ℕ) : Type 0 where
+  pub fits : (x : ℕ) → h.held x ≡ true → 0 < x → h.width x + 4 ≤ size x
+  pub inside : (x : ℕ) → h.held x ≡ true → 0 < x → x + size x ≤ words + 1
+  pub apart : (x y : ℕ) → h.held x ≡ true → h.held y ≡ true → 0 < x → x < y → x + size x ≤ y
 
 pub total_le : (f g : ℕ → ℕ) (n : ℕ) → ((x : ℕ) → x < n → f x ≤ g x) → total f n ≤ total g n
 unfolding total

@@ -9,15 +9,16 @@ use Rattle.heap_model.specs.declared.phase.Moving.TheVariants as moves
 use Rattle.heap_model.specs.Block.{with_cell}
 use Rattle.heap_model.specs.Pages.{page_at}
 use Rattle.heap_model.specs.Store.{Store, Writes, is_held, size_at, size_in, node_of}
-use Rattle.heap_model.specs.Core.{Heap, shade, set_cell, set_word}
-use Rattle.heap_model.specs.Same.{SameBlocks}
-use Rattle.heap_model.specs.Cut.{parts_of}
+use Rattle.heap_model.specs.Core.{Heap}
 use Rattle.heap_model.specs.State.{HeapState, seen, width_at, collector_by, collector_of}
 use Rattle.heap_model.specs.Agreement.{IsWhole}
 use Rattle.heap_model.specs.Making.{MakesObject}
 use Rattle.heap_model.specs.Action.{Shades, Was_marked, Is_marked}
 use Rattle.heap_model.specs.Units.{total, work, gone}
 use Rattle.heap_model.specs.Spent.{arena_words, marking_work, moving_work, IsWithin, DoesMore}
+use Rattle.heap_model.proofs.Same.{SameBlocks}
+use Rattle.heap_model.proofs.Parts.{parts_of}
+use Rattle.heap_model.proofs.Edits.{shade, set_cell, set_word}
 use Rattle.heap_model.proofs.Seen.{cell_seen, word_seen}
 use Rattle.heap_model.proofs.Making.{reference, makes_object}
 use Rattle.heap_model.proofs.Acting.{held_behind}

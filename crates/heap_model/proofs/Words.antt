@@ -1,8 +1,9 @@
 -- A word cell is written.
 use Rattle.std.proofs.Common.{◌≡◌, ℕ, true, false, [], set, arith, ap, subst, sym, ◌==◌, if◌then◌else◌}
-use Rattle.heap_model.specs.Core.{Name, PartGraph, Heap, Kept, Grows, Base, set_word, write_word}
+use Rattle.heap_model.specs.Core.{Name, PartGraph, Heap, Kept, Grows, Base}
 use Rattle.heap_model.specs.Agree.{IsMain}
 use Rattle.heap_model.specs.Collector.{Progress, In_idle, In_roots, In_marking, In_sweep, In_moves, Collector, Stage, Coherent}
+use Rattle.heap_model.proofs.Edits.{set_word, write_word}
 use Rattle.heap_model.proofs.Trace.{at_same}
 use Rattle.heap_model.proofs.Barrier.{main_at}
 

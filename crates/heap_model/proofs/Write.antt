@@ -1,5 +1,6 @@
 use Rattle.std.proofs.Common.{◌≡◌, ◌⊎◌, true, ℕ, ◌<◌, arith}
-use Rattle.heap_model.specs.Core.{Name, PartGraph, Heap, Kept, Grows, Base, Tracing, Sweeping, Resting, set_root, set_cell, write_root, write_target}
+use Rattle.heap_model.specs.Core.{Name, PartGraph, Heap, Kept, Grows, Base, Tracing, Sweeping, Resting}
+use Rattle.heap_model.proofs.Edits.{set_root, set_cell, write_root, write_target}
 use Rattle.heap_model.proofs.Kept.{kept_reach, kept_fresh}
 use Rattle.heap_model.proofs.Trace.{at_same}
 

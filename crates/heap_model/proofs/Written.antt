@@ -10,18 +10,18 @@ use Rattle.heap_model.specs.declared.phase.Phase.TheVariants as phases
 use Rattle.heap_model.specs.Block.{Node, with_cell}
 use Rattle.heap_model.specs.Pages.{Page}
 use Rattle.heap_model.specs.Store.{Store, Writes, is_held, node_of}
-use Rattle.heap_model.specs.Core.{Name, Kept, set_root, set_cell, set_word, write_root, write_target, write_word}
+use Rattle.heap_model.specs.Core.{Name, Kept}
 use Rattle.heap_model.specs.Agree.{IsMain}
-use Rattle.heap_model.specs.Cut.{is_cut, count_of, width_in, width_of, name_of, view, part_in, column_in, part_at, column_at}
+use Rattle.heap_model.specs.Cut.{is_cut, count_of, width_in, width_of, name_of, view, part_in, column_in}
 use Rattle.heap_model.specs.Collector.{Coherent}
-use Rattle.heap_model.specs.Barrier.{is_tracing}
 use Rattle.heap_model.specs.State.{HeapState, seen, width_at, collector_by, collector_of, progress_of}
 use Rattle.heap_model.specs.Agreement.{HasItsCells, IsWhole, Consistent}
 use Rattle.heap_model.specs.Written.{IsKnown, records, IsRecorded}
-use Rattle.heap_model.proofs.Barrier.{puts_root, puts_cell, main_at}
+use Rattle.heap_model.proofs.Edits.{set_root, set_cell, set_word, write_root, write_target, write_word}
+use Rattle.heap_model.proofs.Barrier.{is_tracing, puts_root, puts_cell, main_at}
 use Rattle.heap_model.proofs.Words.{puts_word}
 use Rattle.heap_model.proofs.Collector.{same_stands}
-use Rattle.heap_model.proofs.Cut.{part_below, column_below, word_below}
+use Rattle.heap_model.proofs.Cut.{part_at, column_at, part_below, column_below, word_below}
 use Rattle.heap_model.proofs.Changes.{view-root, view-ref, view-word, object-put_same, object-put_other}
 use Rattle.heap_model.proofs.Seen.{held_pages, node_kept, behind, root_seen, cell_seen, word_seen}
 use Rattle.heap_model.proofs.Agreements.{part_kept, known_kept, kept_given}

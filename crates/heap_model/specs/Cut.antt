@@ -1,10 +1,8 @@
 -- How the objects of a graph heap are cut into parts: the part graph of a graph heap.
-use Rattle.std.specs.Prelude.{ℕ, Bool, ◌+◌, ◌-◌, ◌*◌, ◌/◌, ◌%◌, List, [], if◌then◌else◌, ◌==◌, ◌&&◌, nat_lt, nat_le, length, slice_index, take, drop, min, not}
-use Rattle.graph_heap.specs.declared.command.Shape.{Shape}
-use Rattle.graph_heap.specs.Graph.{Object, Graph, object_of, new_object}
+use Rattle.std.specs.Prelude.{ℕ, Bool, ◌+◌, ◌-◌, ◌*◌, ◌/◌, ◌%◌, List, [], if◌then◌else◌, ◌==◌, nat_lt, nat_le, length, slice_index, take, drop, min, not}
+use Rattle.graph_heap.specs.Graph.{Object, Graph, object_of}
 use Rattle.size_classes.specs.Parts.{pieces_of, parts_in}
 use Rattle.heap_model.specs.Core.{Name, null, PartGraph}
-use Rattle.heap_model.specs.Made.{Parts}
 
 -- whether an object of so many cells is cut into a spine and pieces of 252 cells
 unfoldable pub is_cut : ℕ → Bool
@@ -64,20 +62,3 @@ part_in cells i = if is_cut cells then i / 252 + 1 else 0
 -- the place of the cell in its part
 unfoldable pub column_in : ℕ → ℕ → ℕ
 column_in cells i = if is_cut cells then i % 252 else i
-
--- the same of an object's cells
-abbrev pub part_at : Object → ℕ → ℕ
-part_at o i = part_in (length o.refs + length o.words) i
-
-abbrev pub column_at : Object → ℕ → ℕ
-column_at o i = column_in (length o.refs + length o.words) i
-
--- the parts of a new object
-abbrev pub parts_of : Shape → Parts
-parts_of shape = let o = new_object shape in record {
-  count = count_of o;
-  width = width_of o;
-  link = λ p i. if is_cut (length o.refs + length o.words) && ((p == 0) && nat_lt i (pieces_of (length o.refs + length o.words))) then i + 1 else 0;
-  words = words_of o;
-  shape = shape;
-}

@@ -12,5 +12,4 @@ pub mod Planning
 pub mod Plans
 pub mod Reached
 pub mod Replying
-pub mod Rooming
 pub mod Writing

@@ -18,7 +18,7 @@ use Rattle.size_classes.specs.Need.{needed, blocks_needed}
 use Rattle.heap_model.specs.Pages.{Page, has_room}
 use Rattle.heap_model.specs.State.{HeapState}
 use Rattle.heap_model.specs.Agreement.{Agrees}
-use Rattle.machine.proofs.Rooming.{room_same}
+use Rattle.heap_model.proofs.Rooms.{room_same}
 
 -- the parts of a shape that isn't too large
 pub fits_by : (o : Option ℕ) (b : Bool) (p : ℕ) → o ≡ Some p → (IsNone o ↔ (b ≡ false)) → b ≡ true

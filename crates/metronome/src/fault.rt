@@ -1,4 +1,9 @@
 //! How a run ends.
+ghost use Rattle.std.specs.Prelude.{◌≡◌};
+ghost use Rattle.metronome.specs.declared.fault.RunFault.TheVariants as faults;
+ghost use Rattle.metronome.specs.Faults.{of_settings, of_play, of_transcript};
+ghost use Rattle.metronome.specs.Status.{ending_status, fault_status};
+
 use command_line::ReadFault;
 use graph_heap::NoMemory;
 use inspector::WriteFault;
@@ -20,7 +25,9 @@ pub enum Ending {
 
 impl Ending {
     /// The exit status.
-    pub fn status(self) -> u8 {
+    pub fn status(self) -> u8
+        ensures { result ≡ ending_status self }
+    {
         match self {
             Ending::Done => 0,
             Ending::WrongReply => 7,
@@ -56,7 +63,9 @@ pub enum RunFault {
 
 impl RunFault {
     /// The exit status.
-    pub fn status(&self) -> u8 {
+    pub fn status(&self) -> u8
+        ensures { result ≡ fault_status self.now }
+    {
         match self {
             RunFault::Words(_) => 2,
             RunFault::Config(_) => 3,
@@ -69,24 +78,32 @@ impl RunFault {
 }
 
 impl From<NoMemory> for RunFault {
+    ghost from_gives = { λ why fault. fault ≡ faults.NoMemory };
+
     fn from(_refused: NoMemory) -> RunFault {
         RunFault::NoMemory
     }
 }
 
 impl From<AllocError> for RunFault {
+    ghost from_gives = { λ why fault. fault ≡ faults.NoMemory };
+
     fn from(_refused: AllocError) -> RunFault {
         RunFault::NoMemory
     }
 }
 
 impl<T: Drop> From<AllocFailed<T>> for RunFault {
+    ghost from_gives = { λ why fault. fault ≡ faults.NoMemory };
+
     fn from(_refused: AllocFailed<T>) -> RunFault {
         RunFault::NoMemory
     }
 }
 
 impl From<ReadFault> for RunFault {
+    ghost from_gives = { λ why fault. fault ≡ of_settings why };
+
     fn from(fault: ReadFault) -> RunFault {
         match fault {
             ReadFault::Refused(why) => RunFault::Config(why),
@@ -96,6 +113,8 @@ impl From<ReadFault> for RunFault {
 }
 
 impl From<PlayFault> for RunFault {
+    ghost from_gives = { λ why fault. fault ≡ of_play why };
+
     fn from(fault: PlayFault) -> RunFault {
         match fault {
             PlayFault::Line(number, why) => RunFault::Line(number, why),
@@ -107,6 +126,8 @@ impl From<PlayFault> for RunFault {
 }
 
 impl From<TranscriptFault> for RunFault {
+    ghost from_gives = { λ why fault. fault ≡ of_transcript why };
+
     fn from(fault: TranscriptFault) -> RunFault {
         match fault {
             TranscriptFault::Line(number, why) => RunFault::Line(number, why),
@@ -117,12 +138,16 @@ impl From<TranscriptFault> for RunFault {
 }
 
 impl From<WriteFailed> for RunFault {
+    ghost from_gives = { λ why fault. fault ≡ faults.Write };
+
     fn from(_failed: WriteFailed) -> RunFault {
         RunFault::Write
     }
 }
 
 impl From<WriteFault> for RunFault {
+    ghost from_gives = { λ why fault. fault ≡ faults.Write };
+
     fn from(_fault: WriteFault) -> RunFault {
         RunFault::Write
     }

@@ -1,13 +1,16 @@
 //! What each subcommand does, from a source to a sink.
+ghost use Rattle.std.specs.Prelude.{◌≡◌, IfOk, string_bytes};
+ghost use Rattle.metronome.specs.Jobs.{TracePlayed, PlayedUpTo, HeapInspected, HistoryChecked, ScriptsRun, verdict, told_of, finish};
+
 use crate::fault::{Ending, RunFault};
 use graph_heap::{Entry, Reference};
 use heap_server::{OpenGate, play_threads};
 use inspector::report;
 use mmu_report::{bound, least_mutator, permille};
-use player::{Player, Style, play, play_first};
+use player::{PlayFault, Player, Style, play, play_first};
 use quanta::Schedule;
 use size_classes::Config;
-use std::alloc::Global;
+use std::alloc::{AllocError, Global};
 use std::sync::Wait;
 use std::thread::Threads;
 use trace::{Sink, Source, end_line, write_all, write_entry};
@@ -20,10 +23,32 @@ pub fn play_job<S: Source, K: Sink>(
     source: &mut S,
     sink: &mut K,
     style: Style,
-) -> Result<Ending, RunFault> {
+) -> Result<Ending, RunFault>
+    ensures { TracePlayed style config.now (S.given source.old) (S.given source.new) (S.ended source.new) (K.taken sink.old) (K.taken sink.new) result }
+{
     let mut player = Player::new(alloc, config)?;
     play(source, sink, &mut player, style)?;
     Ok(Ending::Done)
+}
+
+/// What is told of a history that was checked.
+fn told(alloc: Global, checked: Checked) -> Result<String, AllocError>
+    ensures { IfOk result (λ line. string_bytes line ≡ told_of checked) }
+{
+    match checked {
+        Checked::Good(entries) => format!(in alloc; "ok {entries}\n"),
+        Checked::Wrong(number) => format!(in alloc; "wrong at line {number}\n"),
+    }
+}
+
+/// How a run ends that checked a history.
+fn ending_of(checked: Checked) -> Ending
+    ensures { result ≡ verdict checked }
+{
+    match checked {
+        Checked::Good(_) => Ending::Done,
+        Checked::Wrong(_) => Ending::WrongReply,
+    }
 }
 
 /// Checks the entries of a history, and writes how many there are, or the line of the first wrong one.
@@ -32,20 +57,14 @@ pub fn check_job<S: Source, K: Sink>(
     config: &Config,
     source: &mut S,
     sink: &mut K,
-) -> Result<Ending, RunFault> {
+) -> Result<Ending, RunFault>
+    ensures { HistoryChecked config.now (S.given source.old) (S.given source.new) (S.ended source.new) (K.taken sink.old) (K.taken sink.new) result }
+{
     let mut reference = Reference::new(alloc, &config.limits())?;
-    match check_entries(source, &mut reference)? {
-        Checked::Good(entries) => {
-            let line = format!(in alloc; "ok {entries}\n")?;
-            write_all(sink, line.as_bytes())?;
-            Ok(Ending::Done)
-        }
-        Checked::Wrong(number) => {
-            let line = format!(in alloc; "wrong at line {number}\n")?;
-            write_all(sink, line.as_bytes())?;
-            Ok(Ending::WrongReply)
-        }
-    }
+    let checked = check_entries(source, &mut reference)?;
+    let line = told(alloc, checked)?;
+    write_all(sink, line.as_bytes())?;
+    Ok(ending_of(checked))
 }
 
 /// Runs scripts on threads beside so many quanta of a budget, and writes the history.
@@ -57,7 +76,9 @@ pub fn threads_job<S: Source, K: Sink, T: Threads + Wait + Sync>(
     sink: &mut K,
     turns: u32,
     budget: u32,
-) -> Result<Ending, RunFault> {
+) -> Result<Ending, RunFault>
+    ensures { IfOk result (ScriptsRun turns budget config.now (S.given source.old) (S.given source.new) (S.ended source.new)) }
+{
     let scripts = read_scripts(alloc, source, &config.limits())?;
     let mut budgets = Vec::with_capacity(alloc, turns as usize)?;
     for _ in 0..turns {
@@ -72,7 +93,14 @@ pub fn threads_job<S: Source, K: Sink, T: Threads + Wait + Sync>(
         &OpenGate,
     )?;
     write_history(sink, outcome.recorded.history())?;
-    if outcome.all {
+    finished(outcome.all)
+}
+
+/// How a run ends whose scripts and budgets were all done, or not.
+fn finished(all: bool) -> Result<Ending, RunFault>
+    ensures { result ≡ finish all }
+{
+    if all {
         Ok(Ending::Done)
     } else {
         Err(RunFault::NotComplete)
@@ -89,6 +117,21 @@ fn write_history<K: Sink>(sink: &mut K, history: &[Entry]) -> Result<(), RunFaul
     Ok(())
 }
 
+/// Plays a trace, or its first event lines, and writes nothing.
+fn play_silently<S: Source, K: Sink>(
+    source: &mut S,
+    sink: &mut K,
+    player: &mut Player,
+    after: Option<u32>,
+) -> Result<(), PlayFault>
+    ensures { PlayedUpTo after (S.given source.old) (S.given source.new) (S.ended source.new) player.old player.new (K.taken sink.old) (K.taken sink.new) result }
+{
+    match after {
+        None => play(source, sink, player, Style::Nothing),
+        Some(events) => play_first(events, source, sink, player, Style::Nothing),
+    }
+}
+
 /// Plays a trace, or its first event lines, and writes the report of the heap.
 pub fn inspect_job<S: Source, K: Sink>(
     alloc: Global,
@@ -96,12 +139,11 @@ pub fn inspect_job<S: Source, K: Sink>(
     source: &mut S,
     sink: &mut K,
     after: Option<u32>,
-) -> Result<Ending, RunFault> {
+) -> Result<Ending, RunFault>
+    ensures { HeapInspected after config.now (S.given source.old) (S.given source.new) (S.ended source.new) (K.taken sink.old) (K.taken sink.new) result }
+{
     let mut player = Player::new(alloc, config)?;
-    match after {
-        None => play(source, sink, &mut player, Style::Nothing)?,
-        Some(events) => play_first(events, source, sink, &mut player, Style::Nothing)?,
-    }
+    play_silently(source, sink, &mut player, after)?;
     report(player.recorded().heap(), sink)?;
     Ok(Ending::Done)
 }

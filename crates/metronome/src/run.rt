@@ -1,4 +1,10 @@
 //! A run of the program.
+ghost use Rattle.std.specs.Prelude.{◌≡◌, Result};
+ghost use Rattle.metronome.specs.declared.fault.Ending.{Ending};
+ghost use Rattle.metronome.specs.declared.fault.RunFault.{RunFault};
+ghost use Rattle.metronome.specs.Jobs.{JobDone};
+ghost use Rattle.metronome.specs.Status.{status_of};
+
 use crate::fault::{Ending, RunFault};
 use crate::files::Opener;
 use crate::jobs::{check_job, inspect_job, mmu_job, play_job, threads_job};
@@ -34,6 +40,7 @@ where
     W: Write + Drop,
     E: Write,
     T: Threads + Wait + Sync,
+    ensures { (how : Result Ending RunFault) × (result ≡ status_of how) }
 {
     match perform(rt, alloc, words, opener, input, &mut WriteSink::new(output)) {
         Ok(ending) => ending.status(),
@@ -124,16 +131,12 @@ fn work<S: Source, K: Sink, T: Threads + Wait + Sync>(
     config: &Config,
     source: &mut S,
     sink: &mut K,
-) -> Result<Ending, RunFault> {
+) -> Result<Ending, RunFault>
+    ensures { JobDone job.now config.now (S.given source.old) (S.given source.new) (S.ended source.new) (K.taken sink.old) (K.taken sink.new) result }
+{
     match job {
-        Job::Play { history, .. } => {
-            let style = if *history {
-                Style::Entries
-            } else {
-                Style::Replies
-            };
-            play_job(alloc, config, source, sink, style)
-        }
+        Job::Play { history: true, .. } => play_job(alloc, config, source, sink, Style::Entries),
+        Job::Play { history: false, .. } => play_job(alloc, config, source, sink, Style::Replies),
         Job::Check { .. } => check_job(alloc, config, source, sink),
         Job::Threads { turns, budget, .. } => {
             threads_job(rt, alloc, config, source, sink, *turns, *budget)

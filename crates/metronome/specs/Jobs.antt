@@ -1,0 +1,117 @@
+-- What each subcommand reads and writes.
+use Rattle.std.specs.Prelude.{◌≡◌, ℕ, ◌*◌, Bool, true, false, ◌⊎◌, List, [], ◌∷◌, ◌++◌, map, replicate, Option, Some, None, Result, Ok, Err, IfOk, Vec, vec_len, codes, decimal}
+use Rattle.std.specs.declared.alloc.Global.{Global}
+use Rattle.size_classes.specs.declared.config.Config.{Config}
+use Rattle.size_classes.specs.Config.{limits_of}
+use Rattle.graph_heap.specs.declared.command.Command.{Command}
+use Rattle.graph_heap.specs.Graph.{Graph, opening}
+use Rattle.heap_model.specs.State.{HeapState}
+use Rattle.heap_model.specs.Opening.{IsOpening}
+use Rattle.quanta.specs.Timetable as timetables
+use Rattle.trace.specs.Streams.{GrowsByPart}
+use Rattle.command_line.specs.declared.job.Job.{Job}
+use Rattle.command_line.specs.declared.job.Job.TheVariants.{Play, Check, Threads, Inspect, Mmu}
+use Rattle.transcripts.specs.declared.fault.TranscriptFault.{TranscriptFault}
+use Rattle.transcripts.specs.declared.histories.Checked.{Checked}
+use Rattle.transcripts.specs.declared.histories.Checked.TheVariants.{Good, Wrong}
+use Rattle.transcripts.specs.Histories.{EntriesChecked}
+use Rattle.transcripts.specs.Scripts.{ScriptsRead}
+use Rattle.heap_server.specs.declared.play.Outcome.{Outcome}
+use Rattle.heap_server.specs.Played.{IsOutcome}
+use Rattle.player.specs.declared.fault.PlayFault.{PlayFault}
+use Rattle.player.specs.declared.style.Style.{Style}
+use Rattle.player.specs.declared.style.Style.TheVariants.{Replies, Entries, Nothing}
+use Rattle.player.specs.Player.{PlayerState}
+use Rattle.player.specs.Playing.{Played, PlayedFirst}
+use Rattle.inspector.specs.Report.{report_of}
+use Rattle.metronome.specs.declared.fault.Ending.{Ending}
+use Rattle.metronome.specs.declared.fault.Ending.TheVariants.{Done, WrongReply}
+use Rattle.metronome.specs.declared.fault.RunFault.{RunFault}
+use Rattle.metronome.specs.declared.fault.RunFault.TheVariants.{Write, NoMemory, NotComplete}
+use Rattle.metronome.specs.Faults.{of_play, of_transcript}
+
+-- a player of a configuration at time 0: its heap is as at the start, and it has no history
+pub record IsNew (config : Config) (p : PlayerState) : Type 0 where
+  pub heap : IsOpening p.course.heap
+  pub limits : p.course.heap.limits ≡ limits_of config
+  pub history : p.course.history ≡ []
+  pub place : p.course.place ≡ 0
+  pub timetable : p.timetable ≡ timetables.opening config.collector_ticks config.mutator_ticks
+  pub budget : p.budget ≡ config.collector_ticks * config.rate
+
+-- Memory was refused before anything was read or written.
+abbrev pub NotBegun : List ℕ → List ℕ → List ℕ → List ℕ → Result Ending RunFault → Type 0
+NotBegun given given' taken taken' result = (given' ≡ given) × (taken' ≡ taken) × (result ≡ Err NoMemory)
+
+-- a job that is done where its play is
+abbrev pub ends_as : Result (Unit {0}) PlayFault → Result Ending RunFault
+ends_as (Ok all) = Ok Done
+ends_as (Err fault) = Err (of_play fault)
+
+-- A new player played a trace, and what the style says was written.
+abbrev pub TracePlayed : Style → Config → List ℕ → List ℕ → Bool → List ℕ → List ℕ → Result Ending RunFault → Type 0
+TracePlayed style config given given' ended taken taken' result =
+    NotBegun given given' taken taken' result
+    ⊎ ((old : PlayerState) × (new : PlayerState) × (how : Result (Unit {0}) PlayFault) × IsNew config old × Played style given given' ended old new taken taken' how × (result ≡ ends_as how))
+
+-- a trace, or its first event lines, played without a line written
+abbrev pub PlayedUpTo : Option ℕ → List ℕ → List ℕ → Bool → PlayerState → PlayerState → List ℕ → List ℕ → Result (Unit {0}) PlayFault → Type 0
+PlayedUpTo None given given' ended old new taken taken' how = Played Nothing given given' ended old new taken taken' how
+PlayedUpTo (Some events) given given' ended old new taken taken' how = PlayedFirst events Nothing given given' ended old new taken taken' how
+
+-- what is written of the heap behind a play
+abbrev pub ReportedAfter : Result (Unit {0}) PlayFault → HeapState → List ℕ → List ℕ → Result Ending RunFault → Type 0
+-- the play came to its end: the report, or a part of it where a write failed
+ReportedAfter (Ok all) h taken taken' (Ok ending) = (ending ≡ Done) × (taken' ≡ taken ++ report_of h)
+ReportedAfter (Ok all) h taken taken' (Err fault) = (fault ≡ Write) × GrowsByPart taken taken' (report_of h)
+-- a fault ended the play: nothing
+ReportedAfter (Err why) h taken taken' result = (result ≡ Err (of_play why)) × (taken' ≡ taken)
+
+-- A new player played a trace, and the report of its heap was written.
+abbrev pub HeapInspected : Option ℕ → Config → List ℕ → List ℕ → Bool → List ℕ → List ℕ → Result Ending RunFault → Type 0
+HeapInspected after config given given' ended taken taken' result =
+    NotBegun given given' taken taken' result
+    ⊎ ((old : PlayerState) × (new : PlayerState) × (mid : List ℕ) × (how : Result (Unit {0}) PlayFault) × IsNew config old × PlayedUpTo after given given' ended old new taken mid how × ReportedAfter how new.course.heap mid taken' result)
+
+-- the line that tells what became of a history, and how the run ends
+abbrev pub told_of : Checked → List ℕ
+told_of (Good entries) = codes "ok " ++ decimal entries ++ 10 ∷ []
+told_of (Wrong line) = codes "wrong at line " ++ decimal line ++ 10 ∷ []
+
+abbrev pub verdict : Checked → Ending
+verdict (Good entries) = Done
+verdict (Wrong line) = WrongReply
+
+-- what is written behind a check
+abbrev pub ToldAfter : Result Checked TranscriptFault → List ℕ → List ℕ → Result Ending RunFault → Type 0
+-- the history was checked: its line, or a part of it where a write failed, or nothing for want of memory
+ToldAfter (Ok checked) taken taken' (Ok ending) = (ending ≡ verdict checked) × (taken' ≡ taken ++ told_of checked)
+ToldAfter (Ok checked) taken taken' (Err fault) = ((fault ≡ Write) × GrowsByPart taken taken' (told_of checked)) ⊎ ((fault ≡ NoMemory) × (taken' ≡ taken))
+-- a fault ended the check: nothing
+ToldAfter (Err why) taken taken' result = (result ≡ Err (of_transcript why)) × (taken' ≡ taken)
+
+-- A history was checked from the opening graph heap, and its line was written.
+abbrev pub HistoryChecked : Config → List ℕ → List ℕ → Bool → List ℕ → List ℕ → Result Ending RunFault → Type 0
+HistoryChecked config given given' ended taken taken' result =
+    NotBegun given given' taken taken' result
+    ⊎ ((new : Graph) × (how : Result Checked TranscriptFault) × EntriesChecked given given' ended (opening (limits_of config)) new how × ToldAfter how taken taken' result)
+
+-- Scripts were read, and run by threads beside so many quanta of a budget, and all was done.
+abbrev pub ScriptsRun : ℕ → ℕ → Config → List ℕ → List ℕ → Bool → Ending → Type 0
+ScriptsRun turns budget config given given' ended ending =
+    (scripts : Vec (Vec Command Global) Global) × (outcome : Outcome) × (ending ≡ Done) × ScriptsRead given given' ended config.mutators (Ok scripts)
+    × IsOutcome (limits_of config) (map vec_len scripts.items) (replicate turns budget) outcome × (outcome.all ≡ true)
+
+-- how a run ends whose scripts and budgets were all done, or not
+abbrev pub finish : Bool → Result Ending RunFault
+finish true = Ok Done
+finish false = Err NotComplete
+
+-- What the job of a command line reads and writes. Of threads it isn't said what was written, and of windows nothing.
+abbrev pub JobDone : Job → Config → List ℕ → List ℕ → Bool → List ℕ → List ℕ → Result Ending RunFault → Type 0
+JobDone (Play settings trace true) config given given' ended taken taken' result = TracePlayed Entries config given given' ended taken taken' result
+JobDone (Play settings trace false) config given given' ended taken taken' result = TracePlayed Replies config given given' ended taken taken' result
+JobDone (Check settings history) config given given' ended taken taken' result = HistoryChecked config given given' ended taken taken' result
+JobDone (Threads settings scripts turns budget) config given given' ended taken taken' result = IfOk result (ScriptsRun turns budget config given given' ended)
+JobDone (Inspect settings trace after) config given given' ended taken taken' result = HeapInspected after config given given' ended taken taken' result
+JobDone (Mmu settings trace windows) config given given' ended taken taken' result = Unit {0}

@@ -1,0 +1,25 @@
+-- The exit status of a run.
+use Rattle.std.specs.Prelude.{ℕ, Result, Ok, Err}
+use Rattle.metronome.specs.declared.fault.Ending.{Ending}
+use Rattle.metronome.specs.declared.fault.Ending.TheVariants as endings
+use Rattle.metronome.specs.declared.fault.RunFault.{RunFault}
+use Rattle.metronome.specs.declared.fault.RunFault.TheVariants as faults
+
+-- a run that meets no fault
+abbrev pub ending_status : Ending → ℕ
+ending_status endings.Done = 0
+ending_status endings.WrongReply = 7
+
+-- a run that a fault ends
+abbrev pub fault_status : RunFault → ℕ
+fault_status (faults.Words text) = 2
+fault_status (faults.Config why) = 3
+fault_status (faults.Line number why) = 4
+fault_status faults.Read = 5
+fault_status faults.Write = 5
+fault_status faults.NoMemory = 6
+fault_status faults.NotComplete = 8
+
+abbrev pub status_of : Result Ending RunFault → ℕ
+status_of (Ok ending) = ending_status ending
+status_of (Err fault) = fault_status fault

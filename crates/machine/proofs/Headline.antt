@@ -1,5 +1,5 @@
 -- What is promised of a heap with its history holds, whatever comes.
-use Rattle.std.proofs.Common.{◌≡◌, ℕ, List, [], ◌∷◌, ◌++◌, refl, ap, sym, ◌∙◌}
+use Rattle.std.proofs.Common.{◌≡◌, List, [], ◌∷◌, ◌++◌, ap, sym, ◌∙◌}
 use Rattle.std.proofs.lemmas.List.{append_assoc, append-nil}
 use Rattle.graph_heap.specs.declared.command.Entry.{Entry}
 use Rattle.heap_model.specs.Event.{Course, Event, Command_done, Cycle_begun, Cycle_on, Quantum_done, Quantum_refused, IsCourse, Does, Runs, present_of, snapshot_of}
@@ -8,7 +8,7 @@ use Rattle.heap_model.proofs.Course.{runs_course}
 use Rattle.heap_model.proofs.Freed.{reached_held, runs_back}
 use Rattle.heap_model.proofs.Rest.{held_is_kept}
 use Rattle.heap_model.proofs.Stood.{stands_chain, stands_limit, sweep_change}
-use Rattle.machine.specs.Headline.{Holds, Follows, AlwaysHolds}
+use Rattle.machine.specs.Headline.{Holds, AlwaysHolds}
 use Rattle.machine.proofs.Courses.{ends_soon}
 
 pub course_holds : (r : Course) → IsCourse r → Holds r

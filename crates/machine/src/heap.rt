@@ -57,6 +57,7 @@ impl Heap {
         ensures opening { IfOk result IsOpening }
         ensures limits { IfOk result (λ h. h.limits ≡ limits_of config.now) }
         ensures pages { IfOk result (λ h. length h.store.pages ≡ config.now.pages) }
+        ensures defrag { IfOk result (λ h. (h.defrag_below ≡ config.now.defrag_below) × (h.defrag_pages ≡ config.now.defrag_pages)) }
     {
         let nodes = Nodes::new(alloc, config.pages)?;
         let roots = Roots::new(alloc, config)?;

@@ -55,6 +55,7 @@ impl Recorded {
         ensures heap { IfOk result (λ r. IsOpening r.course.heap) }
         ensures limits { IfOk result (λ r. r.course.heap.limits ≡ limits_of config.now) }
         ensures pages { IfOk result (λ r. length r.course.heap.store.pages ≡ config.now.pages) }
+        ensures defrag { IfOk result (λ r. (r.course.heap.defrag_below ≡ config.now.defrag_below) × (r.course.heap.defrag_pages ≡ config.now.defrag_pages)) }
         ensures history { IfOk result (λ r. r.course.history ≡ []) }
         ensures place { IfOk result (λ r. r.course.place ≡ 0) }
     {

@@ -1,12 +1,9 @@
--- How a run of scripts ends.
-use Rattle.std.proofs.Common.{◌≡◌, Bool, true, false, Result, refl, sym, subst}
-use Rattle.std.specs.Prelude.{IfOk}
-use Rattle.metronome.specs.declared.fault.Ending.{Ending}
-use Rattle.metronome.specs.declared.fault.Ending.TheVariants.{Done}
-use Rattle.metronome.specs.declared.fault.RunFault.{RunFault}
-use Rattle.metronome.specs.Jobs.{finish}
+-- How a run ends.
+use Rattle.std.proofs.Common.{◌≡◌, ap}
+use Rattle.std.specs.Prelude.{Result, Ok, Err}
+use Rattle.std.specs.Result.{IsErrAnd}
 
--- where the run is done, all was
-pub done_where_all : (all : Bool) (result : Result Ending RunFault) (P : Ending → Type 0) → result ≡ finish all → (all ≡ true → P Done) → IfOk result P
-done_where_all true result P e h = let Q : Result Ending RunFault → Type 0 = λ r. IfOk r P in subst Q (sym e) (h refl)
-done_where_all false result P e h = let Q : Result Ending RunFault → Type 0 = λ r. IfOk r P in subst Q (sym e) tt
+-- a result that is this error
+pub failed_so : {A E : Type 0} (r : Result A E) (why : E) → IsErrAnd r (λ e. e ≡ why) → r ≡ Err why
+failed_so (Ok x) why h = elim h [ ]
+failed_so (Err e) why h = ap Err h

@@ -1,5 +1,5 @@
 -- What each subcommand reads and writes.
-use Rattle.std.specs.Prelude.{◌≡◌, ℕ, ◌*◌, Bool, true, false, ◌⊎◌, List, [], ◌∷◌, ◌++◌, map, replicate, Option, Some, None, Result, Ok, Err, IfOk, Vec, vec_len, codes, decimal}
+use Rattle.std.specs.Prelude.{◌≡◌, ℕ, ◌*◌, Bool, true, false, ◌⊎◌, List, [], ◌∷◌, ◌++◌, length, map, replicate, Option, Some, None, Result, Ok, Err, Vec, vec_len, codes, decimal}
 use Rattle.std.specs.declared.alloc.Global.{Global}
 use Rattle.size_classes.specs.declared.config.Config.{Config}
 use Rattle.size_classes.specs.Config.{limits_of}
@@ -8,6 +8,7 @@ use Rattle.graph_heap.specs.Graph.{Graph, opening}
 use Rattle.heap_model.specs.State.{HeapState}
 use Rattle.heap_model.specs.Opening.{IsOpening}
 use Rattle.quanta.specs.Timetable as timetables
+use Rattle.quanta.specs.Timetable.{Timetable}
 use Rattle.trace.specs.Streams.{GrowsByPart}
 use Rattle.command_line.specs.declared.job.Job.{Job}
 use Rattle.command_line.specs.declared.job.Job.TheVariants.{Play, Check, Threads, Inspect, Mmu}
@@ -22,18 +23,21 @@ use Rattle.player.specs.declared.fault.PlayFault.{PlayFault}
 use Rattle.player.specs.declared.style.Style.{Style}
 use Rattle.player.specs.declared.style.Style.TheVariants.{Replies, Entries, Nothing}
 use Rattle.player.specs.Player.{PlayerState}
-use Rattle.player.specs.Playing.{Played, PlayedFirst}
+use Rattle.player.specs.Playing.{Played, PlayedFirst, written_of}
 use Rattle.inspector.specs.Report.{report_of}
 use Rattle.metronome.specs.declared.fault.Ending.{Ending}
 use Rattle.metronome.specs.declared.fault.Ending.TheVariants.{Done, WrongReply}
 use Rattle.metronome.specs.declared.fault.RunFault.{RunFault}
 use Rattle.metronome.specs.declared.fault.RunFault.TheVariants.{Write, NoMemory, NotComplete}
 use Rattle.metronome.specs.Faults.{of_play, of_transcript}
+use Rattle.metronome.specs.Windows.{AllTold, FirstTold}
 
 -- a player of a configuration at time 0: its heap is as at the start, and it has no history
 pub record IsNew (config : Config) (p : PlayerState) : Type 0 where
   pub heap : IsOpening p.course.heap
   pub limits : p.course.heap.limits ≡ limits_of config
+  pub pages : length p.course.heap.store.pages ≡ config.pages
+  pub defrag : (p.course.heap.defrag_below ≡ config.defrag_below) × (p.course.heap.defrag_pages ≡ config.defrag_pages)
   pub history : p.course.history ≡ []
   pub place : p.course.place ≡ 0
   pub timetable : p.timetable ≡ timetables.opening config.collector_ticks config.mutator_ticks
@@ -96,22 +100,50 @@ HistoryChecked config given given' ended taken taken' result =
     NotBegun given given' taken taken' result
     ⊎ ((new : Graph) × (how : Result Checked TranscriptFault) × EntriesChecked given given' ended (opening (limits_of config)) new how × ToldAfter how taken taken' result)
 
--- Scripts were read, and run by threads beside so many quanta of a budget, and all was done.
-abbrev pub ScriptsRun : ℕ → ℕ → Config → List ℕ → List ℕ → Bool → Ending → Type 0
-ScriptsRun turns budget config given given' ended ending =
-    (scripts : Vec (Vec Command Global) Global) × (outcome : Outcome) × (ending ≡ Done) × ScriptsRead given given' ended config.mutators (Ok scripts)
-    × IsOutcome (limits_of config) (map vec_len scripts.items) (replicate turns budget) outcome × (outcome.all ≡ true)
-
 -- how a run ends whose scripts and budgets were all done, or not
 abbrev pub finish : Bool → Result Ending RunFault
 finish true = Ok Done
 finish false = Err NotComplete
 
--- What the job of a command line reads and writes. Of threads it isn't said what was written, and of windows nothing.
+-- The history of a play was written, or a part of it where a write failed.
+abbrev pub HistoryWritten : Outcome → List ℕ → List ℕ → Result Ending RunFault → Type 0
+HistoryWritten outcome taken taken' result =
+    ((result ≡ finish outcome.all) × (taken' ≡ taken ++ written_of Entries outcome.recorded.course.history))
+    ⊎ ((result ≡ Err Write) × GrowsByPart taken taken' (written_of Entries outcome.recorded.course.history))
+
+-- what came of scripts, as they were read
+abbrev pub RunBehind : ℕ → ℕ → Config → Result (Vec (Vec Command Global) Global) TranscriptFault → List ℕ → List ℕ → Result Ending RunFault → Type 0
+-- threads ran them beside so many quanta of a budget, and the history was written; or memory was refused, and nothing was
+RunBehind turns budget config (Ok scripts) taken taken' result =
+    ((result ≡ Err NoMemory) × (taken' ≡ taken))
+    ⊎ ((outcome : Outcome) × IsOutcome (limits_of config) (map vec_len scripts.items) (replicate turns budget) outcome × HistoryWritten outcome taken taken' result)
+-- a fault ended the reading: nothing was run or written
+RunBehind turns budget config (Err why) taken taken' result = (result ≡ Err (of_transcript why)) × (taken' ≡ taken)
+
+-- Scripts were read, run, and their history written.
+abbrev pub ScriptsRun : ℕ → ℕ → Config → List ℕ → List ℕ → Bool → List ℕ → List ℕ → Result Ending RunFault → Type 0
+ScriptsRun turns budget config given given' ended taken taken' result =
+    (how : Result (Vec (Vec Command Global) Global) TranscriptFault) × ScriptsRead given given' ended config.mutators how × RunBehind turns budget config how taken taken' result
+
+-- what is written of windows behind a play
+abbrev pub ToldBehind : Result (Unit {0}) PlayFault → Config → Timetable → List ℕ → List ℕ → List ℕ → Result Ending RunFault → Type 0
+-- the play came to its end: a line for each window, or for the first of them
+ToldBehind (Ok all) config t windows taken taken' (Ok ending) = (ending ≡ Done) × AllTold config t windows taken taken'
+ToldBehind (Ok all) config t windows taken taken' (Err fault) = FirstTold config t windows fault taken taken'
+-- a fault ended the play: nothing
+ToldBehind (Err why) config t windows taken taken' result = (result ≡ Err (of_play why)) × (taken' ≡ taken)
+
+-- A new player played a trace, and a line for each window was written.
+abbrev pub WindowsMeasured : List ℕ → Config → List ℕ → List ℕ → Bool → List ℕ → List ℕ → Result Ending RunFault → Type 0
+WindowsMeasured windows config given given' ended taken taken' result =
+    NotBegun given given' taken taken' result
+    ⊎ ((old : PlayerState) × (new : PlayerState) × (mid : List ℕ) × (how : Result (Unit {0}) PlayFault) × IsNew config old × Played Nothing given given' ended old new taken mid how × ToldBehind how config new.timetable windows mid taken' result)
+
+-- What the job of a command line reads and writes.
 abbrev pub JobDone : Job → Config → List ℕ → List ℕ → Bool → List ℕ → List ℕ → Result Ending RunFault → Type 0
 JobDone (Play settings trace true) config given given' ended taken taken' result = TracePlayed Entries config given given' ended taken taken' result
 JobDone (Play settings trace false) config given given' ended taken taken' result = TracePlayed Replies config given given' ended taken taken' result
 JobDone (Check settings history) config given given' ended taken taken' result = HistoryChecked config given given' ended taken taken' result
-JobDone (Threads settings scripts turns budget) config given given' ended taken taken' result = IfOk result (ScriptsRun turns budget config given given' ended)
+JobDone (Threads settings scripts turns budget) config given given' ended taken taken' result = ScriptsRun turns budget config given given' ended taken taken' result
 JobDone (Inspect settings trace after) config given given' ended taken taken' result = HeapInspected after config given given' ended taken taken' result
-JobDone (Mmu settings trace windows) config given given' ended taken taken' result = Unit {0}
+JobDone (Mmu settings trace windows) config given given' ended taken taken' result = WindowsMeasured windows.items config given given' ended taken taken' result

@@ -1,10 +1,16 @@
 //! What each subcommand does, from a source to a sink.
-ghost use Rattle.std.specs.Prelude.{◌≡◌, IfOk, string_bytes};
-ghost use Rattle.metronome.specs.Jobs.{TracePlayed, PlayedUpTo, HeapInspected, HistoryChecked, ScriptsRun, verdict, told_of, finish};
+ghost use Rattle.std.specs.Prelude.{◌≡◌, ◌≤◌, ◌++◌, length, map, replicate, vec_len, IfOk, IfErr, OnOk, OnErr, string_bytes};
+ghost use Rattle.size_classes.specs.Config.{limits_of};
+ghost use Rattle.trace.specs.Streams.{GrowsByPart};
+ghost use Rattle.player.specs.declared.style.Style.TheVariants.{Entries};
+ghost use Rattle.player.specs.Playing.{written_of};
+ghost use Rattle.heap_server.specs.Played.{IsOutcome};
+ghost use Rattle.metronome.specs.Jobs.{TracePlayed, PlayedUpTo, HeapInspected, HistoryChecked, ScriptsRun, WindowsMeasured, verdict, told_of, finish};
+ghost use Rattle.metronome.specs.Windows.{IsWindowLine, AllTold, FirstTold};
 
 use crate::fault::{Ending, RunFault};
-use graph_heap::{Entry, Reference};
-use heap_server::{OpenGate, play_threads};
+use graph_heap::{Command, Entry, NoMemory, Reference};
+use heap_server::{OpenGate, Outcome, play_threads};
 use inspector::report;
 use mmu_report::{bound, least_mutator, permille};
 use player::{PlayFault, Player, Style, play, play_first};
@@ -13,7 +19,7 @@ use size_classes::Config;
 use std::alloc::{AllocError, Global};
 use std::sync::Wait;
 use std::thread::Threads;
-use trace::{Sink, Source, end_line, write_all, write_entry};
+use trace::{Sink, Source, WriteFailed, end_line, write_all, write_entry};
 use transcripts::{Checked, check_entries, read_scripts};
 
 /// Plays a trace, and writes what the style says of each command.
@@ -67,6 +73,33 @@ pub fn check_job<S: Source, K: Sink>(
     Ok(ending_of(checked))
 }
 
+/// So many times a budget.
+fn budgets_of(alloc: Global, turns: u32, budget: u32) -> Result<Vec<u32>, NoMemory>
+    ensures { IfOk result (λ budgets. budgets.items ≡ replicate turns budget) }
+{
+    let mut budgets = Vec::with_capacity(alloc, turns as usize)?;
+    for _ in 0..turns {
+        budgets.push(budget)?;
+    }
+    Ok(budgets)
+}
+
+/// Runs scripts on threads beside so many quanta of a budget.
+fn run_scripts<T: Threads + Wait + Sync>(
+    rt: &T,
+    alloc: Global,
+    config: &Config,
+    scripts: &[Vec<Command>],
+    turns: u32,
+    budget: u32,
+) -> Result<Outcome, NoMemory>
+    requires { length scripts.now ≤ config.now.mutators }
+    ensures { IfOk result (IsOutcome (limits_of config.now) (map vec_len scripts.now) (replicate turns budget)) }
+{
+    let budgets = budgets_of(alloc, turns, budget)?;
+    play_threads(rt, alloc, config, scripts, budgets.as_slice(), &OpenGate)
+}
+
 /// Runs scripts on threads beside so many quanta of a budget, and writes the history.
 pub fn threads_job<S: Source, K: Sink, T: Threads + Wait + Sync>(
     rt: &T,
@@ -77,21 +110,10 @@ pub fn threads_job<S: Source, K: Sink, T: Threads + Wait + Sync>(
     turns: u32,
     budget: u32,
 ) -> Result<Ending, RunFault>
-    ensures { IfOk result (ScriptsRun turns budget config.now (S.given source.old) (S.given source.new) (S.ended source.new)) }
+    ensures { ScriptsRun turns budget config.now (S.given source.old) (S.given source.new) (S.ended source.new) (K.taken sink.old) (K.taken sink.new) result }
 {
     let scripts = read_scripts(alloc, source, &config.limits())?;
-    let mut budgets = Vec::with_capacity(alloc, turns as usize)?;
-    for _ in 0..turns {
-        budgets.push(budget)?;
-    }
-    let outcome = play_threads(
-        rt,
-        alloc,
-        config,
-        scripts.as_slice(),
-        budgets.as_slice(),
-        &OpenGate,
-    )?;
+    let outcome = run_scripts(rt, alloc, config, scripts.as_slice(), turns, budget)?;
     write_history(sink, outcome.recorded.history())?;
     finished(outcome.all)
 }
@@ -108,7 +130,10 @@ fn finished(all: bool) -> Result<Ending, RunFault>
 }
 
 /// Writes a line for each entry.
-fn write_history<K: Sink>(sink: &mut K, history: &[Entry]) -> Result<(), RunFault> {
+fn write_history<K: Sink>(sink: &mut K, history: &[Entry]) -> Result<(), WriteFailed>
+    ensures ok { OnOk result (K.taken sink.new ≡ K.taken sink.old ++ written_of Entries history.now) }
+    ensures err { OnErr result (GrowsByPart (K.taken sink.old) (K.taken sink.new) (written_of Entries history.now)) }
+{
     for entry in history {
         let mut out = [0; 256];
         let end = write_entry(entry, &mut out);
@@ -155,14 +180,31 @@ pub fn mmu_job<S: Source, K: Sink>(
     source: &mut S,
     sink: &mut K,
     windows: &[u64],
-) -> Result<Ending, RunFault> {
+) -> Result<Ending, RunFault>
+    ensures { WindowsMeasured windows.now config.now (S.given source.old) (S.given source.new) (S.ended source.new) (K.taken sink.old) (K.taken sink.new) result }
+{
     let mut player = Player::new(alloc, config)?;
     play(source, sink, &mut player, Style::Nothing)?;
+    write_windows(alloc, config, player.schedule(), sink, windows)?;
+    Ok(Ending::Done)
+}
+
+/// Writes a line for each window.
+fn write_windows<K: Sink>(
+    alloc: Global,
+    config: &Config,
+    schedule: &Schedule,
+    sink: &mut K,
+    windows: &[u64],
+) -> Result<(), RunFault>
+    ensures ok { OnOk result (AllTold config.now schedule.now windows.now (K.taken sink.old) (K.taken sink.new)) }
+    ensures err { IfErr result (λ fault. FirstTold config.now schedule.now windows.now fault (K.taken sink.old) (K.taken sink.new)) }
+{
     for window in windows {
-        let line = window_line(alloc, config, player.schedule(), *window)?;
+        let line = window_line(alloc, config, schedule, *window)?;
         write_all(sink, line.as_bytes())?;
     }
-    Ok(Ending::Done)
+    Ok(())
 }
 
 /// What is told of a window: the least that the mutators had of any, what the schedule promises, and the
@@ -172,11 +214,13 @@ fn window_line(
     config: &Config,
     schedule: &Schedule,
     window: u64,
-) -> Result<String, RunFault> {
+) -> Result<String, AllocError>
+    ensures { IfOk result (λ line. IsWindowLine config.now schedule.now window (string_bytes line)) }
+{
     let Some(least) = least_mutator(schedule.intervals(), schedule.span(), window) else {
-        return Ok(format!(in alloc; "window {window} none\n")?);
+        return format!(in alloc; "window {window} none\n");
     };
     let bound = bound(config.collector_ticks, config.mutator_ticks, window);
     let permille = permille(least, window);
-    Ok(format!(in alloc; "window {window} least {least} bound {bound} permille {permille}\n")?)
+    format!(in alloc; "window {window} least {least} bound {bound} permille {permille}\n")
 }

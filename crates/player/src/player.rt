@@ -1,5 +1,5 @@
 //! A player: a heap with its history, and the schedule of its collector.
-ghost use Rattle.std.specs.Prelude.{◌≡◌, ◌+◌, ◌*◌, ◌<◌, ◌≤◌, [], ◌∷◌, ◌↔◌, IfOk, IfErr, IsTrue, None};
+ghost use Rattle.std.specs.Prelude.{◌≡◌, ◌+◌, ◌*◌, ◌<◌, ◌≤◌, [], ◌∷◌, ◌↔◌, length, IfOk, IfErr, IsTrue, None};
 ghost use Rattle.heap_model.specs.declared.phase.Phase.TheVariants as phases;
 ghost use Rattle.heap_model.specs.Event.{IsBudget, Command_done, Does};
 ghost use Rattle.heap_model.specs.Opening.{IsOpening};
@@ -69,6 +69,8 @@ impl Player {
     pub fn new(alloc: Global, config: &Config) -> Result<Player, NoMemory>
         ensures heap { IfOk result (λ p. IsOpening p.course.heap) }
         ensures limits { IfOk result (λ p. p.course.heap.limits ≡ limits_of config.now) }
+        ensures pages { IfOk result (λ p. length p.course.heap.store.pages ≡ config.now.pages) }
+        ensures defrag { IfOk result (λ p. (p.course.heap.defrag_below ≡ config.now.defrag_below) × (p.course.heap.defrag_pages ≡ config.now.defrag_pages)) }
         ensures history { IfOk result (λ p. p.course.history ≡ []) }
         ensures place { IfOk result (λ p. p.course.place ≡ 0) }
         ensures timetable { IfOk result (λ p. p.timetable ≡ timetables.opening config.now.collector_ticks config.now.mutator_ticks) }

@@ -1,4 +1,4 @@
-//! Two scripts that race for a static, run by threads: the output is a history, which is checked.
+//! Scripts that threads run: the output is a history, which is checked.
 use super::*;
 
 /// For each mutator: makes an object, puts it into the static if that is empty, and loads what the static holds.
@@ -92,4 +92,17 @@ fn beside_a_collector(rt: HostRuntime) {
         "256",
     ];
     race(&rt, &words);
+}
+
+#[test]
+fn on_one_page_of_eight_blocks(rt: HostRuntime) -> Result<(), NoMemory> {
+    let wanted = Run {
+        words: &["threads", "config", "text"],
+        config: ONE_PAGE,
+        text: "0 new 0 words 252\n0 new 1 words 252\n0 new 2 words 252\n0 new 3 words 252\n0 new 4 words 252\n0 new 5 words 252\n0 new 6 words 252\n0 new 7 words 252\n0 new 8 words 252\n",
+        output: "0 new 0 words 252 => made 1\n0 new 1 words 252 => made 2\n0 new 2 words 252 => made 3\n0 new 3 words 252 => made 4\n0 new 4 words 252 => made 5\n0 new 5 words 252 => made 6\n0 new 6 words 252 => made 7\n0 new 7 words 252 => made 8\n0 new 8 words 252 => refused 7\n",
+        errors: "",
+        status: 0,
+    };
+    expect(&rt, &wanted)
 }

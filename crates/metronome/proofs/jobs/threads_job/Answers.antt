@@ -1,24 +1,39 @@
-use Rattle.std.proofs.Common.{◌≡◌, ℕ, List, Ok, map, vec_len, replicate, refl, ap, ◌∙◌, subst, arith}
+use Rattle.std.proofs.Common.{◌++◌, ℕ, List, Ok, inl, inr, map, vec_len, ap, ◌∙◌, subst, replicate}
+use Rattle.std.specs.Prelude.{Vec}
+use Rattle.std.specs.declared.alloc.Global.{Global}
 use Rattle.graph_heap.specs.declared.command.Command.{Command}
 use Rattle.graph_heap.specs.declared.command.Limits.{Limits}
-use Rattle.std.specs.declared.alloc.Global.{Global}
-use Rattle.std.specs.Prelude.{Vec}
+use Rattle.graph_heap.specs.declared.command.Entry.{Entry}
 use Rattle.size_classes.specs.Config.{limits_of}
+use Rattle.trace.specs.Streams.{GrowsByPart}
 use Rattle.transcripts.specs.Scripts.{ScriptsRead}
 use Rattle.heap_server.specs.Played.{IsOutcome}
-use Rattle.metronome.specs.Jobs.{ScriptsRun}
-use Rattle.metronome.proofs.Finishing.{done_where_all}
+use Rattle.player.specs.declared.style.Style.TheVariants.{Entries}
+use Rattle.player.specs.Playing.{written_of}
+use Rattle.metronome.proofs.Finishing.{failed_so}
 use Rattle.metronome.proofs.jobs.threads_job.Goals as goal
+
+pub returns-in_err-write_history : goal.returns-in_err-write_history
+returns-in_err-write_history g c =
+    let scripts = c.in_ok-scripts.scripts in
+    let outcome = c.in_ok-outcome.outcome in
+    let old = g.K.Sink.taken c.args.sink.now in
+    let new = g.K.Sink.taken c.write_history.new.sink in
+    let Read : ℕ → Type 0 = λ mutators. ScriptsRead (g.S.Source.given c.args.source.now) (g.S.Source.given c.read_scripts.new.source) (g.S.Source.ended c.read_scripts.new.source) mutators (Ok scripts) in
+    let Ran : List (Vec Command Global) → Type 0 = λ all. IsOutcome (limits_of c.args.config.now) (map vec_len all) (replicate c.args.turns c.args.budget) outcome in
+    let Part : List Entry → Type 0 = λ history. GrowsByPart old new (written_of Entries history) in
+    let read = subst Read (ap (λ (limits : Limits). limits.mutators) c.limits.ensures) c.in_ok-scripts.ensures.read in
+    let ran = subst Ran c.as_slice.ensures.value c.in_ok-outcome.ensures in
+    let part = subst Part c.history.ensures.history c.in_err-write_history.ensures.err in
+    (Ok scripts, read, inr (outcome, ran, inr (failed_so c.from_residual-in_err-write_history.result _ c.from_residual-in_err-write_history.ensures.1, part)))
 
 pub returns : goal.returns
 returns g c =
-    let count : c.loop.counter ≡ c.args.turns = omega (arith, c.loop-test.false, c.loop.auto.counter-end) in
-    let budgets : c.as_slice-2.result.now ≡ replicate c.args.turns c.args.budget = c.as_slice-2.ensures.value ∙ c.loop.invariant ∙ ap (λ (n : ℕ). replicate n c.args.budget) count in
-    let Read : ℕ → Type 0 = λ mutators. ScriptsRead (g.S.Source.given c.args.source.now) (g.S.Source.given c.read_scripts.new.source) (g.S.Source.ended c.read_scripts.new.source) mutators (Ok c.in_ok-scripts.scripts) in
-    let Scripts : List (Vec Command Global) → Type 0 = λ scripts. IsOutcome (limits_of c.args.config.now) (map vec_len scripts) c.as_slice-2.result.now c.in_ok-outcome.outcome in
-    let Budgets : List ℕ → Type 0 = λ all. IsOutcome (limits_of c.args.config.now) (map vec_len c.in_ok-scripts.scripts.items) all c.in_ok-outcome.outcome in
-    let ran = subst Budgets budgets (subst Scripts c.as_slice.ensures.value c.in_ok-outcome.ensures) in
+    let scripts = c.in_ok-scripts.scripts in
+    let outcome = c.in_ok-outcome.outcome in
+    let old = g.K.Sink.taken c.args.sink.now in
+    let Read : ℕ → Type 0 = λ mutators. ScriptsRead (g.S.Source.given c.args.source.now) (g.S.Source.given c.read_scripts.new.source) (g.S.Source.ended c.read_scripts.new.source) mutators (Ok scripts) in
+    let Ran : List (Vec Command Global) → Type 0 = λ all. IsOutcome (limits_of c.args.config.now) (map vec_len all) (replicate c.args.turns c.args.budget) outcome in
     let read = subst Read (ap (λ (limits : Limits). limits.mutators) c.limits.ensures) c.in_ok-scripts.ensures.read in
-    done_where_all c.in_ok-outcome.outcome.all c.finished.result
-    (ScriptsRun c.args.turns c.args.budget c.args.config.now (g.S.Source.given c.args.source.now) (g.S.Source.given c.read_scripts.new.source) (g.S.Source.ended c.read_scripts.new.source)) c.finished.ensures
-    (λ all. (c.in_ok-scripts.scripts, c.in_ok-outcome.outcome, refl, read, ran, all))
+    let ran = subst Ran c.as_slice.ensures.value c.in_ok-outcome.ensures in
+    (Ok scripts, read, inr (outcome, ran, inl (c.finished.ensures, c.in_ok-write_history.ensures.ok ∙ ap (λ (h : List Entry). old ++ written_of Entries h) c.history.ensures.history)))

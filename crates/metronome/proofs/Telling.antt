@@ -1,0 +1,67 @@
+-- Lines of windows that are written one after the other.
+use Rattle.std.proofs.Common.{◌≡◌, ℕ, subst, append-nil, List, [], ◌∷◌, ◌++◌, ap, ◌∙◌, sym, append_assoc, inl, inr}
+use Rattle.std.specs.Prelude.{Result, Ok, Err, IfOk, IfErr}
+use Rattle.std.specs.Result.{IsErrAnd}
+use Rattle.std.specs.List.{AllZip, concat}
+use Rattle.std.proofs.lemmas.List.Folds.{concat-append}
+use Rattle.size_classes.specs.declared.config.Config.{Config}
+use Rattle.quanta.specs.Timetable.{Timetable, with_reserved}
+use Rattle.trace.specs.Streams.{GrowsByPart}
+use Rattle.inspector.proofs.Parts.{part_after}
+use Rattle.metronome.specs.declared.fault.RunFault.{RunFault}
+use Rattle.metronome.specs.declared.fault.RunFault.TheVariants.{Write, NoMemory}
+use Rattle.metronome.specs.Windows.{IsWindowLine, AllTold, FirstTold}
+
+-- what holds of some result holds of what follows from it
+pub ok_so : {A E : Type 0} (r : Result A E) (P Q : A → Type 0) → ((x : A) → P x → Q x) → IfOk r P → IfOk r Q
+ok_so (Ok x) P Q f h = f x h
+ok_so (Err e) P Q f h = tt
+
+pub err_so : {A E : Type 0} (r : Result A E) (P Q : E → Type 0) → ((e : E) → P e → Q e) → IsErrAnd r P → IfErr r Q
+err_so (Ok x) P Q f h = tt
+err_so (Err e) P Q f h = f e h
+
+zip_more : {A B : Type 0} (R : A → B → Type 0) (xs : List A) (ys : List B) (x : A) (y : B) → AllZip R xs ys → R x y → AllZip R (xs ++ x ∷ []) (ys ++ y ∷ [])
+zip_more R [] [] x y h r = (r, tt)
+zip_more R [] (b ∷ ys) x y h r = elim h [ ]
+zip_more R (a ∷ xs) [] x y h r = elim h [ ]
+zip_more R (a ∷ xs) (b ∷ ys) x y h r = (h.0, zip_more R xs ys x y h.1 r)
+
+concat_more : (lines : List (List ℕ)) (line : List ℕ) → concat (lines ++ line ∷ []) ≡ concat lines ++ line
+concat_more lines line = concat-append lines (line ∷ []) ∙ ap (λ t. concat lines ++ t) (append-nil line)
+
+module _ (config : Config) (t : Timetable) (first : List ℕ) (old mid : List ℕ) (so : AllTold config t first old mid) where
+  -- behind these lines memory was refused
+  pub told_until : (windows behind : List ℕ) (fault : RunFault) → windows ≡ first ++ behind → fault ≡ NoMemory → FirstTold config t windows fault old mid
+  told_until windows behind fault whole e = record { first = first; behind = behind; whole = whole; lines = so.lines; each = so.each; written = inl (e, so.written) }
+
+  module _ (window : ℕ) (line : List ℕ) (is : IsWindowLine config t window line) (new : List ℕ) where
+    each_more : AllZip (IsWindowLine config t) (first ++ window ∷ []) (so.lines ++ line ∷ [])
+    each_more = zip_more (IsWindowLine config t) first so.lines window line so.each is
+
+    -- with the next line
+    pub told_more : new ≡ mid ++ line → AllTold config t (first ++ window ∷ []) old new
+    told_more e = record {
+      lines = so.lines ++ line ∷ [];
+      each = each_more;
+      written = e ∙ ap (λ x. x ++ line) so.written ∙ append_assoc old (concat so.lines) line ∙ ap (λ x. old ++ x) (sym (concat_more so.lines line));
+    }
+
+    -- with a part of it
+    pub told_part : (windows behind : List ℕ) (fault : RunFault) → windows ≡ (first ++ window ∷ []) ++ behind → fault ≡ Write → GrowsByPart mid new line → FirstTold config t windows fault old new
+    told_part windows behind fault whole e g = record {
+      first = first ++ window ∷ [];
+      behind = behind;
+      whole = whole;
+      lines = so.lines ++ line ∷ [];
+      each = each_more;
+      written = inr (e, subst (GrowsByPart old new) (sym (concat_more so.lines line)) (part_after old mid new (concat so.lines) line so.written g));
+    }
+
+-- what is told of a timetable doesn't hang on the memory that is reserved
+module _ (config : Config) (t : Timetable) (n : ℕ) (windows taken taken' : List ℕ) where
+  pub told_reserved : AllTold config t windows taken taken' → AllTold config (with_reserved t n) windows taken taken'
+  told_reserved a = record { lines = a.lines; each = a.each; written = a.written }
+
+  pub first_reserved : (fault : RunFault) → FirstTold config t windows fault taken taken' → FirstTold config (with_reserved t n) windows fault taken taken'
+  first_reserved fault a = record { first = a.first; behind = a.behind; whole = a.whole; lines = a.lines; each = a.each; written = a.written }

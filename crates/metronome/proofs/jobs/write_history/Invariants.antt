@@ -1,0 +1,8 @@
+use Rattle.std.proofs.Common.{◌≡◌, ◌++◌, take}
+use Rattle.player.specs.declared.style.Style.TheVariants.{Entries}
+use Rattle.player.specs.Playing.{written_of}
+use Rattle.metronome.proofs.jobs.write_history.Given as goal
+
+-- the lines of the entries so far
+abbrev pub invariant-loop-entry : goal.invariant-loop-entry
+invariant-loop-entry g l = g.K.Sink.taken l.sink ≡ g.K.Sink.taken l.fn.sink ++ written_of Entries (take l.entry-index l.history)

@@ -1,97 +1,79 @@
 -- Each event keeps what the lock keeps.
-use Rattle.std.proofs.Common.{◌≡◌, ℕ, ◌+◌, ◌-◌, ◌<◌, List, [], ◌∷◌, length, refl, sym, ap, ◌∙◌, subst, arith, length-append}
+use Rattle.std.proofs.Common.{◌≡◌, ℕ, ◌+◌, ◌-◌, ◌<◌, List, [], ◌∷◌, length, sym, ap, ◌∙◌, subst, arith, length-append}
 use Rattle.graph_heap.specs.declared.command.Command.{Command}
 use Rattle.graph_heap.specs.declared.command.Reply.{Reply}
 use Rattle.graph_heap.specs.declared.command.Entry.{Entry}
-use Rattle.graph_heap.specs.declared.command.Limits.{Limits}
-use Rattle.graph_heap.specs.declared.command.Change.{Change}
-use Rattle.graph_heap.specs.declared.command.Change.TheVariants as changes
-use Rattle.graph_heap.specs.Graph.{Graph, opening, changed}
+use Rattle.graph_heap.specs.Graph.{opening}
 use Rattle.graph_heap.specs.History.{IsLegal}
 use Rattle.heap_model.specs.declared.phase.Phase.{Phase}
 use Rattle.heap_model.specs.State.{HeapState}
 use Rattle.heap_model.specs.Opening.{IsOpening}
-use Rattle.heap_model.specs.Event.{Course, Event, Command_done, Cycle_begun, Cycle_on, Quantum_done, Quantum_refused, present_of, snapshot_of, room_for, change_by, Enters, Begins, Collects, Does, IsCourse}
+use Rattle.heap_model.specs.Event.{Course, Event, Command_done, Cycle_begun, Quantum_done, present_of, snapshot_of, room_for, change_by, Enters, Begins, Collects, Does, IsCourse}
 use Rattle.heap_model.specs.Led.{IsLed, cycles_in, units_in, opened}
 use Rattle.heap_model.proofs.Agreements.{consistent_agrees}
 use Rattle.heap_model.proofs.Rest.{held_is_kept}
-use Rattle.heap_model.proofs.Stood.{stands_chain, stands_limit}
+use Rattle.heap_model.proofs.Stood.{stands_limit}
 use Rattle.heap_model.proofs.Left.{change_left}
-use Rattle.heap_model.proofs.Course.{enters_stands}
 use Rattle.heap_model.proofs.Leading.{led_opening, led_more, led_course}
+use Rattle.heap_server.specs.Settings.{HeapSettings, settings_of}
 use Rattle.heap_server.specs.Views.{LockedView}
 use Rattle.heap_server.specs.Kept.{IsSound, IsKept, cycles_on}
+use Rattle.heap_server.proofs.Lasting.{does_settings}
 use Rattle.heap_server.proofs.Turning.{cycles_fall}
 
-course_sound : (limits : Limits) (r : Course) → IsCourse r → r.heap.limits ≡ limits → IsSound limits r
-course_sound limits r w e = record {
-  limits_are = e;
-  legal = subst (λ (l : Limits). IsLegal (opening l) r.history) e w.legal;
+course_sound : (settings : HeapSettings) (r : Course) → IsCourse r → settings_of r.heap ≡ settings → IsSound settings r
+course_sound settings r w e = record {
+  settings_are = e;
+  legal = subst (λ (s : HeapSettings). IsLegal (opening s.limits) r.history) e w.legal;
   agrees = consistent_agrees r.heap (present_of r) (snapshot_of r) w.stands.consistent;
   held = λ rests. held_is_kept r.heap (present_of r) (snapshot_of r) w.stands.consistent rests;
   units = stands_limit r.heap (present_of r) (snapshot_of r) w.stands;
 }
 
--- no change is one of the limits
-changed_limits : (g : Graph) (c : Change) → (changed g c).limits ≡ g.limits
-changed_limits g changes.Nothing = refl
-changed_limits g (changes.Root cell id) = refl
-changed_limits g (changes.Ref id i v) = refl
-changed_limits g (changes.Word id i v) = refl
-changed_limits g (changes.New cell id shape) = refl
-
-does_limits : (r : Course) (e : Event) (new : Course) → IsCourse r → Does r e new → new.heap.limits ≡ r.heap.limits
-does_limits r (Command_done m c reply) new w d =
-    (enters_stands r new m c reply w d).consistent.limits ∙ (changed_limits (present_of r) (change_by (room_for r.heap c) (present_of r) m c) ∙ sym w.stands.consistent.limits)
-does_limits r Cycle_begun new w d = ap (λ (h : HeapState). h.limits) d.heap
-does_limits r Cycle_on new w d = ap (λ (x : Course). x.heap.limits) d.1
-does_limits r (Quantum_done budget units phase) new w d = (stands_chain r.heap new.heap units (present_of r) (snapshot_of r) w.stands d.turn.chain).consistent.limits ∙ sym w.stands.consistent.limits
-does_limits r (Quantum_refused budget) new w d = ap (λ (x : Course). x.heap.limits) d.1
-
 -- an event is done, and the books count it
-event_kept : (limits : Limits) (v new : LockedView) (e : Event) → IsKept limits v → Does v.course e new.course → length new.course.history ≡ new.calls
-    → v.begun + cycles_in (e ∷ []) ≡ new.begun → v.spent + units_in (e ∷ []) ≡ new.spent → new.ended + cycles_on new.course.heap.phase ≡ new.begun → IsKept limits new
-event_kept limits v new e k d counted begun spent cycles =
+event_kept : (settings : HeapSettings) (v new : LockedView) (e : Event) → IsKept settings v → Does v.course e new.course → length new.course.history ≡ new.calls
+    → v.begun + cycles_in (e ∷ []) ≡ new.begun → v.spent + units_in (e ∷ []) ≡ new.spent → new.ended + cycles_on new.course.heap.phase ≡ new.begun → IsKept settings new
+event_kept settings v new e k d counted begun spent cycles =
     let more = led_more v.course new.course e v.begun v.spent k.led d in
     let led = subst (λ (n : ℕ). IsLed new.course n new.spent) begun (subst (λ (u : ℕ). IsLed new.course (v.begun + cycles_in (e ∷ [])) u) spent more) in
     record {
       some = k.some;
-      sound = course_sound limits new.course (led_course new.course new.begun new.spent led) (does_limits v.course e new.course (led_course v.course v.begun v.spent k.led) d ∙ k.sound.limits_are);
+      sound = course_sound settings new.course (led_course new.course new.begun new.spent led) (does_settings v.course e new.course d ∙ k.sound.settings_are);
       counted = counted;
       led = led;
       cycles = cycles;
     }
 
-pub call_kept : (limits : Limits) (v new : LockedView) (m : ℕ) (c : Command) (reply : Reply) → IsKept limits v → Enters v.course m c reply new.course
-    → new.calls ≡ v.calls + 1 → new.begun ≡ v.begun → new.ended ≡ v.ended → new.spent ≡ v.spent → IsKept limits new
-call_kept limits v new m c reply k d calls begun ended spent =
+pub call_kept : (settings : HeapSettings) (v new : LockedView) (m : ℕ) (c : Command) (reply : Reply) → IsKept settings v → Enters v.course m c reply new.course
+    → new.calls ≡ v.calls + 1 → new.begun ≡ v.begun → new.ended ≡ v.ended → new.spent ≡ v.spent → IsKept settings new
+call_kept settings v new m c reply k d calls begun ended spent =
     let one : length new.course.history ≡ length v.course.history + 1 = ap length d.history ∙ length-append v.course.history (record { mutator = m; command = c; reply = reply } ∷ []) in
     let phase = ap cycles_on (change_left v.course.heap new.course.heap (present_of v.course) (change_by (room_for v.course.heap c) (present_of v.course) m c) d.change).phase in
     let counted = k.counted in
     let cycles = k.cycles in
-    event_kept limits v new (Command_done m c reply) k d (omega arith) (omega arith) (omega arith) (omega arith)
+    event_kept settings v new (Command_done m c reply) k d (omega arith) (omega arith) (omega arith) (omega arith)
 
-pub begin_kept : (limits : Limits) (v new : LockedView) → IsKept limits v → Begins v.course new.course
-    → new.calls ≡ v.calls → new.begun ≡ v.begun + 1 → new.ended ≡ v.ended → new.spent ≡ v.spent → IsKept limits new
-begin_kept limits v new k d calls begun ended spent =
+pub begin_kept : (settings : HeapSettings) (v new : LockedView) → IsKept settings v → Begins v.course new.course
+    → new.calls ≡ v.calls → new.begun ≡ v.begun + 1 → new.ended ≡ v.ended → new.spent ≡ v.spent → IsKept settings new
+begin_kept settings v new k d calls begun ended spent =
     let was : cycles_on v.course.heap.phase ≡ 0 = ap cycles_on d.idle in
     let is : cycles_on new.course.heap.phase ≡ 1 = ap (λ (h : HeapState). cycles_on h.phase) d.heap in
     let counted = ap length d.history ∙ k.counted in
     let cycles = k.cycles in
-    event_kept limits v new Cycle_begun k d (omega arith) (omega arith) (omega arith) (omega arith)
+    event_kept settings v new Cycle_begun k d (omega arith) (omega arith) (omega arith) (omega arith)
 
-pub quantum_kept : (limits : Limits) (v new : LockedView) (budget units : ℕ) (phase : Phase) → IsKept limits v → Collects v.course budget units phase new.course
-    → new.calls ≡ v.calls → new.begun ≡ v.begun → new.ended ≡ v.ended + (cycles_on v.course.heap.phase - cycles_on phase) → new.spent ≡ v.spent + units → IsKept limits new
-quantum_kept limits v new budget units phase k d calls begun ended spent =
+pub quantum_kept : (settings : HeapSettings) (v new : LockedView) (budget units : ℕ) (phase : Phase) → IsKept settings v → Collects v.course budget units phase new.course
+    → new.calls ≡ v.calls → new.begun ≡ v.begun → new.ended ≡ v.ended + (cycles_on v.course.heap.phase - cycles_on phase) → new.spent ≡ v.spent + units → IsKept settings new
+quantum_kept settings v new budget units phase k d calls begun ended spent =
     let less = cycles_fall v.course new.course budget units phase (led_course v.course v.begun v.spent k.led) d in
     let is : cycles_on new.course.heap.phase ≡ cycles_on phase = ap cycles_on d.ends in
     let counted = ap length d.history ∙ k.counted in
     let cycles = k.cycles in
-    event_kept limits v new (Quantum_done budget units phase) k d (omega arith) (omega arith) (omega arith) (omega arith)
+    event_kept settings v new (Quantum_done budget units phase) k d (omega arith) (omega arith) (omega arith) (omega arith)
 
-pub opening_kept : (limits : Limits) (v : LockedView) → 0 < limits.mutators → IsOpening v.course.heap → 0 < length v.course.heap.store.pages → v.course.history ≡ [] → v.course.place ≡ 0 → v.course.heap.limits ≡ limits
-    → v.calls ≡ 0 → v.begun ≡ 0 → v.ended ≡ 0 → v.spent ≡ 0 → IsKept limits v
-opening_kept limits v mutators o some history place is calls begun ended spent =
+pub opening_kept : (settings : HeapSettings) (v : LockedView) → 0 < settings.limits.mutators → IsOpening v.course.heap → 0 < length v.course.heap.store.pages → v.course.history ≡ [] → v.course.place ≡ 0 → settings_of v.course.heap ≡ settings
+    → v.calls ≡ 0 → v.begun ≡ 0 → v.ended ≡ 0 → v.spent ≡ 0 → IsKept settings v
+opening_kept settings v mutators o some history place is calls begun ended spent =
     let at : List Entry → ℕ → Course = λ entries n. record { heap = v.course.heap; history = entries; place = n } in
     let same : opened v.course.heap ≡ v.course = ap (λ (entries : List Entry). at entries 0) (sym history) ∙ ap (at v.course.history) (sym place) in
     let first = led_opening v.course.heap o some in
@@ -99,7 +81,7 @@ opening_kept limits v mutators o some history place is calls begun ended spent =
     let idle : cycles_on v.course.heap.phase ≡ 0 = ap cycles_on o.phase in
     record {
       some = mutators;
-      sound = course_sound limits v.course (led_course v.course v.begun v.spent led) is;
+      sound = course_sound settings v.course (led_course v.course v.begun v.spent led) is;
       counted = ap length history ∙ sym calls;
       led = led;
       cycles = omega arith;

@@ -3,3 +3,4 @@ pub mod Kept
 pub mod Paced
 pub mod Seats
 pub mod Played
+pub mod Settings

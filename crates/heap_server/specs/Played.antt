@@ -2,10 +2,10 @@
 use Rattle.std.specs.Prelude.{ℕ, ◌≡◌, ◌↔◌, ◌<◌, ◌≤◌, true, List, length, take, All, sum, slice_index}
 use Rattle.std.specs.List.{AllZip}
 use Rattle.graph_heap.specs.declared.command.Command.{Command}
-use Rattle.graph_heap.specs.declared.command.Limits.{Limits}
 use Rattle.heap_model.specs.Event.{IsBudget}
 use Rattle.heap_model.specs.Led.{IsLed}
 use Rattle.heap_server.specs.Views.{SeatView}
+use Rattle.heap_server.specs.Settings.{HeapSettings}
 use Rattle.heap_server.specs.Kept.{IsSound}
 use Rattle.heap_server.specs.declared.play.Outcome.{Outcome}
 
@@ -24,11 +24,11 @@ pub record IsCollected (budgets : List ℕ) (used cycles units : ℕ) : Type 0 w
   pub least : used ≤ units
   pub most : units ≤ sum (take used budgets)
 
--- What came of scripts of these lengths and of budgets, at a new heap of these limits: it is sound; each entry
+-- What came of scripts of these lengths and of budgets, at a new heap of these settings: it is sound; each entry
 -- of its history is counted once, as one that a script has done; of no script more is done than it has; and
 -- the cycles and units that led to the heap are those of the budgets used. All is done where nothing is left.
-pub record IsOutcome (limits : Limits) (lengths budgets : List ℕ) (o : Outcome) : Type 0 where
-  pub sound : IsSound limits o.recorded.course
+pub record IsOutcome (settings : HeapSettings) (lengths budgets : List ℕ) (o : Outcome) : Type 0 where
+  pub sound : IsSound settings o.recorded.course
   pub counted : length o.recorded.course.history ≡ sum o.done.items
   pub within : AllZip (λ n most. n ≤ most) o.done.items lengths
   pub collected : (cycles : ℕ) × (units : ℕ) × IsLed o.recorded.course cycles units × IsCollected budgets o.used cycles units

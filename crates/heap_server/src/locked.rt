@@ -89,7 +89,7 @@ impl<N: Naming> Model for Locked<N> {
 
     ghost view = { λ l. record { course = l.recorded.course; room = l.recorded.room; calls = l.calls.total; begun = l.begun.total; ended = l.ended.total; spent = l.units.total } };
 
-    ghost invariant = { λ l. IsKept N.limits (record { course = l.recorded.course; room = l.recorded.room; calls = l.calls.total; begun = l.begun.total; ended = l.ended.total; spent = l.units.total }) };
+    ghost invariant = { λ l. IsKept N.settings (record { course = l.recorded.course; room = l.recorded.room; calls = l.calls.total; begun = l.begun.total; ended = l.ended.total; spent = l.units.total }) };
 }
 
 impl<N: Naming> Locked<N> {
@@ -98,7 +98,7 @@ impl<N: Naming> Locked<N> {
     /// The heap with its history.
     pub fn recorded(&self) -> &Recorded
         ensures recorded { result.now.course ≡ self.now.course }
-        ensures kept { IsKept N.limits self.now }
+        ensures kept { IsKept N.settings self.now }
     {
         &self.recorded
     }

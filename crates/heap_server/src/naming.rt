@@ -1,15 +1,15 @@
 //! The ledgers of a server: what names them, and how they are opened.
 ghost use Rattle.std.specs.Prelude.{◌≡◌, ℕ};
-ghost use Rattle.graph_heap.specs.declared.command.Limits.{Limits};
+ghost use Rattle.heap_server.specs.Settings.{HeapSettings};
 
 use size_classes::Config;
 use std::marker::{Brand, PhantomData};
 use std::sync::ledger::{Blank, Ledger};
 
-/// Which server it is: the limits of its heap, and the names of its ledgers. Each call of a program picks
+/// Which server it is: the settings of its heap, and the names of its ledgers. Each call of a program picks
 /// them.
 pub trait Naming {
-    ghost limits: { Limits };
+    ghost settings: { HeapSettings };
 
     ghost calls: { ℕ };
 
@@ -21,7 +21,7 @@ pub trait Naming {
 }
 
 impl Naming for Brand {
-    ghost limits = { record { mutators = 1; slots = 1; statics = 0; identities = 1 } };
+    ghost settings = { record { limits = record { mutators = 1; slots = 1; statics = 0; identities = 1 }; pages = 1; defrag_below = 0; defrag_pages = 0 } };
 
     ghost calls = { 0 };
 
@@ -40,7 +40,7 @@ pub struct Calls<N: Naming> {
 impl<N: Naming> Ledger for Calls<N> {
     ghost name = { N.calls };
 
-    ghost parts = { N.limits.mutators };
+    ghost parts = { N.settings.limits.mutators };
 }
 
 /// Names the ledger of cycles begun.

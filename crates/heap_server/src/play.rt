@@ -1,7 +1,7 @@
 //! A play: scripts of mutators, each in a thread of its own, beside a collector.
 ghost use Rattle.std.specs.Prelude.{◌≡◌, ◌↔◌, ℕ, ◌<◌, ◌≤◌, true, length, map, take, IfOk, slice_index_or, vec_len, vec_capacity};
 ghost use denote.Param.Send.{IsSync, IsSend};
-ghost use Rattle.size_classes.specs.Config.{limits_of};
+ghost use Rattle.heap_server.specs.Settings.{settings_by};
 ghost use Rattle.heap_server.specs.Views.{SeatView};
 ghost use Rattle.heap_server.specs.Seats.{new_seats, mutators_of, upto};
 ghost use Rattle.heap_server.specs.Played.{IsCollected, IsOutcome};
@@ -49,7 +49,7 @@ pub fn play_threads<G: Gate + Sync, R: Threads + Wait + Sync>(
     gate: &G,
 ) -> Result<Outcome, NoMemory>
     requires fits { length scripts.now ≤ config.now.mutators }
-    ensures { IfOk result (IsOutcome (limits_of config.now) (map vec_len scripts.now) budgets.now) }
+    ensures { IfOk result (IsOutcome (settings_by config.now) (map vec_len scripts.now) budgets.now) }
 {
     played::<Brand, G, R>(rt, alloc, Opening::new(config), scripts, budgets, gate)
 }
@@ -63,12 +63,12 @@ fn played<N: Naming + Send + Sync, G: Gate + Sync, R: Threads + Wait + Sync>(
     budgets: &[u32],
     gate: &G,
 ) -> Result<Outcome, NoMemory>
-    requires calls { (opening.calls.name ≡ N.calls) × (limits_of opening.config ≡ N.limits) }
+    requires calls { (opening.calls.name ≡ N.calls) × (settings_by opening.config ≡ N.settings) }
     requires begun { opening.begun.name ≡ N.begun }
     requires ended { opening.ended.name ≡ N.ended }
     requires units { opening.units.name ≡ N.units }
-    requires fits { length scripts.now ≤ N.limits.mutators }
-    ensures { IfOk result (IsOutcome N.limits (map vec_len scripts.now) budgets.now) }
+    requires fits { length scripts.now ≤ N.settings.limits.mutators }
+    ensures { IfOk result (IsOutcome N.settings (map vec_len scripts.now) budgets.now) }
 {
     let number = scripts.len() as u32;
     let (server, seats, pacer) = Server::<N>::new(alloc, opening)?;
@@ -86,7 +86,7 @@ fn played<N: Naming + Send + Sync, G: Gate + Sync, R: Threads + Wait + Sync>(
             (used, pacer)
         },
         move || -> Vec<Seat<N>>
-            requires { IsSync R.row × IsSync G.row × IsSend N.row × IsSync N.row × (length scripts.now ≤ vec_len seats) × (seats.items ≡ new_seats N.limits.mutators) }
+            requires { IsSync R.row × IsSync G.row × IsSend N.row × IsSync N.row × (length scripts.now ≤ vec_len seats) × (seats.items ≡ new_seats N.settings.limits.mutators) }
             ensures { (mutators_of result.items ≡ mutators_of seats.items) × ((i : ℕ) (d : SeatView) (e : _) → i < length scripts.entry.now → (slice_index_or result.items i d).calls ≤ vec_len (slice_index_or scripts.entry.now i e)) × ((i : ℕ) (d : SeatView) → length scripts.entry.now ≤ i → i < vec_len result → (slice_index_or result.items i d).calls ≡ 0) }
         { play_seats(rt, shared, gate, scripts, seats) },
     );
@@ -103,13 +103,13 @@ fn settled<N: Naming>(
     used: usize,
     mut done: Vec<u64>,
 ) -> Outcome
-    requires mutators { mutators_of seats.items ≡ upto N.limits.mutators }
-    requires fits { length scripts.now ≤ N.limits.mutators }
+    requires mutators { mutators_of seats.items ≡ upto N.settings.limits.mutators }
+    requires fits { length scripts.now ≤ N.settings.limits.mutators }
     requires played { (i : ℕ) (d : SeatView) (e : _) → i < length scripts.now → (slice_index_or seats.items i d).calls ≤ vec_len (slice_index_or scripts.now i e) }
     requires rest { (i : ℕ) (d : SeatView) → length scripts.now ≤ i → i < vec_len seats → (slice_index_or seats.items i d).calls ≡ 0 }
     requires collected { IsCollected budgets.now used pacer.begun pacer.spent }
     requires room { (vec_len done ≡ 0) × (length scripts.now ≤ vec_capacity done) }
-    ensures { IsOutcome N.limits (map vec_len scripts.now) budgets.now result }
+    ensures { IsOutcome N.settings (map vec_len scripts.now) budgets.now result }
 {
     count_calls(seats.as_slice(), scripts.len(), &mut done);
     let whole = is_whole(scripts, done.as_slice());

@@ -1,7 +1,7 @@
 //! The server: one lock round the heap, and the calls of seats and of the pacer.
 ghost use Rattle.std.specs.Prelude.{◌≡◌, ◌≢◌, ◌↔◌, ◌+◌, ◌<◌, length, IfOk, IsOk, OnErr, OnOk, vec_len};
 ghost use Rattle.std.specs.List.{sum_by};
-ghost use Rattle.size_classes.specs.Config.{limits_of};
+ghost use Rattle.heap_server.specs.Settings.{settings_by};
 ghost use Rattle.heap_model.specs.Event.{IsBudget};
 ghost use Rattle.heap_model.specs.Led.{IsLed};
 ghost use Rattle.heap_server.specs.Kept.{IsSound};
@@ -32,13 +32,13 @@ impl<N: Naming> Server<N> {
         alloc: Global,
         opening: Opening,
     ) -> Result<(Server<N>, Vec<Seat<N>>, Pacer<N>), NoMemory>
-        requires calls { (opening.calls.name ≡ N.calls) × (limits_of opening.config ≡ N.limits) }
+        requires calls { (opening.calls.name ≡ N.calls) × (settings_by opening.config ≡ N.settings) }
         requires begun { opening.begun.name ≡ N.begun }
         requires ended { opening.ended.name ≡ N.ended }
         requires units { opening.units.name ≡ N.units }
-        ensures seats { IfOk result (λ r. r.1.items ≡ new_seats N.limits.mutators) }
-        ensures mutators { IfOk result (λ r. mutators_of r.1.items ≡ upto N.limits.mutators) }
-        ensures len { IfOk result (λ r. vec_len r.1 ≡ N.limits.mutators) }
+        ensures seats { IfOk result (λ r. r.1.items ≡ new_seats N.settings.limits.mutators) }
+        ensures mutators { IfOk result (λ r. mutators_of r.1.items ≡ upto N.settings.limits.mutators) }
+        ensures len { IfOk result (λ r. vec_len r.1 ≡ N.settings.limits.mutators) }
         ensures pacer { IfOk result (λ r. r.2 ≡ record { begun = 0; ended = 0; spent = 0 }) }
     {
         let Opening {
@@ -116,8 +116,8 @@ impl<N: Naming> Server<N> {
     /// The heap with the history of all calls. All that `new` gave comes back: every seat, in its order,
     /// and the pacer. It waits for nobody.
     pub fn close(self, seats: Vec<Seat<N>>, pacer: Pacer<N>) -> Recorded
-        requires { mutators_of seats.items ≡ upto N.limits.mutators }
-        ensures sound { IsSound N.limits result.course }
+        requires { mutators_of seats.items ≡ upto N.settings.limits.mutators }
+        ensures sound { IsSound N.settings result.course }
         ensures counted { length result.course.history ≡ sum_by (λ s. s.calls) seats.items }
         ensures led { IsLed result.course pacer.begun pacer.spent }
     {

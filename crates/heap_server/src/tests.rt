@@ -1,6 +1,6 @@
 //! Servers, called from one thread and from many. Replies and units are worked out by hand.
 ghost use Rattle.std.specs.Prelude.{◌≡◌, ◌<◌, vec_len};
-ghost use Rattle.size_classes.specs.Config.{limits_of};
+ghost use Rattle.heap_server.specs.Settings.{settings_by};
 ghost use Rattle.heap_server.specs.Seats.{mutators_of, upto};
 
 use super::*;
@@ -98,7 +98,7 @@ fn play<N: Naming, R: Wait + Abort>(
     alloc: Global,
     opening: Opening,
 ) -> Result<Recorded, ServerFault>
-    requires calls { (opening.calls.name ≡ N.calls) × (limits_of opening.config ≡ N.limits) × (N.limits.mutators ≡ 2) }
+    requires calls { (opening.calls.name ≡ N.calls) × (settings_by opening.config ≡ N.settings) × (N.settings.limits.mutators ≡ 2) }
     requires begun { opening.begun.name ≡ N.begun }
     requires ended { opening.ended.name ≡ N.ended }
     requires units { opening.units.name ≡ N.units }
@@ -140,7 +140,7 @@ fn six_calls<N: Naming, R: Wait + Abort>(
     alloc: Global,
     opening: Opening,
 ) -> Result<(), ServerFault>
-    requires calls { (opening.calls.name ≡ N.calls) × (limits_of opening.config ≡ N.limits) × (N.limits.mutators ≡ 2) }
+    requires calls { (opening.calls.name ≡ N.calls) × (settings_by opening.config ≡ N.settings) × (N.settings.limits.mutators ≡ 2) }
     requires begun { opening.begun.name ≡ N.begun }
     requires ended { opening.ended.name ≡ N.ended }
     requires units { opening.units.name ≡ N.units }

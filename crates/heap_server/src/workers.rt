@@ -117,7 +117,7 @@ pub fn play_seats<N: Naming + Send + Sync, G: Gate + Sync, R: Threads + Wait + S
     seats: Vec<Seat<N>>,
 ) -> Vec<Seat<N>>
     requires count { length scripts.now ≤ vec_len seats }
-    requires fresh { seats.items ≡ new_seats N.limits.mutators }
+    requires fresh { seats.items ≡ new_seats N.settings.limits.mutators }
     ensures mutators { mutators_of result.items ≡ mutators_of seats.items }
     ensures played { (i : ℕ) (d : SeatView) (e : _) → i < length scripts.now → (slice_index_or result.items i d).calls ≤ vec_len (slice_index_or scripts.now i e) }
     ensures rest { (i : ℕ) (d : SeatView) → length scripts.now ≤ i → i < vec_len result → (slice_index_or result.items i d).calls ≡ 0 }

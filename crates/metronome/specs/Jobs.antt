@@ -18,6 +18,7 @@ use Rattle.transcripts.specs.declared.histories.Checked.TheVariants.{Good, Wrong
 use Rattle.transcripts.specs.Histories.{EntriesChecked}
 use Rattle.transcripts.specs.Scripts.{ScriptsRead}
 use Rattle.heap_server.specs.declared.play.Outcome.{Outcome}
+use Rattle.heap_server.specs.Settings.{settings_by}
 use Rattle.heap_server.specs.Played.{IsOutcome}
 use Rattle.player.specs.declared.fault.PlayFault.{PlayFault}
 use Rattle.player.specs.declared.style.Style.{Style}
@@ -116,7 +117,7 @@ abbrev pub RunBehind : ℕ → ℕ → Config → Result (Vec (Vec Command Globa
 -- threads ran them beside so many quanta of a budget, and the history was written; or memory was refused, and nothing was
 RunBehind turns budget config (Ok scripts) taken taken' result =
     ((result ≡ Err NoMemory) × (taken' ≡ taken))
-    ⊎ ((outcome : Outcome) × IsOutcome (limits_of config) (map vec_len scripts.items) (replicate turns budget) outcome × HistoryWritten outcome taken taken' result)
+    ⊎ ((outcome : Outcome) × IsOutcome (settings_by config) (map vec_len scripts.items) (replicate turns budget) outcome × HistoryWritten outcome taken taken' result)
 -- a fault ended the reading: nothing was run or written
 RunBehind turns budget config (Err why) taken taken' result = (result ≡ Err (of_transcript why)) × (taken' ≡ taken)
 

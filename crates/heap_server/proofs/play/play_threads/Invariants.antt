@@ -1,10 +1,10 @@
-use Rattle.size_classes.specs.Config.{limits_of}
+use Rattle.heap_server.specs.Settings.{settings_by}
 use Rattle.heap_server.proofs.play.play_threads.Given as goal
 
 -- the ledgers that were just opened
 abbrev pub ghosts-played : goal.ghosts-played
 ghosts-played g a = record {
-  limits = limits_of a.opening.config;
+  settings = settings_by a.opening.config;
   calls = a.opening.calls.name;
   begun = a.opening.begun.name;
   ended = a.opening.ended.name;

@@ -8,7 +8,7 @@ use Rattle.heap_server.proofs.play.settled.Goals as goal
 use Rattle.heap_server.proofs.play.settled.Goals.{then-whole, else-whole}
 
 pub count_calls-requires-clause-count : goal.count_calls-requires-clause-count
-count_calls-requires-clause-count g c = omega (arith, ap length c.as_slice.ensures.value, seats_count c.args.seats.items g.N.Naming.limits.mutators c.requires.mutators, c.requires.fits)
+count_calls-requires-clause-count g c = omega (arith, ap length c.as_slice.ensures.value, seats_count c.args.seats.items g.N.Naming.settings.limits.mutators c.requires.mutators, c.requires.fits)
 
 pub is_whole-whole-requires : goal.is_whole-whole-requires
 is_whole-whole-requires g c = omega (arith, c.count_calls.ensures.len, c.as_slice-2.ensures.len)
@@ -18,7 +18,7 @@ returns g c =
     let k = length c.args.scripts.now in
     let seats = c.args.seats.items in
     let calls = λ (s : SeatView). s.calls in
-    let count = seats_count seats g.N.Naming.limits.mutators c.requires.mutators in
+    let count = seats_count seats g.N.Naming.settings.limits.mutators c.requires.mutators in
     let counts : c.count_calls.new.done.items ≡ map calls (take k seats) = c.count_calls.ensures.items ∙ ap (λ (w : List SeatView). map calls (take k w)) c.as_slice.ensures.value in
     let first = first_sum k seats (λ i d ge lt. c.requires.rest i d ge (omega (arith, c.args.seats.ok.0, lt))) in
     let value = c.as_slice-2.ensures.value in

@@ -5,7 +5,7 @@ use Rattle.heap_server.proofs.workers.play_seats.Goals as goal
 
 pub play_first-requires-clause-fresh : goal.play_first-requires-clause-fresh
 play_first-requires-clause-fresh g c κs within = λ i d lt.
-    all_fresh c.args.seats.items g.N.Naming.limits.mutators c.requires.fresh i d (omega (arith, lt, c.args.seats.ok.0))
+    all_fresh c.args.seats.items g.N.Naming.settings.limits.mutators c.requires.fresh i d (omega (arith, lt, c.args.seats.ok.0))
 
 pub returns-clause-mutators : goal.returns-clause-mutators
 returns-clause-mutators g c =
@@ -24,4 +24,4 @@ returns-clause-played g c = λ i d e le. omega (arith, (c.play_first.ensures.pla
 pub returns-clause-rest : goal.returns-clause-rest
 returns-clause-rest g c = λ i d ge lt.
     let first = c.play_first.ensures in
-    ap (λ (s : SeatView). s.calls) (first.same i d ge) ∙ all_fresh c.args.seats.items g.N.Naming.limits.mutators c.requires.fresh i d (omega (arith, lt, c.args.seats.ok.0, c.play_first.result.ok.0, first.len))
+    ap (λ (s : SeatView). s.calls) (first.same i d ge) ∙ all_fresh c.args.seats.items g.N.Naming.settings.limits.mutators c.requires.fresh i d (omega (arith, lt, c.args.seats.ok.0, c.play_first.result.ok.0, first.len))

@@ -19,9 +19,6 @@ use Rattle.heap_server.specs.Settings.{HeapSettings, settings_of, settings_by}
 abbrev Same : HeapState → HeapState → Type 0
 Same h k = (k.limits ≡ h.limits) × (k.defrag_below ≡ h.defrag_below) × (k.defrag_pages ≡ h.defrag_pages)
 
-both : (h j k : HeapState) → Same h j → Same j k → Same h k
-both h j k a b = (b.0 ∙ a.0, b.1 ∙ a.1, b.2 ∙ a.2)
-
 shades_same : (h k : HeapState) (x : ℕ) → Shades h x k → Same h k
 shades_same h k x (Was_marked m) = (refl, refl, refl)
 shades_same h k x (Is_marked new m w) = (refl, refl, refl)
@@ -67,16 +64,17 @@ change_count h after g c (Does_new cell id shape k new at r makes takes) = takes
 abbrev made : Limits → ℕ → ℕ → ℕ → HeapSettings
 made l n b d = record { limits = l; pages = n; defrag_below = b; defrag_pages = d }
 
+-- settings that are the same one by one
+alike : (l m : Limits) (n p b c d e : ℕ) → l ≡ m → n ≡ p → b ≡ c → d ≡ e → made l n b d ≡ made m p c e
+alike l m n p b c d e limits pages below most = ap (λ x. made x n b d) limits ∙ (ap (λ x. made m x b d) pages ∙ (ap (λ x. made m p x d) below ∙ ap (λ x. made m p c x) most))
+
 -- a heap that has the settings of a configuration
 pub new_settings : (h : HeapState) (config : Config) → h.limits ≡ limits_of config → length h.store.pages ≡ config.pages → (h.defrag_below ≡ config.defrag_below) × (h.defrag_pages ≡ config.defrag_pages) → settings_of h ≡ settings_by config
 new_settings h config limits pages defrag =
-    ap (λ l. made l (length h.store.pages) h.defrag_below h.defrag_pages) limits ∙ (ap (λ n. made (limits_of config) n h.defrag_below h.defrag_pages) pages
-    ∙ (ap (λ b. made (limits_of config) config.pages b h.defrag_pages) defrag.0 ∙ ap (λ d. made (limits_of config) config.pages config.defrag_below d) defrag.1))
+    alike h.limits (limits_of config) (length h.store.pages) config.pages h.defrag_below config.defrag_below h.defrag_pages config.defrag_pages limits pages defrag.0 defrag.1
 
 settings_same : (h k : HeapState) → Same h k → length k.store.pages ≡ length h.store.pages → settings_of k ≡ settings_of h
-settings_same h k same count =
-    ap (λ l. made l (length k.store.pages) k.defrag_below k.defrag_pages) same.0 ∙ (ap (λ n. made h.limits n k.defrag_below k.defrag_pages) count
-    ∙ (ap (λ b. made h.limits (length h.store.pages) b k.defrag_pages) same.1 ∙ ap (λ d. made h.limits (length h.store.pages) h.defrag_below d) same.2))
+settings_same h k same count = alike k.limits h.limits (length k.store.pages) (length h.store.pages) k.defrag_below h.defrag_below k.defrag_pages h.defrag_pages same.0 count same.1 same.2
 
 chain_settings : (h after : HeapState) (units : ℕ) → Chain h units after → settings_of after ≡ settings_of h
 chain_settings h after units Nothing_done = refl

@@ -1,12 +1,15 @@
 -- Parts made, and the pieces linked.
-use Rattle.std.proofs.Common.{◌≡◌, ◌≢◌, ◌⊎◌, inl, inr, ℕ, zero, suc, ◌+◌, ◌-◌, ◌<◌, ◌≤◌, replicate, leb, Bool, true, false, length, get_or, set, ap, ◌∙◌, sym, subst, arith, refl, length-set}
+use Rattle.std.proofs.Common.{◌≡◌, ◌≢◌, ◌⊎◌, inl, inr, ℕ, zero, suc, ◌+◌, ◌-◌, ◌/◌, ◌<◌, ◌≤◌, replicate, leb, Bool, true, false, length, get_or, set, ap, ◌∙◌, sym, subst, arith, refl, length-set}
 use Rattle.std.specs.Prelude.{List, Option, Some, None, IsSome, IsNone, IfSome, ◌↔◌}
 use Rattle.std.proofs.lemmas.List.{get_or-set_same, get_or-set_other, length-replicate}
-use Rattle.size_classes.specs.Parts.{cells_of, parts_in, part_cells}
+use Rattle.size_classes.specs.Parts.{cells_of, parts_in, part_cells, part_words}
 use Rattle.heap_model.specs.Making.{pieces_in}
 use Rattle.graph_heap.specs.declared.command.Shape.{Shape}
 use Rattle.heap_model.specs.Block.{Node, with_cell, new_node}
 use Rattle.heap_model.specs.Store.{Store, is_held, node_of, Writes, Adds}
+use Rattle.size_classes.specs.Sizes.{class_for}
+use Rattle.heap_model.specs.Pages.{Page, TakesBlock}
+use Rattle.heap_model.specs.Taking.{Takes, Nothing_taken, Part_taken}
 use Rattle.heap_model.specs.Making.{Making, Nothing_made, Part_made, Piece_linked}
 
 -- blocks are held as the pages say
@@ -50,6 +53,11 @@ at_some o P x e w = subst (λ z. IfSome z P) e w
 same_or : (a b : ℕ) → (a ≡ b) ⊎ (a ≢ b)
 same_or a b = grind arith
 
+pub taking_at : (cells : ℕ) (at at' : ℕ → ℕ) (old : List (Option Page)) (parts : ℕ) (new : List (Option Page)) → ((p : ℕ) → p < parts → at p ≡ at' p) → Takes cells at old parts new → Takes cells at' old parts new
+taking_at cells at at' old parts new same Nothing_taken = Nothing_taken
+taking_at cells at at' old parts new same (Part_taken part class index s t takes f b) =
+    Part_taken part class index s t (taking_at cells at at' old part s (λ p l. same p (omega arith)) takes) f (subst (λ z. TakesBlock s class (z / 2048) index t) (same part (omega arith)) b)
+
 -- a part is made, and its address is kept
 module _ (at : List ℕ) (part address : ℕ) (l : part < length at) where
   here : get_or (set at part address) part 0 ≡ address
@@ -63,6 +71,12 @@ module _ (at : List ℕ) (part address : ℕ) (l : part < length at) where
     | inl e ↦ subst (λ k. get_or (set at part address) k 0 ≤ 8388608) (sym e) (subst (λ k. k ≤ 8388608) (sym here) this)
     | inr d ↦ subst (λ k. k ≤ 8388608) (sym (other p d)) (all p)
   ]
+
+  pub taken_more : (cells class index : ℕ) (old s t : List (Option Page)) → class_for (part_words cells part) ≡ Some class → TakesBlock s class (address / 2048) index t → Takes cells (λ p. get_or at p 0) old part s
+      → Takes cells (λ p. get_or (set at part address) p 0) old (part + 1) t
+  taken_more cells class index old s t f b takes =
+      Part_taken part class index s t (taking_at cells (λ p. get_or at p 0) (λ p. get_or (set at part address) p 0) old part s (λ p l. sym (other p (λ e. omega arith))) takes) f
+      (subst (λ z. TakesBlock s class (z / 2048) index t) (sym here) b)
 
   module _ (old s t : Store) (shape : Shape) (colour : Bool) (id : ℕ) (added : Adds s t address (new_node address (record { shape = shape; part = part; colour = colour }) id)) where
     pub made_more : Making old shape colour id (λ p. get_or at p 0) part 0 s → Making old shape colour id (λ p. get_or (set at part address) p 0) (part + 1) 0 t

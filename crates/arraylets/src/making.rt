@@ -56,7 +56,7 @@ fn make_parts(
     requires parts { parts.now ≡ cells_of shape }
     requires room { has_room nodes.old.pages (needed_from (cells_of shape) 0 (parts_in (cells_of shape))) ≡ true }
     ensures made { Making nodes.old shape colour identity (λ p. slice_index result p) (parts_in (cells_of shape)) 0 nodes.new }
-    ensures taken { Takes (cells_of shape) nodes.old.pages (parts_in (cells_of shape)) nodes.new.pages }
+    ensures taken { Takes (cells_of shape) (λ p. slice_index result p) nodes.old.pages (parts_in (cells_of shape)) nodes.new.pages }
     ensures held { is_held nodes.new (slice_index result 0) ≡ true }
     ensures cells { length (node_of nodes.new (slice_index result 0)).cells ≡ part_cells (cells_of shape) 0 }
     ensures within { (p : ℕ) → slice_index result p ≤ 8388608 }
@@ -87,8 +87,7 @@ fn link_pieces(nodes: &mut Nodes, at: &Addresses, pieces: usize)
 pub fn new_object(nodes: &mut Nodes, shape: Shape, colour: bool, identity: u64) -> usize
     requires fits { fits shape ≡ true }
     requires room { has_room nodes.old.pages (needed shape) ≡ true }
-    ensures made { (at : ℕ → ℕ) × (at 0 ≡ result) × MakesObject nodes.old shape colour identity at nodes.new }
-    ensures taken { Takes (cells_of shape) nodes.old.pages (parts_in (cells_of shape)) nodes.new.pages }
+    ensures made { (at : ℕ → ℕ) × (at 0 ≡ result) × MakesObject nodes.old shape colour identity at nodes.new × Takes (cells_of shape) at nodes.old.pages (parts_in (cells_of shape)) nodes.new.pages }
     ensures within { result ≤ 8388608 }
 {
     let parts = parts_of(&shape).unwrap();

@@ -16,7 +16,7 @@ pub node_in-new_words : (a identity : ℕ) (h : Header) (tail : List ℕ) → He
 unfolding node_in
 node_in-new_words a identity h tail fits =
     by_head a identity (header_word h) h (replicate (cell_count h) 0 ++ tail) (header_in-header_word h fits)
-    ∙ ap (λ (cells : List ℕ). let n : Node = record { forward = a; shape = h.shape; part = h.part; colour = h.colour; identity = identity; link = 0; cells = cells } in n)
+    ∙ ap (λ (cells : List ℕ). let n : Node = record { forward = a; shape = h.shape; part = h.part; colour = h.colour; identity = identity; cells = cells } in n)
     (take_at (replicate (cell_count h) 0) tail (cell_count h) (length-replicate (cell_count h) 0))
 
 -- word 1 of part 2 of an array of 253 references

@@ -2,7 +2,7 @@
 use Rattle.std.proofs.Common.{◌≡◌, ℕ, ◌+◌, ◌-◌, ◌*◌, ◌/◌, ◌%◌, ◌<◌, ◌≤◌, ◌⊎◌, Bool, true, false, eqb, List, length, take, drop, set, get_or, ap, ◌∙◌, sym, arith, refl}
 use Rattle.std.proofs.lemmas.List.{drop-set-lt, get_or-set_other, get_or-set_same, length-take, length-drop, get_or-take, get_or-drop, length-replicate}
 use Rattle.heap_model.specs.Header.{Header, HeaderFits, header_in, shape_in, bit_of, recoloured}
-use Rattle.heap_model.specs.Block.{Node, words_at, node_at, node_in, cell_count, with_forward, with_colour, with_link, with_cell, new_node, new_words, spliced}
+use Rattle.heap_model.specs.Block.{Node, words_at, node_at, node_in, cell_count, with_forward, with_colour, with_cell, new_node, new_words, spliced}
 use Rattle.headers.proofs.Fields.{words_at-here, length-words_at, node-set-forward, node-set-link, node-set-cell}
 use Rattle.headers.proofs.Fresh.{words_at-spliced, words_at-spliced_other}
 use Rattle.headers.proofs.Packed.{node_in-new_words}
@@ -43,7 +43,7 @@ header_in-recoloured w c =
     ∙ ap (λ b. let h : Header = record { shape = shape_in w; part = w / 4294967296 % 65536; colour = b } in h) m
 
 abbrev built : Header → ℕ → ℕ → ℕ → List ℕ → Node
-built h f d l cells = record { forward = f; shape = h.shape; part = h.part; colour = h.colour; identity = d; link = l; cells = take (cell_count h) cells }
+built h f d l cells = record { forward = f; shape = h.shape; part = h.part; colour = h.colour; identity = d; cells = take (cell_count h) cells }
 
 built_same : (h g : Header) (f d l f' d' l' : ℕ) (cells cells' : List ℕ) → h ≡ g → f ≡ f' → d ≡ d' → l ≡ l' → cells ≡ cells' → built h f d l cells ≡ built g f' d' l' cells'
 built_same h g f d l f' d' l' cells cells' e0 e1 e2 e3 e4 =
@@ -74,7 +74,7 @@ module _ (words : List ℕ) (address size : ℕ) (four : 4 ≤ size) (inside : a
       ap (λ n. node_at (set words n v) address size) (sym at_zero)
       ∙ ap node_in (words_at-here words address 0 v size (omega arith)) ∙ node-set-forward (words_at words address size) v (omega (arith, size_is))
 
-  pub link_written : (v : ℕ) → node_at (set words (address + 3) v) address size ≡ with_link (node_at words address size) v
+  pub link_written : (v : ℕ) → node_at (set words (address + 3) v) address size ≡ node_at words address size
   link_written v = ap node_in (words_at-here words address 3 v size (omega arith)) ∙ node-set-link (words_at words address size) v (omega (arith, size_is))
 
   pub colour_written : (c : Bool) → node_at (set words (address + 1) (recoloured (get_or words (address + 1) 0) c)) address size ≡ with_colour (node_at words address size) c

@@ -1,7 +1,7 @@
 //! Laws of the words of blocks. Each function does nothing: its contract is the law.
 ghost use Rattle.std.specs.Prelude.{◌≡◌, ℕ, ◌+◌, ◌<◌, ◌≤◌, ◌⊎◌, Bool, List, length, slice_index, slice_set};
 ghost use Rattle.heap_model.specs.Header.{Header, header_in, header_word, recoloured, HeaderFits};
-ghost use Rattle.heap_model.specs.Block.{node_at, cell_count, with_forward, with_colour, with_link, with_cell, new_node, new_words, spliced, words_at};
+ghost use Rattle.heap_model.specs.Block.{node_at, cell_count, with_forward, with_colour, with_cell, new_node, new_words, spliced, words_at};
 
 /// What was packed into word 1 is read from it again.
 pub fn header_packed()
@@ -29,7 +29,7 @@ pub fn colour_written()
 /// of word 3,
 pub fn link_written()
     ensures { (words : List ℕ) (v address size : ℕ) → 4 ≤ size → address + size ≤ length words
-        → node_at (slice_set words (address + 3) v) address size ≡ with_link (node_at words address size) v }
+        → node_at (slice_set words (address + 3) v) address size ≡ node_at words address size }
 {}
 
 /// and of a cell of the part.

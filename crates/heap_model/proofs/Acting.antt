@@ -22,7 +22,7 @@ use Rattle.heap_model.proofs.Acts as collector
 use Rattle.heap_model.proofs.Same.{SameBlocks}
 use Rattle.heap_model.proofs.Edits.{shade, set_root, set_cell, free}
 use Rattle.heap_model.proofs.Acts.{root_scanned, cell_scanned}
-use Rattle.heap_model.proofs.Collector.{acts, same_stands}
+use Rattle.heap_model.proofs.Collector.{acts, same_stands, placed_stands}
 use Rattle.heap_model.proofs.Seen.{held_pages, field_kept, behind, root_seen, cell_seen}
 use Rattle.heap_model.proofs.Written.{whole_write, whole_cell, width_le}
 use Rattle.heap_model.proofs.Held.{set_page_here, page_within, is_page, held_block, block_within, size_some, page_of_place, index_same}
@@ -116,23 +116,24 @@ pub shaded_state : (h k : HeapState) (x : ℕ) (p : Phase) (g s : PartGraph) →
 shaded_state h k x p g s (Was_marked e) c =
     let c1 : Coherent (collector_by (shade (seen h) x) h.store.pages p h.grey) g s = subst (λ b. Coherent (collector_by (shade (seen h) x) h.store.pages p (if b then h.grey else x ∷ h.grey)) g s) e c in
     same_stands (collector_by (shade (seen h) x) h.store.pages p h.grey) (seen h) g s (shaded_already (seen h) x e) c1
-shaded_state h k x p g s (Is_marked new e w) c =
+shaded_state h k x p g s (Is_marked new front back is e w) c =
     let c1 : Coherent (collector_by (shade (seen h) x) h.store.pages p (x ∷ h.grey)) g s = subst (λ b. Coherent (collector_by (shade (seen h) x) h.store.pages p (if b then h.grey else x ∷ h.grey)) g s) e c in
     let some : x ≢ 0 = λ z. let t : (seen h).marked x ≡ true = ap (seen h).marked z in (let q : false ≡ true = sym e ∙ t in cc) in
     let c2 = same_stands (collector_by (shade (seen h) x) h.store.pages p (x ∷ h.grey)) (seen (record h { store = new })) g s (colour_seen h new x some w) c1 in
-    subst (λ z. Coherent (collector_by (seen (record h { store = new })) z p (x ∷ h.grey)) g s) (sym w.pages) c2
+    let c3 = placed_stands (collector_by (seen (record h { store = new })) h.store.pages p (x ∷ h.grey)) front back x (ap (λ (l : List ℕ). x ∷ l) is) g s c2 in
+    subst (λ z. Coherent (collector_by (seen (record h { store = new })) z p (front ++ x ∷ back)) g s) (sym w.pages) c3
 
 pub shades_limits : (h k : HeapState) (x : ℕ) → Shades h x k → k.limits ≡ h.limits
 shades_limits h k x (Was_marked e) = refl
-shades_limits h k x (Is_marked new e w) = refl
+shades_limits h k x (Is_marked new front back is e w) = refl
 
 pub shades_roots : (h k : HeapState) (x : ℕ) → Shades h x k → k.roots ≡ h.roots
 shades_roots h k x (Was_marked e) = refl
-shades_roots h k x (Is_marked new e w) = refl
+shades_roots h k x (Is_marked new front back is e w) = refl
 
 pub shades_whole : (h k : HeapState) (x : ℕ) → Shades h x k → IsWhole h.store → IsWhole k.store
 shades_whole h k x (Was_marked e) w = w
-shades_whole h k x (Is_marked new e w) i = whole_write h.store new (x - 1) _ w refl refl refl i
+shades_whole h k x (Is_marked new front back is e w) i = whole_write h.store new (x - 1) _ w refl refl refl i
 
 -- a root is scanned
 pub root_act : (h k : HeapState) (present snapshot : Graph) (next : ℕ) → Consistent h present snapshot → h.phase ≡ phases.Roots next → next < length h.roots

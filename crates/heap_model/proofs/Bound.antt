@@ -14,7 +14,7 @@ use Rattle.heap_model.proofs.Stood.{stands_chain, stands_limit}
 
 pub shades_defrag : (h k : HeapState) (x : ℕ) → Shades h x k → k.defrag_pages ≡ h.defrag_pages
 shades_defrag h k x (Was_marked e) = refl
-shades_defrag h k x (Is_marked new e w) = refl
+shades_defrag h k x (Is_marked new front back is e w) = refl
 
 pub same_limit : (h after : HeapState) → length after.roots ≡ length h.roots → length after.store.pages ≡ length h.store.pages → after.defrag_pages ≡ h.defrag_pages → cycle_limit after ≡ cycle_limit h
 same_limit h after r p d =

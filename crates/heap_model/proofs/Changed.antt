@@ -103,7 +103,7 @@ stands_ref h k p s id i value address y new w reaches l known at r main writes =
 
 -- a new object
 stands_new : (h k : HeapState) (present snapshot : Graph) (cell id : ℕ) (shape : Shape) (new : Store) (at : ℕ → ℕ) → Stands h present snapshot → cell < length present.roots → id ≡ length present.objects + 1 → fits shape ≡ true
-    → Records h (get_or h.roots cell 0) k → MakesObject k.store shape k.sense k.next at new → Takes (cells_of shape) k.store.pages (parts_in (cells_of shape)) new.pages
+    → Records h (get_or h.roots cell 0) k → MakesObject k.store shape k.sense k.next at new → Takes (cells_of shape) at k.store.pages (parts_in (cells_of shape)) new.pages
     → Stands (record k { store = new; next = k.next + 1; roots = set k.roots cell (at 0 + 1) }) (changed present (changes.New cell id shape)) snapshot
 stands_new h k p s cell id shape new at w l same f r makes takes =
     let c = w.consistent in
@@ -113,14 +113,14 @@ stands_new h k p s cell id shape new at w l same f r makes takes =
     let stay = records_stay h k _ r in
     let low' : cell < length k.roots = subst (λ z. cell < length z) (sym stay.roots) low in
     let recorded = subst (λ z. IsRecorded k (get_or z cell 0)) (sym stay.roots) (records_recorded h k _ _ r reads) in
-    let keeps = takes_keep (cells_of shape) k.store.pages (parts_in (cells_of shape)) new.pages takes in
-    let count = takes_count (cells_of shape) k.store.pages (parts_in (cells_of shape)) new.pages takes in
+    let keeps = takes_keep (cells_of shape) at k.store.pages (parts_in (cells_of shape)) new.pages takes in
+    let count = takes_count (cells_of shape) at k.store.pages (parts_in (cells_of shape)) new.pages takes in
     let c1 = new_written k p s new at cell shape v.consistent f low' recorded makes (place_stays k.store.pages new.pages k.phase v.placed keeps) in
     let next : k.next ≡ id = (consistent_agrees k p s v.consistent).next ∙ sym same in
     let c2 = subst (λ z. Consistent (record k { store = new; next = k.next + 1; roots = set k.roots cell (at 0 + 1) }) (changed p (changes.New cell z shape)) s) next c1 in
     let more = new_more k new at cell shape f v.consistent.whole makes count (sizes_stay k.store new keeps) in
     stands_on k (record k { store = new; next = k.next + 1; roots = set k.roots cell (at 0 + 1) }) p s (changed p (changes.New cell id shape)) v c2
-    (takes_pages (cells_of shape) k.store.pages (parts_in (cells_of shape)) new.pages v.pages takes) keeps more
+    (takes_pages (cells_of shape) at k.store.pages (parts_in (cells_of shape)) new.pages v.pages takes) keeps more
 
 -- each change of what is there
 pub stands_changed : (h after : HeapState) (present snapshot : Graph) (c : Change) → Stands h present snapshot → IsFounded present c → DoesChange h present c after → Stands after (changed present c) snapshot

@@ -242,3 +242,45 @@ same_stands m h' g s e c = record { at = c.at; base = same_base m.heap h' g s c.
 -- where every held block is marked, to turn the sense of the colour is to flip
 pub turned_flips : (h : Heap) (g s : PartGraph) (at : Name → ℕ) → Base h g s at → Resting h g s at → SameBlocks (flip h) (record h { marked = λ x. if x == 0 then true else (if h.marked x then false else true) })
 turned_flips h g s at b r = grind arith
+
+-- a grey part stands anywhere among the others
+once-middle : (front back : List ℕ) (x : ℕ) → contains (front ++ back) x ≡ false → Once (front ++ back) → Once (front ++ x ∷ back)
+unfolding Once
+once-middle [] back x n o = (n, o)
+once-middle (z ∷ front) back x n o =
+    let a = neither x z (contains (front ++ back) z) (contains (front ++ back) x) (sym (contains-here (front ++ back) z x) ∙ n) o.0 in
+    (contains-middle front back x z ∙ a.0, once-middle front back x a.1 o.1)
+
+module _ (m : Collector) (front back : List ℕ) (x : ℕ) (is : m.grey ≡ x ∷ (front ++ back)) where
+  pub placed_contains : (y : ℕ) → contains (front ++ x ∷ back) y ≡ contains m.grey y
+  placed_contains y = contains-middle front back x y ∙ sym (contains-here (front ++ back) x y) ∙ ap (λ z. contains z y) (sym is)
+
+  pub placed_done : (y : ℕ) → done_of (record m { grey = front ++ x ∷ back }) y ≡ done_of m y
+  unfolding done_by
+  placed_done y = ap (λ b. if m.heap.marked y then (if b then 0 else (if y == m.scanning then m.column else m.heap.width y)) else 0) (placed_contains y)
+
+  placed_once : Once m.grey → Once (front ++ x ∷ back)
+  unfolding Once
+  placed_once w = let o : Once (x ∷ (front ++ back)) = subst Once is w in once-middle front back x o.0 o.1
+
+  placed_greys : Greys m → Greys (record m { grey = front ++ x ∷ back })
+  placed_greys w = record {
+    held = λ y e. w.held y (sym (placed_contains y) ∙ e);
+    marked = λ y e. w.marked y (sym (placed_contains y) ∙ e);
+    scanning_held = w.scanning_held;
+    scanning_marked = w.scanning_marked;
+    scanning_apart = placed_contains m.scanning ∙ w.scanning_apart;
+    column = w.column;
+    once = placed_once w.once;
+  }
+
+  module _ (g s : PartGraph) where
+    placed_stage : (at : Name → ℕ) (p : Progress) → Base m.heap g s at → Stage m g s at p → Stage (record m { grey = front ++ x ∷ back }) g s at p
+    placed_stage at In_idle b t = t
+    placed_stage at (In_roots place) b t = (tracing_same m.heap g s at (done_of m) (done_of (record m { grey = front ++ x ∷ back })) place b placed_done t.0, placed_greys t.1)
+    placed_stage at In_marking b t = (tracing_same m.heap g s at (done_of m) (done_of (record m { grey = front ++ x ∷ back })) m.heap.roots b placed_done t.0, placed_greys t.1)
+    placed_stage at (In_sweep place) b t = t
+    placed_stage at In_moves b t = t
+
+    pub placed_stands : Coherent m g s → Coherent (record m { grey = front ++ x ∷ back }) g s
+    placed_stands c = record { at = c.at; base = c.base; stage = placed_stage c.at m.phase c.base c.stage }

@@ -68,7 +68,7 @@ module _ (r new : Course) (m : ℕ) (c : Command) (reply : Reply) (w : IsCourse 
   enters_limits : new.heap.limits ≡ r.heap.limits
   enters_limits = enters_stands.consistent.limits ∙ changed-limits (present_of r) change ∙ sym w.stands.consistent.limits
 
-  enters_step : IsEntryOf (present_of r) entry × (after_entry (present_of r) entry ≡ next_of (room_for r.heap c) (present_of r) m c)
+  pub enters_step : IsEntryOf (present_of r) entry × (after_entry (present_of r) entry ≡ next_of (room_for r.heap c) (present_of r) m c)
   enters_step = IsEntryOf-step (present_of r) entry (room_for r.heap c) (sym e.replies)
 
   pub enters_present : present_of new ≡ changed (present_of r) change
@@ -78,7 +78,7 @@ module _ (r new : Course) (m : ℕ) (c : Command) (reply : Reply) (w : IsCourse 
   enters_first : take new.place new.history ≡ take r.place r.history
   enters_first = ap (λ z. take z new.history) e.place ∙ ap (take r.place) e.history ∙ take-append-le r.place r.history (entry ∷ []) w.place
 
-  enters_snapshot : snapshot_of new ≡ snapshot_of r
+  pub enters_snapshot : snapshot_of new ≡ snapshot_of r
   enters_snapshot = ap (λ z. after (opening z) (take new.place new.history)) enters_limits ∙ ap (after (opening r.heap.limits)) enters_first
 
   pub enters_course : IsCourse new
@@ -110,7 +110,7 @@ begins_course r new w b =
     }
 
 -- a quantum
-collects_limits : (r new : Course) (budget units : ℕ) (phase : Phase) → IsCourse r → Collects r budget units phase new → new.heap.limits ≡ r.heap.limits
+pub collects_limits : (r new : Course) (budget units : ℕ) (phase : Phase) → IsCourse r → Collects r budget units phase new → new.heap.limits ≡ r.heap.limits
 collects_limits r new budget units phase w k = (stands_chain r.heap new.heap units (present_of r) (snapshot_of r) w.stands k.turn.chain).consistent.limits ∙ sym w.stands.consistent.limits
 
 pub collects_present : (r new : Course) (budget units : ℕ) (phase : Phase) → IsCourse r → Collects r budget units phase new → present_of new ≡ present_of r

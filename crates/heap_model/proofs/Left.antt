@@ -59,8 +59,8 @@ change_left h after g c (Does_ref id i value address y k new at r main writes) =
 change_left h after g c (Does_word id i word address new at writes) = same_left h new writes.pages
 change_left h after g c (Does_new cell id shape k new at r makes takes) =
     let s = records_stay h k _ r in
-    let keeps = takes_keep (cells_of shape) k.store.pages (parts_in (cells_of shape)) new.pages takes in
-    let count = takes_count (cells_of shape) k.store.pages (parts_in (cells_of shape)) new.pages takes in
+    let keeps = takes_keep (cells_of shape) at k.store.pages (parts_in (cells_of shape)) new.pages takes in
+    let count = takes_count (cells_of shape) at k.store.pages (parts_in (cells_of shape)) new.pages takes in
     record {
       phase = s.phase;
       units = s.units;

@@ -1,5 +1,5 @@
 -- What the barrier leaves as it was, and what holds behind it.
-use Rattle.std.proofs.Common.{◌≡◌, ℕ, ◌-◌, Bool, true, false, List, ◌∷◌, refl, sym, ◌∙◌, ◌==◌, ◌||◌}
+use Rattle.std.proofs.Common.{◌≡◌, ℕ, ◌-◌, Bool, true, false, List, ◌∷◌, ◌++◌, ap, refl, sym, ◌∙◌, ◌==◌, ◌||◌}
 use Rattle.graph_heap.specs.Graph.{Graph}
 use Rattle.heap_model.specs.Block.{Node, with_colour}
 use Rattle.heap_model.specs.Store.{is_held, node_of}
@@ -14,7 +14,7 @@ use Rattle.heap_model.specs.Action.{Shades, Was_marked, Is_marked}
 use Rattle.heap_model.specs.Spent.{DoesMore}
 use Rattle.heap_model.specs.Change.{Records, Records_nothing, Records_main}
 use Rattle.heap_model.proofs.Seen.{node_kept}
-use Rattle.heap_model.proofs.Collector.{contains-here}
+use Rattle.heap_model.proofs.Collector.{contains-middle}
 use Rattle.heap_model.proofs.Shading.{shade_kept, shade_main, shade_records}
 use Rattle.heap_model.proofs.Within.{shade_more, same_more}
 
@@ -30,16 +30,16 @@ pub record Stays (h k : HeapState) : Type 0 where
   pub sense : k.sense ≡ h.sense
   pub grey : (x : ℕ) → contains h.grey x ≡ true → contains k.grey x ≡ true
 
-more_grey : (xs : List ℕ) (x y : ℕ) → contains xs y ≡ true → contains (x ∷ xs) y ≡ true
-more_grey xs x y e = contains-here xs x y ∙ by_same (x == y)
+more_grey : (xs front back : List ℕ) (x y : ℕ) → xs ≡ front ++ back → contains xs y ≡ true → contains (front ++ x ∷ back) y ≡ true
+more_grey xs front back x y is e = contains-middle front back x y ∙ by_same (x == y)
   where
-    by_same : (b : Bool) → (b || contains xs y) ≡ true
+    by_same : (b : Bool) → (b || contains (front ++ back) y) ≡ true
     by_same true = refl
-    by_same false = e
+    by_same false = ap (λ (l : List ℕ). contains l y) (sym is) ∙ e
 
 shades_stay : (h k : HeapState) (x : ℕ) → Shades h x k → Stays h k
 shades_stay h k x (Was_marked e) = record { limits = refl; defrag = refl; pages = refl; roots = refl; next = refl; phase = refl; units = refl; sense = refl; grey = λ y e. e }
-shades_stay h k x (Is_marked new e w) = record { limits = refl; defrag = refl; pages = w.pages; roots = refl; next = refl; phase = refl; units = refl; sense = refl; grey = λ y e. more_grey h.grey x y e }
+shades_stay h k x (Is_marked new front back is e w) = record { limits = refl; defrag = refl; pages = w.pages; roots = refl; next = refl; phase = refl; units = refl; sense = refl; grey = λ y e. more_grey h.grey front back x y is e }
 
 pub records_stay : (h k : HeapState) (x : ℕ) → Records h x k → Stays h k
 records_stay h k x (Records_nothing e) = record { limits = refl; defrag = refl; pages = refl; roots = refl; next = refl; phase = refl; units = refl; sense = refl; grey = λ y e. e }
@@ -48,7 +48,7 @@ records_stay h k x (Records_main k0 e sh) = shades_stay h k ((seen h).forward x)
 -- the cells of held blocks stay
 shades_cells : (h k : HeapState) (x b : ℕ) → Shades h x k → is_held h.store b ≡ true → (node_of k.store b).cells ≡ (node_of h.store b).cells
 shades_cells h k x b (Was_marked e) l = refl
-shades_cells h k x b (Is_marked new e w) l = node_kept (λ (n : Node). n.cells) h.store new (x - 1) (with_colour (node_of h.store (x - 1)) h.sense) w b l (λ s. refl)
+shades_cells h k x b (Is_marked new front back is e w) l = node_kept (λ (n : Node). n.cells) h.store new (x - 1) (with_colour (node_of h.store (x - 1)) h.sense) w b l (λ s. refl)
 
 pub records_cells : (h k : HeapState) (x b : ℕ) → Records h x k → is_held h.store b ≡ true → (node_of k.store b).cells ≡ (node_of h.store b).cells
 records_cells h k x b (Records_nothing e) l = refl

@@ -19,7 +19,7 @@ use Rattle.heap_model.proofs.Acting.{all_before}
 use Rattle.heap_model.proofs.Collector.{stage_at}
 use Rattle.heap_model.specs.Collector.{In_idle, In_sweep, In_moves}
 
-fresh_is : (s g : Graph) (n : Name) → FreshBy (view s) (view g).next (view g).count n → (length s.objects < n.identity) × (n.identity ≤ length g.objects) × (n.part < count_of (object_of g.objects n.identity))
+pub fresh_is : (s g : Graph) (n : Name) → FreshBy (view s) (view g).next (view g).count n → (length s.objects < n.identity) × (n.identity ≤ length g.objects) × (n.part < count_of (object_of g.objects n.identity))
 unfolding FreshBy
 fresh_is s g n f = (omega arith, omega arith, f.2)
 
@@ -54,7 +54,7 @@ name_behind : (h : HeapState) (a : ℕ) → (seen h).name (a + 1) ≡ record { i
 name_behind h a = behind null (λ z. (let y : Name = record { identity = (node_of h.store z).identity; part = (node_of h.store z).part } in y)) a
 
 -- a held block whose reference is the main copy of its name, which is kept
-held_kept : (h : HeapState) (present snapshot : Graph) (c : Consistent h present snapshot) (a : ℕ) → Kept (length h.roots) (view snapshot) (view present) ((seen h).name (a + 1)) → a + 1 ≡ c.parts.at ((seen h).name (a + 1))
+pub held_kept : (h : HeapState) (present snapshot : Graph) (c : Consistent h present snapshot) (a : ℕ) → Kept (length h.roots) (view snapshot) (view present) ((seen h).name (a + 1)) → a + 1 ≡ c.parts.at ((seen h).name (a + 1))
     → IsKept present snapshot (node_of h.store a).identity × ((node_of h.store a).part < count_of (object_of present.objects (node_of h.store a).identity))
 held_kept h present snapshot c a k e =
     let n : Name = record { identity = (node_of h.store a).identity; part = (node_of h.store a).part } in

@@ -137,7 +137,7 @@ room_gives pages need class small some room = elim (zero_or (free_blocks pages c
 ]
 
 -- one item of a list is replaced
-set_sum : {A : Type 0} (f : A → ℕ) (xs : List A) (i : ℕ) (x y d : A) → i < length xs → get_or xs i d ≡ x → sum_by f (set xs i y) + f x ≡ sum_by f xs + f y
+pub set_sum : {A : Type 0} (f : A → ℕ) (xs : List A) (i : ℕ) (x y d : A) → i < length xs → get_or xs i d ≡ x → sum_by f (set xs i y) + f x ≡ sum_by f xs + f y
 set_sum f xs i x y d l e = subst (λ z. sum_by f (set xs i y) + f z ≡ sum_by f xs + f y) e (sum_by-set f xs i y d l)
 
 blocks_set : (pages : List (Option Page)) (page k : ℕ) (o v : Option Page) → page < length pages → page_at pages page ≡ o → free_blocks (set pages page v) k + free_on k o ≡ free_blocks pages k + free_on k v
@@ -247,7 +247,7 @@ none_some : (o : Option ℕ) → IsSome o → o ≡ None → ⊥
 none_some None s e = cc
 none_some (Some k) s e = cc
 
-no_blocks : (pages : List (Option Page)) (class : ℕ) → position (is_usable class) pages ≡ None → free_blocks pages class ≡ 0
+pub no_blocks : (pages : List (Option Page)) (class : ℕ) → position (is_usable class) pages ≡ None → free_blocks pages class ≡ 0
 no_blocks pages class e = elim (zero_or (free_blocks pages class)) [
   | inl z ↦ z
   | inr h ↦ absurd (none_some (position (is_usable class) pages) (first_passing (is_usable class) (free_on class) pages (free_if_usable class) h) e)
@@ -308,7 +308,7 @@ room_left old new m n class page index small room here others w =
     by_usable (Some j) q e = let s = position-Some (is_usable class) old page None (q ∙ e) in by_page (page_at old page) refl s.0 s.1 w.was_free
 
 -- the blocks that one part more needs
-more_needed : (cells part class k : ℕ) → class_for (part_words cells part) ≡ Some class → blocks_needed cells (part + 1) k ≡ blocks_needed cells part k + one_if (eqb class k)
+pub more_needed : (cells part class k : ℕ) → class_for (part_words cells part) ≡ Some class → blocks_needed cells (part + 1) k ≡ blocks_needed cells part k + one_if (eqb class k)
 more_needed cells part class k e = rw (add-one part) (ap (λ o. blocks_needed cells part k + one_if (is_class k o)) e)
 
 needed_rises : (cells part parts k : ℕ) → part ≤ parts → blocks_needed cells part k ≤ blocks_needed cells parts k

@@ -34,11 +34,11 @@ shade_seen h k x (Was_marked e) = record {
   where
     marked_already : (heap : Heap) (x z : ℕ) → heap.marked x ≡ true → heap.marked z ≡ (if z == x then true else heap.marked z)
     marked_already heap x z e = grind arith
-shade_seen h k x (Is_marked new e w) = colour_seen h new x (λ z. let t : (seen h).marked x ≡ true = ap (seen h).marked z in (let q : false ≡ true = sym e ∙ t in cc)) w
+shade_seen h k x (Is_marked new front back is e w) = colour_seen h new x (λ z. let t : (seen h).marked x ≡ true = ap (seen h).marked z in (let q : false ≡ true = sym e ∙ t in cc)) w
 
 pub shades_phase : (h k : HeapState) (x : ℕ) → Shades h x k → k.phase ≡ h.phase
 shades_phase h k x (Was_marked e) = refl
-shades_phase h k x (Is_marked new e w) = refl
+shades_phase h k x (Is_marked new front back is e w) = refl
 
 -- the main copy of what can be reached is shaded
 pub shade_kept : (h after : HeapState) (present snapshot : Graph) (x v : ℕ) → Consistent h present snapshot → records h.phase ≡ true → IsKnown present v → IsMain (seen h) x (name_of v) → Shades h x after → Consistent after present snapshot

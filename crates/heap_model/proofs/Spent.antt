@@ -25,7 +25,7 @@ use Rattle.heap_model.specs.Spent.{arena_words, cycle_limit, marking_work, movin
 use Rattle.heap_model.proofs.Same.{SameBlocks}
 use Rattle.heap_model.proofs.Edits.{shade, set_cell, move}
 use Rattle.heap_model.proofs.Acts.{cell_scanned}
-use Rattle.heap_model.proofs.Collector.{same_done, stage_at, left_main, contains-here, contains-middle, once_middle}
+use Rattle.heap_model.proofs.Collector.{same_done, stage_at, left_main, contains-here, contains-middle, once_middle, placed_contains, placed_done}
 use Rattle.heap_model.proofs.Seen.{behind, cell_seen}
 use Rattle.heap_model.proofs.Held.{set_page, page_within, block_within, is_page, held_at, size_some, page_of_place}
 use Rattle.heap_model.proofs.Acting.{at_phase, wide_within, scanned_held, same_shade, shaded_already, colour_seen, keeps_seen}
@@ -46,15 +46,20 @@ same_work m h' y e =
 pub total_same : (f g : ℕ → ℕ) (n : ℕ) → ((x : ℕ) → f x ≡ g x) → total f n ≤ total g n
 total_same f g n e = total_le f g n (λ x l. let q = e x in omega arith)
 
+placed_work : (m : Collector) (front back : List ℕ) (x : ℕ) → m.grey ≡ x ∷ (front ++ back) → (y : ℕ) → work (record m { grey = front ++ x ∷ back }) y ≡ work m y
+unfolding work
+placed_work m front back x is y = let c = placed_contains m front back x is y in let d = placed_done m front back x is y in grind arith
+
 pub shaded_work_state : (h k : HeapState) (x : ℕ) (p : Phase) → Shades h x k → (y : ℕ) → work (collector_by (shade (seen h) x) h.store.pages p (if (seen h).marked x then h.grey else x ∷ h.grey)) y ≡ work (collector_by (seen k) k.store.pages p k.grey) y
 shaded_work_state h k x p (Was_marked e) y =
     ap (λ b. work (collector_by (shade (seen h) x) h.store.pages p (if b then h.grey else x ∷ h.grey)) y) e
     ∙ same_work (collector_by (shade (seen h) x) h.store.pages p h.grey) (seen h) y (shaded_already (seen h) x e)
-shaded_work_state h k x p (Is_marked new e w) y =
+shaded_work_state h k x p (Is_marked new front back is e w) y =
     let some : x ≢ 0 = λ z. let t : (seen h).marked x ≡ true = ap (seen h).marked z in (let q : false ≡ true = sym e ∙ t in cc) in
     ap (λ b. work (collector_by (shade (seen h) x) h.store.pages p (if b then h.grey else x ∷ h.grey)) y) e
     ∙ same_work (collector_by (shade (seen h) x) h.store.pages p (x ∷ h.grey)) (seen (record h { store = new })) y (colour_seen h new x some w)
-    ∙ ap (λ z. work (collector_by (seen (record h { store = new })) z p (x ∷ h.grey)) y) (sym w.pages)
+    ∙ sym (placed_work (collector_by (seen (record h { store = new })) h.store.pages p (x ∷ h.grey)) front back x (ap (λ (l : List ℕ). x ∷ l) is) y)
+    ∙ ap (λ z. work (collector_by (seen (record h { store = new })) z p (front ++ x ∷ back)) y) (sym w.pages)
 
 -- null is never grey
 or_false : (a b : Bool) → (a || b) ≡ false → (a ≡ false) × (b ≡ false)
@@ -63,13 +68,13 @@ or_false false b h = (refl, h)
 
 pub shades_grey : (h k : HeapState) (x : ℕ) → Shades h x k → contains h.grey 0 ≡ false → contains k.grey 0 ≡ false
 shades_grey h k x (Was_marked e) n = n
-shades_grey h k x (Is_marked new e w) n =
+shades_grey h k x (Is_marked new front back is e w) n =
     let some : x ≢ 0 = λ z. let t : (seen h).marked x ≡ true = ap (seen h).marked z in (let q : false ≡ true = sym e ∙ t in cc) in
-    contains-here h.grey x 0 ∙ (let f : (x == 0) ≡ false = grind arith in rw f n)
+    contains-middle front back x 0 ∙ (let f : (x == 0) ≡ false = grind arith in rw f (ap (λ (l : List ℕ). contains l 0) (sym is) ∙ n))
 
 pub shades_units : (h k : HeapState) (x : ℕ) → Shades h x k → (k.units ≡ h.units) × (k.roots ≡ h.roots) × (k.store.pages ≡ h.store.pages)
 shades_units h k x (Was_marked e) = (refl, refl, refl)
-shades_units h k x (Is_marked new e w) = (refl, refl, w.pages)
+shades_units h k x (Is_marked new front back is e w) = (refl, refl, w.pages)
 
 -- how much work there can be
 pub marking_bound : (h : HeapState) (present snapshot : Graph) (part cell : ℕ) → ArePages h.store.pages → Consistent h present snapshot → h.phase ≡ phases.Marking part cell → marking_work h ≤ arena_words h + 1
@@ -310,7 +315,7 @@ moving_end_within h present snapshot some w c (No_page class page block chosen p
     omega arith
 
 -- what is moved is a main copy, of its page's size
-moved_main : (h : HeapState) (present snapshot : Graph) (class page block chosen i : ℕ) (p : Page) → ArePages h.store.pages → Consistent h present snapshot → h.phase ≡ phases.Moving (moves.Emptying class page block chosen) → page_at h.store.pages page ≡ Some p → IsNext p block i
+pub moved_main : (h : HeapState) (present snapshot : Graph) (class page block chosen i : ℕ) (p : Page) → ArePages h.store.pages → Consistent h present snapshot → h.phase ≡ phases.Moving (moves.Emptying class page block chosen) → page_at h.store.pages page ≡ Some p → IsNext p block i
     → let a = address_of p.class page i in (is_held h.store a ≡ true) × ((node_of h.store a).forward ≡ a) × (size_at h.store a ≡ size_of p.class)
 unfolding size_at
 moved_main h present snapshot class page block chosen i p w c e at next =

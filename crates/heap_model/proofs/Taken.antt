@@ -12,11 +12,11 @@ use Rattle.heap_model.proofs.Held.{held_block}
 use Rattle.heap_model.proofs.Placed.{pages_same, pages_then, takes_keeps, page_for_within}
 use Rattle.heap_model.proofs.Marks.{pages_put, some_page, held_page}
 
-class_low : (words class : ℕ) → class_for words ≡ Some class → class < 38
+pub class_low : (words class : ℕ) → class_for words ≡ Some class → class < 38
 unfolding class_for
 class_low words class e = (position-Some (λ size. nat_le words size) sizes class 0 e).0
 
-fresh_is : (class : ℕ) → class < 38 → IsPage (fresh_page class)
+pub fresh_is : (class : ℕ) → class < 38 → IsPage (fresh_page class)
 fresh_is class l = record { class = l; blocks = length-replicate (blocks_in class) false; marks = refl }
 
 given_page : (pages : List (Option Page)) (class page : ℕ) → class < 38 → ArePages pages → IsPage (page_of_class class (page_at pages page))
@@ -31,17 +31,17 @@ block_pages old new class page index l w t =
     pages_put old new page _ (page_for_within old class page t.page_is) t.new_is w
     (some_page (with_held (page_of_class class (page_at old page)) index true) (held_page (page_of_class class (page_at old page)) index true (given_page old class page l w)))
 
-pub takes_pages : (cells : ℕ) (old : List (Option Page)) (parts : ℕ) (new : List (Option Page)) → ArePages old → Takes cells old parts new → ArePages new
-takes_pages cells old parts new w Nothing_taken = w
-takes_pages cells old parts new w (Part_taken part class page index s t takes f b) = block_pages s t class page index (class_low _ class f) (takes_pages cells old part s w takes) b
+pub takes_pages : (cells : ℕ) (at : ℕ → ℕ) (old : List (Option Page)) (parts : ℕ) (new : List (Option Page)) → ArePages old → Takes cells at old parts new → ArePages new
+takes_pages cells at old parts new w Nothing_taken = w
+takes_pages cells at old parts new w (Part_taken part class index s t takes f b) = block_pages s t class (at part / 2048) index (class_low _ class f) (takes_pages cells at old part s w takes) b
 
-pub takes_keep : (cells : ℕ) (old : List (Option Page)) (parts : ℕ) (new : List (Option Page)) → Takes cells old parts new → KeepsPages old new
-takes_keep cells old parts new Nothing_taken = pages_same old
-takes_keep cells old parts new (Part_taken part class page index s t takes f b) = pages_then old s t (takes_keep cells old part s takes) (takes_keeps s t class page index b)
+pub takes_keep : (cells : ℕ) (at : ℕ → ℕ) (old : List (Option Page)) (parts : ℕ) (new : List (Option Page)) → Takes cells at old parts new → KeepsPages old new
+takes_keep cells at old parts new Nothing_taken = pages_same old
+takes_keep cells at old parts new (Part_taken part class index s t takes f b) = pages_then old s t (takes_keep cells at old part s takes) (takes_keeps s t class (at part / 2048) index b)
 
-pub takes_count : (cells : ℕ) (old : List (Option Page)) (parts : ℕ) (new : List (Option Page)) → Takes cells old parts new → length new ≡ length old
-takes_count cells old parts new Nothing_taken = refl
-takes_count cells old parts new (Part_taken part class page index s t takes f b) = ap length b.new_is ∙ length-set s page _ ∙ takes_count cells old part s takes
+pub takes_count : (cells : ℕ) (at : ℕ → ℕ) (old : List (Option Page)) (parts : ℕ) (new : List (Option Page)) → Takes cells at old parts new → length new ≡ length old
+takes_count cells at old parts new Nothing_taken = refl
+takes_count cells at old parts new (Part_taken part class index s t takes f b) = ap length b.new_is ∙ length-set s (at part / 2048) _ ∙ takes_count cells at old part s takes
 
 -- held blocks keep their sizes
 pub sizes_stay : (s t : Store) → KeepsPages s.pages t.pages → (b : ℕ) → is_held s b ≡ true → size_at t b ≡ size_at s b

@@ -112,7 +112,7 @@ shade_more h k x sh =
   where
     shades_defrag : (h k : HeapState) (x : ℕ) → Shades h x k → k.defrag_pages ≡ h.defrag_pages
     shades_defrag h k x (Was_marked e) = refl
-    shades_defrag h k x (Is_marked new e w) = refl
+    shades_defrag h k x (Is_marked new front back is e w) = refl
 
     unmarked : (h : HeapState) (x y : ℕ) → gone (seen h) (size_behind h) y ≡ gone (shade (seen h) x) (size_behind h) y
     unmarked h x y = unfold gone in refl

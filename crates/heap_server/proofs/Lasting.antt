@@ -21,7 +21,7 @@ Same h k = (k.limits ≡ h.limits) × (k.defrag_below ≡ h.defrag_below) × (k.
 
 shades_same : (h k : HeapState) (x : ℕ) → Shades h x k → Same h k
 shades_same h k x (Was_marked m) = (refl, refl, refl)
-shades_same h k x (Is_marked new m w) = (refl, refl, refl)
+shades_same h k x (Is_marked new front back is m w) = (refl, refl, refl)
 
 records_same : (h k : HeapState) (x : ℕ) → Records h x k → Same h k
 records_same h after x (Records_nothing r) = (refl, refl, refl)
@@ -59,7 +59,7 @@ change_count h after g c Does_nothing = refl
 change_count h after g c (Does_root cell id y k r i) = ap length (records_pages h k _ r)
 change_count h after g c (Does_ref id i value address y k new at r main writes) = ap length (writes.pages ∙ records_pages h k _ r)
 change_count h after g c (Does_word id i word address new at writes) = ap length writes.pages
-change_count h after g c (Does_new cell id shape k new at r makes takes) = takes_count (cells_of shape) k.store.pages (parts_in (cells_of shape)) new.pages takes ∙ ap length (records_pages h k _ r)
+change_count h after g c (Does_new cell id shape k new at r makes takes) = takes_count (cells_of shape) at k.store.pages (parts_in (cells_of shape)) new.pages takes ∙ ap length (records_pages h k _ r)
 
 abbrev made : Limits → ℕ → ℕ → ℕ → HeapSettings
 made l n b d = record { limits = l; pages = n; defrag_below = b; defrag_pages = d }

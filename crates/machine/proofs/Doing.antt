@@ -45,7 +45,7 @@ change_count h after g c (Does_root cell id y k r i) = ap length (records_stay h
 change_count h after g c (Does_ref id i value address y k new at r main w) = ap length w.pages ∙ ap length (records_stay h k _ r).pages
 change_count h after g c (Does_word id i word address new at w) = ap length w.pages
 change_count h after g c (Does_new cell id shape k new at r makes takes) =
-    takes_count (cells_of shape) k.store.pages (parts_in (cells_of shape)) new.pages takes ∙ ap length (records_stay h k _ r).pages
+    takes_count (cells_of shape) at k.store.pages (parts_in (cells_of shape)) new.pages takes ∙ ap length (records_stay h k _ r).pages
 
 -- the change of a planned write is one of what is there
 pub founded : (h : HeapState) (g : Graph) → Agrees h g → (w : Write) → IsPlanned h g w → IsFounded g (change_of w)

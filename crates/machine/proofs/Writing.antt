@@ -96,11 +96,11 @@ module _ (h : HeapState) (w : IsHeap h) (id i word block cell : ℕ) (planned : 
 
 -- a new object
 pub new_does : (h k : HeapState) (cell before block : ℕ) (shape : Shape) (new : Store) → before ≡ get_or h.roots cell 0 → Records h before k
-    → ((at : ℕ → ℕ) × (at 0 ≡ block) × MakesObject k.store shape k.sense k.next at new) → Takes (cells_of shape) k.store.pages (parts_in (cells_of shape)) new.pages
+    → ((at : ℕ → ℕ) × (at 0 ≡ block) × MakesObject k.store shape k.sense k.next at new × Takes (cells_of shape) at k.store.pages (parts_in (cells_of shape)) new.pages)
     → (g : Graph) → Agrees h g → DoesChange h g (changes.New cell h.next shape) (record k { store = new; next = k.next + 1; roots = set k.roots cell (block + 1) })
-new_does h k cell before block shape new e r makes takes g a =
+new_does h k cell before block shape new e r makes g a =
     subst (λ b. DoesChange h g (changes.New cell h.next shape) (record k { store = new; next = k.next + 1; roots = set k.roots cell (b + 1) })) makes.1
-    (Does_new cell h.next shape k new makes.0 (subst (λ z. Records h z k) e r) makes.2 takes)
+    (Does_new cell h.next shape k new makes.0 (subst (λ z. Records h z k) e r) makes.2 makes.3)
 
 module _ (h : HeapState) (w : IsHeap h) (cell : ℕ) (shape : Shape) (below : cell < length h.roots) (fit : fits shape ≡ true) where
   pub makes_heap : (after : HeapState) → ((g : Graph) → Agrees h g → DoesChange h g (changes.New cell h.next shape) after) → IsHeap after

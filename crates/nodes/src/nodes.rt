@@ -3,7 +3,7 @@ ghost use Rattle.std.specs.Prelude.{IsSome, IsSomeAnd, slice_get, option_map, po
 ghost use Rattle.size_classes.specs.Sizes.{size_of};
 ghost use Rattle.size_classes.specs.Parts.{part_cells, cells_of};
 ghost use Rattle.heap_model.specs.Header.{ShapeFits};
-ghost use Rattle.heap_model.specs.Block.{cell_count, with_forward, with_colour, with_link, with_cell, new_node};
+ghost use Rattle.heap_model.specs.Block.{cell_count, with_forward, with_colour, with_cell, new_node};
 ghost use Rattle.heap_model.specs.Pages.{has_room, page_for, page_at, is_usable, free_on, free_blocks, with_held, TakesBlock};
 ghost use Rattle.heap_model.specs.Pages as page_list;
 ghost use Rattle.heap_model.specs.Action.{Frees, KeepsBlocks, MovesBlock, closed, held_on, is_choosable};

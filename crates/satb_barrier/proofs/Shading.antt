@@ -1,5 +1,5 @@
 -- A main copy shaded, in whatever heap it is.
-use Rattle.std.proofs.Common.{◌≡◌, ℕ, ◌-◌, ◌/◌, ◌%◌, Bool, true, false, List, ◌∷◌, ap, sym, subst}
+use Rattle.std.proofs.Common.{◌≡◌, ℕ, ◌-◌, ◌/◌, ◌%◌, Bool, true, false, List, ◌∷◌, [], refl, ap, sym, subst}
 use Rattle.heap_model.specs.Block.{with_colour}
 use Rattle.heap_model.specs.Store.{Store, Writes, held_in, is_held, node_of}
 use Rattle.heap_model.specs.Pages.{page_at}
@@ -19,7 +19,7 @@ module _ (sense : Bool) (x : ℕ) (store : Store) (grey : List ℕ) (h : HeapSta
   pub shades_one : (new : Store) → is_marked sense store x ≡ false → Writes store new (x - 1) (with_colour (node_of store (x - 1)) sense) → Shades h x (record h { store = new; grey = x ∷ grey })
   shades_one new m w =
       subst (λ g. Shades h x (record h { store = new; grey = x ∷ g })) eg
-      (Is_marked new (marked_here false m) (subst (λ s. Writes s new (x - 1) (with_colour (node_of s (x - 1)) h.sense)) (sym es) (subst (λ c. Writes store new (x - 1) (with_colour (node_of store (x - 1)) c)) (sym eh) w)))
+      (Is_marked new [] h.grey refl (marked_here false m) (subst (λ s. Writes s new (x - 1) (with_colour (node_of s (x - 1)) h.sense)) (sym es) (subst (λ c. Writes store new (x - 1) (with_colour (node_of store (x - 1)) c)) (sym eh) w)))
 
 -- blocks are held as the pages say
 pub held_kept : (s t : Store) → t.pages ≡ s.pages → (b : ℕ) → is_held t b ≡ is_held s b

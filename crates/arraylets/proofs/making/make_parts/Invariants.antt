@@ -12,7 +12,7 @@ abbrev pub invariant-loop-part : goal.invariant-loop-part
 invariant-loop-part l = record {
   addresses : length l.at ≡ 253;
   made : Making l.fn.nodes l.shape l.colour l.identity (λ p. get_or l.at p 0) l.part 0 l.nodes;
-  taken : Takes (cells_of l.shape) l.fn.nodes.pages l.part l.nodes.pages;
+  taken : Takes (cells_of l.shape) (λ p. get_or l.at p 0) l.fn.nodes.pages l.part l.nodes.pages;
   room : has_room l.nodes.pages (needed_from (cells_of l.shape) l.part (parts_in (cells_of l.shape))) ≡ true;
   spine : 0 < l.part → (is_held l.nodes (get_or l.at 0 0) ≡ true) × (length (node_of l.nodes (get_or l.at 0 0)).cells ≡ part_cells (cells_of l.shape) 0);
   within : (p : ℕ) → get_or l.at p 0 ≤ 8388608;

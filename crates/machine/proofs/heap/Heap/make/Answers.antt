@@ -26,8 +26,8 @@ invariant_of-self c =
     let k : HeapState = record h { store = c.record.new.nodes; grey = c.record.new.self.parts } in
     let below = subst (λ (x : HeapState). c.args.root < length x.roots) (sym c.self.view_is) c.requires.root in
     let does = new_does h k c.args.root c.get-before.result c.new_object-block.result c.args.shape c.new_object-block.new.nodes c.get-before.ensures (c.record.ensures.records h refl refl refl refl)
-    c.new_object-block.ensures.made c.new_object-block.ensures.taken in
-    let count = takes_count (cells_of c.args.shape) c.record.new.nodes.pages (parts_in (cells_of c.args.shape)) c.new_object-block.new.nodes.pages c.new_object-block.ensures.taken in
+    c.new_object-block.ensures.made in
+    let count = takes_count (cells_of c.args.shape) c.new_object-block.ensures.made.0 c.record.new.nodes.pages (parts_in (cells_of c.args.shape)) c.new_object-block.new.nodes.pages c.new_object-block.ensures.made.3 in
     rw c.set.ensures (makes_heap h c.self.invariant.0 c.args.root c.args.shape below c.requires.fits _ does, memory_left _ _ _ _ c.self.invariant.1 (count ∙ ap length c.record.ensures.pages) c.record.ensures.room)
 
 pub returns-clause-does : goal.returns-clause-does
@@ -35,7 +35,7 @@ returns-clause-does c =
     let h = state_of c.self.inside in
     let k : HeapState = record h { store = c.record.new.nodes; grey = c.record.new.self.parts } in
     let does = new_does h k c.args.root c.get-before.result c.new_object-block.result c.args.shape c.new_object-block.new.nodes c.get-before.ensures (c.record.ensures.records h refl refl refl refl)
-    c.new_object-block.ensures.made c.new_object-block.ensures.taken in
+    c.new_object-block.ensures.made in
     rw c.set.ensures (makes_for _ _ c.self.view_is c.args.root c.args.shape _ does)
 
 pub returns-clause-agrees : goal.returns-clause-agrees
@@ -44,5 +44,5 @@ returns-clause-agrees c =
     let k : HeapState = record h { store = c.record.new.nodes; grey = c.record.new.self.parts } in
     let below = subst (λ (x : HeapState). c.args.root < length x.roots) (sym c.self.view_is) c.requires.root in
     let does = new_does h k c.args.root c.get-before.result c.new_object-block.result c.args.shape c.new_object-block.new.nodes c.get-before.ensures (c.record.ensures.records h refl refl refl refl)
-    c.new_object-block.ensures.made c.new_object-block.ensures.taken in
+    c.new_object-block.ensures.made in
     rw c.set.ensures (made_agrees _ _ c.self.view_is c.self.invariant.0 c.args.root c.args.shape below c.requires.fits _ does)

@@ -1,4 +1,3 @@
 pub mod Player
 pub mod Playing
-pub mod Progress
 pub mod Ticking

@@ -2,13 +2,11 @@
 //! quanta are spent, and ticks pass, in which quanta are due.
 #![tactic(auto)]
 
-mod fault;
 mod line;
 mod player;
 mod playing;
 mod style;
 
-pub use fault::PlayFault;
 pub use player::{Player, TickFault};
 pub use playing::{play, play_first};
 pub use style::Style;

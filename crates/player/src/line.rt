@@ -1,14 +1,15 @@
 //! One line of a trace.
 ghost use Rattle.std.specs.Prelude.{◌≡◌, ◌+◌, ◌++◌, OnOk, OnErr};
 ghost use Rattle.trace.specs.Streams.{GrowsByPart, failed};
-ghost use Rattle.player.specs.Playing.{written_line, is_event, writes_failed};
-ghost use Rattle.player.specs.Progress.{CommandDone, LineDone};
+ghost use Rattle.trace.specs.GoneOver.{writes_failed};
+ghost use Rattle.player.specs.Playing.{stage, written_line, CommandDone, LinePlayed};
 
-use crate::fault::PlayFault;
 use crate::player::{Player, TickFault};
 use crate::style::Style;
 use graph_heap::{Command, Entry};
-use trace::{Line, LineFault, Sink, WriteFailed, end_line, read_line, write_entry, write_reply};
+use trace::{
+    Line, LineFault, Sink, TextFault, WriteFailed, end_line, read_line, write_entry, write_reply,
+};
 
 /// Writes the line of an entry, in a style.
 fn write_line<K: Sink>(sink: &mut K, style: Style, entry: &Entry) -> Result<(), WriteFailed>
@@ -32,55 +33,45 @@ fn play_command<K: Sink>(
     sink: &mut K,
     player: &mut Player,
     style: Style,
-) -> Result<(), PlayFault>
-    ensures done { CommandDone style mutator command player.old player.new (K.taken sink.old) (K.taken sink.new) result }
+) -> Result<(), TextFault>
+    ensures done { CommandDone style mutator command (stage player.old (K.taken sink.old)) (stage player.new (K.taken sink.new)) result }
     ensures writes { K.failures sink.new ≡ K.failures sink.old + writes_failed result }
 {
     let Ok(receipt) = player.call(mutator, command) else {
-        return Err(PlayFault::NoMemory);
+        return Err(TextFault::NoMemory);
     };
     match write_line(sink, style, &receipt.entry) {
         Ok(()) => Ok(()),
-        Err(WriteFailed) => Err(PlayFault::Write),
+        Err(WriteFailed) => Err(TextFault::Write),
     }
 }
 
-/// Whether a line isn't skipped. One that is done is then that of an event.
-pub fn is_event(bytes: &[u8]) -> bool
-    ensures { result ≡ is_event bytes.now }
-{
-    !matches!(bytes, [] | [b'#', ..])
-}
-
-/// Does a line, and writes what is written of it.
+/// Does a line, and writes what is written of it. Answers whether it is that of an event.
 pub fn play_line<K: Sink>(
     bytes: &[u8],
     number: u64,
     sink: &mut K,
     player: &mut Player,
     style: Style,
-) -> Result<(), PlayFault>
-    ensures done { LineDone style bytes.now number player.old player.new (K.taken sink.old) (K.taken sink.new) result }
+) -> Result<bool, TextFault>
+    ensures played { LinePlayed style bytes.now number (stage player.old (K.taken sink.old)) (stage player.new (K.taken sink.new)) result }
     ensures writes { K.failures sink.new ≡ K.failures sink.old + writes_failed result }
 {
     let Some(line) = read_line(bytes) else {
-        return Err(PlayFault::Line(number, LineFault::NotAnEvent));
+        return Err(TextFault::Line(number, LineFault::NotAnEvent));
     };
     match line {
-        Line::Skip => Ok(()),
-        Line::Command { mutator, command } => play_command(mutator, command, sink, player, style),
-        Line::Begin => {
-            player.begin();
-            Ok(())
-        }
-        Line::Quantum(budget) => {
-            player.quantum(budget);
-            Ok(())
-        }
+        Line::Skip => return Ok(false),
+        Line::Command { mutator, command } => play_command(mutator, command, sink, player, style)?,
+        Line::Begin => player.begin(),
+        Line::Quantum(budget) => player.quantum(budget),
         Line::Tick(ticks) => match player.tick(ticks) {
-            Ok(()) => Ok(()),
-            Err(TickFault::ClockSpent) => Err(PlayFault::Line(number, LineFault::ClockSpent)),
-            Err(TickFault::NoMemory) => Err(PlayFault::NoMemory),
+            Ok(()) => {}
+            Err(TickFault::ClockSpent) => {
+                return Err(TextFault::Line(number, LineFault::ClockSpent));
+            }
+            Err(TickFault::NoMemory) => return Err(TextFault::NoMemory),
         },
     }
+    Ok(true)
 }

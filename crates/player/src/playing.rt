@@ -1,13 +1,13 @@
 //! Playing a trace.
 ghost use Rattle.std.specs.Prelude.{◌≡◌, ◌+◌};
-ghost use Rattle.trace.specs.Streams.{Stays};
-ghost use Rattle.player.specs.Playing.{Played, PlayedFirst, reads_failed, writes_failed};
+ghost use Rattle.trace.specs.GoneOver.{reads_failed, writes_failed};
+ghost use Rattle.trace.specs.Streams.{Stays, given_by};
+ghost use Rattle.player.specs.Playing.{stage, Played, PlayedFirst};
 
-use crate::fault::PlayFault;
-use crate::line::{is_event, play_line};
+use crate::line::play_line;
 use crate::player::Player;
 use crate::style::Style;
-use trace::{LineReader, Sink, Source};
+use trace::{LineReader, Sink, Source, TextFault};
 
 /// Plays the lines of a source, and writes to a sink what the style says of each command: each line is
 /// done, one after the other, and what was done and written before a fault stands. The history stays legal,
@@ -17,8 +17,8 @@ pub fn play<S: Source, K: Sink>(
     sink: &mut K,
     player: &mut Player,
     style: Style,
-) -> Result<(), PlayFault>
-    ensures played { Played style (S.given source.old) (S.given source.new) (S.ended source.new) player.old player.new (K.taken sink.old) (K.taken sink.new) result }
+) -> Result<(), TextFault>
+    ensures played { Played style (given_by S.given S.ended source.old source.new) (stage player.old (K.taken sink.old)) (stage player.new (K.taken sink.new)) result }
     ensures reads { S.failures source.new ≡ S.failures source.old + reads_failed result }
     ensures writes { K.failures sink.new ≡ K.failures sink.old + writes_failed result }
     ensures input { reads_failed result ≡ 0 → Stays (S.input source.old) (S.input source.new) }
@@ -39,8 +39,8 @@ pub fn play_first<S: Source, K: Sink>(
     sink: &mut K,
     player: &mut Player,
     style: Style,
-) -> Result<(), PlayFault>
-    ensures played { PlayedFirst n style (S.given source.old) (S.given source.new) (S.ended source.new) player.old player.new (K.taken sink.old) (K.taken sink.new) result }
+) -> Result<(), TextFault>
+    ensures played { PlayedFirst n style (given_by S.given S.ended source.old source.new) (stage player.old (K.taken sink.old)) (stage player.new (K.taken sink.new)) result }
     ensures none { n ≡ 0 → source.new ≡ source.old }
     ensures reads { S.failures source.new ≡ S.failures source.old + reads_failed result }
     ensures writes { K.failures sink.new ≡ K.failures sink.old + writes_failed result }
@@ -49,8 +49,7 @@ pub fn play_first<S: Source, K: Sink>(
     let mut reader = LineReader::new();
     let mut left = n;
     while left > 0 && reader.next_line(source)? {
-        play_line(reader.line(), reader.number(), sink, player, style)?;
-        if is_event(reader.line()) {
+        if play_line(reader.line(), reader.number(), sink, player, style)? {
             left -= 1;
         }
     }

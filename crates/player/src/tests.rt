@@ -8,7 +8,7 @@ use size_classes::{Config, Settings};
 use std::alloc::Global;
 use std::process::Abort;
 use std::test::Fail;
-use trace::{FailAt, LineFault, MemorySink, MemorySource, ReadSource};
+use trace::{FailAt, LineFault, MemorySink, MemorySource, ReadSource, TextFault};
 
 const FOUR_PAGES: Settings = Settings {
     pages: 4,
@@ -43,7 +43,7 @@ fn expect(
     rt: &(impl Abort + AllocGlobal),
     settings: &Settings,
     trace: &str,
-    answer: Result<(), PlayFault>,
+    answer: Result<(), TextFault>,
     written: &str,
 ) -> Result<(), Fail> {
     let mut player = player(rt, settings)?;
@@ -123,7 +123,7 @@ fn a_line_in_fault_ends_the_run(rt: HostRuntime) -> Result<(), Fail> {
         ("0 new 0 plain 0 0\ntick 0\n", 2, LineFault::NotAnEvent),
     ];
     for (trace, line, fault) in runs {
-        let answer = Err(PlayFault::Line(line, fault));
+        let answer = Err(TextFault::Line(line, fault));
         expect(&rt, &FOUR_PAGES, trace, answer, "made 1\n")?;
     }
     Ok(())
@@ -143,7 +143,7 @@ fn a_long_line_ends_the_run(rt: HostRuntime) -> Result<(), Fail> {
         trace.push('-')?;
     }
     trace.push('\n')?;
-    let fault = PlayFault::Line(3, LineFault::TooLong);
+    let fault = TextFault::Line(3, LineFault::TooLong);
     expect(&rt, &FOUR_PAGES, &trace, Err(fault), "done\n")
 }
 
@@ -272,7 +272,7 @@ fn each_write_fails_in_turn(rt: HostRuntime) -> Result<(), Fail> {
         let mut source = MemorySource::new(TRACE.as_bytes());
         let mut sink = FailAt::new(MemorySink::new(rt.alloc()), call as u64);
         let answer = play(&mut source, &mut sink, &mut player, Style::Replies);
-        assert_eq!(rt; answer, Err(PlayFault::Write), "{call}");
+        assert_eq!(rt; answer, Err(TextFault::Write), "{call}");
         assert_eq!(rt; player.recorded().history().len(), call);
         assert_eq!(rt; sink.get_ref().bytes(), REPLIES[call - 1].as_bytes());
     }
@@ -286,7 +286,7 @@ fn each_read_fails_in_turn(rt: HostRuntime) -> Result<(), Fail> {
         let mut source = FailAt::new(ReadSource::new(TRACE.as_bytes()), call);
         let mut sink = MemorySink::new(rt.alloc());
         let answer = play(&mut source, &mut sink, &mut player, Style::Replies);
-        assert_eq!(rt; answer, Err(PlayFault::Read), "{call}");
+        assert_eq!(rt; answer, Err(TextFault::Read), "{call}");
         assert_eq!(rt; player.recorded().history().len(), lines);
         assert_eq!(rt; sink.bytes(), REPLIES[lines].as_bytes());
     }
@@ -316,12 +316,12 @@ fn the_history_has_the_commands_and_replies(rt: HostRuntime) -> Result<(), Fail>
 fn faults_have_their_texts(rt: HostRuntime) -> Result<(), Fail> {
     let faults = [
         (
-            PlayFault::Line(2, LineFault::NotEnded),
+            TextFault::Line(2, LineFault::NotEnded),
             "line 2: line not ended",
         ),
-        (PlayFault::Read, "cannot read"),
-        (PlayFault::Write, "cannot write"),
-        (PlayFault::NoMemory, "no memory"),
+        (TextFault::Read, "cannot read"),
+        (TextFault::Write, "cannot write"),
+        (TextFault::NoMemory, "no memory"),
     ];
     for (fault, text) in faults {
         assert_eq!(rt; format!(in rt.alloc(); "{fault}")?.as_str(), text);

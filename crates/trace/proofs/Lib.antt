@@ -8,3 +8,4 @@ pub mod Feeds
 pub mod Cutting
 pub mod ReadReplies
 pub mod ReadEntries
+pub mod GoingOver

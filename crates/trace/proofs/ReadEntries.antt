@@ -3,7 +3,7 @@ use Rattle.std.proofs.Common.{◌≡◌, ℕ, zero, suc, ◌-◌, ◌^◌, ◌<�
 use Rattle.std.specs.Prelude.{decimal, codes, IfSome}
 use Rattle.std.specs.Str.{bytes_eq}
 use Rattle.std.specs.Str.Parse.{AllDigits, digits_value}
-use Rattle.std.proofs.lemmas.Bool.{ne_eqb, eq-eqb, eqb-true}
+use Rattle.std.proofs.lemmas.Bool.{ne_eqb}
 use Rattle.std.proofs.lemmas.List.{take-append-drop, take_at, drop_at}
 use Rattle.std.proofs.lemmas.Slice.Eq.{bytes_eq-Decides}
 use Rattle.std.proofs.lemmas.Fmt.{digits_decimal, decimal_nonempty}
@@ -15,7 +15,7 @@ use Rattle.graph_heap.specs.declared.command.Command.TheVariants as commands
 use Rattle.graph_heap.specs.declared.command.Entry.{Entry}
 use Rattle.trace.specs.declared.entry.EntryLine.{EntryLine}
 use Rattle.trace.specs.declared.entry.EntryLine.TheVariants as lines
-use Rattle.trace.specs.Spelling.{two, three, four, shape_text, command_text, command_line, reply_text, entry_line, ShapeFits, CommandFits, ReplyFits, SpellsEntry}
+use Rattle.trace.specs.Spelling.{two, three, four, shape_text, command_text, command_line, reply_text, entry_line, ShapeFits, CommandFits, ReplyFits, is_skipped, SpellsEntry}
 use Rattle.trace.specs.Reading.{◌>>=◌, cut_at, mutator_and_command_in, reply_in, before_blank_in, behind_point_in, arrow_in, entry_in, entry_line_in}
 use Rattle.trace.proofs.Exact.{bind_parts, told, chosen, Lacks, free, lacks, plain, narrow, cut_at-Some, cut_at-spelled}
 use Rattle.trace.proofs.ReadCommands.{exact_mutator_and_command}
@@ -126,10 +126,9 @@ entry_only x h f g = rw (arrow_only (command_line x.mutator x.command) (reply_te
 
 line_found : (bytes : List ℕ) (l : EntryLine) → entry_line_in bytes ≡ Some l → SpellsEntry bytes l
 unfolding entry_line_in
-line_found [] l e = told (SpellsEntry []) lines.Skip l tt e
-line_found (b ∷ bs) l e = elim (chosen (eqb b 35) _ _ l e) [
-  | inl h ↦ told (SpellsEntry (b ∷ bs)) lines.Skip l (eqb-true b 35 h.0) h.1
-  | inr r ↦ bind_parts (entry_in (b ∷ bs)) _ l r.1 (λ x ex e1. told (SpellsEntry (b ∷ bs)) (lines.Entry x) l (entry_found (b ∷ bs) x ex) e1)
+line_found bytes l e = elim (chosen (is_skipped bytes) _ _ l e) [
+  | inl h ↦ told (SpellsEntry bytes) lines.Skip l h.0 h.1
+  | inr r ↦ bind_parts (entry_in bytes) _ l r.1 (λ x ex e1. told (SpellsEntry bytes) (lines.Entry x) l (entry_found bytes x ex) e1)
 ]
 
 -- a line that begins with a digit is an entry or nothing
@@ -152,8 +151,7 @@ regrouped x =
 
 line_only : (bytes : List ℕ) (l : EntryLine) → SpellsEntry bytes l → entry_line_in bytes ≡ Some l
 unfolding entry_line_in
-line_only [] lines.Skip h = refl
-line_only (b ∷ bs) lines.Skip h = rw (eq-eqb b 35 h) refl
+line_only bytes lines.Skip h = rw h refl
 line_only bytes (lines.Entry x) h =
     let small = narrow x.mutator h.1 in
     let d = digit_at (decimal x.mutator) 0 (digits_decimal own x.mutator small) (decimal_nonempty x.mutator small) in

@@ -3,15 +3,15 @@ use Rattle.std.proofs.Common.{◌≡◌, ℕ, ◌^◌, ◌<◌, ◌≤◌, inl, 
 use Rattle.std.specs.Prelude.{decimal, codes, IfSome}
 use Rattle.std.specs.Str.{bytes_eq}
 use Rattle.std.specs.Str.Parse.{AllDigits, digits_value}
-use Rattle.std.proofs.lemmas.Bool.{le-leb, leb-true, ne_eqb, eq-eqb, eqb-true}
+use Rattle.std.proofs.lemmas.Bool.{le-leb, leb-true, ne_eqb}
 use Rattle.std.proofs.lemmas.Slice.Eq.{bytes_eq-Decides}
 use Rattle.std.proofs.lemmas.Fmt.{digits_decimal, decimal_nonempty}
 use Rattle.std.proofs.lemmas.Str.Parse.{digit_at, numerals_by_value, tells_digits, IsNumeralModel}
 use Rattle.graph_heap.specs.declared.command.Command.{Command}
 use Rattle.trace.specs.declared.line.Line.{Line}
 use Rattle.trace.specs.declared.line.Line.TheVariants as lines
-use Rattle.trace.specs.Spelling.{command_line, command_text, CommandFits, IsSkipped, Spells}
-use Rattle.trace.specs.Reading.{◌>>=◌, number_in, cut_at, mutator_and_command_in, collector_in, line_in}
+use Rattle.trace.specs.Spelling.{command_line, command_text, CommandFits, is_skipped, Spells}
+use Rattle.trace.specs.Reading.{◌>>=◌, number_in, cut_at, mutator_and_command_in, collector_in, event_in, line_in}
 use Rattle.trace.proofs.Numbers.{number_in-spelled, number_in-Some}
 use Rattle.trace.proofs.Exact.{bind_parts, told, chosen, lacks, cut_at-Some, cut_at-spelled, narrow}
 use Rattle.trace.proofs.ReadCommands.{exact_mutator_and_command}
@@ -41,15 +41,18 @@ collector_found bytes l e = elim (chosen (bytes_eq bytes (codes "begin")) _ _ l 
       ]))
 ]
 
+event_found : (bytes : List ℕ) (l : Line) → event_in bytes ≡ Some l → Spells bytes l
+event_found [] l e = collector_found [] l e
+event_found (b ∷ bs) l e = elim (chosen (leb 48 b && leb b 57) _ _ l e) [
+  | inl h ↦ bind_parts (mutator_and_command_in (b ∷ bs)) _ l h.1 (λ a ea e1. let x = exact_mutator_and_command.found (b ∷ bs) a ea in told (Spells (b ∷ bs)) (lines.Command a.0 a.1) l (x.0, x.1.0, x.1.1) e1)
+  | inr s ↦ collector_found (b ∷ bs) l s.1
+]
+
 line_found : (bytes : List ℕ) (l : Line) → line_in bytes ≡ Some l → Spells bytes l
 unfolding line_in
-line_found [] l e = told (Spells []) lines.Skip l tt e
-line_found (b ∷ bs) l e = elim (chosen (eqb b 35) _ _ l e) [
-  | inl h ↦ told (Spells (b ∷ bs)) lines.Skip l (eqb-true b 35 h.0) h.1
-  | inr r ↦ elim (chosen (leb 48 b && leb b 57) _ _ l r.1) [
-    | inl h ↦ bind_parts (mutator_and_command_in (b ∷ bs)) _ l h.1 (λ a ea e1. let x = exact_mutator_and_command.found (b ∷ bs) a ea in told (Spells (b ∷ bs)) (lines.Command a.0 a.1) l (x.0, x.1.0, x.1.1) e1)
-    | inr s ↦ collector_found (b ∷ bs) l s.1
-  ]
+line_found bytes l e = elim (chosen (is_skipped bytes) _ _ l e) [
+  | inl h ↦ told (Spells bytes) lines.Skip l h.0 h.1
+  | inr r ↦ event_found bytes l r.1
 ]
 
 own : IsNumeralModel (AllDigits 10) (digits_value 10)
@@ -81,14 +84,9 @@ tick_only n low high =
     let small : n < 2 ^ 64 = omega arith in
     rw (cut_at-spelled 32 (codes "tick") (decimal n) (lacks 32 (codes "tick") refl), number_in-spelled 64 n (decimal n) small small refl, le-leb 1 n low, le-leb n 1099511627776 high) refl
 
-skip_only : (bytes : List ℕ) → IsSkipped bytes → line_in bytes ≡ Some lines.Skip
-unfolding line_in
-skip_only [] h = refl
-skip_only (b ∷ bs) h = rw (eq-eqb b 35 h) refl
-
 line_only : (bytes : List ℕ) (l : Line) → Spells bytes l → line_in bytes ≡ Some l
 unfolding line_in collector_in
-line_only bytes lines.Skip h = skip_only bytes h
+line_only bytes lines.Skip h = rw h refl
 line_only bytes (lines.Command m c) h = ap line_in h.0 ∙ command_only m c h.1 h.2
 line_only bytes lines.Begin h = ap line_in h
 line_only bytes (lines.Quantum n) h = ap line_in h.0 ∙ quantum_only n h.1 h.2

@@ -1,6 +1,7 @@
 pub mod Spelling
 pub mod Reading
 pub mod Streams
+pub mod GoneOver
 pub mod LineReader
 pub mod Held
 pub mod Memory

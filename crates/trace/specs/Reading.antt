@@ -12,6 +12,7 @@ use Rattle.graph_heap.specs.declared.command.Refusal.{Refusal}
 use Rattle.graph_heap.specs.declared.command.Refusal.TheVariants as refusals
 use Rattle.graph_heap.specs.declared.command.Entry.{Entry}
 use Rattle.graph_heap.specs.Refusal.{refusal_number}
+use Rattle.trace.specs.Spelling.{is_skipped}
 use Rattle.trace.specs.declared.entry.EntryLine.{EntryLine}
 use Rattle.trace.specs.declared.entry.EntryLine.TheVariants as entry_lines
 use Rattle.trace.specs.declared.replies.ReplyWord.{ReplyWord}
@@ -170,11 +171,13 @@ collector_in bytes = if bytes_eq bytes (codes "begin") then Some lines.Begin els
   if bytes_eq c.0 (codes "quantum") && (nat_le 256 n && nat_le n 1000000) then Some (lines.Quantum n) else
       if bytes_eq c.0 (codes "tick") && (nat_le 1 n && nat_le n 1099511627776) then Some (lines.Tick n) else None)
 
--- a line, by its first byte: nothing, #, a digit, or something else
+-- a line that isn't skipped, by its first byte: a digit, or something else
+abbrev pub event_in : List ℕ → Option Line
+event_in [] = collector_in []
+event_in (first ∷ rest) = if nat_le 48 first && nat_le first 57 then mutator_and_command_in (first ∷ rest) >>= (λ a. Some (lines.Command a.0 a.1)) else collector_in (first ∷ rest)
+
 unfoldable pub line_in : List ℕ → Option Line
-line_in [] = Some lines.Skip
-line_in (first ∷ rest) = if first == 35 then Some lines.Skip else
-    if nat_le 48 first && nat_le first 57 then mutator_and_command_in (first ∷ rest) >>= (λ a. Some (lines.Command a.0 a.1)) else collector_in (first ∷ rest)
+line_in bytes = if is_skipped bytes then Some lines.Skip else event_in bytes
 
 -- a refusal by its number
 abbrev pub all_refusals : List Refusal
@@ -254,7 +257,6 @@ entry_in bytes = do
   r ← reply_in c.1
   Some (record { mutator = a.0; command = a.1; reply = r })
 
--- a line of a history, by its first byte
+-- a line of a history
 unfoldable pub entry_line_in : List ℕ → Option EntryLine
-entry_line_in [] = Some entry_lines.Skip
-entry_line_in (first ∷ rest) = if first == 35 then Some entry_lines.Skip else (entry_in (first ∷ rest) >>= λ e. Some (entry_lines.Entry e))
+entry_line_in bytes = if is_skipped bytes then Some entry_lines.Skip else (entry_in bytes >>= λ e. Some (entry_lines.Entry e))

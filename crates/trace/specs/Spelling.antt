@@ -1,5 +1,5 @@
 -- The grammar of traces and histories: how commands, lines, replies and entries are spelled.
-use Rattle.std.specs.Prelude.{◌≡◌, ℕ, ◌^◌, ◌<◌, ◌≤◌, true, false, List, [], ◌∷◌, ◌++◌, codes, decimal}
+use Rattle.std.specs.Prelude.{◌≡◌, ℕ, ◌^◌, ◌<◌, ◌≤◌, ◌==◌, Bool, true, false, IsTrue, List, [], ◌∷◌, ◌++◌, codes, decimal}
 use Rattle.graph_heap.specs.declared.command.Shape.{Shape}
 use Rattle.graph_heap.specs.declared.command.Shape.TheVariants.{Plain, RefArray, WordArray}
 use Rattle.graph_heap.specs.declared.command.Command.{Command}
@@ -73,14 +73,14 @@ CommandFits (commands.CompareStatic k expect new) = (k < 2 ^ 32) × (expect < 2 
 CommandFits (commands.Same a b) = (a < 2 ^ 32) × (b < 2 ^ 32)
 CommandFits (commands.Describe a) = a < 2 ^ 32
 
--- an empty line, or one whose first byte is # (byte 35), whatever follows
-abbrev pub IsSkipped : List ℕ → Type 0
-IsSkipped [] = Unit {0}
-IsSkipped (first ∷ rest) = first ≡ 35
+-- a skipped line: an empty one, or one whose first byte is # (byte 35), whatever follows
+abbrev pub is_skipped : List ℕ → Bool
+is_skipped [] = true
+is_skipped (first ∷ rest) = first == 35
 
 -- The bytes are a spelling of the line. All but the skipped lines have one spelling each.
 abbrev pub Spells : List ℕ → Line → Type 0
-Spells bytes lines.Skip = IsSkipped bytes
+Spells bytes lines.Skip = IsTrue (is_skipped bytes)
 Spells bytes (lines.Command mutator command) = (bytes ≡ command_line mutator command) × (mutator < 2 ^ 32) × CommandFits command
 Spells bytes lines.Begin = bytes ≡ codes "begin"
 Spells bytes (lines.Quantum budget) = (bytes ≡ codes "quantum " ++ decimal budget) × (256 ≤ budget) × (budget ≤ 1000000)
@@ -119,5 +119,5 @@ ReplyFits (replies.Refused refusal) = Unit {0}
 
 -- The bytes are a spelling of the line of a history. Each entry has one spelling.
 abbrev pub SpellsEntry : List ℕ → EntryLine → Type 0
-SpellsEntry bytes entry_lines.Skip = IsSkipped bytes
+SpellsEntry bytes entry_lines.Skip = IsTrue (is_skipped bytes)
 SpellsEntry bytes (entry_lines.Entry e) = (bytes ≡ entry_line e) × (e.mutator < 2 ^ 32) × CommandFits e.command × ReplyFits e.reply

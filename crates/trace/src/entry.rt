@@ -6,6 +6,7 @@ ghost use Rattle.trace.specs.Reading.{before_blank_in, behind_point_in, arrow_in
 
 use crate::commands::mutator_and_command;
 use crate::field::cut;
+use crate::line::is_skipped;
 use crate::replies::reply;
 use graph_heap::Entry;
 
@@ -64,13 +65,11 @@ fn entry(bytes: &[u8]) -> Option<Entry>
 fn meaning(bytes: &[u8]) -> Option<EntryLine>
     ensures { result ≡ entry_line_in bytes.now }
 {
-    match bytes {
-        [] | [b'#', ..] => Some(EntryLine::Skip),
-        _ => {
-            let e = entry(bytes)?;
-            Some(EntryLine::Entry(e))
-        }
+    if is_skipped(bytes) {
+        return Some(EntryLine::Skip);
     }
+    let e = entry(bytes)?;
+    Some(EntryLine::Entry(e))
 }
 
 /// Reads a line of a history, without its LF.

@@ -1,4 +1,8 @@
-//! What can be wrong with a line.
+//! What can be wrong with a line, and with an input.
+ghost use Rattle.std.specs.Prelude.{◌≡◌};
+ghost use Rattle.trace.specs.declared.fault.TextFault.TheVariants as faults;
+
+use graph_heap::NoMemory;
 use thiserror::Error;
 
 /// What can be wrong with a line of a trace, of a history or of scripts.
@@ -25,4 +29,29 @@ pub enum LineFault {
     /// Its ticks would pass the clock's limit.
     #[error("clock spent")]
     ClockSpent,
+}
+
+/// Why the lines of an input were not all done. What was done before stands.
+#[derive(Clone, Copy, Debug, PartialEq, Eq, Error)]
+pub enum TextFault {
+    /// A line, by its number from 1, and what is wrong with it.
+    #[error("line {0}: {1}")]
+    Line(u64, LineFault),
+    /// A read failed.
+    #[error("cannot read")]
+    Read,
+    /// A write failed. The last command is done, and its reply may be out in part.
+    #[error("cannot write")]
+    Write,
+    /// Memory was refused, for what the next line asks.
+    #[error("no memory")]
+    NoMemory,
+}
+
+impl From<NoMemory> for TextFault {
+    ghost from_gives = { λ why fault. fault ≡ faults.NoMemory };
+
+    fn from(_why: NoMemory) -> TextFault {
+        TextFault::NoMemory
+    }
 }

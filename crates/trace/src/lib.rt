@@ -22,10 +22,10 @@ pub mod write;
 
 pub use entry::{EntryLine, read_entry};
 pub use fail_at::FailAt;
-pub use fault::LineFault;
+pub use fault::{LineFault, TextFault};
 pub use laws::{one_cutting, one_more_line};
-pub use line::{Line, read_line};
-pub use line_reader::{LineReader, NoLine};
+pub use line::{Line, is_skipped, read_line};
+pub use line_reader::LineReader;
 pub use memory::{MemorySink, MemorySource};
 pub use sink::{Sink, WriteFailed, write_all};
 pub use source::{ReadFailed, Source};

@@ -1,7 +1,7 @@
 //! Lines of a trace.
 ghost use Rattle.std.specs.Prelude.{◌≡◌, IfSome};
 ghost use Rattle.trace.specs.declared.line.Line.{Line};
-ghost use Rattle.trace.specs.Spelling.{Spells};
+ghost use Rattle.trace.specs.Spelling.{is_skipped, Spells};
 ghost use Rattle.trace.specs.Reading.{collector_in, line_in};
 
 use crate::commands::mutator_and_command;
@@ -42,12 +42,21 @@ fn collector_line(bytes: &[u8]) -> Option<Line>
     }
 }
 
+/// Whether a line says nothing: it is empty, or a comment.
+pub fn is_skipped(bytes: &[u8]) -> bool
+    ensures { result ≡ is_skipped bytes.now }
+{
+    matches!(bytes, [] | [b'#', ..])
+}
+
 #[tactic(auto, unfolding(crate::specs::Reading::line_in))]
 fn meaning(bytes: &[u8]) -> Option<Line>
     ensures { result ≡ line_in bytes.now }
 {
+    if is_skipped(bytes) {
+        return Some(Line::Skip);
+    }
     match bytes {
-        [] | [b'#', ..] => Some(Line::Skip),
         [b'0'..=b'9', ..] => {
             let (mutator, command) = mutator_and_command(bytes)?;
             Some(Line::Command { mutator, command })

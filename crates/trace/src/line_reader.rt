@@ -2,7 +2,7 @@
 ghost use Rattle.std.specs.Prelude.{true, false, ◌∷◌, ◌++◌, ◌≡◌, ◌==◌, ◌+◌, ◌-◌, ◌<◌, ◌≤◌, ◌^◌, [], length, take, slice_range, IfOk, IfSome, IsNone, OnOk, OnErr, IsTrue};
 ghost use Rattle.trace.specs.Streams.{failed, Comes, Stays, NoLf, IsLine, FirstLf};
 
-use crate::fault::LineFault;
+use crate::fault::{LineFault, TextFault};
 use crate::field::place_of;
 use crate::source::{ReadFailed, Source};
 use std::marker::Model;
@@ -12,15 +12,6 @@ const CAPACITY: usize = 4096;
 
 /// How many bytes a line has, at most, before its LF.
 const LONGEST: usize = 256;
-
-/// Why there is no next line.
-#[derive(Clone, Copy, Debug, PartialEq, Eq)]
-pub enum NoLine {
-    /// The line of this number, counted from 1, is too long or not ended.
-    Fault(u64, LineFault),
-    /// A read failed.
-    Failed,
-}
 
 /// Where the first LF stands, if it is among the first 257 bytes.
 fn line_feed(bytes: &[u8]) -> Option<usize>
@@ -82,7 +73,8 @@ impl Model for LineReader {
 }
 
 impl LineReader {
-    ghost use Rattle.trace.specs.LineReader.{text_by, Says, lines_by, failures_by};
+    ghost use Rattle.trace.specs.GoneOver.{reads_failed};
+    ghost use Rattle.trace.specs.LineReader.{text_by, Says, lines_by};
 
     /// A reader that has read nothing yet.
     pub fn new() -> LineReader
@@ -164,16 +156,16 @@ impl LineReader {
     }
 
     /// The fault of the line that begins with the bytes kept.
-    fn fault(&self, fault: LineFault) -> NoLine
+    fn fault(&self, fault: LineFault) -> TextFault
         requires { 0 < length self.now.kept }
-        ensures { result ≡ NoLine.Fault (self.now.number + 1) fault }
+        ensures { result ≡ TextFault.Line (self.now.number + 1) fault }
     {
-        NoLine::Fault(self.number + 1, fault)
+        TextFault::Line(self.number + 1, fault)
     }
 
     /// Hands out the next line. Ok(false) is the end of the input. An error takes no line: what came of
     /// one is kept.
-    pub fn next_line<S: Source>(&mut self, source: &mut S) -> Result<bool, NoLine>
+    pub fn next_line<S: Source>(&mut self, source: &mut S) -> Result<bool, TextFault>
         // The source has given the bytes that are kept, and at least one for each line.
         requires { self.old.number + length self.old.kept ≤ length (S.given source.old) }
         ensures text { Comes (S.given source.old) (S.given source.new) self.old.kept (text_by result self.new) }
@@ -183,8 +175,8 @@ impl LineReader {
         ensures counted { self.new.number < 2 ^ 64 }
         // With what came behind it, the line fits into a buffer.
         ensures small { length (text_by result self.new) ≤ 4096 }
-        ensures cause { S.failures source.new ≡ S.failures source.old + failures_by result }
-        ensures input { failures_by result ≡ 0 → Stays (S.input source.old) (S.input source.new) }
+        ensures cause { S.failures source.new ≡ S.failures source.old + reads_failed result }
+        ensures input { reads_failed result ≡ 0 → Stays (S.input source.old) (S.input source.new) }
     {
         while !self.cut_line() {
             if self.kept() > LONGEST {
@@ -194,7 +186,7 @@ impl LineReader {
                 Ok(0) if self.kept() == 0 => return Ok(false),
                 Ok(0) => return Err(self.fault(LineFault::NotEnded)),
                 Ok(_) => {}
-                Err(ReadFailed) => return Err(NoLine::Failed),
+                Err(ReadFailed) => return Err(TextFault::Read),
             }
         }
         Ok(true)

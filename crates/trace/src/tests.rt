@@ -377,7 +377,7 @@ fn entries_are_read(rt: HostRuntime) {
 fn lines_of<S: Source>(
     alloc: Global,
     source: &mut S,
-) -> Result<(Vec<u8>, Option<NoLine>), AllocError> {
+) -> Result<(Vec<u8>, Option<TextFault>), AllocError> {
     let mut reader = LineReader::new();
     let mut lines = Vec::new(alloc);
     for _ in 0..1000u64 {
@@ -399,7 +399,7 @@ fn lines_are_cut(rt: HostRuntime) -> Result<(), Fail> {
     let texts = [
         ("", "", None),
         ("a\n\nb c\n", "a//b c/", None),
-        ("a\nb", "a/", Some(NoLine::Fault(2, LineFault::NotEnded))),
+        ("a\nb", "a/", Some(TextFault::Line(2, LineFault::NotEnded))),
         ("a\r\n", "a\r/", None),
     ];
     for (text, lines, why) in texts {
@@ -415,7 +415,7 @@ fn a_line_has_256_bytes(rt: HostRuntime) -> Result<(), Fail> {
     let alloc = rt.alloc();
     let mut text = vec![in alloc; b'#'; 256]?;
     let (_, why) = lines_of(alloc, &mut MemorySource::new(&text))?;
-    assert_eq!(rt; why, Some(NoLine::Fault(1, LineFault::NotEnded)));
+    assert_eq!(rt; why, Some(TextFault::Line(1, LineFault::NotEnded)));
     text.push(b'\n')?;
     let (lines, why) = lines_of(alloc, &mut MemorySource::new(&text))?;
     let line = lines.strip_suffix(b"/".as_slice()).ok_or("no line")?;
@@ -425,7 +425,7 @@ fn a_line_has_256_bytes(rt: HostRuntime) -> Result<(), Fail> {
     let mut text = vec![in alloc; b'#'; 257]?;
     text.push(b'\n')?;
     let (_, why) = lines_of(alloc, &mut MemorySource::new(&text))?;
-    assert_eq!(rt; why, Some(NoLine::Fault(1, LineFault::TooLong)));
+    assert_eq!(rt; why, Some(TextFault::Line(1, LineFault::TooLong)));
     Ok(())
 }
 
@@ -477,7 +477,7 @@ fn each_read_fails_in_turn(rt: HostRuntime) -> Result<(), Fail> {
         let mut source = FailAt::new(ReadSource::new(Drip(text)), call);
         let (lines, why) = lines_of(alloc, &mut source)?;
         assert!(rt; source.has_failed());
-        assert_eq!(rt; why, Some(NoLine::Failed), "{call}");
+        assert_eq!(rt; why, Some(TextFault::Read), "{call}");
         let whole = if call <= 10 {
             ""
         } else if call <= 16 {

@@ -1,4 +1,2 @@
-pub mod Reading
-pub mod Listing
-pub mod ListingEnds
 pub mod Checking
+pub mod Listing

@@ -1,7 +1,7 @@
 -- Scripts, line after line.
 use Rattle.std.proofs.Common.{zero, suc, Bool, true, false, ◌≡◌, ℕ, ◌+◌, ◌<◌, ◌==◌, eqb, if◌then◌else◌, List, [], ◌∷◌, ◌++◌, length, set, get_or, map, replicate, arith, append-nil, ap, ◌∙◌, sym, subst, refl}
-use Rattle.std.specs.Prelude.{Option, Some, None, Vec}
-use Rattle.std.specs.List.{AllByRecursion, range_with_len}
+use Rattle.std.specs.Prelude.{IsTrue, Option, Some, None, Vec}
+use Rattle.std.specs.List.{range_with_len}
 use Rattle.std.specs.declared.alloc.Global.{Global}
 use Rattle.std.proofs.lemmas.List.{ext_get_or, map-append, map-set, length-set, get_or-set_same, get_or-set_other, get_or-map, replicate_more}
 use Rattle.std.proofs.lemmas.List.FromFn.{length-map-range_with_len, get_or-map-range_with_len}
@@ -9,17 +9,8 @@ use Rattle.std.proofs.lemmas.Bool.{eqb-true, eqb-false}
 use Rattle.graph_heap.specs.declared.command.Command.{Command}
 use Rattle.trace.specs.declared.line.Line.{Line}
 use Rattle.trace.specs.declared.line.Line.TheVariants as lines
-use Rattle.trace.specs.Spelling.{Spells, IsSkipped}
-use Rattle.transcripts.specs.Scripts.{SpellLines, IsOfScripts, script_of, scripts_of, one_more, with_line}
-
--- a line more
-pub spells_more : (ts : List (List ℕ)) (ls : List Line) (text : List ℕ) (line : Line) → SpellLines ts ls → Spells text line → SpellLines (ts ++ text ∷ []) (ls ++ line ∷ [])
-spells_more [] ls text line p s = (line, [], s, ap (λ l. l ++ line ∷ []) p, refl)
-spells_more (t ∷ ts) ls text line p s = (p.0, p.1 ++ line ∷ [], p.2, ap (λ l. l ++ line ∷ []) p.3, spells_more ts p.1 text line p.4 s)
-
-pub each_more : (P : Line → Type 0) (ls : List Line) (line : Line) → AllByRecursion P ls → P line → AllByRecursion P (ls ++ line ∷ [])
-each_more P [] line all this = (this, tt)
-each_more P (l ∷ ls) line all this = (all.0, each_more P ls line all.1 this)
+use Rattle.trace.specs.Spelling.{Spells, is_skipped}
+use Rattle.transcripts.specs.Scripts.{IsOfScripts, script_of, scripts_of, one_more, with_line}
 
 -- a mutator's commands in two parts
 in_parts : (b : Bool) (c : Command) (whole front back : List Command) → whole ≡ front ++ back → (if b then c ∷ whole else whole) ≡ (if b then c ∷ front else front) ++ back
@@ -95,6 +86,9 @@ pub empty_scripts : (n : ℕ) → replicate n [] ≡ scripts_of n []
 empty_scripts n = none_yet 0 n
 
 -- the scripts as they lie in vectors
+abbrev pub Scripts : Type 0
+Scripts = Vec (Vec Command Global) Global
+
 abbrev commands_in : Vec Command Global → List Command
 commands_in script = script.items
 
@@ -108,8 +102,8 @@ lists_push xs v n e is = map-append commands_in xs (v ∷ []) ∙ ap (λ (s : Li
 
 -- a line that spells neither a skipped line nor a command
 pub not_command : (text : List ℕ) (line : Line) → (line ≡ lines.Skip → ⊥) → ((m : ℕ) (c : Command) → line ≡ lines.Command m c → ⊥) → ((x : Line) → Spells text x → Some line ≡ Some x)
-    → (¬ IsSkipped text) × ((m : ℕ) (c : Command) → Spells text (lines.Command m c) → ⊥)
+    → (¬ IsTrue (is_skipped text)) × ((m : ℕ) (c : Command) → Spells text (lines.Command m c) → ⊥)
 not_command text line skip command only = (λ s. skip (let e = only lines.Skip s in cc), λ m c s. command m c (let e = only (lines.Command m c) s in cc))
 
-pub no_line : (text : List ℕ) → ((x : Line) → Spells text x → ◌≡◌ {A = Option Line} None (Some x)) → (¬ IsSkipped text) × ((m : ℕ) (c : Command) → Spells text (lines.Command m c) → ⊥)
+pub no_line : (text : List ℕ) → ((x : Line) → Spells text x → ◌≡◌ {A = Option Line} None (Some x)) → (¬ IsTrue (is_skipped text)) × ((m : ℕ) (c : Command) → Spells text (lines.Command m c) → ⊥)
 no_line text only = (λ s. let e = only lines.Skip s in cc, λ m c s. let e = only (lines.Command m c) s in cc)

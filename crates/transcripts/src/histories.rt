@@ -1,12 +1,11 @@
 //! Histories, checked against a graph heap.
 ghost use Rattle.std.specs.Prelude.{◌≡◌, ◌+◌};
-ghost use Rattle.trace.specs.Streams.{Stays};
-ghost use Rattle.transcripts.specs.Lines.{reads_failed};
+ghost use Rattle.trace.specs.GoneOver.{reads_failed};
+ghost use Rattle.trace.specs.Streams.{Stays, given_by};
 ghost use Rattle.transcripts.specs.Histories.{LineChecked, EntriesChecked};
 
-use crate::fault::TranscriptFault;
 use graph_heap::Reference;
-use trace::{EntryLine, LineFault, LineReader, Source, read_entry};
+use trace::{EntryLine, LineFault, LineReader, Source, TextFault, read_entry};
 
 /// What became of a history that was checked.
 #[derive(Clone, Copy, Debug, PartialEq, Eq)]
@@ -29,15 +28,11 @@ enum Outcome {
 }
 
 /// Checks one line, and does its entry if that is a step.
-fn check_line(
-    bytes: &[u8],
-    number: u64,
-    reference: &mut Reference,
-) -> Result<Outcome, TranscriptFault>
+fn check_line(bytes: &[u8], number: u64, reference: &mut Reference) -> Result<Outcome, TextFault>
     ensures { LineChecked bytes.now number reference.old reference.new result }
 {
     let Some(line) = read_entry(bytes) else {
-        return Err(TranscriptFault::Line(number, LineFault::NotAnEntry));
+        return Err(TextFault::Line(number, LineFault::NotAnEntry));
     };
     let EntryLine::Entry(entry) = line else {
         return Ok(Outcome::Skipped);
@@ -55,8 +50,8 @@ fn check_line(
 pub fn check_entries<S: Source>(
     source: &mut S,
     reference: &mut Reference,
-) -> Result<Checked, TranscriptFault>
-    ensures checked { EntriesChecked (S.given source.old) (S.given source.new) (S.ended source.new) reference.old reference.new result }
+) -> Result<Checked, TextFault>
+    ensures checked { EntriesChecked (given_by S.given S.ended source.old source.new) reference.old reference.new result }
     ensures reads { S.failures source.new ≡ S.failures source.old + reads_failed result }
     ensures input { reads_failed result ≡ 0 → Stays (S.input source.old) (S.input source.new) }
 {

@@ -2,11 +2,9 @@
 //! whose entries are checked against a graph heap.
 #![tactic(auto)]
 
-mod fault;
 mod histories;
 mod scripts;
 
-pub use fault::TranscriptFault;
 pub use histories::{Checked, check_entries};
 pub use scripts::read_scripts;
 

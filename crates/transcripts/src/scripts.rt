@@ -1,14 +1,13 @@
 //! Scripts: the commands of each mutator.
 ghost use Rattle.std.specs.Prelude.{◌≡◌, ◌+◌, ◌<◌, vec_len, replicate, [], IfOk, IfErr, OnOk};
-ghost use Rattle.trace.specs.Streams.{Stays};
+ghost use Rattle.trace.specs.GoneOver.{reads_failed};
+ghost use Rattle.trace.specs.Streams.{Stays, given_by};
 ghost use Rattle.trace.specs.Spelling.{Spells};
-ghost use Rattle.transcripts.specs.Lines.{reads_failed};
 ghost use Rattle.transcripts.specs.Scripts.{line_of, lists_in, one_more, IsOfScripts, ScriptLineIs, LineAdded, ScriptsRead};
 
-use crate::fault::TranscriptFault;
 use graph_heap::{Command, Limits, NoMemory};
 use std::alloc::Global;
-use trace::{Line, LineFault, LineReader, Source, read_line};
+use trace::{Line, LineFault, LineReader, Source, TextFault, read_line};
 
 /// What a line of scripts says: nothing, or a command and whose it is.
 fn script_line(bytes: &[u8], mutators: usize) -> Result<Option<(u32, Command)>, LineFault>
@@ -43,18 +42,14 @@ fn add(scripts: &mut Vec<Vec<Command>>, mutator: usize, command: Command) -> Res
 }
 
 /// Does what a line of scripts says.
-fn add_line(
-    bytes: &[u8],
-    number: u64,
-    scripts: &mut Vec<Vec<Command>>,
-) -> Result<(), TranscriptFault>
+fn add_line(bytes: &[u8], number: u64, scripts: &mut Vec<Vec<Command>>) -> Result<(), TextFault>
     ensures done { LineAdded bytes.now number scripts.old scripts.new result }
     ensures len { vec_len scripts.new ≡ vec_len scripts.old }
 {
     match script_line(bytes, scripts.len()) {
         Ok(None) => Ok(()),
         Ok(Some((mutator, command))) => Ok(add(scripts, mutator as usize, command)?),
-        Err(fault) => Err(TranscriptFault::Line(number, fault)),
+        Err(fault) => Err(TextFault::Line(number, fault)),
     }
 }
 
@@ -76,8 +71,8 @@ pub fn read_scripts<S: Source>(
     alloc: Global,
     source: &mut S,
     limits: &Limits,
-) -> Result<Vec<Vec<Command>>, TranscriptFault>
-    ensures read { ScriptsRead (S.given source.old) (S.given source.new) (S.ended source.new) limits.now.mutators result }
+) -> Result<Vec<Vec<Command>>, TextFault>
+    ensures read { ScriptsRead (given_by S.given S.ended source.old source.new) limits.now.mutators result }
     ensures len { IfOk result (λ scripts. vec_len scripts ≡ limits.now.mutators) }
     ensures reads { S.failures source.new ≡ S.failures source.old + reads_failed result }
     ensures input { reads_failed result ≡ 0 → Stays (S.input source.old) (S.input source.new) }

@@ -4,7 +4,7 @@ use graph_heap::{Command, Limits, NoMemory, Reference, Shape};
 use std::alloc::Global;
 use std::process::Abort;
 use std::test::Fail;
-use trace::{FailAt, LineFault, MemorySource, ReadSource};
+use trace::{FailAt, LineFault, MemorySource, ReadSource, TextFault};
 
 const LIMITS: Limits = Limits {
     mutators: 2,
@@ -24,7 +24,7 @@ fn refuse(
     match read_scripts(rt.alloc(), &mut source, &LIMITS) {
         Ok(_) => panic!(rt; "{text}"),
         Err(found) => {
-            assert_eq!(rt; found, TranscriptFault::Line(number, fault), "{text}");
+            assert_eq!(rt; found, TextFault::Line(number, fault), "{text}");
         }
     }
     Ok(())
@@ -34,7 +34,7 @@ fn refuse(
 fn check(
     rt: &(impl Abort + AllocGlobal),
     text: &str,
-    answer: Result<Checked, TranscriptFault>,
+    answer: Result<Checked, TextFault>,
 ) -> Result<(), Fail> {
     let mut reference = Reference::new(rt.alloc(), &LIMITS)?;
     let mut source = MemorySource::new(text.as_bytes());
@@ -135,7 +135,7 @@ fn each_read_of_scripts_fails_in_turn(rt: HostRuntime) -> Result<(), Fail> {
         match read_scripts(rt.alloc(), &mut source, &LIMITS) {
             Ok(_) => panic!(rt; "{call}"),
             Err(fault) => {
-                assert_eq!(rt; fault, TranscriptFault::Read, "{call}");
+                assert_eq!(rt; fault, TextFault::Read, "{call}");
             }
         }
     }
@@ -187,14 +187,10 @@ fn lines_of_histories_are_refused(rt: HostRuntime) -> Result<(), Fail> {
         ),
     ];
     for (text, number, fault) in faults {
-        check(&rt, text, Err(TranscriptFault::Line(number, fault)))?;
+        check(&rt, text, Err(TextFault::Line(number, fault)))?;
     }
     let long = comment_of(rt.alloc(), 257)?;
-    check(
-        &rt,
-        &long,
-        Err(TranscriptFault::Line(1, LineFault::NotAnEntry)),
-    )
+    check(&rt, &long, Err(TextFault::Line(1, LineFault::NotAnEntry)))
 }
 
 #[test]
@@ -224,7 +220,7 @@ fn a_history_goes_on_where_the_heap_stands(rt: HostRuntime) -> Result<(), Fail> 
 fn nothing_is_read_behind_a_wrong_entry(rt: HostRuntime) -> Result<(), Fail> {
     let runs = [
         ("0 clear 0 => stored\n", Ok(Checked::Wrong(1))),
-        ("0 clear 0 => done\n", Err(TranscriptFault::Read)),
+        ("0 clear 0 => done\n", Err(TextFault::Read)),
     ];
     for (text, answer) in runs {
         let mut reference = Reference::new(rt.alloc(), &LIMITS)?;
@@ -242,27 +238,27 @@ fn nothing_is_read_behind_a_wrong_entry(rt: HostRuntime) -> Result<(), Fail> {
 fn faults_have_their_texts(rt: HostRuntime) -> Result<(), Fail> {
     let faults = [
         (
-            TranscriptFault::Line(1, LineFault::NoSuchMutator),
+            TextFault::Line(1, LineFault::NoSuchMutator),
             "line 1: no such mutator",
         ),
         (
-            TranscriptFault::Line(2, LineFault::NotACommand),
+            TextFault::Line(2, LineFault::NotACommand),
             "line 2: not a command",
         ),
         (
-            TranscriptFault::Line(3, LineFault::NotAnEntry),
+            TextFault::Line(3, LineFault::NotAnEntry),
             "line 3: not an entry",
         ),
         (
-            TranscriptFault::Line(4, LineFault::TooLong),
+            TextFault::Line(4, LineFault::TooLong),
             "line 4: line too long",
         ),
         (
-            TranscriptFault::Line(18446744073709551615, LineFault::NotEnded),
+            TextFault::Line(18446744073709551615, LineFault::NotEnded),
             "line 18446744073709551615: line not ended",
         ),
-        (TranscriptFault::Read, "cannot read"),
-        (TranscriptFault::NoMemory, "no memory"),
+        (TextFault::Read, "cannot read"),
+        (TextFault::NoMemory, "no memory"),
     ];
     for (fault, text) in faults {
         assert_eq!(rt; format!(in rt.alloc(); "{fault}")?.as_str(), text);

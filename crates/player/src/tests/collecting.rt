@@ -154,7 +154,7 @@ fn quanta_that_are_asked_for_have_no_interval(rt: HostRuntime) -> Result<(), Fai
 
 #[test]
 fn the_clock_has_a_limit(rt: HostRuntime) -> Result<(), Fail> {
-    let fault = PlayFault::Line(2, LineFault::ClockSpent);
+    let fault = TextFault::Line(2, LineFault::ClockSpent);
     let trace = "tick 1099511627776\ntick 1\n";
     expect(&rt, &TWO_PAGES, trace, Err(fault), "")
 }

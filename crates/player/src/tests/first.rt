@@ -6,7 +6,7 @@ fn expect_first(
     rt: &(impl Abort + AllocGlobal),
     n: u32,
     trace: &str,
-    answer: Result<(), PlayFault>,
+    answer: Result<(), TextFault>,
     written: &str,
 ) -> Result<(), Fail> {
     let mut player = player(rt, &FOUR_PAGES)?;
@@ -86,7 +86,7 @@ fn lines_before_that_event_may_be_in_fault(rt: HostRuntime) -> Result<(), Fail> 
         ),
     ];
     for (n, trace, line, fault, written) in runs {
-        let answer = Err(PlayFault::Line(line, fault));
+        let answer = Err(TextFault::Line(line, fault));
         expect_first(&rt, n, trace, answer, written)?;
     }
     Ok(())
@@ -96,9 +96,9 @@ fn lines_before_that_event_may_be_in_fault(rt: HostRuntime) -> Result<(), Fail> 
 fn nothing_is_read_behind_that_event(rt: HostRuntime) -> Result<(), Fail> {
     let runs = [
         (0, 1, Ok(()), 0usize),
-        (1, 1, Err(PlayFault::Read), 0),
+        (1, 1, Err(TextFault::Read), 0),
         (1, 2, Ok(()), 1),
-        (2, 2, Err(PlayFault::Read), 1),
+        (2, 2, Err(TextFault::Read), 1),
     ];
     for (n, call, answer, entries) in runs {
         let mut player = player(&rt, &FOUR_PAGES)?;
@@ -125,7 +125,7 @@ fn the_last_write_may_fail(rt: HostRuntime) -> Result<(), Fail> {
         let style = Style::Entries;
         assert_eq!(rt;
             play_first(n, &mut source, &mut sink, &mut player, style),
-            Err(PlayFault::Write),
+            Err(TextFault::Write),
             "{n}"
         );
         assert_eq!(rt; player.recorded().history().len(), 1);

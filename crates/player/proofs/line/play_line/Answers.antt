@@ -1,25 +1,47 @@
-use Rattle.std.proofs.Common.{◌∷◌, [], append-nil, sym, subst, refl}
-use Rattle.heap_model.specs.Event.{Quantum_done}
+use Rattle.std.proofs.Common.{◌∷◌, ◌++◌, [], append-nil, sym, subst, ap, ◌∙◌, refl}
+use Rattle.heap_model.specs.Event.{Command_done, Quantum_done}
 use Rattle.trace.specs.declared.line.Line.TheVariants as lines
 use Rattle.trace.specs.Spelling.{Spells}
 use Rattle.player.specs.Player.{PlayerState, DoesLine, Skips, Spends}
+use Rattle.player.specs.Playing.{written_line}
+use Rattle.player.proofs.First.{says, event_read, skip_read}
 use Rattle.player.proofs.Lines.{tick_written}
 use Rattle.player.proofs.line.play_line.Goals as goal
 
-pub returns-in-Skip-clause-done : goal.returns-in-Skip-clause-done
-returns-in-Skip-clause-done g c = (lines.Skip, [], subst (Spells c.args.bytes.now) c.in-Skip.is c.in-Some.ensures.found, Skips, sym (append-nil (g.K.Sink.taken c.args.sink.now)))
+pub returns-in-Skip-clause-played : goal.returns-in-Skip-clause-played
+returns-in-Skip-clause-played g c =
+    let spells = subst (Spells c.args.bytes.now) c.in-Skip.is c.in-Some.ensures.found in
+    ([], (lines.Skip, spells, (Skips, sym (append-nil (g.K.Sink.taken c.args.sink.now)))), skip_read c.args.bytes.now spells)
 
-pub returns-in-Quantum-clause-done : goal.returns-in-Quantum-clause-done
-returns-in-Quantum-clause-done g c =
-    let s = c.quantum.ensures in (
-      lines.Quantum c.in-Quantum.budget,
-      Quantum_done c.in-Quantum.budget s.0 s.1 ∷ [],
-      subst (Spells c.args.bytes.now) c.in-Quantum.is c.in-Some.ensures.found,
-      subst (λ (x : PlayerState). DoesLine c.args.player.now (lines.Quantum c.in-Quantum.budget) (Quantum_done c.in-Quantum.budget s.0 s.1 ∷ []) x) (sym s.4) (Spends c.in-Quantum.budget s.0 s.1 s.2 s.3),
-      sym (append-nil (g.K.Sink.taken c.args.sink.now)),
+pub returns-in_ok-play_command-in-Command-clause-played : goal.returns-in_ok-play_command-in-Command-clause-played
+returns-in_ok-play_command-in-Command-clause-played g c =
+    let d = c.in_ok-play_command-in-Command.ensures.done in
+    let m = c.in-Command.mutator in
+    let command = c.in-Command.command in
+    let line = written_line c.args.style (record { mutator = m; command = command; reply = d.0 }) in (
+      Command_done m command d.0 ∷ [],
+      (lines.Command m command, subst (Spells c.args.bytes.now) c.in-Command.is c.in-Some.ensures.found, (d.1, d.2 ∙ ap (λ t. g.K.Sink.taken c.args.sink.now ++ t) (sym (append-nil line)))),
+      event_read c.args.bytes.now c.in-Some.line c.in-Some.ensures.only (ap says c.in-Command.is),
     )
 
-pub returns-in-Ok-clause-done : goal.returns-in-Ok-clause-done
-returns-in-Ok-clause-done g c =
+pub returns-in-Quantum-clause-played : goal.returns-in-Quantum-clause-played
+returns-in-Quantum-clause-played g c =
+    let s = c.quantum.ensures in
+    let does = Quantum_done c.in-Quantum.budget s.0 s.1 ∷ [] in (
+      does,
+      (
+        lines.Quantum c.in-Quantum.budget,
+        subst (Spells c.args.bytes.now) c.in-Quantum.is c.in-Some.ensures.found,
+        (subst (λ (x : PlayerState). DoesLine c.args.player.now (lines.Quantum c.in-Quantum.budget) does x) (sym s.4) (Spends c.in-Quantum.budget s.0 s.1 s.2 s.3), sym (append-nil (g.K.Sink.taken c.args.sink.now))),
+      ),
+      event_read c.args.bytes.now c.in-Some.line c.in-Some.ensures.only (ap says c.in-Quantum.is),
+    )
+
+pub returns-in-Ok-clause-played : goal.returns-in-Ok-clause-played
+returns-in-Ok-clause-played g c =
     let t = c.in-Ok.ensures in
-    (lines.Tick c.in-Tick.ticks, t.0, subst (Spells c.args.bytes.now) c.in-Tick.is c.in-Some.ensures.found, t.1, tick_written c.args.style (g.K.Sink.taken c.args.sink.now) c.args.player.now c.tick.new.self (lines.Tick c.in-Tick.ticks) c.in-Tick.ticks t.0 refl t.1)
+    let n = c.in-Tick.ticks in (
+      t.0,
+      (lines.Tick n, subst (Spells c.args.bytes.now) c.in-Tick.is c.in-Some.ensures.found, (t.1, tick_written c.args.style (g.K.Sink.taken c.args.sink.now) c.args.player.now c.tick.new.self n t.0 t.1)),
+      event_read c.args.bytes.now c.in-Some.line c.in-Some.ensures.only (ap says c.in-Tick.is),
+    )

@@ -1,12 +1,13 @@
 use Rattle.std.proofs.Common.{arith, refl}
 use Rattle.std.proofs.lemmas.Result.{err_from_is_err_and}
-use Rattle.player.proofs.Lines.{at_first, handed_out, stays_same, stays_on}
-use Rattle.player.proofs.Ending.{ends_over, ends_without, ends_in}
+use Rattle.trace.proofs.GoingOver.{stays_same, stays_on, at_first, goes_on, ends_without, ends_over, ends_at}
+use Rattle.player.specs.Playing.{stage, PlaysText, StopsText}
+use Rattle.player.proofs.Lines.{played}
 use Rattle.player.proofs.playing.play.Goals as goal
 
 pub loop-reader-init : goal.loop-reader-init
 loop-reader-init g c = rw c.new-reader.ensures (record {
-  done = at_first c.args.style (g.S.Source.given c.args.source.now) (g.K.Sink.taken c.args.sink.now) c.args.player.now;
+  done = at_first (PlaysText c.args.style) (g.S.Source.given c.args.source.now) (g.S.Source.ended c.args.source.now) (stage c.args.player.now (g.K.Sink.taken c.args.sink.now));
   behind = omega arith;
   reads = refl;
   writes = refl;
@@ -17,7 +18,8 @@ pub returns-in_err-next_line-clause-played : goal.returns-in_err-next_line-claus
 returns-in_err-next_line-clause-played g c =
     let p = err_from_is_err_and c.from_residual.result c.from_residual.ensures.1 in
     let e = c.in_err-next_line.ensures in
-    rw (p.1, p.2) (ends_without c.args.style _ _ _ _ _ _ _ _ _ _ c.next_line.new.self c.in_err-next_line.field-0.0 c.loop-reader.invariant.done e.text e.says (omega (arith, e.number)))
+    rw (p.1, p.2) (played c.args.style _ _ _ _
+    (ends_without c.loop-reader.invariant.done c.next_line.new.self _ _ (Unit {0}) (StopsText c.args.style) _ (record { text = e.text; says = e.says; number = e.number; small = e.small })))
 
 pub loop-reader-preserved : goal.loop-reader-preserved
 loop-reader-preserved g c =
@@ -25,7 +27,7 @@ loop-reader-preserved g c =
     let d = c.in_ok-play_line.ensures in
     let i = c.loop-reader.invariant in
     record {
-      done = handed_out c.args.style _ _ _ (g.S.Source.ended c.next_line.new.source) _ _ _ _ _ _ _ _ _ _ c.next_line.new.self c.in_ok-next_line.field-0 c.if-branch.true i.done e.text e.says e.number c.line.ensures c.number.ensures d.done;
+      done = goes_on i.done c.next_line.new.self _ _ _ (record { text = e.text; says = e.says; number = e.number; small = e.small }) c.if-branch.true _ c.line.ensures _ d.played.0 d.played.1;
       behind = e.behind;
       reads = omega (arith, e.cause, i.reads);
       writes = omega (arith, d.writes, i.writes);
@@ -34,13 +36,14 @@ loop-reader-preserved g c =
 
 pub returns-in_err-play_line-clause-played : goal.returns-in_err-play_line-clause-played
 returns-in_err-play_line-clause-played g c =
-    let e = c.in_ok-next_line.ensures in
-    let d = c.in_err-play_line.ensures in
-    let i = c.loop-reader.invariant in
     let p = err_from_is_err_and c.from_residual-in_err-play_line.result c.from_residual-in_err-play_line.ensures.1 in
-    rw (p.1, p.2) (ends_in c.args.style _ _ _ (g.S.Source.ended c.next_line.new.source) _ _ _ _ _ _ _ _ _ _ c.next_line.new.self c.in_ok-next_line.field-0 c.if-branch.true i.done e.text e.says e.number c.line.ensures c.number.ensures c.in_err-play_line.field-0.0 d.done)
+    let e = c.in_ok-next_line.ensures in
+    rw (p.1, p.2) (played c.args.style _ _ _ _
+    (ends_at c.loop-reader.invariant.done c.next_line.new.self _ _ _ (record { text = e.text; says = e.says; number = e.number; small = e.small }) c.if-branch.true _ c.line.ensures (Unit {0}) (StopsText c.args.style) _ _ _ c.number.ensures
+    c.in_err-play_line.ensures.played))
 
 pub returns-clause-played : goal.returns-clause-played
 returns-clause-played g c =
     let e = c.in_ok-next_line.ensures in
-    ends_over c.args.style _ _ _ (g.S.Source.ended c.next_line.new.source) _ _ _ _ _ _ c.next_line.new.self c.in_ok-next_line.field-0 c.if-branch.false c.loop-reader.invariant.done e.text e.says
+    played c.args.style _ _ _ _
+    (ends_over c.loop-reader.invariant.done c.next_line.new.self _ _ _ (record { text = e.text; says = e.says; number = e.number; small = e.small }) c.if-branch.false _ (λ rest all. (all.0, all.1, refl)))

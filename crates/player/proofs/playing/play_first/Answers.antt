@@ -1,13 +1,16 @@
-use Rattle.std.proofs.Common.{◌≡◌, ◌-◌, true, false, arith, ap, ◌∙◌, sym, refl}
+use Rattle.std.proofs.Common.{◌≡◌, true, false, inl, inr, arith, sym, ap, ◌∙◌, refl}
 use Rattle.std.proofs.lemmas.Result.{err_from_is_err_and}
-use Rattle.player.specs.Playing.{is_event}
-use Rattle.player.proofs.Lines.{stays_same, stays_on}
-use Rattle.player.proofs.First.{first_begins, first_done, first_over, first_without, first_in, first_on}
+use Rattle.trace.proofs.GoingOver.{stays_same, stays_on, at_first, goes_on, ends_without, ends_over, ends_at}
+use Rattle.player.specs.Playing.{stage, is_event, PlaysText, StopsText}
+use Rattle.player.proofs.Lines.{played}
+use Rattle.player.proofs.First.{first_done, count_more}
 use Rattle.player.proofs.playing.play_first.Goals as goal
 
 pub loop-left-init : goal.loop-left-init
 loop-left-init g c = rw c.new-reader.ensures (record {
-  done = first_begins c.args.style (g.S.Source.given c.args.source.now) (g.K.Sink.taken c.args.sink.now) c.args.player.now c.args.n;
+  done = at_first (PlaysText c.args.style) (g.S.Source.given c.args.source.now) (g.S.Source.ended c.args.source.now) (stage c.args.player.now (g.K.Sink.taken c.args.sink.now));
+  few = omega arith;
+  at_end = λ _. inl refl;
   none = λ _. refl;
   behind = omega arith;
   reads = refl;
@@ -19,26 +22,36 @@ pub returns-in_err-next_line-clause-played : goal.returns-in_err-next_line-claus
 returns-in_err-next_line-clause-played g c =
     let p = err_from_is_err_and c.from_residual.result c.from_residual.ensures.1 in
     let e = c.in_err-next_line.ensures in
-    rw (p.1, p.2) (first_without _ _ _ (g.S.Source.ended c.next_line.new.source) _ _ _ _ _ _ _ _ c.loop-left.invariant.done _ c.loop-left-test.true c.next_line.new.self c.in_err-next_line.field-0.0 e.text e.says (omega (arith, e.number)))
+    let i = c.loop-left.invariant in
+    rw (p.1, p.2) (inl (
+      played c.args.style _ _ _ _
+          (ends_without i.done c.next_line.new.self _ _ (Unit {0}) (StopsText c.args.style) _ (record { text = e.text; says = e.says; number = e.number; small = e.small })),
+      omega (arith, i.few, c.loop-left-test.true),
+    ))
 
 pub returns-in_err-play_line-clause-played : goal.returns-in_err-play_line-clause-played
 returns-in_err-play_line-clause-played g c =
-    let e = c.in_ok-next_line.ensures in
     let p = err_from_is_err_and c.from_residual-in_err-play_line.result c.from_residual-in_err-play_line.ensures.1 in
-    rw (p.1, p.2)
-    (first_in _ _ _ (g.S.Source.ended c.next_line.new.source) _ _ _ _ _ _ _ _ c.loop-left.invariant.done _ c.loop-left-test.true c.next_line.new.self c.in_ok-next_line.field-0 c.if-branch.true e.text e.says e.small e.number
-    _ c.line.ensures c.number.result c.number.ensures _ _ c.in_err-play_line.field-0.0 c.in_err-play_line.ensures.done)
+    let e = c.in_ok-next_line.ensures in
+    let i = c.loop-left.invariant in
+    rw (p.1, p.2) (inl (
+      played c.args.style _ _ _ _
+          (ends_at i.done c.next_line.new.self _ _ _ (record { text = e.text; says = e.says; number = e.number; small = e.small }) c.if-branch.true _ c.line.ensures (Unit {0}) (StopsText c.args.style) _ _ _ c.number.ensures
+          c.in_err-play_line.ensures.played),
+      omega (arith, i.few, c.loop-left-test.true),
+    ))
 
-pub loop-left-preserved-then-is_event : goal.loop-left-preserved-then-is_event
-loop-left-preserved-then-is_event g c =
+pub loop-left-preserved-then-branch-2 : goal.loop-left-preserved-then-branch-2
+loop-left-preserved-then-branch-2 g c =
     let e = c.in_ok-next_line.ensures in
     let d = c.in_ok-play_line.ensures in
     let i = c.loop-left.invariant in
-    let event = ap is_event (sym c.line-in-loop-left.ensures) ∙ sym c.is_event.ensures ∙ c.if-is_event.true in
+    let event : true ≡ is_event c.next_line.new.self.line = sym c.if-branch-2.true ∙ d.played.2 ∙ ap is_event c.line.ensures in
     record {
-      done = first_on _ _ _ (g.S.Source.ended c.next_line.new.source) _ _ _ _ _ _ _ _ i.done _ c.loop-left-test.true c.next_line.new.self c.in_ok-next_line.field-0 c.if-branch.true e.text e.says e.small e.number
-          _ c.line.ensures c.number.result c.number.ensures _ _ true event (c.loop-left.left - 1) refl d.done;
-      none = λ zero. absurd (omega (arith, i.done.few, c.loop-left-test.true));
+      done = goes_on i.done c.next_line.new.self _ _ _ (record { text = e.text; says = e.says; number = e.number; small = e.small }) c.if-branch.true _ c.line.ensures _ d.played.0 d.played.1;
+      few = omega (arith, count_more i.done.lines c.next_line.new.self.line true event, i.few, c.loop-left-test.true);
+      at_end = λ _. inr (i.done.lines, c.next_line.new.self.line, refl, sym event);
+      none = λ zero. absurd (omega (arith, zero, i.few, c.loop-left-test.true));
       behind = e.behind;
       reads = omega (arith, e.cause, i.reads);
       writes = omega (arith, d.writes, i.writes);
@@ -50,12 +63,12 @@ loop-left-preserved g c =
     let e = c.in_ok-next_line.ensures in
     let d = c.in_ok-play_line.ensures in
     let i = c.loop-left.invariant in
-    let skipped = ap is_event (sym c.line-in-loop-left.ensures) ∙ sym c.is_event.ensures ∙ c.if-is_event.false in
-    let same : c.loop-left.left ≡ c.loop-left.left - 0 = omega arith in
+    let skipped : false ≡ is_event c.next_line.new.self.line = sym c.if-branch-2.false ∙ d.played.2 ∙ ap is_event c.line.ensures in
     record {
-      done = first_on _ _ _ (g.S.Source.ended c.next_line.new.source) _ _ _ _ _ _ _ _ i.done _ c.loop-left-test.true c.next_line.new.self c.in_ok-next_line.field-0 c.if-branch.true e.text e.says e.small e.number
-          _ c.line.ensures c.number.result c.number.ensures _ _ false skipped c.loop-left.left same d.done;
-      none = λ zero. absurd (omega (arith, i.done.few, c.loop-left-test.true));
+      done = goes_on i.done c.next_line.new.self _ _ _ (record { text = e.text; says = e.says; number = e.number; small = e.small }) c.if-branch.true _ c.line.ensures _ d.played.0 d.played.1;
+      few = omega (arith, count_more i.done.lines c.next_line.new.self.line false skipped, i.few);
+      at_end = λ none. absurd (omega (arith, none, c.loop-left-test.true));
+      none = λ zero. absurd (omega (arith, zero, i.few, c.loop-left-test.true));
       behind = e.behind;
       reads = omega (arith, e.cause, i.reads);
       writes = omega (arith, d.writes, i.writes);
@@ -65,8 +78,14 @@ loop-left-preserved g c =
 pub returns-else-branch-clause-played : goal.returns-else-branch-clause-played
 returns-else-branch-clause-played g c =
     let e = c.in_ok-next_line.ensures in
-    first_over _ _ _ (g.S.Source.ended c.next_line.new.source) _ _ _ _ _ _ _ _ c.loop-left.invariant.done _ c.loop-left-test.true c.next_line.new.self c.in_ok-next_line.field-0 c.if-branch.false e.text e.says
+    let i = c.loop-left.invariant in
+    inl (
+      played c.args.style _ _ _ _
+          (ends_over i.done c.next_line.new.self _ _ _ (record { text = e.text; says = e.says; number = e.number; small = e.small }) c.if-branch.false _ (λ rest all. (all.0, all.1, refl))),
+      omega (arith, i.few, c.loop-left-test.true),
+    )
 
 pub returns-after-loop-left-clause-played : goal.returns-after-loop-left-clause-played
 returns-after-loop-left-clause-played g c =
-    first_done _ _ _ (g.S.Source.ended c.loop-left.source) _ _ _ _ _ _ _ _ c.loop-left.invariant.done (omega (arith, c.loop-left-test.false))
+    let i = c.loop-left.invariant in
+    first_done i.done c.args.n (omega (arith, i.few, c.loop-left-test.false)) (i.at_end (omega (arith, c.loop-left-test.false)))

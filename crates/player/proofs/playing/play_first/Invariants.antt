@@ -1,12 +1,16 @@
 use Rattle.std.proofs.Common.{◌≡◌, ◌+◌, ◌-◌, ◌≤◌, ◌^◌, length}
-use Rattle.trace.specs.Streams.{Stays}
-use Rattle.player.specs.Progress.{SoFirst}
+use Rattle.std.specs.List.{count_by}
+use Rattle.trace.specs.Streams.{given_by, Stays}
+use Rattle.trace.proofs.GoingOver.{SoFar}
+use Rattle.player.specs.Playing.{stage, PlaysText, is_event, EndAtEvent}
 use Rattle.player.proofs.playing.play_first.Given as goal
 
 -- the lines so far are done, none of them behind the nth event, and no read or write has failed
 abbrev pub invariant-loop-left : goal.invariant-loop-left
 invariant-loop-left g l = record {
-  done : SoFirst l.style (g.S.Source.given l.fn.source) (g.S.Source.given l.source) l.fn.player l.player (g.K.Sink.taken l.fn.sink) (g.K.Sink.taken l.sink) l.reader.kept l.reader.number l.n l.left;
+  done : SoFar (PlaysText l.style) (given_by g.S.Source.given g.S.Source.ended l.fn.source l.source) (stage l.fn.player (g.K.Sink.taken l.fn.sink)) (stage l.player (g.K.Sink.taken l.sink)) l.reader;
+  few : l.left + count_by is_event done.lines ≡ l.n;
+  at_end : l.left ≡ 0 → EndAtEvent done.lines;
   none : l.n ≡ 0 → l.source ≡ l.fn.source;
   behind : l.reader.number + length l.reader.kept ≤ length (g.S.Source.given l.source);
   reads : g.S.Source.failures l.source ≡ g.S.Source.failures l.fn.source;

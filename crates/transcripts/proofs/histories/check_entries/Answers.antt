@@ -1,12 +1,17 @@
-use Rattle.std.proofs.Common.{◌≡◌, ◌+◌, arith, refl}
+use Rattle.std.proofs.Common.{List, [], ◌∷◌, ◌++◌, ◌≡◌, ◌+◌, ap, ◌∙◌, sym, arith, refl, append-nil, length}
 use Rattle.std.proofs.lemmas.Result.{err_from_is_err_and}
-use Rattle.transcripts.proofs.Reading.{stays_same, stays_on, one_line}
-use Rattle.transcripts.proofs.Checking.{at_first, ends_without, ends_over, skips, does, ends_wrong, ends_in}
+use Rattle.std.proofs.lemmas.List.{length_push}
+use Rattle.graph_heap.specs.declared.command.Entry.{Entry}
+use Rattle.trace.proofs.GoingOver.{stays_same, stays_on, one_line, at_first, goes_on, ends_without, ends_over, ends_in, ends_at}
+use Rattle.transcripts.specs.declared.histories.Checked.{Checked}
+use Rattle.transcripts.specs.Histories.{DoesEntry, HistoryStops, IsWrong}
+use Rattle.transcripts.proofs.Checking.{checked}
 use Rattle.transcripts.proofs.histories.check_entries.Goals as goal
 
 pub loop-reader-init : goal.loop-reader-init
 loop-reader-init g c = rw c.new-reader.ensures (record {
-  done = at_first (g.S.Source.given c.args.source.now) c.args.reference.now;
+  done = at_first DoesEntry (g.S.Source.given c.args.source.now) (g.S.Source.ended c.args.source.now) c.args.reference.now;
+  good = refl;
   few = omega arith;
   behind = omega arith;
   reads = refl;
@@ -17,27 +22,30 @@ pub returns-in_err-next_line-clause-checked : goal.returns-in_err-next_line-clau
 returns-in_err-next_line-clause-checked g c =
     let p = err_from_is_err_and c.from_residual.result c.from_residual.ensures.1 in
     let e = c.in_err-next_line.ensures in
-    rw (p.1, p.2) (ends_without _ _ _ (g.S.Source.ended c.next_line.new.source) _ _ _ _ _ _ c.loop-reader.invariant.done c.in_err-next_line.field-0.0 c.next_line.new.self refl e.text e.small e.says (omega (arith, e.number)))
+    rw (p.1, p.2) (checked _ _ _ _
+    (ends_without c.loop-reader.invariant.done c.next_line.new.self _ _ Checked HistoryStops _ (record { text = e.text; says = e.says; number = e.number; small = e.small })))
 
 pub returns-clause-checked : goal.returns-clause-checked
 returns-clause-checked g c =
     let e = c.in_ok-next_line.ensures in
-    ends_over _ _ _ (g.S.Source.ended c.next_line.new.source) _ _ _ _ _ _ c.loop-reader.invariant.done c.next_line.new.self c.in_ok-next_line.field-0 e.text e.says e.small e.number c.if-branch.false refl
+    let i = c.loop-reader.invariant in
+    checked _ _ _ _
+    (ends_over i.done c.next_line.new.self _ _ _ (record { text = e.text; says = e.says; number = e.number; small = e.small }) c.if-branch.false _ (λ rest all. (all.0, all.1, refl, i.good)))
 
 pub returns-in_err-check_line-clause-checked : goal.returns-in_err-check_line-clause-checked
 returns-in_err-check_line-clause-checked g c =
-    let e = c.in_ok-next_line.ensures in
-    let i = c.loop-reader.invariant in
     let p = err_from_is_err_and c.from_residual-in_err-check_line.result c.from_residual-in_err-check_line.ensures.1 in
-    rw (p.1, p.2) (ends_in _ _ _ (g.S.Source.ended c.next_line.new.source) _ _ _ _ _ _ i.done c.next_line.new.self c.in_ok-next_line.field-0 e.text e.says e.small e.number c.if-branch.true _ c.line.ensures _ c.in_err-check_line.field-0.0 c.number.ensures c.in_err-check_line.ensures)
+    let e = c.in_ok-next_line.ensures in
+    rw (p.1, p.2) (checked _ _ _ _
+    (ends_at c.loop-reader.invariant.done c.next_line.new.self _ _ _ (record { text = e.text; says = e.says; number = e.number; small = e.small }) c.if-branch.true _ c.line.ensures Checked HistoryStops _ _ _ c.number.ensures c.in_err-check_line.ensures))
 
 pub loop-reader-preserved-in-Skipped : goal.loop-reader-preserved-in-Skipped
 loop-reader-preserved-in-Skipped g c =
     let e = c.in_ok-next_line.ensures in
     let i = c.loop-reader.invariant in
     record {
-      done = skips _ _ _ (g.S.Source.ended c.next_line.new.source) _ _ _ _ _ _ i.done c.next_line.new.self c.in_ok-next_line.field-0 e.text e.says e.small e.number c.if-branch.true _ c.line.ensures c.number.result
-          (rw c.in-Skipped.is at c.in_ok-check_line.ensures);
+      done = goes_on i.done c.next_line.new.self _ _ _ (record { text = e.text; says = e.says; number = e.number; small = e.small }) c.if-branch.true _ c.line.ensures _ [] (rw c.in-Skipped.is at c.in_ok-check_line.ensures);
+      good = i.good ∙ ap length (sym (append-nil i.done.events));
       few = omega (arith, e.number, i.few);
       behind = e.behind;
       reads = omega (arith, e.cause, i.reads);
@@ -48,10 +56,11 @@ pub loop-reader-preserved : goal.loop-reader-preserved
 loop-reader-preserved g c =
     let e = c.in_ok-next_line.ensures in
     let i = c.loop-reader.invariant in
-    let more : c.next_line.new.self.number ≡ c.loop-reader.reader.number + 1 = one_line c.loop-reader.reader.number c.next_line.new.self c.in_ok-next_line.field-0 c.if-branch.true e.number in
+    let does = rw c.in-Done.is at c.in_ok-check_line.ensures in
+    let more = one_line c.loop-reader.reader.number c.next_line.new.self c.in_ok-next_line.field-0 c.if-branch.true e.number in
     record {
-      done = does _ _ _ (g.S.Source.ended c.next_line.new.source) _ _ _ _ _ _ i.done c.next_line.new.self c.in_ok-next_line.field-0 e.text e.says e.small e.number c.if-branch.true _ c.line.ensures c.number.result
-          (rw c.in-Done.is at c.in_ok-check_line.ensures);
+      done = goes_on i.done c.next_line.new.self _ _ _ (record { text = e.text; says = e.says; number = e.number; small = e.small }) c.if-branch.true _ c.line.ensures _ (does.0 ∷ []) does.1;
+      good = ap (λ n. n + 1) i.good ∙ sym (length_push i.done.events does.0);
       few = omega (arith, more, i.few);
       behind = e.behind;
       reads = omega (arith, e.cause, i.reads);
@@ -62,5 +71,6 @@ pub returns-in-Wrong-clause-checked : goal.returns-in-Wrong-clause-checked
 returns-in-Wrong-clause-checked g c =
     let e = c.in_ok-next_line.ensures in
     let i = c.loop-reader.invariant in
-    ends_wrong _ _ _ (g.S.Source.ended c.next_line.new.source) _ _ _ _ _ _ i.done c.next_line.new.self c.in_ok-next_line.field-0 e.text e.says e.small e.number c.if-branch.true _ c.line.ensures c.number.result
-    c.number-in-Wrong.result c.number-in-Wrong.ensures (rw c.in-Wrong.is at c.in_ok-check_line.ensures)
+    let wrong = rw c.in-Wrong.is at c.in_ok-check_line.ensures in
+    checked _ _ _ _
+    (ends_in i.done c.next_line.new.self _ _ _ (record { text = e.text; says = e.says; number = e.number; small = e.small }) c.if-branch.true _ c.line.ensures (IsWrong c.loop-reader.reference) wrong.0 _ (λ count rest next. (c.number-in-Wrong.ensures ∙ count, next, wrong.1)))

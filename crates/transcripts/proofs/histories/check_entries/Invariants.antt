@@ -1,12 +1,14 @@
 use Rattle.std.proofs.Common.{◌≡◌, ◌+◌, ◌-◌, ◌≤◌, ◌^◌, length}
-use Rattle.trace.specs.Streams.{Stays}
-use Rattle.transcripts.specs.Histories.{EntriesSoFar}
+use Rattle.trace.specs.Streams.{given_by, Stays}
+use Rattle.trace.proofs.GoingOver.{SoFar}
+use Rattle.transcripts.specs.Histories.{DoesEntry}
 use Rattle.transcripts.proofs.histories.check_entries.Given as goal
 
 -- the entries of the lines so far are done, and no read has failed
 abbrev pub invariant-loop-reader : goal.invariant-loop-reader
 invariant-loop-reader g l = record {
-  done : EntriesSoFar (g.S.Source.given l.fn.source) (g.S.Source.given l.source) l.fn.reference l.reference l.good l.reader.kept l.reader.number;
+  done : SoFar DoesEntry (given_by g.S.Source.given g.S.Source.ended l.fn.source l.source) l.fn.reference l.reference l.reader;
+  good : l.good ≡ length done.events;
   few : l.good ≤ l.reader.number;
   behind : l.reader.number + length l.reader.kept ≤ length (g.S.Source.given l.source);
   reads : g.S.Source.failures l.source ≡ g.S.Source.failures l.fn.source;

@@ -1,17 +1,21 @@
-use Rattle.std.proofs.Common.{[], arith, refl}
+use Rattle.std.proofs.Common.{[], ◌∷◌, inl, inr, arith, ap, ◌∙◌, sym, subst, refl}
+use Rattle.std.specs.Prelude.{Ok, Err}
 use Rattle.std.proofs.lemmas.Result.{err_from_is_err_and}
-use Rattle.transcripts.proofs.Reading.{stays_same, stays_on}
-use Rattle.transcripts.proofs.ListingEnds.{at_first, not_begun, goes_on, ends_without, ends_in, ends_over}
+use Rattle.trace.specs.declared.line.Line.{Line}
+use Rattle.trace.proofs.GoingOver.{stays_same, stays_on, at_first, goes_on, ends_without, ends_over, ends_at}
+use Rattle.transcripts.specs.Scripts.{DoesScript, IsOfScripts, ScriptStops, with_line}
+use Rattle.transcripts.proofs.Listing.{empty_scripts, scripts_more, Scripts}
 use Rattle.transcripts.proofs.scripts.read_scripts.Goals as goal
 
 pub returns-in_err-scripts-clause-read : goal.returns-in_err-scripts-clause-read
 returns-in_err-scripts-clause-read g c =
     let p = err_from_is_err_and c.from_residual.result c.from_residual.ensures.1 in
-    rw (p.1, p.2) (not_begun (g.S.Source.given c.args.source.now) (g.S.Source.ended c.args.source.now) c.args.limits.now.mutators)
+    rw (p.1, p.2) (inl (refl, refl))
 
 pub loop-scripts-init : goal.loop-scripts-init
 loop-scripts-init g c = rw c.new-reader.ensures (record {
-  are = at_first (g.S.Source.given c.args.source.now) c.args.limits.now.mutators _ c.in_ok-scripts.ensures.lists;
+  done = at_first (DoesScript c.args.limits.now.mutators) (g.S.Source.given c.args.source.now) (g.S.Source.ended c.args.source.now) tt;
+  are = c.in_ok-scripts.ensures.lists ∙ empty_scripts c.args.limits.now.mutators;
   len = c.in_ok-scripts.ensures.len;
   behind = omega arith;
   reads = refl;
@@ -22,15 +26,21 @@ pub returns-in_err-next_line-clause-read : goal.returns-in_err-next_line-clause-
 returns-in_err-next_line-clause-read g c =
     let p = err_from_is_err_and c.from_residual-in_err-next_line.result c.from_residual-in_err-next_line.ensures.1 in
     let e = c.in_err-next_line.ensures in
-    rw (p.1, p.2) (ends_without _ _ _ (g.S.Source.ended c.next_line.new.source) _ c.loop-scripts.scripts _ _ c.loop-scripts.invariant.are c.in_err-next_line.field-0.0 c.next_line.new.self e.text e.small e.says (omega (arith, e.number)))
+    rw (p.1, p.2) (inr (record {
+      over = ends_without c.loop-scripts.invariant.done c.next_line.new.self _ _ Scripts (ScriptStops c.args.limits.now.mutators) _ (record { text = e.text; says = e.says; number = e.number; small = e.small });
+      are = tt;
+    }))
 
 pub loop-scripts-preserved : goal.loop-scripts-preserved
 loop-scripts-preserved g c =
     let e = c.in_ok-next_line.ensures in
     let d = c.in_ok-add_line.ensures in
     let i = c.loop-scripts.invariant in
+    let line = d.done.0 in
+    let below = subst (λ n. IsOfScripts n line) i.len d.done.1.1 in
     record {
-      are = goes_on _ _ _ (g.S.Source.ended c.next_line.new.source) _ c.loop-scripts.scripts _ _ i.are c.next_line.new.self c.in_ok-next_line.field-0 e.text e.says e.small e.number _ c.number.result c.if-branch.true c.add_line.new.scripts i.len c.line.ensures d.done;
+      done = goes_on i.done c.next_line.new.self _ _ _ (record { text = e.text; says = e.says; number = e.number; small = e.small }) c.if-branch.true _ c.line.ensures tt (line ∷ []) (d.done.1.0, below);
+      are = d.done.2 ∙ ap (λ s. with_line s line) i.are ∙ sym (scripts_more c.args.limits.now.mutators i.done.events line below);
       len = omega (arith, d.len, i.len);
       behind = e.behind;
       reads = omega (arith, e.cause, i.reads);
@@ -40,15 +50,22 @@ loop-scripts-preserved g c =
 pub returns-in_err-add_line-clause-read : goal.returns-in_err-add_line-clause-read
 returns-in_err-add_line-clause-read g c =
     let e = c.in_ok-next_line.ensures in
-    let d = c.in_err-add_line.ensures in
     let i = c.loop-scripts.invariant in
     let p = err_from_is_err_and c.from_residual-in_err-add_line.result c.from_residual-in_err-add_line.ensures.1 in
-    rw (p.1, p.2) (ends_in _ _ _ (g.S.Source.ended c.next_line.new.source) _ c.loop-scripts.scripts _ _ i.are c.next_line.new.self c.in_ok-next_line.field-0 e.text e.says e.small e.number _ c.number.result c.if-branch.true c.add_line.new.scripts c.in_err-add_line.field-0.0 i.len c.line.ensures c.number.ensures d.done)
+    let stops = subst (λ n. ScriptStops n c.in_err-add_line.field-0.0 c.line.result.now c.number.result tt tt) i.len c.in_err-add_line.ensures.done in
+    rw (p.1, p.2) (inr (record {
+      over = ends_at i.done c.next_line.new.self _ _ _ (record { text = e.text; says = e.says; number = e.number; small = e.small }) c.if-branch.true _ c.line.ensures Scripts (ScriptStops c.args.limits.now.mutators) _ _ tt c.number.ensures stops;
+      are = tt;
+    }))
 
 pub returns-clause-read : goal.returns-clause-read
 returns-clause-read g c =
     let e = c.in_ok-next_line.ensures in
-    ends_over _ _ _ (g.S.Source.ended c.next_line.new.source) _ _ _ _ c.loop-scripts.invariant.are c.next_line.new.self c.in_ok-next_line.field-0 e.text e.says e.small e.number [] 0 c.if-branch.false
+    let i = c.loop-scripts.invariant in
+    inr (record {
+      over = ends_over i.done c.next_line.new.self _ _ _ (record { text = e.text; says = e.says; number = e.number; small = e.small }) c.if-branch.false _ (λ rest all. (all.0, all.1, refl));
+      are = i.are;
+    })
 
 pub returns-clause-len : goal.returns-clause-len
 returns-clause-len g c = c.loop-scripts.invariant.len

@@ -1,0 +1,65 @@
+-- What it is to go over the lines of an input, one after the other.
+use Rattle.std.specs.Prelude.{◌≡◌, ℕ, ◌+◌, ◌<◌, ◌≤◌, Bool, IsTrue, ◌⊎◌, List, [], ◌∷◌, ◌++◌, length, take, Result, Ok, Err}
+use Rattle.trace.specs.declared.fault.LineFault.TheVariants.{TooLong, NotEnded}
+use Rattle.trace.specs.declared.fault.TextFault.{TextFault}
+use Rattle.trace.specs.declared.fault.TextFault.TheVariants.{Line as At_line, Read, Write, NoMemory}
+use Rattle.trace.specs.Streams.{Given, IsLine, NoLf, Splits}
+
+-- The bytes that a source gave are these lines and a rest, of at most a buffer.
+pub record LinesRead (given : Given) (lines : List (List ℕ)) (rest : List ℕ) : Type 0 where
+  pub text : List ℕ
+  pub came : given.after ≡ given.before ++ text
+  pub splits : Splits text lines rest
+  pub small : length rest ≤ 4096
+
+-- The rest behind so many lines has no further line, for this fault.
+abbrev pub NoLine : TextFault → ℕ → List ℕ → Bool → Type 0
+-- 256 bytes came, and the next byte is there and is no LF
+NoLine (At_line k TooLong) count rest ended = (k ≡ count + 1) × (256 < length rest) × NoLf (take 257 rest)
+-- the input has ended after at least one byte of a line and before its LF
+NoLine (At_line k NotEnded) count rest ended = (k ≡ count + 1) × (0 < length rest) × IsLine rest × IsTrue ended
+NoLine (At_line k _) count rest ended = ⊥
+-- a read failed: the rest is a part of a line
+NoLine Read count rest ended = IsLine rest
+NoLine Write count rest ended = ⊥
+NoLine NoMemory count rest ended = ⊥
+
+-- The rest begins with a line, of which this holds.
+abbrev pub NextLine : (List ℕ → Type 0) → List ℕ → Type 0
+NextLine Is rest = (line : List ℕ) × (behind : List ℕ) × (rest ≡ line ++ 10 ∷ behind) × IsLine line × Is line
+
+-- Does line old events new: what a line does to a state, and the events of it.
+module _ {S E : Type 0} (Does : List ℕ → S → List E → S → Type 0) where
+  -- the lines, one after the other, do these events
+  pub data LinesDone (old : S) : List (List ℕ) → List E → S → Type 0 where
+    No_lines : LinesDone old [] [] old
+    One_line_more : (lines : List (List ℕ)) (events more : List E) (line : List ℕ) (mid new : S) → LinesDone old lines events mid → Does line mid more new → LinesDone old (lines ++ line ∷ []) (events ++ more) new
+
+  -- What was done of an input: the bytes that it gave are these lines and a rest, and the lines did these
+  -- events. Ends says what the number of lines, the events, the state behind them and the rest are.
+  pub record GoneOver (given : Given) (old : S) (Ends : ℕ → List E → S → List ℕ → Type 0) : Type 0 where
+    pub lines : List (List ℕ)
+    pub events : List E
+    pub mid : S
+    pub rest : List ℕ
+    pub read : LinesRead given lines rest
+    pub done : LinesDone old lines events mid
+    pub ends : Ends (length lines) events mid rest
+
+-- Stops fault line number old new: at the line of this number, a fault comes, and leaves this state.
+module _ {S : Type 0} (Stops : TextFault → List ℕ → ℕ → S → S → Type 0) where
+  -- How going over lines ends: so many are done and lead to a state, and this rest isn't.
+  abbrev pub Ends : {A : Type 0} → ℕ → S → List ℕ → Bool → S → Result A TextFault → Type 0
+  -- all lines of the input are done
+  Ends count mid rest ended new (Ok all) = (rest ≡ []) × IsTrue ended × (new ≡ mid)
+  -- there is no next line, or the next line comes to the fault
+  Ends count mid rest ended new (Err fault) = (NoLine fault count rest ended × (new ≡ mid)) ⊎ NextLine (λ line. Stops fault line (count + 1) mid new) rest
+
+-- how many reads failed, and how many writes
+abbrev pub reads_failed : {A : Type 0} → Result A TextFault → ℕ
+reads_failed (Err Read) = 1
+reads_failed _ = 0
+
+abbrev pub writes_failed : {A : Type 0} → Result A TextFault → ℕ
+writes_failed (Err Write) = 1
+writes_failed _ = 0

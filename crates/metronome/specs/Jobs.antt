@@ -9,10 +9,10 @@ use Rattle.heap_model.specs.State.{HeapState}
 use Rattle.heap_model.specs.Opening.{IsOpening}
 use Rattle.quanta.specs.Timetable as timetables
 use Rattle.quanta.specs.Timetable.{Timetable}
-use Rattle.trace.specs.Streams.{GrowsByPart}
+use Rattle.trace.specs.declared.fault.TextFault.{TextFault}
+use Rattle.trace.specs.Streams.{Given, Taken, GrowsByPart}
 use Rattle.command_line.specs.declared.job.Job.{Job}
 use Rattle.command_line.specs.declared.job.Job.TheVariants.{Play, Check, Threads, Inspect, Mmu}
-use Rattle.transcripts.specs.declared.fault.TranscriptFault.{TranscriptFault}
 use Rattle.transcripts.specs.declared.histories.Checked.{Checked}
 use Rattle.transcripts.specs.declared.histories.Checked.TheVariants.{Good, Wrong}
 use Rattle.transcripts.specs.Histories.{EntriesChecked}
@@ -20,17 +20,16 @@ use Rattle.transcripts.specs.Scripts.{ScriptsRead}
 use Rattle.heap_server.specs.declared.play.Outcome.{Outcome}
 use Rattle.heap_server.specs.Settings.{settings_by}
 use Rattle.heap_server.specs.Played.{IsOutcome}
-use Rattle.player.specs.declared.fault.PlayFault.{PlayFault}
 use Rattle.player.specs.declared.style.Style.{Style}
 use Rattle.player.specs.declared.style.Style.TheVariants.{Replies, Entries, Nothing}
 use Rattle.player.specs.Player.{PlayerState}
-use Rattle.player.specs.Playing.{Played, PlayedFirst, written_of}
+use Rattle.player.specs.Playing.{Stage, stage, Played, PlayedFirst, written_of}
 use Rattle.inspector.specs.Report.{report_of}
 use Rattle.metronome.specs.declared.fault.Ending.{Ending}
 use Rattle.metronome.specs.declared.fault.Ending.TheVariants.{Done, WrongReply}
 use Rattle.metronome.specs.declared.fault.RunFault.{RunFault}
 use Rattle.metronome.specs.declared.fault.RunFault.TheVariants.{Write, NoMemory, NotComplete}
-use Rattle.metronome.specs.Faults.{of_play, of_transcript}
+use Rattle.metronome.specs.Faults.{of_text}
 use Rattle.metronome.specs.Windows.{AllTold, FirstTold}
 
 -- a player of a configuration at time 0: its heap is as at the start, and it has no history
@@ -45,38 +44,38 @@ pub record IsNew (config : Config) (p : PlayerState) : Type 0 where
   pub budget : p.budget ≡ config.collector_ticks * config.rate
 
 -- Memory was refused before anything was read or written.
-abbrev pub NotBegun : List ℕ → List ℕ → List ℕ → List ℕ → Result Ending RunFault → Type 0
-NotBegun given given' taken taken' result = (given' ≡ given) × (taken' ≡ taken) × (result ≡ Err NoMemory)
+abbrev pub NotBegun : Given → Taken → Result Ending RunFault → Type 0
+NotBegun given taken result = (given.after ≡ given.before) × (taken.after ≡ taken.before) × (result ≡ Err NoMemory)
 
 -- a job that is done where its play is
-abbrev pub ends_as : Result (Unit {0}) PlayFault → Result Ending RunFault
+abbrev pub ends_as : Result (Unit {0}) TextFault → Result Ending RunFault
 ends_as (Ok all) = Ok Done
-ends_as (Err fault) = Err (of_play fault)
+ends_as (Err fault) = Err (of_text fault)
 
 -- A new player played a trace, and what the style says was written.
-abbrev pub TracePlayed : Style → Config → List ℕ → List ℕ → Bool → List ℕ → List ℕ → Result Ending RunFault → Type 0
-TracePlayed style config given given' ended taken taken' result =
-    NotBegun given given' taken taken' result
-    ⊎ ((old : PlayerState) × (new : PlayerState) × (how : Result (Unit {0}) PlayFault) × IsNew config old × Played style given given' ended old new taken taken' how × (result ≡ ends_as how))
+abbrev pub TracePlayed : Style → Config → Given → Taken → Result Ending RunFault → Type 0
+TracePlayed style config given taken result =
+    NotBegun given taken result
+    ⊎ ((old : PlayerState) × (new : PlayerState) × (how : Result (Unit {0}) TextFault) × IsNew config old × Played style given (stage old taken.before) (stage new taken.after) how × (result ≡ ends_as how))
 
 -- a trace, or its first event lines, played without a line written
-abbrev pub PlayedUpTo : Option ℕ → List ℕ → List ℕ → Bool → PlayerState → PlayerState → List ℕ → List ℕ → Result (Unit {0}) PlayFault → Type 0
-PlayedUpTo None given given' ended old new taken taken' how = Played Nothing given given' ended old new taken taken' how
-PlayedUpTo (Some events) given given' ended old new taken taken' how = PlayedFirst events Nothing given given' ended old new taken taken' how
+abbrev pub PlayedUpTo : Option ℕ → Given → Stage → Stage → Result (Unit {0}) TextFault → Type 0
+PlayedUpTo None given old new how = Played Nothing given old new how
+PlayedUpTo (Some events) given old new how = PlayedFirst events Nothing given old new how
 
--- what is written of the heap behind a play
-abbrev pub ReportedAfter : Result (Unit {0}) PlayFault → HeapState → List ℕ → List ℕ → Result Ending RunFault → Type 0
+-- what is written of the heap after a play
+abbrev pub ReportedAfter : Result (Unit {0}) TextFault → HeapState → Taken → Result Ending RunFault → Type 0
 -- the play came to its end: the report, or a part of it where a write failed
-ReportedAfter (Ok all) h taken taken' (Ok ending) = (ending ≡ Done) × (taken' ≡ taken ++ report_of h)
-ReportedAfter (Ok all) h taken taken' (Err fault) = (fault ≡ Write) × GrowsByPart taken taken' (report_of h)
+ReportedAfter (Ok all) h taken (Ok ending) = (ending ≡ Done) × (taken.after ≡ taken.before ++ report_of h)
+ReportedAfter (Ok all) h taken (Err fault) = (fault ≡ Write) × GrowsByPart taken.before taken.after (report_of h)
 -- a fault ended the play: nothing
-ReportedAfter (Err why) h taken taken' result = (result ≡ Err (of_play why)) × (taken' ≡ taken)
+ReportedAfter (Err why) h taken result = (result ≡ Err (of_text why)) × (taken.after ≡ taken.before)
 
 -- A new player played a trace, and the report of its heap was written.
-abbrev pub HeapInspected : Option ℕ → Config → List ℕ → List ℕ → Bool → List ℕ → List ℕ → Result Ending RunFault → Type 0
-HeapInspected after config given given' ended taken taken' result =
-    NotBegun given given' taken taken' result
-    ⊎ ((old : PlayerState) × (new : PlayerState) × (mid : List ℕ) × (how : Result (Unit {0}) PlayFault) × IsNew config old × PlayedUpTo after given given' ended old new taken mid how × ReportedAfter how new.course.heap mid taken' result)
+abbrev pub HeapInspected : Option ℕ → Config → Given → Taken → Result Ending RunFault → Type 0
+HeapInspected after config given taken result =
+    NotBegun given taken result
+    ⊎ ((old : PlayerState) × (new : PlayerState) × (mid : List ℕ) × (how : Result (Unit {0}) TextFault) × IsNew config old × PlayedUpTo after given (stage old taken.before) (stage new mid) how × ReportedAfter how new.course.heap (record taken { before = mid }) result)
 
 -- the line that tells what became of a history, and how the run ends
 abbrev pub told_of : Checked → List ℕ
@@ -87,19 +86,19 @@ abbrev pub verdict : Checked → Ending
 verdict (Good entries) = Done
 verdict (Wrong line) = WrongReply
 
--- what is written behind a check
-abbrev pub ToldAfter : Result Checked TranscriptFault → List ℕ → List ℕ → Result Ending RunFault → Type 0
+-- what is written after a check
+abbrev pub ToldAfter : Result Checked TextFault → Taken → Result Ending RunFault → Type 0
 -- the history was checked: its line, or a part of it where a write failed, or nothing for want of memory
-ToldAfter (Ok checked) taken taken' (Ok ending) = (ending ≡ verdict checked) × (taken' ≡ taken ++ told_of checked)
-ToldAfter (Ok checked) taken taken' (Err fault) = ((fault ≡ Write) × GrowsByPart taken taken' (told_of checked)) ⊎ ((fault ≡ NoMemory) × (taken' ≡ taken))
+ToldAfter (Ok checked) taken (Ok ending) = (ending ≡ verdict checked) × (taken.after ≡ taken.before ++ told_of checked)
+ToldAfter (Ok checked) taken (Err fault) = ((fault ≡ Write) × GrowsByPart taken.before taken.after (told_of checked)) ⊎ ((fault ≡ NoMemory) × (taken.after ≡ taken.before))
 -- a fault ended the check: nothing
-ToldAfter (Err why) taken taken' result = (result ≡ Err (of_transcript why)) × (taken' ≡ taken)
+ToldAfter (Err why) taken result = (result ≡ Err (of_text why)) × (taken.after ≡ taken.before)
 
 -- A history was checked from the opening graph heap, and its line was written.
-abbrev pub HistoryChecked : Config → List ℕ → List ℕ → Bool → List ℕ → List ℕ → Result Ending RunFault → Type 0
-HistoryChecked config given given' ended taken taken' result =
-    NotBegun given given' taken taken' result
-    ⊎ ((new : Graph) × (how : Result Checked TranscriptFault) × EntriesChecked given given' ended (opening (limits_of config)) new how × ToldAfter how taken taken' result)
+abbrev pub HistoryChecked : Config → Given → Taken → Result Ending RunFault → Type 0
+HistoryChecked config given taken result =
+    NotBegun given taken result
+    ⊎ ((new : Graph) × (how : Result Checked TextFault) × EntriesChecked given (opening (limits_of config)) new how × ToldAfter how taken result)
 
 -- how a run ends whose scripts and budgets were all done, or not
 abbrev pub finish : Bool → Result Ending RunFault
@@ -107,44 +106,44 @@ finish true = Ok Done
 finish false = Err NotComplete
 
 -- The history of a play was written, or a part of it where a write failed.
-abbrev pub HistoryWritten : Outcome → List ℕ → List ℕ → Result Ending RunFault → Type 0
-HistoryWritten outcome taken taken' result =
-    ((result ≡ finish outcome.all) × (taken' ≡ taken ++ written_of Entries outcome.recorded.course.history))
-    ⊎ ((result ≡ Err Write) × GrowsByPart taken taken' (written_of Entries outcome.recorded.course.history))
+abbrev pub HistoryWritten : Outcome → Taken → Result Ending RunFault → Type 0
+HistoryWritten outcome taken result =
+    ((result ≡ finish outcome.all) × (taken.after ≡ taken.before ++ written_of Entries outcome.recorded.course.history))
+    ⊎ ((result ≡ Err Write) × GrowsByPart taken.before taken.after (written_of Entries outcome.recorded.course.history))
 
 -- what came of scripts, as they were read
-abbrev pub RunBehind : ℕ → ℕ → Config → Result (Vec (Vec Command Global) Global) TranscriptFault → List ℕ → List ℕ → Result Ending RunFault → Type 0
+abbrev pub RunBehind : ℕ → ℕ → Config → Result (Vec (Vec Command Global) Global) TextFault → Taken → Result Ending RunFault → Type 0
 -- threads ran them beside so many quanta of a budget, and the history was written; or memory was refused, and nothing was
-RunBehind turns budget config (Ok scripts) taken taken' result =
-    ((result ≡ Err NoMemory) × (taken' ≡ taken))
-    ⊎ ((outcome : Outcome) × IsOutcome (settings_by config) (map vec_len scripts.items) (replicate turns budget) outcome × HistoryWritten outcome taken taken' result)
+RunBehind turns budget config (Ok scripts) taken result =
+    ((result ≡ Err NoMemory) × (taken.after ≡ taken.before))
+    ⊎ ((outcome : Outcome) × IsOutcome (settings_by config) (map vec_len scripts.items) (replicate turns budget) outcome × HistoryWritten outcome taken result)
 -- a fault ended the reading: nothing was run or written
-RunBehind turns budget config (Err why) taken taken' result = (result ≡ Err (of_transcript why)) × (taken' ≡ taken)
+RunBehind turns budget config (Err why) taken result = (result ≡ Err (of_text why)) × (taken.after ≡ taken.before)
 
 -- Scripts were read, run, and their history written.
-abbrev pub ScriptsRun : ℕ → ℕ → Config → List ℕ → List ℕ → Bool → List ℕ → List ℕ → Result Ending RunFault → Type 0
-ScriptsRun turns budget config given given' ended taken taken' result =
-    (how : Result (Vec (Vec Command Global) Global) TranscriptFault) × ScriptsRead given given' ended config.mutators how × RunBehind turns budget config how taken taken' result
+abbrev pub ScriptsRun : ℕ → ℕ → Config → Given → Taken → Result Ending RunFault → Type 0
+ScriptsRun turns budget config given taken result =
+    (how : Result (Vec (Vec Command Global) Global) TextFault) × ScriptsRead given config.mutators how × RunBehind turns budget config how taken result
 
--- what is written of windows behind a play
-abbrev pub ToldBehind : Result (Unit {0}) PlayFault → Config → Timetable → List ℕ → List ℕ → List ℕ → Result Ending RunFault → Type 0
+-- what is written of windows after a play
+abbrev pub ToldBehind : Result (Unit {0}) TextFault → Config → Timetable → List ℕ → Taken → Result Ending RunFault → Type 0
 -- the play came to its end: a line for each window, or for the first of them
-ToldBehind (Ok all) config t windows taken taken' (Ok ending) = (ending ≡ Done) × AllTold config t windows taken taken'
-ToldBehind (Ok all) config t windows taken taken' (Err fault) = FirstTold config t windows fault taken taken'
+ToldBehind (Ok all) config t windows taken (Ok ending) = (ending ≡ Done) × AllTold config t windows taken.before taken.after
+ToldBehind (Ok all) config t windows taken (Err fault) = FirstTold config t windows fault taken.before taken.after
 -- a fault ended the play: nothing
-ToldBehind (Err why) config t windows taken taken' result = (result ≡ Err (of_play why)) × (taken' ≡ taken)
+ToldBehind (Err why) config t windows taken result = (result ≡ Err (of_text why)) × (taken.after ≡ taken.before)
 
 -- A new player played a trace, and a line for each window was written.
-abbrev pub WindowsMeasured : List ℕ → Config → List ℕ → List ℕ → Bool → List ℕ → List ℕ → Result Ending RunFault → Type 0
-WindowsMeasured windows config given given' ended taken taken' result =
-    NotBegun given given' taken taken' result
-    ⊎ ((old : PlayerState) × (new : PlayerState) × (mid : List ℕ) × (how : Result (Unit {0}) PlayFault) × IsNew config old × Played Nothing given given' ended old new taken mid how × ToldBehind how config new.timetable windows mid taken' result)
+abbrev pub WindowsMeasured : List ℕ → Config → Given → Taken → Result Ending RunFault → Type 0
+WindowsMeasured windows config given taken result =
+    NotBegun given taken result
+    ⊎ ((old : PlayerState) × (new : PlayerState) × (mid : List ℕ) × (how : Result (Unit {0}) TextFault) × IsNew config old × Played Nothing given (stage old taken.before) (stage new mid) how × ToldBehind how config new.timetable windows (record taken { before = mid }) result)
 
 -- What the job of a command line reads and writes.
-abbrev pub JobDone : Job → Config → List ℕ → List ℕ → Bool → List ℕ → List ℕ → Result Ending RunFault → Type 0
-JobDone (Play settings trace true) config given given' ended taken taken' result = TracePlayed Entries config given given' ended taken taken' result
-JobDone (Play settings trace false) config given given' ended taken taken' result = TracePlayed Replies config given given' ended taken taken' result
-JobDone (Check settings history) config given given' ended taken taken' result = HistoryChecked config given given' ended taken taken' result
-JobDone (Threads settings scripts turns budget) config given given' ended taken taken' result = ScriptsRun turns budget config given given' ended taken taken' result
-JobDone (Inspect settings trace after) config given given' ended taken taken' result = HeapInspected after config given given' ended taken taken' result
-JobDone (Mmu settings trace windows) config given given' ended taken taken' result = WindowsMeasured windows.items config given given' ended taken taken' result
+abbrev pub JobDone : Job → Config → Given → Taken → Result Ending RunFault → Type 0
+JobDone (Play settings trace true) config given taken result = TracePlayed Entries config given taken result
+JobDone (Play settings trace false) config given taken result = TracePlayed Replies config given taken result
+JobDone (Check settings history) config given taken result = HistoryChecked config given taken result
+JobDone (Threads settings scripts turns budget) config given taken result = ScriptsRun turns budget config given taken result
+JobDone (Inspect settings trace after) config given taken result = HeapInspected after config given taken result
+JobDone (Mmu settings trace windows) config given taken result = WindowsMeasured windows.items config given taken result

@@ -32,7 +32,7 @@ pub record AllTold (config : Config) (t : Timetable) (windows taken taken' : Lis
   pub each : AllZip (IsWindowLine config t) windows lines
   pub written : taken' ≡ taken ++ concat lines
 
--- A fault came behind the lines of the first windows: memory was refused, or a write failed within these lines.
+-- A fault came after the lines of the first windows: memory was refused, or a write failed within these lines.
 pub record FirstTold (config : Config) (t : Timetable) (windows : List ℕ) (fault : RunFault) (taken taken' : List ℕ) : Type 0 where
   pub first : List ℕ
   pub behind : List ℕ

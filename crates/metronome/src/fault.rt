@@ -1,18 +1,16 @@
 //! How a run ends.
 ghost use Rattle.std.specs.Prelude.{◌≡◌};
 ghost use Rattle.metronome.specs.declared.fault.RunFault.TheVariants as faults;
-ghost use Rattle.metronome.specs.Faults.{of_settings, of_play, of_transcript};
+ghost use Rattle.metronome.specs.Faults.{of_settings, of_text};
 ghost use Rattle.metronome.specs.Status.{ending_status, fault_status};
 
 use command_line::ReadFault;
 use graph_heap::NoMemory;
 use inspector::WriteFault;
-use player::PlayFault;
 use size_classes::ConfigFault;
 use std::alloc::{AllocError, AllocFailed};
 use thiserror::Error;
-use trace::{LineFault, WriteFailed};
-use transcripts::TranscriptFault;
+use trace::{LineFault, TextFault, WriteFailed};
 
 /// How a run ends that meets no fault.
 #[derive(Clone, Copy, Debug, PartialEq, Eq)]
@@ -112,27 +110,15 @@ impl From<ReadFault> for RunFault {
     }
 }
 
-impl From<PlayFault> for RunFault {
-    ghost from_gives = { λ why fault. fault ≡ of_play why };
+impl From<TextFault> for RunFault {
+    ghost from_gives = { λ why fault. fault ≡ of_text why };
 
-    fn from(fault: PlayFault) -> RunFault {
+    fn from(fault: TextFault) -> RunFault {
         match fault {
-            PlayFault::Line(number, why) => RunFault::Line(number, why),
-            PlayFault::Read => RunFault::Read,
-            PlayFault::Write => RunFault::Write,
-            PlayFault::NoMemory => RunFault::NoMemory,
-        }
-    }
-}
-
-impl From<TranscriptFault> for RunFault {
-    ghost from_gives = { λ why fault. fault ≡ of_transcript why };
-
-    fn from(fault: TranscriptFault) -> RunFault {
-        match fault {
-            TranscriptFault::Line(number, why) => RunFault::Line(number, why),
-            TranscriptFault::Read => RunFault::Read,
-            TranscriptFault::NoMemory => RunFault::NoMemory,
+            TextFault::Line(number, why) => RunFault::Line(number, why),
+            TextFault::Read => RunFault::Read,
+            TextFault::Write => RunFault::Write,
+            TextFault::NoMemory => RunFault::NoMemory,
         }
     }
 }

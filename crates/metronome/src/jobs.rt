@@ -1,9 +1,9 @@
 //! What each subcommand does, from a source to a sink.
 ghost use Rattle.std.specs.Prelude.{◌≡◌, ◌≤◌, ◌++◌, length, map, replicate, vec_len, IfOk, IfErr, OnOk, OnErr, string_bytes};
 ghost use Rattle.heap_server.specs.Settings.{settings_by};
-ghost use Rattle.trace.specs.Streams.{GrowsByPart};
+ghost use Rattle.trace.specs.Streams.{GrowsByPart, given_by, taken_by};
 ghost use Rattle.player.specs.declared.style.Style.TheVariants.{Entries};
-ghost use Rattle.player.specs.Playing.{written_of};
+ghost use Rattle.player.specs.Playing.{stage, written_of};
 ghost use Rattle.heap_server.specs.Played.{IsOutcome};
 ghost use Rattle.metronome.specs.Jobs.{TracePlayed, PlayedUpTo, HeapInspected, HistoryChecked, ScriptsRun, WindowsMeasured, verdict, told_of, finish};
 ghost use Rattle.metronome.specs.Windows.{IsWindowLine, AllTold, FirstTold};
@@ -13,13 +13,13 @@ use graph_heap::{Command, Entry, NoMemory, Reference};
 use heap_server::{OpenGate, Outcome, play_threads};
 use inspector::report;
 use mmu_report::{bound, least_mutator, permille};
-use player::{PlayFault, Player, Style, play, play_first};
+use player::{Player, Style, play, play_first};
 use quanta::Schedule;
 use size_classes::Config;
 use std::alloc::{AllocError, Global};
 use std::sync::Wait;
 use std::thread::Threads;
-use trace::{Sink, Source, WriteFailed, end_line, write_all, write_entry};
+use trace::{Sink, Source, TextFault, WriteFailed, end_line, write_all, write_entry};
 use transcripts::{Checked, check_entries, read_scripts};
 
 /// Plays a trace, and writes what the style says of each command.
@@ -30,7 +30,7 @@ pub fn play_job<S: Source, K: Sink>(
     sink: &mut K,
     style: Style,
 ) -> Result<Ending, RunFault>
-    ensures { TracePlayed style config.now (S.given source.old) (S.given source.new) (S.ended source.new) (K.taken sink.old) (K.taken sink.new) result }
+    ensures { TracePlayed style config.now (given_by S.given S.ended source.old source.new) (taken_by K.taken sink.old sink.new) result }
 {
     let mut player = Player::new(alloc, config)?;
     play(source, sink, &mut player, style)?;
@@ -64,7 +64,7 @@ pub fn check_job<S: Source, K: Sink>(
     source: &mut S,
     sink: &mut K,
 ) -> Result<Ending, RunFault>
-    ensures { HistoryChecked config.now (S.given source.old) (S.given source.new) (S.ended source.new) (K.taken sink.old) (K.taken sink.new) result }
+    ensures { HistoryChecked config.now (given_by S.given S.ended source.old source.new) (taken_by K.taken sink.old sink.new) result }
 {
     let mut reference = Reference::new(alloc, &config.limits())?;
     let checked = check_entries(source, &mut reference)?;
@@ -110,7 +110,7 @@ pub fn threads_job<S: Source, K: Sink, T: Threads + Wait + Sync>(
     turns: u32,
     budget: u32,
 ) -> Result<Ending, RunFault>
-    ensures { ScriptsRun turns budget config.now (S.given source.old) (S.given source.new) (S.ended source.new) (K.taken sink.old) (K.taken sink.new) result }
+    ensures { ScriptsRun turns budget config.now (given_by S.given S.ended source.old source.new) (taken_by K.taken sink.old sink.new) result }
 {
     let scripts = read_scripts(alloc, source, &config.limits())?;
     let outcome = run_scripts(rt, alloc, config, scripts.as_slice(), turns, budget)?;
@@ -148,8 +148,8 @@ fn play_silently<S: Source, K: Sink>(
     sink: &mut K,
     player: &mut Player,
     after: Option<u32>,
-) -> Result<(), PlayFault>
-    ensures { PlayedUpTo after (S.given source.old) (S.given source.new) (S.ended source.new) player.old player.new (K.taken sink.old) (K.taken sink.new) result }
+) -> Result<(), TextFault>
+    ensures { PlayedUpTo after (given_by S.given S.ended source.old source.new) (stage player.old (K.taken sink.old)) (stage player.new (K.taken sink.new)) result }
 {
     match after {
         None => play(source, sink, player, Style::Nothing),
@@ -165,7 +165,7 @@ pub fn inspect_job<S: Source, K: Sink>(
     sink: &mut K,
     after: Option<u32>,
 ) -> Result<Ending, RunFault>
-    ensures { HeapInspected after config.now (S.given source.old) (S.given source.new) (S.ended source.new) (K.taken sink.old) (K.taken sink.new) result }
+    ensures { HeapInspected after config.now (given_by S.given S.ended source.old source.new) (taken_by K.taken sink.old sink.new) result }
 {
     let mut player = Player::new(alloc, config)?;
     play_silently(source, sink, &mut player, after)?;
@@ -181,7 +181,7 @@ pub fn mmu_job<S: Source, K: Sink>(
     sink: &mut K,
     windows: &[u64],
 ) -> Result<Ending, RunFault>
-    ensures { WindowsMeasured windows.now config.now (S.given source.old) (S.given source.new) (S.ended source.new) (K.taken sink.old) (K.taken sink.new) result }
+    ensures { WindowsMeasured windows.now config.now (given_by S.given S.ended source.old source.new) (taken_by K.taken sink.old sink.new) result }
 {
     let mut player = Player::new(alloc, config)?;
     play(source, sink, &mut player, Style::Nothing)?;

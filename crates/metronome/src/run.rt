@@ -2,6 +2,7 @@
 ghost use Rattle.std.specs.Prelude.{◌≡◌, Result};
 ghost use Rattle.metronome.specs.declared.fault.Ending.{Ending};
 ghost use Rattle.metronome.specs.declared.fault.RunFault.{RunFault};
+ghost use Rattle.trace.specs.Streams.{given_by, taken_by};
 ghost use Rattle.metronome.specs.Jobs.{JobDone};
 ghost use Rattle.metronome.specs.Status.{status_of};
 
@@ -132,7 +133,7 @@ fn work<S: Source, K: Sink, T: Threads + Wait + Sync>(
     source: &mut S,
     sink: &mut K,
 ) -> Result<Ending, RunFault>
-    ensures { JobDone job.now config.now (S.given source.old) (S.given source.new) (S.ended source.new) (K.taken sink.old) (K.taken sink.new) result }
+    ensures { JobDone job.now config.now (given_by S.given S.ended source.old source.new) (taken_by K.taken sink.old sink.new) result }
 {
     match job {
         Job::Play { history: true, .. } => play_job(alloc, config, source, sink, Style::Entries),

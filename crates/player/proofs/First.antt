@@ -32,7 +32,7 @@ skip_read text skipped = sym (ap not skipped)
 pub count_more : (ls : List (List ℕ)) (line : List ℕ) (event : Bool) → event ≡ is_event line → count_by is_event (ls ++ line ∷ []) ≡ count_by is_event ls + cond event 1 0
 count_more ls line event e = sum_by_push (λ (l : List ℕ). cond (is_event l) 1 0) ls line ∙ ap (λ b. count_by is_event ls + cond b 1 0) (sym e)
 
--- none is left: the input is cut behind the lines
+-- none is left: the input is cut after the lines
 pub first_done : {style : Style} {given : Given} {old new : Stage} {reader : Lines} (so : SoFar (PlaysText style) given old new reader) (n : ℕ) → count_by is_event so.lines ≡ n → EndAtEvent so.lines → PlayedFirst n style given old new (Ok tt)
 first_done {style} {given} {old} {new} {reader} so n count end = inr (
   given.before ++ text_of so.lines,

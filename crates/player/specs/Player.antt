@@ -31,7 +31,7 @@ abbrev pub behind_quantum : Phase → Timetable → Timetable
 behind_quantum phases.Idle t = record t { due = None }
 behind_quantum phase t = t
 
--- the quantum that is due at a time has its interval, and the next is due behind it
+-- the quantum that is due at a time has its interval, and the next is due after it
 abbrev pub placed : ℕ → Timetable → Timetable
 placed due t = record t {
   intervals = t.intervals ++ (record { start = due; end = due + t.collector_ticks }) ∷ [];
@@ -48,7 +48,7 @@ pub data QuantaDue (until : ℕ) (p : PlayerState) : List Event → PlayerState 
   One_more : (es : List Event) (q : PlayerState) (due units : ℕ) (phase : Phase) (course : Course) → QuantaDue until p es q → q.timetable.due ≡ Some due → due < until
       → Does q.course (Quantum_done q.budget units phase) course → QuantaDue until p (es ++ Quantum_done q.budget units phase ∷ []) (quantum_behind q due phase course)
 
--- What a line does: the events that are done, and the player behind them. A cycle that is on is gone on
+-- What a line does: the events that are done, and the player after them. A cycle that is on is gone on
 -- with. Ticks are the quanta that are due in them, and then the clock.
 pub data DoesLine (p : PlayerState) : Line → List Event → PlayerState → Type 0 where
   Skips : DoesLine p lines.Skip [] p

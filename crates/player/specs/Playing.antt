@@ -26,7 +26,7 @@ pub record Stage : Type 0 where
 abbrev pub stage : PlayerState → List ℕ → Stage
 stage player taken = record { player = player; taken = taken }
 
--- what is written of an entry: the line of its reply, its own line, each with LF (byte 10) behind it, or
+-- what is written of an entry: the line of its reply, its own line, each with LF (byte 10) after it, or
 -- nothing
 abbrev pub written_line : Style → Entry → List ℕ
 written_line Replies e = reply_text e.reply ++ 10 ∷ []
@@ -89,10 +89,10 @@ abbrev pub PlayedFirst : ℕ → Style → Given → Stage → Stage → Result 
 PlayedFirst n style given old new result =
     -- fewer events were done: what is played of the whole input
     ((all : Played style given old new result) × (count_by is_event all.over.lines < n))
-    -- the lines end at the nth event: what is played of an input that ends there. Of what comes behind, which
+    -- the lines end at the nth event: what is played of an input that ends there. Of what comes after, which
     -- wasn't looked at, at most a buffer was read
-    ⊎ ((seen : List ℕ) × (behind : List ℕ) × (first : Played style (record given { after = seen; ended = true }) old new result)
-    × (given.after ≡ seen ++ behind) × (length behind ≤ 4096) × (first.over.rest ≡ []) × (count_by is_event first.over.lines ≡ n) × EndAtEvent first.over.lines × (result ≡ Ok tt))
+    ⊎ ((seen : List ℕ) × (more : List ℕ) × (first : Played style (record given { after = seen; ended = true }) old new result)
+    × (given.after ≡ seen ++ more) × (length more ≤ 4096) × (first.over.rest ≡ []) × (count_by is_event first.over.lines ≡ n) × EndAtEvent first.over.lines × (result ≡ Ok tt))
 
 -- What came of a command, and of a line.
 abbrev pub CommandDone : Style → ℕ → Command → Stage → Stage → Result (Unit {0}) TextFault → Type 0

@@ -31,7 +31,7 @@ pub fn play<S: Source, K: Sink>(
 }
 
 /// Plays the lines of a source as `play` does, up to the line of the nth event, or all where there are
-/// fewer. Skipped lines are no events. No line behind that of the nth event is looked at, and for 0 nothing is
+/// fewer. Skipped lines are no events. No line after that of the nth event is looked at, and for 0 nothing is
 /// read.
 pub fn play_first<S: Source, K: Sink>(
     n: u32,

@@ -20,7 +20,7 @@ stays_on (Some all) b c p q = (subst (λ (o : Option (List ℕ)). Stays o c) p q
 abbrev pub later : Given → List ℕ → Bool → Given
 later given after ended = record { before = given.before; after = after; ended = ended }
 
--- the rest behind the same lines
+-- the rest after the same lines
 pub rest_more : (given : Given) (after kept rest : List ℕ) (ended : Bool) (lines : List (List ℕ)) → LinesRead given lines kept → Comes given.after after kept rest → length rest ≤ 4096 → LinesRead (later given after ended) lines rest
 rest_more given after kept rest ended lines r comes small = record {
   text = r.text ++ comes.more;
@@ -43,7 +43,7 @@ line_more given after kept kept' line ended lines r comes is small = record {
 }
 
 module _ {S E : Type 0} (Does : List ℕ → S → List E → S → Type 0) where
-  -- the lines so far, with what the reader keeps of the bytes behind them
+  -- the lines so far, with what the reader keeps of the bytes after them
   pub record SoFar (given : Given) (old new : S) (reader : Lines) : Type 0 where
     pub lines : List (List ℕ)
     pub events : List E
@@ -73,14 +73,14 @@ pub one_line : (number : ℕ) (next : Lines) (b : Bool) → b ≡ true → next.
 one_line number next b is e = subst (λ t. next.number ≡ number + lines_by (Ok t)) is e
 
 module _ {S E : Type 0} {Does : List ℕ → S → List E → S → Type 0} {given : Given} {old mid : S} {reader : Lines} (so : SoFar Does given old mid reader) (next : Lines) where
-  -- the call of the reader, whose source gave these bytes behind those before
+  -- the next call of the reader, after which its source has given these bytes
   abbrev call : List ℕ → Bool → Given
   call after ended = record { before = given.after; after = after; ended = ended }
 
-  -- it ends behind the lines so far
-  abbrev ends_behind : (after rest : List ℕ) (ended : Bool) (End : ℕ → List E → S → List ℕ → Type 0) → Comes given.after after reader.kept rest → length rest ≤ 4096 → End (length so.lines) so.events mid rest
+  -- it ends after the lines so far
+  abbrev ends_after : (after rest : List ℕ) (ended : Bool) (End : ℕ → List E → S → List ℕ → Type 0) → Comes given.after after reader.kept rest → length rest ≤ 4096 → End (length so.lines) so.events mid rest
       → GoneOver Does (later given after ended) old End
-  ends_behind after rest ended End comes small end = record {
+  ends_after after rest ended End comes small end = record {
     lines = so.lines;
     events = so.events;
     mid = mid;
@@ -96,14 +96,14 @@ module _ {S E : Type 0} {Does : List ℕ → S → List E → S → Type 0} {giv
         → GoneOver Does (later given after ended) old (λ count events m rest. Ends Stops {A = A} count m rest ended mid (Err fault))
     ends_without A Stops fault h =
         let same : next.number ≡ length so.lines = omega (arith, h.number, so.counted) in
-        ends_behind after next.kept ended _ h.text h.small (inl (subst (λ n. NoLine fault n next.kept ended) same h.says, refl))
+        ends_after after next.kept ended _ h.text h.small (inl (subst (λ n. NoLine fault n next.kept ended) same h.says, refl))
 
     module _ (b : Bool) (h : Hands (call after ended) reader next (Ok b)) where
       -- the input has ended
       abbrev pub ends_over : b ≡ false → (End : ℕ → List E → S → List ℕ → Type 0) → ((rest : List ℕ) → (rest ≡ []) × IsTrue ended → End (length so.lines) so.events mid rest) → GoneOver Does (later given after ended) old End
       ends_over is End so_it_ends =
           let e = subst (λ t. Hands (call after ended) reader next (Ok t)) is h in
-          ends_behind after next.kept ended End e.text e.small (so_it_ends next.kept e.says)
+          ends_after after next.kept ended End e.text e.small (so_it_ends next.kept e.says)
 
       module _ (is : b ≡ true) (line : List ℕ) (same : line ≡ next.line) where
         abbrev e : Hands (call after ended) reader next (Ok true)
@@ -115,7 +115,7 @@ module _ {S E : Type 0} {Does : List ℕ → S → List E → S → Type 0} {giv
         ends_in P this End so_it_ends =
             let count : next.number ≡ length so.lines + 1 = omega (arith, e.number, so.counted) in
             let rest = next.line ++ 10 ∷ next.kept in
-            ends_behind after rest ended End e.text e.small (so_it_ends count rest (next.line, next.kept, refl, e.says, subst P same this))
+            ends_after after rest ended End e.text e.small (so_it_ends count rest (next.line, next.kept, refl, e.says, subst P same this))
 
         -- the next line comes to a fault
         abbrev pub ends_at : (A : Type 0) (Stops : TextFault → List ℕ → ℕ → S → S → Type 0) (fault : TextFault) (number : ℕ) (new : S) → number ≡ next.number → Stops fault line number mid new

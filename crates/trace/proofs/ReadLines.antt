@@ -8,6 +8,7 @@ use Rattle.std.proofs.lemmas.Slice.Eq.{bytes_eq-Decides}
 use Rattle.std.proofs.lemmas.Fmt.{digits_decimal, decimal_nonempty}
 use Rattle.std.proofs.lemmas.Str.Parse.{digit_at, numerals_by_value, tells_digits, IsNumeralModel}
 use Rattle.graph_heap.specs.declared.command.Command.{Command}
+use Rattle.quanta.specs.declared.schedule.TheConstants.{CLOCK_LIMIT}
 use Rattle.trace.specs.declared.line.Line.{Line}
 use Rattle.trace.specs.declared.line.Line.TheVariants as lines
 use Rattle.trace.specs.Spelling.{command_line, command_text, CommandFits, is_skipped, Spells}
@@ -34,8 +35,8 @@ collector_found bytes l e = elim (chosen (bytes_eq bytes (codes "begin")) _ _ l 
       let t = number_in-Some 64 n c.1 en in
       elim (chosen (bytes_eq c.0 (codes "quantum") && (leb 256 n && leb n 1000000)) _ _ l e2) [
         | inl h ↦ let a = all_parts _ _ _ h.0 in told (Spells bytes) (lines.Quantum n) l (cut_at-Some 32 bytes c ec ∙ named c.0 c.1 (codes "quantum") n a.0 t.1, leb-true 256 n a.1, leb-true n 1000000 a.2) h.1
-        | inr s ↦ elim (chosen (bytes_eq c.0 (codes "tick") && (leb 1 n && leb n 1099511627776)) _ _ l s.1) [
-          | inl h ↦ let a = all_parts _ _ _ h.0 in told (Spells bytes) (lines.Tick n) l (cut_at-Some 32 bytes c ec ∙ named c.0 c.1 (codes "tick") n a.0 t.1, leb-true 1 n a.1, leb-true n 1099511627776 a.2) h.1
+        | inr s ↦ elim (chosen (bytes_eq c.0 (codes "tick") && (leb 1 n && leb n CLOCK_LIMIT)) _ _ l s.1) [
+          | inl h ↦ let a = all_parts _ _ _ h.0 in told (Spells bytes) (lines.Tick n) l (cut_at-Some 32 bytes c ec ∙ named c.0 c.1 (codes "tick") n a.0 t.1, leb-true 1 n a.1, leb-true n CLOCK_LIMIT a.2) h.1
           | inr s ↦ absurd (cc s.1)
         ]
       ]))
@@ -78,11 +79,11 @@ quantum_only n low high =
     let small : n < 2 ^ 64 = omega arith in
     rw (cut_at-spelled 32 (codes "quantum") (decimal n) (lacks 32 (codes "quantum") refl), number_in-spelled 64 n (decimal n) small small refl, le-leb 256 n low, le-leb n 1000000 high) refl
 
-tick_only : (n : ℕ) → 1 ≤ n → n ≤ 1099511627776 → line_in (codes "tick " ++ decimal n) ≡ Some (lines.Tick n)
+tick_only : (n : ℕ) → 1 ≤ n → n ≤ CLOCK_LIMIT → line_in (codes "tick " ++ decimal n) ≡ Some (lines.Tick n)
 unfolding line_in collector_in
 tick_only n low high =
     let small : n < 2 ^ 64 = omega arith in
-    rw (cut_at-spelled 32 (codes "tick") (decimal n) (lacks 32 (codes "tick") refl), number_in-spelled 64 n (decimal n) small small refl, le-leb 1 n low, le-leb n 1099511627776 high) refl
+    rw (cut_at-spelled 32 (codes "tick") (decimal n) (lacks 32 (codes "tick") refl), number_in-spelled 64 n (decimal n) small small refl, le-leb 1 n low, le-leb n CLOCK_LIMIT high) refl
 
 line_only : (bytes : List ℕ) (l : Line) → Spells bytes l → line_in bytes ≡ Some l
 unfolding line_in collector_in

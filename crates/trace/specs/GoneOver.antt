@@ -12,7 +12,7 @@ pub record LinesRead (given : Given) (lines : List (List ℕ)) (rest : List ℕ)
   pub splits : Splits text lines rest
   pub small : length rest ≤ 4096
 
--- The rest behind so many lines has no further line, for this fault.
+-- After so many lines the rest has no further line, for this fault.
 abbrev pub NoLine : TextFault → ℕ → List ℕ → Bool → Type 0
 -- 256 bytes came, and the next byte is there and is no LF
 NoLine (At_line k TooLong) count rest ended = (k ≡ count + 1) × (256 < length rest) × NoLf (take 257 rest)
@@ -26,7 +26,7 @@ NoLine NoMemory count rest ended = ⊥
 
 -- The rest begins with a line, of which this holds.
 abbrev pub NextLine : (List ℕ → Type 0) → List ℕ → Type 0
-NextLine Is rest = (line : List ℕ) × (behind : List ℕ) × (rest ≡ line ++ 10 ∷ behind) × IsLine line × Is line
+NextLine Is rest = (line : List ℕ) × (more : List ℕ) × (rest ≡ line ++ 10 ∷ more) × IsLine line × Is line
 
 -- Does line old events new: what a line does to a state, and the events of it.
 module _ {S E : Type 0} (Does : List ℕ → S → List E → S → Type 0) where
@@ -36,7 +36,7 @@ module _ {S E : Type 0} (Does : List ℕ → S → List E → S → Type 0) wher
     One_line_more : (lines : List (List ℕ)) (events more : List E) (line : List ℕ) (mid new : S) → LinesDone old lines events mid → Does line mid more new → LinesDone old (lines ++ line ∷ []) (events ++ more) new
 
   -- What was done of an input: the bytes that it gave are these lines and a rest, and the lines did these
-  -- events. Ends says what the number of lines, the events, the state behind them and the rest are.
+  -- events. Ends says what the number of lines, the events, the state after them and the rest are.
   pub record GoneOver (given : Given) (old : S) (Ends : ℕ → List E → S → List ℕ → Type 0) : Type 0 where
     pub lines : List (List ℕ)
     pub events : List E

@@ -8,6 +8,7 @@ use Rattle.graph_heap.specs.declared.command.Reply.{Reply}
 use Rattle.graph_heap.specs.declared.command.Reply.TheVariants as replies
 use Rattle.graph_heap.specs.declared.command.Entry.{Entry}
 use Rattle.graph_heap.specs.Refusal.{refusal_number}
+use Rattle.quanta.specs.declared.schedule.TheConstants.{CLOCK_LIMIT}
 use Rattle.trace.specs.declared.entry.EntryLine.{EntryLine}
 use Rattle.trace.specs.declared.entry.EntryLine.TheVariants as entry_lines
 use Rattle.trace.specs.declared.line.Line.{Line}
@@ -84,7 +85,7 @@ Spells bytes lines.Skip = IsTrue (is_skipped bytes)
 Spells bytes (lines.Command mutator command) = (bytes ≡ command_line mutator command) × (mutator < 2 ^ 32) × CommandFits command
 Spells bytes lines.Begin = bytes ≡ codes "begin"
 Spells bytes (lines.Quantum budget) = (bytes ≡ codes "quantum " ++ decimal budget) × (256 ≤ budget) × (budget ≤ 1000000)
-Spells bytes (lines.Tick ticks) = (bytes ≡ codes "tick " ++ decimal ticks) × (1 ≤ ticks) × (ticks ≤ 1099511627776)
+Spells bytes (lines.Tick ticks) = (bytes ≡ codes "tick " ++ decimal ticks) × (1 ≤ ticks) × (ticks ≤ CLOCK_LIMIT)
 
 -- a reply
 abbrev pub reply_text : Reply → List ℕ

@@ -7,6 +7,7 @@ ghost use Rattle.trace.specs.Reading.{collector_in, line_in};
 use crate::commands::mutator_and_command;
 use crate::field::{cut, word};
 use graph_heap::Command;
+use quanta::CLOCK_LIMIT;
 
 /// What a line of a trace says.
 #[derive(Clone, Copy, Debug, PartialEq, Eq)]
@@ -35,7 +36,7 @@ fn collector_line(bytes: &[u8]) -> Option<Line>
     let n = word(rest)?;
     if name == b"quantum".as_slice() && 256 <= n && n <= 1000000 {
         Some(Line::Quantum(n as u32))
-    } else if name == b"tick".as_slice() && 1 <= n && n <= 1099511627776 {
+    } else if name == b"tick".as_slice() && 1 <= n && n <= CLOCK_LIMIT {
         Some(Line::Tick(n))
     } else {
         None

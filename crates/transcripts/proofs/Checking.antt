@@ -22,7 +22,7 @@ leads_on old mid new es (e ∷ []) text legal leads does = (
 )
 leads_on old mid new es (e ∷ f ∷ fs) text legal leads does = absurd does
 
--- the entries of the lines done are legal, and lead to the graph heap behind them
+-- the entries of the lines done are legal, and lead to the graph heap after them
 leads_so : (old new : Graph) (ls : List (List ℕ)) (es : List Entry) → LinesDone DoesEntry old ls es new → IsLegal old es × (new ≡ after old es)
 leads_so old new ls es No_lines = (tt, refl)
 leads_so old new ls es (One_line_more ls' es' fs text mid new' d does) =

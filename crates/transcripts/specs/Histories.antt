@@ -41,7 +41,7 @@ HistoryEnds ended new (Ok (Wrong k)) count entries mid rest = (k ≡ count + 1) 
 HistoryEnds ended new (Err fault) count entries mid rest = Ends HistoryStops {A = Checked} count mid rest ended new (Err fault)
 
 -- A history, as it was checked from one graph heap to another: the entries of the lines done are legal, and
--- lead to the graph heap behind them.
+-- lead to the graph heap after them.
 pub record EntriesChecked (given : Given) (old new : Graph) (result : Result Checked TextFault) : Type 0 where
   pub over : GoneOver DoesEntry given old (HistoryEnds given.ended new result)
   pub legal : IsLegal old over.events

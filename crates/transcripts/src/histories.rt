@@ -45,8 +45,8 @@ fn check_line(bytes: &[u8], number: u64, reference: &mut Reference) -> Result<Ou
 }
 
 /// Plays the entries of a source's lines on a graph heap, from where that stands: to the source's end, or
-/// to the first entry that isn't a step, and then no line behind it is looked at. The graph heap is left
-/// behind the entries before.
+/// to the first entry that isn't a step, and then no line after it is looked at. The graph heap is left
+/// as it is after the entries before.
 pub fn check_entries<S: Source>(
     source: &mut S,
     reference: &mut Reference,

@@ -31,7 +31,7 @@ fn script_line(bytes: &[u8], mutators: usize) -> Result<Option<(u32, Command)>, 
     }
 }
 
-/// Puts a command behind those of its mutator.
+/// Puts a command after those of its mutator.
 fn add(scripts: &mut Vec<Vec<Command>>, mutator: usize, command: Command) -> Result<(), NoMemory>
     requires { mutator < vec_len scripts.old }
     ensures ok { OnOk result (lists_in scripts.new ≡ one_more (lists_in scripts.old) mutator command) }

@@ -1,4 +1,4 @@
-use Rattle.std.proofs.Common.{Ok, inr, refl, sym, subst}
+use Rattle.std.proofs.Common.{Ok, Err, inr, refl, sym, subst}
 use Rattle.std.specs.Prelude.{Result}
 use Rattle.quanta.specs.Timetable.{Timetable}
 use Rattle.metronome.specs.declared.fault.Ending.{Ending}
@@ -9,6 +9,12 @@ use Rattle.metronome.proofs.Finishing.{failed_so}
 use Rattle.metronome.proofs.Telling.{told_reserved, first_reserved}
 use Rattle.metronome.proofs.jobs.mmu_job.Goals as goal
 
+pub returns-in_err-play : goal.returns-in_err-play
+returns-in_err-play g c =
+    let e = c.in_ok-player.ensures in
+    let old : IsNew c.args.config.now c.in_ok-player.player = record { heap = e.heap; limits = e.limits; pages = e.pages; defrag = e.defrag; history = e.history; place = e.place; timetable = e.timetable; budget = e.budget } in
+    inr (c.in_ok-player.player, c.play.new.player, g.K.Sink.taken c.play.new.sink, Err c.in_err-play.field-0.0, old, c.in_err-play.ensures.played, (failed_so c.from_residual-in_err-play.result _ c.from_residual-in_err-play.ensures.1, refl))
+
 pub returns-in_err-write_windows : goal.returns-in_err-write_windows
 returns-in_err-write_windows g c =
     let config = c.args.config.now in
@@ -18,7 +24,7 @@ returns-in_err-write_windows g c =
     let fault = c.in_err-write_windows.field-0.0 in
     let t = c.play.new.player.timetable in
     let Told : Timetable → Type 0 = λ x. FirstTold config x windows fault mid new in
-    let Behind : Result Ending RunFault → Type 0 = λ r. ToldBehind (Ok c.in_ok-play.field-0) config t windows mid new r in
+    let Behind : Result Ending RunFault → Type 0 = λ r. ToldBehind (Ok c.in_ok-play.field-0) config t windows (record { before = mid; after = new }) r in
     let e = c.in_ok-player.ensures in
     let old : IsNew config c.in_ok-player.player = record { heap = e.heap; limits = e.limits; pages = e.pages; defrag = e.defrag; history = e.history; place = e.place; timetable = e.timetable; budget = e.budget } in
     let told : FirstTold config t windows fault mid new = subst Told c.schedule.ensures (first_reserved config c.schedule.result.now 0 windows mid new fault c.in_err-write_windows.ensures.err) in

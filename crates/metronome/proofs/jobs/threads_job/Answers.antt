@@ -5,7 +5,7 @@ use Rattle.graph_heap.specs.declared.command.Command.{Command}
 use Rattle.graph_heap.specs.declared.command.Limits.{Limits}
 use Rattle.graph_heap.specs.declared.command.Entry.{Entry}
 use Rattle.heap_server.specs.Settings.{settings_by}
-use Rattle.trace.specs.Streams.{GrowsByPart}
+use Rattle.trace.specs.Streams.{GrowsByPart, given_by}
 use Rattle.transcripts.specs.Scripts.{ScriptsRead}
 use Rattle.heap_server.specs.Played.{IsOutcome}
 use Rattle.player.specs.declared.style.Style.TheVariants.{Entries}
@@ -19,7 +19,7 @@ returns-in_err-write_history g c =
     let outcome = c.in_ok-outcome.outcome in
     let old = g.K.Sink.taken c.args.sink.now in
     let new = g.K.Sink.taken c.write_history.new.sink in
-    let Read : ℕ → Type 0 = λ mutators. ScriptsRead (g.S.Source.given c.args.source.now) (g.S.Source.given c.read_scripts.new.source) (g.S.Source.ended c.read_scripts.new.source) mutators (Ok scripts) in
+    let Read : ℕ → Type 0 = λ mutators. ScriptsRead (given_by g.S.Source.given g.S.Source.ended c.args.source.now c.read_scripts.new.source) mutators (Ok scripts) in
     let Ran : List (Vec Command Global) → Type 0 = λ all. IsOutcome (settings_by c.args.config.now) (map vec_len all) (replicate c.args.turns c.args.budget) outcome in
     let Part : List Entry → Type 0 = λ history. GrowsByPart old new (written_of Entries history) in
     let read = subst Read (ap (λ (limits : Limits). limits.mutators) c.limits.ensures) c.in_ok-scripts.ensures.read in
@@ -32,7 +32,7 @@ returns g c =
     let scripts = c.in_ok-scripts.scripts in
     let outcome = c.in_ok-outcome.outcome in
     let old = g.K.Sink.taken c.args.sink.now in
-    let Read : ℕ → Type 0 = λ mutators. ScriptsRead (g.S.Source.given c.args.source.now) (g.S.Source.given c.read_scripts.new.source) (g.S.Source.ended c.read_scripts.new.source) mutators (Ok scripts) in
+    let Read : ℕ → Type 0 = λ mutators. ScriptsRead (given_by g.S.Source.given g.S.Source.ended c.args.source.now c.read_scripts.new.source) mutators (Ok scripts) in
     let Ran : List (Vec Command Global) → Type 0 = λ all. IsOutcome (settings_by c.args.config.now) (map vec_len all) (replicate c.args.turns c.args.budget) outcome in
     let read = subst Read (ap (λ (limits : Limits). limits.mutators) c.limits.ensures) c.in_ok-scripts.ensures.read in
     let ran = subst Ran c.as_slice.ensures.value c.in_ok-outcome.ensures in

@@ -5,7 +5,7 @@ use Rattle.trace.proofs.GoingOver.{SoFar}
 use Rattle.player.specs.Playing.{stage, PlaysText, is_event, EndAtEvent}
 use Rattle.player.proofs.playing.play_first.Given as goal
 
--- the lines so far are done, none of them behind the nth event, and no read or write has failed
+-- the lines so far are done, none of them after the nth event, and no read or write has failed
 abbrev pub invariant-loop-left : goal.invariant-loop-left
 invariant-loop-left g l = record {
   done : SoFar (PlaysText l.style) (given_by g.S.Source.given g.S.Source.ended l.fn.source l.source) (stage l.fn.player (g.K.Sink.taken l.fn.sink)) (stage l.player (g.K.Sink.taken l.sink)) l.reader;

@@ -9,8 +9,8 @@ use Rattle.graph_heap.specs.declared.command.Command.{Command}
 use Rattle.graph_heap.specs.declared.command.Command.TheVariants as commands
 use Rattle.trace.specs.declared.keyword.Keyword.{Keyword}
 use Rattle.trace.specs.declared.keyword.Keyword.TheVariants as keywords
-use Rattle.trace.specs.Spelling.{two, shape_text, command_text, command_line, ShapeFits, CommandFits}
-use Rattle.trace.specs.Reading.{◌>>=◌, number_in, cut_at, two_in, keyword_text, all_keywords, keyword_in, shape_in, slot_and_shape_in, arguments_in, command_in, mutator_and_command_in}
+use Rattle.trace.specs.Spelling.{two, shape_text, keyword_text, command_text, command_line, ShapeFits, CommandFits}
+use Rattle.trace.specs.Reading.{◌>>=◌, number_in, cut_at, two_in, all_keywords, keyword_in, shape_in, slot_and_shape_in, arguments_in, command_in, mutator_and_command_in}
 use Rattle.trace.proofs.Exact.{bind_parts, told, chosen, found_passes, Lacks, lacks, cut_at-Some, cut_at-spelled, Exact, narrow, exact_number, exact_front, exact_two, exact_three, exact_four, exact_numbers_and_word, exact_numbers_and_words}
 
 -- a word that was recognised, and what follows it

@@ -11,8 +11,8 @@ use Rattle.graph_heap.specs.declared.command.Refusal.TheVariants as refusals
 use Rattle.graph_heap.specs.Refusal.{refusal_number}
 use Rattle.trace.specs.declared.replies.ReplyWord.{ReplyWord}
 use Rattle.trace.specs.declared.replies.ReplyWord.TheVariants as words
-use Rattle.trace.specs.Spelling.{shape_text, reply_text, ShapeFits, ReplyFits}
-use Rattle.trace.specs.Reading.{◌>>=◌, number_in, cut_at, refusal_in, all_refusals, reply_word_text, all_reply_words, reply_word_in, identity_and_shape_in, shape_in, reply_arguments_in, long_reply_in, reply_in}
+use Rattle.trace.specs.Spelling.{shape_text, reply_word_text, reply_text, ShapeFits, ReplyFits}
+use Rattle.trace.specs.Reading.{◌>>=◌, number_in, cut_at, refusal_in, all_refusals, all_reply_words, reply_word_in, identity_and_shape_in, shape_in, reply_arguments_in, long_reply_in, reply_in}
 use Rattle.trace.proofs.Exact.{bind_parts, told, chosen, found_passes, Lacks, lacks, cut_at-Some, cut_at-spelled, Exact, wide, exact_number, exact_front}
 use Rattle.trace.proofs.ReadCommands.{exact_shape}
 

@@ -13,7 +13,7 @@ use Rattle.graph_heap.specs.declared.command.Refusal.TheVariants as refusals
 use Rattle.graph_heap.specs.declared.command.Entry.{Entry}
 use Rattle.graph_heap.specs.Refusal.{refusal_number}
 use Rattle.quanta.specs.declared.schedule.TheConstants.{CLOCK_LIMIT}
-use Rattle.trace.specs.Spelling.{is_skipped}
+use Rattle.trace.specs.Spelling.{is_skipped, keyword_text, reply_word_text}
 use Rattle.trace.specs.declared.entry.EntryLine.{EntryLine}
 use Rattle.trace.specs.declared.entry.EntryLine.TheVariants as entry_lines
 use Rattle.trace.specs.declared.replies.ReplyWord.{ReplyWord}
@@ -95,23 +95,7 @@ numbers_and_words_in bytes = do
   b ← number_and_words_in a.1
   Some (a.0, b)
 
--- the word with which a command begins
-abbrev pub keyword_text : Keyword → List ℕ
-keyword_text keywords.New = codes "new"
-keyword_text keywords.Load = codes "load"
-keyword_text keywords.Store = codes "store"
-keyword_text keywords.CompareStore = codes "cas"
-keyword_text keywords.Get = codes "get"
-keyword_text keywords.Put = codes "put"
-keyword_text keywords.ComparePut = codes "casput"
-keyword_text keywords.Copy = codes "copy"
-keyword_text keywords.Clear = codes "clear"
-keyword_text keywords.LoadStatic = codes "loadstatic"
-keyword_text keywords.StoreStatic = codes "storestatic"
-keyword_text keywords.CompareStatic = codes "casstatic"
-keyword_text keywords.Same = codes "same"
-keyword_text keywords.Describe = codes "describe"
-
+-- the words with which commands begin
 abbrev pub all_keywords : List Keyword
 all_keywords = keywords.New ∷ keywords.Load ∷ keywords.Store ∷ keywords.CompareStore ∷ keywords.Get ∷ keywords.Put ∷ keywords.ComparePut ∷ keywords.Copy ∷ keywords.Clear ∷ keywords.LoadStatic ∷ keywords.StoreStatic ∷ keywords.CompareStatic ∷ keywords.Same ∷ keywords.Describe ∷ []
 
@@ -187,16 +171,7 @@ all_refusals = refusals.BadSlot ∷ refusals.NullSlot ∷ refusals.BadIndex ∷ 
 unfoldable pub refusal_in : ℕ → Option Refusal
 refusal_in n = find (λ r. refusal_number r == n) all_refusals
 
--- the word with which a reply of several words begins
-abbrev pub reply_word_text : ReplyWord → List ℕ
-reply_word_text words.Made = codes "made"
-reply_word_text words.Ref = codes "ref"
-reply_word_text words.Word = codes "word"
-reply_word_text words.Kept = codes "kept"
-reply_word_text words.KeptWord = codes "keptword"
-reply_word_text words.Described = codes "described"
-reply_word_text words.Refused = codes "refused"
-
+-- the words with which replies of several words begin
 abbrev pub all_reply_words : List ReplyWord
 all_reply_words = words.Made ∷ words.Ref ∷ words.Word ∷ words.Kept ∷ words.KeptWord ∷ words.Described ∷ words.Refused ∷ []
 

@@ -11,6 +11,10 @@ use Rattle.graph_heap.specs.Refusal.{refusal_number}
 use Rattle.quanta.specs.declared.schedule.TheConstants.{CLOCK_LIMIT}
 use Rattle.trace.specs.declared.entry.EntryLine.{EntryLine}
 use Rattle.trace.specs.declared.entry.EntryLine.TheVariants as entry_lines
+use Rattle.trace.specs.declared.keyword.Keyword.{Keyword}
+use Rattle.trace.specs.declared.keyword.Keyword.TheVariants as keywords
+use Rattle.trace.specs.declared.replies.ReplyWord.{ReplyWord}
+use Rattle.trace.specs.declared.replies.ReplyWord.TheVariants as words
 use Rattle.trace.specs.declared.line.Line.{Line}
 use Rattle.trace.specs.declared.line.Line.TheVariants as lines
 
@@ -30,22 +34,39 @@ shape_text (Plain refs words) = codes "plain " ++ two refs words
 shape_text (RefArray n) = codes "refs " ++ decimal n
 shape_text (WordArray n) = codes "words " ++ decimal n
 
+-- the word with which a command begins
+abbrev pub keyword_text : Keyword → List ℕ
+keyword_text keywords.New = codes "new"
+keyword_text keywords.Load = codes "load"
+keyword_text keywords.Store = codes "store"
+keyword_text keywords.CompareStore = codes "cas"
+keyword_text keywords.Get = codes "get"
+keyword_text keywords.Put = codes "put"
+keyword_text keywords.ComparePut = codes "casput"
+keyword_text keywords.Copy = codes "copy"
+keyword_text keywords.Clear = codes "clear"
+keyword_text keywords.LoadStatic = codes "loadstatic"
+keyword_text keywords.StoreStatic = codes "storestatic"
+keyword_text keywords.CompareStatic = codes "casstatic"
+keyword_text keywords.Same = codes "same"
+keyword_text keywords.Describe = codes "describe"
+
 -- a command
 abbrev pub command_text : Command → List ℕ
-command_text (commands.New dst shape) = codes "new " ++ decimal dst ++ 32 ∷ shape_text shape
-command_text (commands.Load dst obj i) = codes "load " ++ three dst obj i
-command_text (commands.Store obj i src) = codes "store " ++ three obj i src
-command_text (commands.CompareStore obj i expect new) = codes "cas " ++ four obj i expect new
-command_text (commands.Get obj i) = codes "get " ++ two obj i
-command_text (commands.Put obj i word) = codes "put " ++ three obj i word
-command_text (commands.ComparePut obj i old new) = codes "casput " ++ four obj i old new
-command_text (commands.Copy dst src) = codes "copy " ++ two dst src
-command_text (commands.Clear dst) = codes "clear " ++ decimal dst
-command_text (commands.LoadStatic dst k) = codes "loadstatic " ++ two dst k
-command_text (commands.StoreStatic k src) = codes "storestatic " ++ two k src
-command_text (commands.CompareStatic k expect new) = codes "casstatic " ++ three k expect new
-command_text (commands.Same a b) = codes "same " ++ two a b
-command_text (commands.Describe a) = codes "describe " ++ decimal a
+command_text (commands.New dst shape) = keyword_text keywords.New ++ 32 ∷ decimal dst ++ 32 ∷ shape_text shape
+command_text (commands.Load dst obj i) = keyword_text keywords.Load ++ 32 ∷ three dst obj i
+command_text (commands.Store obj i src) = keyword_text keywords.Store ++ 32 ∷ three obj i src
+command_text (commands.CompareStore obj i expect new) = keyword_text keywords.CompareStore ++ 32 ∷ four obj i expect new
+command_text (commands.Get obj i) = keyword_text keywords.Get ++ 32 ∷ two obj i
+command_text (commands.Put obj i word) = keyword_text keywords.Put ++ 32 ∷ three obj i word
+command_text (commands.ComparePut obj i old new) = keyword_text keywords.ComparePut ++ 32 ∷ four obj i old new
+command_text (commands.Copy dst src) = keyword_text keywords.Copy ++ 32 ∷ two dst src
+command_text (commands.Clear dst) = keyword_text keywords.Clear ++ 32 ∷ decimal dst
+command_text (commands.LoadStatic dst k) = keyword_text keywords.LoadStatic ++ 32 ∷ two dst k
+command_text (commands.StoreStatic k src) = keyword_text keywords.StoreStatic ++ 32 ∷ two k src
+command_text (commands.CompareStatic k expect new) = keyword_text keywords.CompareStatic ++ 32 ∷ three k expect new
+command_text (commands.Same a b) = keyword_text keywords.Same ++ 32 ∷ two a b
+command_text (commands.Describe a) = keyword_text keywords.Describe ++ 32 ∷ decimal a
 
 -- a command of a mutator
 abbrev pub command_line : ℕ → Command → List ℕ
@@ -87,19 +108,29 @@ Spells bytes lines.Begin = bytes ≡ codes "begin"
 Spells bytes (lines.Quantum budget) = (bytes ≡ codes "quantum " ++ decimal budget) × (256 ≤ budget) × (budget ≤ 1000000)
 Spells bytes (lines.Tick ticks) = (bytes ≡ codes "tick " ++ decimal ticks) × (1 ≤ ticks) × (ticks ≤ CLOCK_LIMIT)
 
+-- the word with which a reply of several words begins
+abbrev pub reply_word_text : ReplyWord → List ℕ
+reply_word_text words.Made = codes "made"
+reply_word_text words.Ref = codes "ref"
+reply_word_text words.Word = codes "word"
+reply_word_text words.Kept = codes "kept"
+reply_word_text words.KeptWord = codes "keptword"
+reply_word_text words.Described = codes "described"
+reply_word_text words.Refused = codes "refused"
+
 -- a reply
 abbrev pub reply_text : Reply → List ℕ
-reply_text (replies.Made id) = codes "made " ++ decimal id
-reply_text (replies.Ref id) = codes "ref " ++ decimal id
-reply_text (replies.Word w) = codes "word " ++ decimal w
+reply_text (replies.Made id) = reply_word_text words.Made ++ 32 ∷ decimal id
+reply_text (replies.Ref id) = reply_word_text words.Ref ++ 32 ∷ decimal id
+reply_text (replies.Word w) = reply_word_text words.Word ++ 32 ∷ decimal w
 reply_text replies.Done = codes "done"
 reply_text replies.Stored = codes "stored"
-reply_text (replies.Kept id) = codes "kept " ++ decimal id
-reply_text (replies.KeptWord w) = codes "keptword " ++ decimal w
+reply_text (replies.Kept id) = reply_word_text words.Kept ++ 32 ∷ decimal id
+reply_text (replies.KeptWord w) = reply_word_text words.KeptWord ++ 32 ∷ decimal w
 reply_text (replies.Is true) = codes "is yes"
 reply_text (replies.Is false) = codes "is no"
-reply_text (replies.Described id shape) = codes "described " ++ decimal id ++ 32 ∷ shape_text shape
-reply_text (replies.Refused refusal) = codes "refused " ++ decimal (refusal_number refusal)
+reply_text (replies.Described id shape) = reply_word_text words.Described ++ 32 ∷ decimal id ++ 32 ∷ shape_text shape
+reply_text (replies.Refused refusal) = reply_word_text words.Refused ++ 32 ∷ decimal (refusal_number refusal)
 
 -- an entry: the command's line, " => " and the reply
 abbrev pub entry_line : Entry → List ℕ

@@ -1,6 +1,7 @@
 //! The words with which commands begin.
 ghost use Rattle.std.specs.Prelude.{◌≡◌};
-ghost use Rattle.trace.specs.Reading.{keyword_text, keyword_in};
+ghost use Rattle.trace.specs.Spelling.{keyword_text};
+ghost use Rattle.trace.specs.Reading.{keyword_in};
 
 /// The kind of a command.
 #[derive(Clone, Copy, Debug, PartialEq, Eq)]

@@ -1,6 +1,7 @@
 //! Reading replies.
 ghost use Rattle.std.specs.Prelude.{◌≡◌};
-ghost use Rattle.trace.specs.Reading.{refusal_in, reply_word_text, reply_word_in, identity_and_shape_in, reply_arguments_in, long_reply_in, reply_in};
+ghost use Rattle.trace.specs.Spelling.{reply_word_text};
+ghost use Rattle.trace.specs.Reading.{refusal_in, reply_word_in, identity_and_shape_in, reply_arguments_in, long_reply_in, reply_in};
 
 use crate::commands::shape;
 use crate::field::{cut, word, word_field};

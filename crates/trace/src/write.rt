@@ -1,42 +1,54 @@
 //! Writing commands, replies and entries.
-ghost use Rattle.std.specs.Prelude.{◌≡◌, ◌≤◌, ◌+◌, ◌++◌, ◌∷◌, codes, length, take, slice_index};
+ghost use Rattle.std.specs.Prelude.{◌≡◌, ◌≤◌, ◌+◌, ◌++◌, ◌∷◌, codes, decimal, length, take, slice_index};
 ghost use Rattle.graph_heap.specs.Refusal.{refusal_number};
 ghost use Rattle.trace.specs.Spelling.{two, three, four, shape_text, command_text, command_line, reply_text, entry_line};
 
+use crate::keyword::Keyword;
+use crate::replies::ReplyWord;
 use crate::text::{put, put_named, put_number};
 use graph_heap::{Command, Entry, Reply, Shape};
 
-/// Writes a word and two numbers.
+/// Writes a word, a blank and a number.
+fn put_one(out: &mut [u8], at: usize, word: &[u8], n: u64) -> usize
+    requires { at + length word.now + 21 ≤ length out.old }
+    ensures text { take result out.new ≡ take at out.old ++ (word.now ++ 32 ∷ decimal n) }
+    ensures place { result ≤ at + length word.now + 21 }
+{
+    let next = put(out, at, word);
+    put_named(out, next, b" ", n)
+}
+
+/// Writes a word, and after it two numbers.
 fn put_two(out: &mut [u8], at: usize, word: &[u8], numbers: [u32; 2]) -> usize
-    requires { at + length word.now + 41 ≤ length out.old }
-    ensures text { take result out.new ≡ take at out.old ++ (word.now ++ two (slice_index numbers 0) (slice_index numbers 1)) }
-    ensures place { result ≤ at + length word.now + 41 }
+    requires { at + length word.now + 42 ≤ length out.old }
+    ensures text { take result out.new ≡ take at out.old ++ (word.now ++ 32 ∷ two (slice_index numbers 0) (slice_index numbers 1)) }
+    ensures place { result ≤ at + length word.now + 42 }
 {
     let [a, b] = numbers;
-    let next = put_named(out, at, word, a as u64);
+    let next = put_one(out, at, word, a as u64);
     put_named(out, next, b" ", b as u64)
 }
 
-/// Writes a word and three numbers.
+/// Writes a word, and after it three numbers.
 fn put_three(out: &mut [u8], at: usize, word: &[u8], numbers: [u32; 3]) -> usize
-    requires { at + length word.now + 62 ≤ length out.old }
-    ensures text { take result out.new ≡ take at out.old ++ (word.now ++ three (slice_index numbers 0) (slice_index numbers 1) (slice_index numbers 2)) }
-    ensures place { result ≤ at + length word.now + 62 }
+    requires { at + length word.now + 63 ≤ length out.old }
+    ensures text { take result out.new ≡ take at out.old ++ (word.now ++ 32 ∷ three (slice_index numbers 0) (slice_index numbers 1) (slice_index numbers 2)) }
+    ensures place { result ≤ at + length word.now + 63 }
 {
     let [a, b, c] = numbers;
-    let next = put_named(out, at, word, a as u64);
-    put_two(out, next, b" ", [b, c])
+    let next = put_one(out, at, word, a as u64);
+    put_two(out, next, b"", [b, c])
 }
 
-/// Writes a word and four numbers.
+/// Writes a word, and after it four numbers.
 fn put_four(out: &mut [u8], at: usize, word: &[u8], numbers: [u32; 4]) -> usize
-    requires { at + length word.now + 83 ≤ length out.old }
-    ensures text { take result out.new ≡ take at out.old ++ (word.now ++ four (slice_index numbers 0) (slice_index numbers 1) (slice_index numbers 2) (slice_index numbers 3)) }
-    ensures place { result ≤ at + length word.now + 83 }
+    requires { at + length word.now + 84 ≤ length out.old }
+    ensures text { take result out.new ≡ take at out.old ++ (word.now ++ 32 ∷ four (slice_index numbers 0) (slice_index numbers 1) (slice_index numbers 2) (slice_index numbers 3)) }
+    ensures place { result ≤ at + length word.now + 84 }
 {
     let [a, b, c, d] = numbers;
-    let next = put_named(out, at, word, a as u64);
-    put_three(out, next, b" ", [b, c, d])
+    let next = put_one(out, at, word, a as u64);
+    put_three(out, next, b"", [b, c, d])
 }
 
 fn put_shape(out: &mut [u8], at: usize, shape: &Shape) -> usize
@@ -45,7 +57,7 @@ fn put_shape(out: &mut [u8], at: usize, shape: &Shape) -> usize
     ensures place { result ≤ at + 47 }
 {
     match *shape {
-        Shape::Plain { refs, words } => put_two(out, at, b"plain ", [refs, words]),
+        Shape::Plain { refs, words } => put_two(out, at, b"plain", [refs, words]),
         Shape::RefArray(n) => put_named(out, at, b"refs ", n as u64),
         Shape::WordArray(n) => put_named(out, at, b"words ", n as u64),
     }
@@ -59,40 +71,40 @@ fn put_command(out: &mut [u8], at: usize, command: &Command) -> usize
 {
     match *command {
         Command::New { dst, shape } => {
-            let next = put_named(out, at, b"new ", dst as u64);
+            let next = put_one(out, at, Keyword::New.text(), dst as u64);
             let next = put(out, next, b" ");
             put_shape(out, next, &shape)
         }
-        Command::Load { dst, obj, i } => put_three(out, at, b"load ", [dst, obj, i]),
-        Command::Store { obj, i, src } => put_three(out, at, b"store ", [obj, i, src]),
+        Command::Load { dst, obj, i } => put_three(out, at, Keyword::Load.text(), [dst, obj, i]),
+        Command::Store { obj, i, src } => put_three(out, at, Keyword::Store.text(), [obj, i, src]),
         Command::CompareStore {
             obj,
             i,
             expect,
             new,
-        } => put_four(out, at, b"cas ", [obj, i, expect, new]),
-        Command::Get { obj, i } => put_two(out, at, b"get ", [obj, i]),
+        } => put_four(out, at, Keyword::CompareStore.text(), [obj, i, expect, new]),
+        Command::Get { obj, i } => put_two(out, at, Keyword::Get.text(), [obj, i]),
         Command::Put { obj, i, word } => {
-            let next = put_two(out, at, b"put ", [obj, i]);
+            let next = put_two(out, at, Keyword::Put.text(), [obj, i]);
             put_named(out, next, b" ", word)
         }
         Command::ComparePut { obj, i, old, new } => {
-            let next = put_two(out, at, b"casput ", [obj, i]);
+            let next = put_two(out, at, Keyword::ComparePut.text(), [obj, i]);
             let next = put_named(out, next, b" ", old);
             put_named(out, next, b" ", new)
         }
-        Command::Copy { dst, src } => put_two(out, at, b"copy ", [dst, src]),
-        Command::Clear { dst } => put_named(out, at, b"clear ", dst as u64),
-        Command::LoadStatic { dst, k } => put_two(out, at, b"loadstatic ", [dst, k]),
-        Command::StoreStatic { k, src } => put_two(out, at, b"storestatic ", [k, src]),
+        Command::Copy { dst, src } => put_two(out, at, Keyword::Copy.text(), [dst, src]),
+        Command::Clear { dst } => put_one(out, at, Keyword::Clear.text(), dst as u64),
+        Command::LoadStatic { dst, k } => put_two(out, at, Keyword::LoadStatic.text(), [dst, k]),
+        Command::StoreStatic { k, src } => put_two(out, at, Keyword::StoreStatic.text(), [k, src]),
         Command::CompareStatic { k, expect, new } => put_three(
             out,
             at,
-            b"casstatic ",
+            Keyword::CompareStatic.text(),
             [k, expect, new],
         ),
-        Command::Same { a, b } => put_two(out, at, b"same ", [a, b]),
-        Command::Describe { a } => put_named(out, at, b"describe ", a as u64),
+        Command::Same { a, b } => put_two(out, at, Keyword::Same.text(), [a, b]),
+        Command::Describe { a } => put_one(out, at, Keyword::Describe.text(), a as u64),
     }
 }
 
@@ -117,21 +129,26 @@ fn put_reply(out: &mut [u8], at: usize, reply: &Reply) -> usize
     ensures place { result ≤ at + 78 }
 {
     match *reply {
-        Reply::Made(id) => put_named(out, at, b"made ", id),
-        Reply::Ref(id) => put_named(out, at, b"ref ", id),
-        Reply::Word(w) => put_named(out, at, b"word ", w),
+        Reply::Made(id) => put_one(out, at, ReplyWord::Made.text(), id),
+        Reply::Ref(id) => put_one(out, at, ReplyWord::Ref.text(), id),
+        Reply::Word(w) => put_one(out, at, ReplyWord::Word.text(), w),
         Reply::Done => put(out, at, b"done"),
         Reply::Stored => put(out, at, b"stored"),
-        Reply::Kept(id) => put_named(out, at, b"kept ", id),
-        Reply::KeptWord(w) => put_named(out, at, b"keptword ", w),
+        Reply::Kept(id) => put_one(out, at, ReplyWord::Kept.text(), id),
+        Reply::KeptWord(w) => put_one(out, at, ReplyWord::KeptWord.text(), w),
         Reply::Is(true) => put(out, at, b"is yes"),
         Reply::Is(false) => put(out, at, b"is no"),
         Reply::Described(id, shape) => {
-            let next = put_named(out, at, b"described ", id);
+            let next = put_one(out, at, ReplyWord::Described.text(), id);
             let next = put(out, next, b" ");
             put_shape(out, next, &shape)
         }
-        Reply::Refused(refusal) => put_named(out, at, b"refused ", refusal.number() as u64),
+        Reply::Refused(refusal) => put_one(
+            out,
+            at,
+            ReplyWord::Refused.text(),
+            refusal.number() as u64,
+        ),
     }
 }
 

@@ -1,5 +1,5 @@
 -- What it is to read scripts.
-use Rattle.std.specs.Prelude.{◌≡◌, ℕ, ◌+◌, ◌<◌, ◌≤◌, ◌==◌, if◌then◌else◌, Bool, IsTrue, ◌⊎◌, List, [], ◌∷◌, ◌++◌, map, slice_set, slice_index_or, Option, Some, None, Result, Ok, Err, IfOk, Vec, vec_len}
+use Rattle.std.specs.Prelude.{◌≡◌, ℕ, ◌<◌, ◌≤◌, ◌==◌, if◌then◌else◌, IsTrue, ◌⊎◌, List, [], ◌∷◌, ◌++◌, map, slice_set, slice_index_or, Option, Some, None, Result, Ok, Err, IfOk, Vec, vec_len}
 use Rattle.std.specs.List.{range_with_len}
 use Rattle.std.specs.declared.alloc.Global.{Global}
 use Rattle.graph_heap.specs.declared.command.Command.{Command}

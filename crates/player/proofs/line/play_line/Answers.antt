@@ -1,4 +1,4 @@
-use Rattle.std.proofs.Common.{◌∷◌, ◌++◌, [], append-nil, sym, subst, ap, ◌∙◌, refl}
+use Rattle.std.proofs.Common.{◌∷◌, ◌++◌, [], append-nil, sym, subst, ap, ◌∙◌}
 use Rattle.heap_model.specs.Event.{Command_done, Quantum_done}
 use Rattle.trace.specs.declared.line.Line.TheVariants as lines
 use Rattle.trace.specs.Spelling.{Spells}

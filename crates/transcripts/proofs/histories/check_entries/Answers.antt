@@ -1,7 +1,6 @@
-use Rattle.std.proofs.Common.{List, [], ◌∷◌, ◌++◌, ◌≡◌, ◌+◌, ap, ◌∙◌, sym, arith, refl, append-nil, length}
+use Rattle.std.proofs.Common.{[], ◌∷◌, ◌+◌, ap, ◌∙◌, sym, arith, refl, append-nil, length}
 use Rattle.std.proofs.lemmas.Result.{err_from_is_err_and}
 use Rattle.std.proofs.lemmas.List.{length_push}
-use Rattle.graph_heap.specs.declared.command.Entry.{Entry}
 use Rattle.trace.proofs.GoingOver.{stays_same, stays_on, one_line, at_first, goes_on, ends_without, ends_over, ends_in, ends_at}
 use Rattle.transcripts.specs.declared.histories.Checked.{Checked}
 use Rattle.transcripts.specs.Histories.{DoesEntry, HistoryStops, IsWrong}

@@ -1,7 +1,5 @@
 use Rattle.std.proofs.Common.{[], ◌∷◌, inl, inr, arith, ap, ◌∙◌, sym, subst, refl}
-use Rattle.std.specs.Prelude.{Ok, Err}
 use Rattle.std.proofs.lemmas.Result.{err_from_is_err_and}
-use Rattle.trace.specs.declared.line.Line.{Line}
 use Rattle.trace.proofs.GoingOver.{stays_same, stays_on, at_first, goes_on, ends_without, ends_over, ends_at}
 use Rattle.transcripts.specs.Scripts.{DoesScript, IsOfScripts, ScriptStops, with_line}
 use Rattle.transcripts.proofs.Listing.{empty_scripts, scripts_more, Scripts}

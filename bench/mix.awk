@@ -1,5 +1,5 @@
 # Writes a trace of a million commands of one mutator: a third make plain objects of 8 cells, a third write
-# references and words, and a third read. Before each sixteen of them a cycle begins or goes on, and behind them 24
+# references and words, and a third read. Before each sixteen of them a cycle begins or goes on, and after them 24
 # ticks pass, in which one quantum is due.
 
 # the next number below a limit, of a multiplicative congruential generator

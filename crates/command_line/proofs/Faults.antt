@@ -1,8 +1,7 @@
 -- The first fault of a document.
-use Rattle.std.proofs.Common.{◌≡◌, false, List, [], ◌∷◌, ◌++◌, Option, Some, None, refl, ap}
+use Rattle.std.proofs.Common.{◌≡◌, false, List, [], ◌∷◌, ◌++◌, Option, Some, None, refl}
 use Rattle.size_classes.specs.declared.fault.ConfigFault.{ConfigFault}
-use Rattle.size_classes.specs.declared.settings.Settings.{Settings}
-use Rattle.size_classes.specs.Config.{fault_of, fault_by, first_outside, table, budget_fault}
+use Rattle.size_classes.specs.Config.{budget_fault}
 use Rattle.toml.specs.Data.{Members}
 use Rattle.command_line.specs.Document.{first_some, has_unknown_key, keys_faults, settings_of, document_fault}
 
@@ -18,10 +17,6 @@ first_some-none xs (Some fault) e = first_some-append xs _ None e
 
 pub first_some-some : (xs ys : List (Option ConfigFault)) (fault : ConfigFault) → first_some xs ≡ Some fault → first_some (xs ++ ys) ≡ Some fault
 first_some-some xs ys fault e = first_some-append xs ys (Some fault) e
-
--- settings in their ranges have the budget's fault, if any
-pub fault_of-within : (s : Settings) → first_outside (table s) ≡ None → fault_of s ≡ budget_fault s
-fault_of-within s e = ap (λ o. fault_by o (budget_fault s)) e
 
 -- a document with no key that isn't known has the fault of a key, else the budget's
 pub document_fault-key : (document : Members) (fault : ConfigFault) → has_unknown_key document ≡ false → first_some (keys_faults document) ≡ Some fault → document_fault document ≡ Some fault

@@ -1,47 +1,57 @@
 -- What a configuration file says, and what is wrong with it.
 use Rattle.std.specs.Prelude.{◌≡◌, ℕ, ◌≤◌, nat_lt, ℤ, pos, Bool, false, not, ◌||◌, if◌then◌else◌, List, [], ◌∷◌, ◌++◌, map, length, Option, Some, None, is_some, Result, Ok, Err, String}
 use Rattle.std.specs.Option.{unwrap_or}
-use Rattle.std.specs.Str.{IsUtf8, is_utf8}
+use Rattle.std.specs.List.{list_any}
+use Rattle.std.specs.Str.{IsUtf8, is_utf8, bytes_eq}
 use Rattle.std.specs.BTreeMap.{BTreeMap}
 use Rattle.std.specs.declared.alloc.Global.{Global}
 use Rattle.size_classes.specs.declared.config.Config.{Config}
-use Rattle.size_classes.specs.declared.fault.Key.{Key}
-use Rattle.size_classes.specs.declared.fault.Key.TheVariants as keys_of_files
+use Rattle.size_classes.specs.declared.key.Key.{Key}
+use Rattle.size_classes.specs.declared.key.Key.TheVariants as keys_of_files
+use Rattle.size_classes.specs.declared.key.TheConstants.Key.{ALL}
 use Rattle.size_classes.specs.declared.fault.ConfigFault.{ConfigFault}
 use Rattle.size_classes.specs.declared.fault.ConfigFault.TheVariants as faults
 use Rattle.size_classes.specs.declared.settings.Settings.{Settings}
-use Rattle.size_classes.specs.Config.{is_between, budget_fault, IsOf}
-use Rattle.toml.specs.Data.{Data, integer, get_member, Members, no_members, member}
+use Rattle.size_classes.specs.Keys.{row_of, is_allowed}
+use Rattle.size_classes.specs.Config.{budget_fault, IsOf}
+use Rattle.toml.specs.Data.{Data, as_integer, get_member, Members, no_members, member}
 use Rattle.toml.specs.Errors.{IsBlank}
 use Rattle.toml.specs.Parse.{parse_document}
 use Rattle.toml.specs.View.{table_view}
 use Rattle.toml.specs.declared.value.Value.{Value}
 use Rattle.command_line.specs.declared.fault.ReadFault.{ReadFault}
 use Rattle.command_line.specs.declared.fault.ReadFault.TheVariants.{Refused, NoMemory}
-use Rattle.command_line.specs.Keys.{row_of, keys, is_known}
 
 -- the members of the document in these bytes, if they are UTF-8 and TOML reads a document in them
 abbrev pub document_of : List ℕ → Option Members
 document_of bytes = if is_utf8 bytes then parse_document bytes else None
+
+-- it is the name of a key
+abbrev pub is_known : List ℕ → Bool
+is_known name = list_any (λ key. bytes_eq (row_of key).name name) ALL
 
 -- some member's key isn't known
 abbrev pub has_unknown_key : Members → Bool
 has_unknown_key no_members = false
 has_unknown_key (member name value rest) = not (is_known name) || has_unknown_key rest
 
+-- what is wrong with a whole number at a key, or with what is none
+abbrev pub number_fault : Key → Option ℤ → Option ConfigFault
+number_fault key None = Some (faults.NotWhole key)
+number_fault key (Some n) = if is_allowed key n then None else Some (faults.OutOfRange key)
+
 -- what is wrong with what stands at a key
 abbrev pub value_fault : Key → Option Data → Option ConfigFault
 value_fault key None = if is_some (row_of key).default then None else Some (faults.Missing key)
-value_fault key (Some (integer n)) = if is_between (row_of key).least (row_of key).greatest n then None else Some (faults.OutOfRange key)
-value_fault key (Some _) = Some (faults.NotWhole key)
+value_fault key (Some value) = number_fault key (as_integer value)
 
 abbrev pub key_fault : Members → Key → Option ConfigFault
 key_fault document key = value_fault key (get_member (row_of key).name document)
 
 -- the number at a key, or its default
 abbrev pub number_in : Key → Option Data → ℤ
-number_in key (Some (integer n)) = n
-number_in key _ = unwrap_or (row_of key).default (pos 0)
+number_in key None = unwrap_or (row_of key).default (pos 0)
+number_in key (Some value) = unwrap_or (as_integer value) (pos 0)
 
 abbrev pub number_for : Members → Key → ℤ
 number_for document key = number_in key (get_member (row_of key).name document)
@@ -68,7 +78,7 @@ first_some (Some fault ∷ rest) = Some fault
 
 -- for each key in turn, what is wrong with it
 abbrev pub keys_faults : Members → List (Option ConfigFault)
-keys_faults document = map (key_fault document) keys
+keys_faults document = map (key_fault document) ALL
 
 abbrev pub unknown_fault : Members → Option ConfigFault
 unknown_fault document = if has_unknown_key document then Some faults.UnknownKey else None

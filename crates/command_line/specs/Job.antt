@@ -2,6 +2,7 @@
 use Rattle.std.specs.Prelude.{ℕ, ◌<◌, ◌≤◌, length}
 use Rattle.std.specs.List.{All}
 use Rattle.std.specs.Option.{IfSome}
+use Rattle.size_classes.specs.declared.config.TheConstants.{LEAST_BUDGET, MOST_BUDGET}
 use Rattle.command_line.specs.declared.job.Job.{Job}
 use Rattle.command_line.specs.declared.job.Job.TheVariants.{Play, Check, Threads, Inspect, Mmu}
 
@@ -13,6 +14,6 @@ IsWindow ticks = (1 ≤ ticks) × (ticks ≤ 1099511627776)
 abbrev pub IsInRange : Job → Type 0
 IsInRange (Play config trace history) = Unit {0}
 IsInRange (Check config history) = Unit {0}
-IsInRange (Threads config scripts turns budget) = (turns ≤ 10000) × (256 ≤ budget) × (budget ≤ 1000000)
+IsInRange (Threads config scripts turns budget) = (turns ≤ 10000) × (LEAST_BUDGET ≤ budget) × (budget ≤ MOST_BUDGET)
 IsInRange (Inspect config trace after) = IfSome after (λ lines. lines ≤ 4294967295)
 IsInRange (Mmu config trace windows) = (0 < length windows.items) × All IsWindow windows.items

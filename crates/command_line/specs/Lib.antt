@@ -1,3 +1,2 @@
 pub mod Document
 pub mod Job
-pub mod Keys

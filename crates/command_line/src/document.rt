@@ -1,13 +1,12 @@
 //! The configuration file.
 ghost use Rattle.std.specs.Prelude.{◌≡◌, true, None, IfOk};
 ghost use Rattle.std.specs.Result.{result_err};
-ghost use Rattle.size_classes.specs.Config.{is_between, first_outside, table, IsOf};
+ghost use Rattle.size_classes.specs.Keys.{is_allowed};
+ghost use Rattle.size_classes.specs.Config.{first_outside, IsOf};
 ghost use Rattle.toml.specs.View.{table_view};
-ghost use Rattle.command_line.specs.Keys.{row_of};
-ghost use Rattle.command_line.specs.Document.{IsRead, IsOpened, has_unknown_key, key_fault, number_for, settings_of, first_some, document_fault, keys_faults};
+ghost use Rattle.command_line.specs.Document.{IsRead, IsOpened, is_known, has_unknown_key, key_fault, number_for, settings_of, first_some, document_fault, keys_faults};
 
 use crate::fault::ReadFault;
-use crate::keys::{is_known, row_of};
 use size_classes::{Config, ConfigFault, Key, Settings};
 use std::alloc::Global;
 use toml::Table;
@@ -52,7 +51,7 @@ fn config_in(document: &Table) -> Result<Config, ConfigFault>
         return Err(ConfigFault::UnknownKey);
     }
     let settings = settings_in(document)?;
-    Config::check(&settings)
+    Config::check_budget(&settings)
 }
 
 /// Whether a document has a key that isn't known.
@@ -62,12 +61,19 @@ fn has_unknown_key(document: &Table) -> bool
     document.keys().any(|key| !is_known(key.as_str()))
 }
 
+/// Whether it is the name of a key.
+fn is_known(name: &str) -> bool
+    ensures { result ≡ is_known name.now }
+{
+    Key::ALL.iter().any(|key| key.row().name == name)
+}
+
 /// The settings that a document gives, with the defaults filled in, or the fault of the first key that
 /// has one.
 fn settings_in(document: &Table) -> Result<Settings, ConfigFault>
     ensures fault { result_err result ≡ first_some (keys_faults (table_view document.now)) }
     ensures values { IfOk result (λ s. s ≡ settings_of (table_view document.now)) }
-    ensures ranges { IfOk result (λ s. first_outside (table s) ≡ None) }
+    ensures ranges { IfOk result (λ s. first_outside s ≡ None) }
 {
     Ok(Settings {
         pages: number_at(document, Key::Pages)?,
@@ -87,22 +93,15 @@ fn settings_in(document: &Table) -> Result<Settings, ConfigFault>
 fn number_at(document: &Table, key: Key) -> Result<i64, ConfigFault>
     ensures fault { result_err result ≡ key_fault (table_view document.now) key }
     ensures value { IfOk result (λ n. n ≡ number_for (table_view document.now) key) }
-    ensures within { IfOk result (λ n. is_between (row_of key).least (row_of key).greatest n ≡ true) }
+    ensures within { IfOk result (λ n. is_allowed key n ≡ true) }
 {
-    let row = row_of(key);
+    let row = key.row();
     let Some(value) = document.get(row.name) else {
         return row.default.ok_or(ConfigFault::Missing(key));
     };
     match value.as_integer() {
-        Some(number) if is_between(number, row.least, row.greatest) => Ok(number),
+        Some(number) if key.allows(number) => Ok(number),
         Some(_) => Err(ConfigFault::OutOfRange(key)),
         None => Err(ConfigFault::NotWhole(key)),
     }
-}
-
-#[tactic(auto, unfolding(size_classes::specs::Config::is_between))]
-fn is_between(number: i64, least: i64, greatest: i64) -> bool
-    ensures { result ≡ is_between least greatest number }
-{
-    least <= number && number <= greatest
 }

@@ -5,7 +5,6 @@ mod commands;
 mod document;
 mod fault;
 mod job;
-mod keys;
 mod words;
 
 pub use document::read_config;

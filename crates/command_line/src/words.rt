@@ -8,6 +8,7 @@ use crate::fault::WordsFault;
 use crate::job::Job;
 use clap::ArgMatches;
 use clap::error::ErrorKind;
+use size_classes::{LEAST_BUDGET, MOST_BUDGET};
 use std::alloc::Global;
 use std::convert::AsStr;
 
@@ -75,7 +76,8 @@ fn threads<'a>(alloc: Global, found: &ArgMatches<'a>) -> Result<Job<'a>, WordsFa
     let turns = found.get_one::<u32>("turns").unwrap_or(100);
     let budget = found.get_one::<u32>("budget").unwrap_or(256);
     within(alloc, "--turns <N>", u64::from(turns), 0, 10000)?;
-    within(alloc, "--budget <B>", u64::from(budget), 256, 1000000)?;
+    let (least, most) = (u64::from(LEAST_BUDGET), u64::from(MOST_BUDGET));
+    within(alloc, "--budget <B>", u64::from(budget), least, most)?;
     Ok(Job::Threads {
         config: file(alloc, found, "CONFIG")?,
         scripts: file(alloc, found, "SCRIPTS")?,

@@ -1,41 +1,89 @@
 //! One look of a pass.
-ghost use Rattle.std.specs.Prelude.{◌≡◌, ◌<◌, length, Some};
+ghost use Rattle.std.specs.Prelude.{◌≡◌, ◌<◌, ◌^◌, length, Some};
 ghost use Rattle.heap_model.specs.Action.{looked, fewer, is_chosen};
-ghost use Rattle.defrag.specs.Choosing.{ChoosesIn};
+ghost use Rattle.heap_model.specs.Action.{Action, AtPass};
+ghost use Rattle.heap_model.specs.declared.phase.Phase.TheVariants as phases;
+ghost use Rattle.heap_model.specs.declared.phase.Moving.TheVariants as moves;
+ghost use Rattle.raw_heap.specs.Heap.{state_of, IsRawHeap};
 
-use heap_model::phase::Candidate;
+use heap_model::phase::{Candidate, Moving, Phase};
 use nodes::Nodes;
+use raw_heap::RawHeap;
 use size_classes::Class;
 
-/// What one look of a pass did.
-#[derive(Clone, Copy, Debug, PartialEq, Eq)]
-pub enum Chosen {
-    /// It looked at a page that isn't the last, and this is the best one so far.
-    Looked(Option<Candidate>),
-    /// It looked at the last page, and this page is chosen: it is leaving.
-    Page(u32),
-    /// It looked at the last page, and none is chosen.
-    NoPage,
+/// Does the next step of a pass: a look at a page, or the end of moving behind the last class. It costs one
+/// unit.
+pub fn pass_next(
+    heap: &mut RawHeap,
+    class: u32,
+    page: u32,
+    candidate: Option<Candidate>,
+    chosen: u32,
+)
+    requires heap { IsRawHeap heap.old }
+    requires phase { heap.old.phase ≡ phases.Moving (moves.Pass class page candidate chosen) }
+    ensures acts { Action (state_of heap.old) 1 (state_of heap.new) }
+    ensures grey { heap.new.grey ≡ heap.old.grey }
+{
+    if class < 38 {
+        look_next(heap, class, page, candidate, chosen)
+    } else {
+        heap.go_to(1, Phase::Idle)
+    }
 }
 
 /// Looks at a page in a pass of a class, with the best page so far. After a look at the last page the best
 /// one is chosen, if its blocks find a place on the class's other pages. It costs one unit.
-pub fn choose_one(nodes: &mut Nodes, class: u32, page: u32, candidate: Option<Candidate>) -> Chosen
+pub fn look_next(
+    heap: &mut RawHeap,
+    class: u32,
+    page: u32,
+    candidate: Option<Candidate>,
+    chosen: u32,
+)
+    requires heap { IsRawHeap heap.old }
+    requires pass { AtPass (state_of heap.old) class page candidate chosen }
     requires class { class < 38 }
-    requires page { page < length nodes.old.pages }
-    ensures { ChoosesIn class page candidate nodes.old nodes.new result }
+    requires page { page < length heap.old.nodes.pages }
+    requires chosen { chosen < 2 ^ 31 }
+    ensures acts { Action (state_of heap.old) 1 (state_of heap.new) }
+    ensures grey { heap.new.grey ≡ heap.old.grey }
 {
     let number = Class::new(class as u8);
-    let best = look(nodes, number, page, candidate);
-    if (page as usize) + 1 < nodes.pages() {
-        return Chosen::Looked(best);
+    let candidate = look(&heap.nodes, number, page, candidate);
+    if (page as usize) + 1 < heap.nodes.pages() {
+        return heap.go_to(
+            1,
+            Phase::Moving(Moving::Pass {
+                class,
+                page: page + 1,
+                candidate,
+                chosen,
+            }),
+        );
     }
-    match best {
-        Some(found) if is_chosen(nodes, number, found) => {
-            nodes.leave(found.page as usize);
-            Chosen::Page(found.page)
+    match candidate {
+        Some(found) if is_chosen(&heap.nodes, number, found) => {
+            heap.nodes.leave(found.page as usize);
+            heap.go_to(
+                1,
+                Phase::Moving(Moving::Emptying {
+                    class,
+                    page: found.page,
+                    block: 0,
+                    chosen: chosen + 1,
+                }),
+            )
         }
-        _ => Chosen::NoPage,
+        _ => heap.go_to(
+            1,
+            Phase::Moving(Moving::Pass {
+                class: class + 1,
+                page: 0,
+                candidate: None,
+                chosen,
+            }),
+        ),
     }
 }
 

@@ -2,11 +2,7 @@
 //! at a time.
 #![tactic(auto)]
 
-pub mod choosing;
+mod choosing;
 pub mod moving;
 
-pub use choosing::{Chosen, choose_one};
-pub use moving::{Moved, move_one};
-
-#[cfg(test)]
-mod tests;
+pub use moving::move_next;

@@ -10,7 +10,7 @@ use Rattle.heap_model.specs.declared.phase.Moving.TheVariants as moves
 use Rattle.heap_model.specs.declared.phase.Candidate.{Candidate}
 use Rattle.heap_model.specs.Pages.{Page, ArePages, page_at, is_usable}
 use Rattle.heap_model.specs.State.{HeapState}
-use Rattle.heap_model.specs.Action.{Action, Scans_root, Ends_roots, Scans_header, Scans_cell, Ends_marking, Frees_block, Passes_block, Closes_page, Ends_sweep, Looks_at_page, Chooses_page, Chooses_none, Moves_block, Ends_moving, IsDone, AtPass, In_pass, After_page, No_class, No_page, IsTurn}
+use Rattle.heap_model.specs.Action.{Action, Scans_root, Ends_roots, Scans_header, Scans_cell, Ends_marking, Frees_block, Passes_block, Closes_page, Ends_sweep, Looks_at_page, Chooses_page, Chooses_none, Moves_block, Ends_moving, IsDone, AtPass, In_pass, After_page, No_class, No_page}
 use Rattle.heap_model.specs.Turn.{MovesNext, NextCosts, Of_move, Of_other, SpendsTurn}
 
 is_emptying : Phase → Bool
@@ -34,7 +34,7 @@ unfolding is_emptying busy
 other_costs h q e on off = Of_other (λ i. let z : false ≡ true = sym (ap busy i) ∙ ap busy e ∙ on in cc) (λ p m. let z : true ≡ false = sym (ap is_emptying m.phase) ∙ ap is_emptying e ∙ off in cc)
 
 -- nor from a page that is done
-done_costs : (h : HeapState) (class page block chosen : ℕ) (p : Page) → h.phase ≡ phases.Moving (moves.Emptying class page block chosen) → page_at h.store.pages page ≡ Some p → IsDone h.store.pages p block → NextCosts h 1
+pub done_costs : (h : HeapState) (class page block chosen : ℕ) (p : Page) → h.phase ≡ phases.Moving (moves.Emptying class page block chosen) → page_at h.store.pages page ≡ Some p → IsDone h.store.pages p block → NextCosts h 1
 done_costs h class page block chosen p e at done = Of_other (λ i. let z : phases.Idle ≡ phases.Moving (moves.Emptying class page block chosen) = sym i ∙ e in cc) (λ q m. none q m)
   where
     none : (q : Page) → MovesNext h q → ⊥
@@ -90,9 +90,6 @@ one_cost h a b (Of_other on none) (Of_other off other) = refl
 pub cost_high : (h : HeapState) (cost : ℕ) → ArePages h.store.pages → NextCosts h cost → cost ≤ 256
 cost_high h cost w (Of_move p m) = size_high p.class (w.each m.page p m.emptied).class
 cost_high h cost w (Of_other on none) = omega arith
-
-pub turn_spent : (h after : HeapState) (budget spent : ℕ) → IsTurn h budget after spent → SpendsTurn h budget after spent
-turn_spent h after budget spent t = record { chain = t.chain; within = t.within; ends = elim t.ends [ inl e ↦ inl e | inr n ↦ inr (n.0, action_costs after n.1 n.0 n.2, n.3) ] }
 
 pub turn_left : (h after : HeapState) (budget spent : ℕ) → ArePages after.store.pages → SpendsTurn h budget after spent → (after.phase ≡ phases.Idle) ⊎ (budget < spent + 256)
 turn_left h after budget spent w t = elim t.ends [

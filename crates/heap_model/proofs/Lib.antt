@@ -44,8 +44,10 @@ pub mod Left
 pub mod Course
 pub mod Freed
 pub mod Leading
+pub mod Settings
 pub mod Opening
 pub mod Making
+pub mod Names
 pub mod New
 pub mod Rooms
 pub mod Grey

@@ -13,7 +13,7 @@ use Rattle.heap_model.specs.Written.{IsKnown, IsRecorded}
 use Rattle.heap_model.specs.Action.{Shades, Was_marked, Is_marked}
 use Rattle.heap_model.specs.Spent.{DoesMore}
 use Rattle.heap_model.specs.Change.{Records, Records_nothing, Records_main}
-use Rattle.heap_model.proofs.Seen.{node_kept}
+use Rattle.heap_model.proofs.Seen.{node_kept, held_pages}
 use Rattle.heap_model.proofs.Collector.{contains-middle}
 use Rattle.heap_model.proofs.Shading.{shade_kept, shade_main, shade_records}
 use Rattle.heap_model.proofs.Within.{shade_more, same_more}
@@ -53,6 +53,10 @@ shades_cells h k x b (Is_marked new front back is e w) l = node_kept (λ (n : No
 pub records_cells : (h k : HeapState) (x b : ℕ) → Records h x k → is_held h.store b ≡ true → (node_of k.store b).cells ≡ (node_of h.store b).cells
 records_cells h k x b (Records_nothing e) l = refl
 records_cells h k x b (Records_main k0 e sh) l = shades_cells h k ((seen h).forward x) b sh l
+
+-- held blocks stay held
+pub records_held : (h k : HeapState) (x b : ℕ) → Records h x k → is_held h.store b ≡ true → is_held k.store b ≡ true
+records_held h k x b r l = held_pages h.store k.store b (records_stay h k x r).pages ∙ l
 
 -- main copies stay main copies
 pub records_main : (h k : HeapState) (x y : ℕ) (n : Name) → Records h x k → IsMain (seen h) y n → IsMain (seen k) y n

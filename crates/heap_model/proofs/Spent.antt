@@ -25,7 +25,7 @@ use Rattle.heap_model.specs.Spent.{arena_words, cycle_limit, marking_work, movin
 use Rattle.heap_model.proofs.Same.{SameBlocks}
 use Rattle.heap_model.proofs.Edits.{shade, set_cell, move}
 use Rattle.heap_model.proofs.Acts.{cell_scanned}
-use Rattle.heap_model.proofs.Collector.{same_done, stage_at, left_main, contains-here, contains-middle, once_middle, placed_contains, placed_done}
+use Rattle.heap_model.proofs.Collector.{same_done, stage_at, left_main, contains-middle, once_middle, placed_contains, placed_done}
 use Rattle.heap_model.proofs.Seen.{behind, cell_seen}
 use Rattle.heap_model.proofs.Held.{set_page, page_within, block_within, is_page, held_at, size_some, page_of_place}
 use Rattle.heap_model.proofs.Acting.{at_phase, wide_within, scanned_held, same_shade, shaded_already, colour_seen, keeps_seen}

@@ -1,10 +1,9 @@
 -- What a turn spends.
-use Rattle.std.proofs.Common.{◌≡◌, ℕ, ◌+◌, ◌<◌, ◌≤◌, ◌⊎◌, inl, inr, refl, ap, arith}
+use Rattle.std.proofs.Common.{◌≡◌, ℕ, ◌+◌, ◌<◌, ◌≤◌, refl, ap, arith}
 use Rattle.size_classes.proofs.Table.{size_low, size_high}
-use Rattle.heap_model.specs.declared.phase.Phase.TheVariants as phases
 use Rattle.heap_model.specs.Pages.{ArePages}
 use Rattle.heap_model.specs.State.{HeapState}
-use Rattle.heap_model.specs.Action.{Action, Scans_root, Ends_roots, Scans_header, Scans_cell, Ends_marking, Frees_block, Passes_block, Closes_page, Ends_sweep, Looks_at_page, Chooses_page, Chooses_none, Moves_block, Ends_moving, Chain, Nothing_done, Then, IsTurn}
+use Rattle.heap_model.specs.Action.{Action, Scans_root, Ends_roots, Scans_header, Scans_cell, Ends_marking, Frees_block, Passes_block, Closes_page, Ends_sweep, Looks_at_page, Chooses_page, Chooses_none, Moves_block, Ends_moving, Chain, Nothing_done, Then}
 use Rattle.heap_model.proofs.Held.{is_page}
 use Rattle.heap_model.proofs.Spent.{shades_units}
 
@@ -49,10 +48,3 @@ action_units h after cost (Ends_moving done) = refl
 pub chain_units : (h after : HeapState) (spent : ℕ) → Chain h spent after → after.units ≡ h.units + spent
 chain_units h after spent Nothing_done = omega arith
 chain_units h after spent (Then u cost j k chain action) = let a = chain_units h j u chain in let b = action_units j k cost action in omega arith
-
--- a turn ends in idle, or leaves fewer than 256 units of its budget
-pub turn_spends : (h after : HeapState) (budget spent : ℕ) → ArePages after.store.pages → IsTurn h budget after spent → (after.phase ≡ phases.Idle) ⊎ (budget < spent + 256)
-turn_spends h after budget spent w t = elim t.ends [
-  | inl e ↦ inl e
-  | inr n ↦ inr (let c = (action_cost after n.1 n.0 w n.2).1 in let l = n.3 in omega arith)
-]

@@ -11,10 +11,21 @@ ghost use Rattle.heap_model.specs.Cut.{count_of, name_of, part_in, column_in};
 ghost use Rattle.heap_model.specs.State.{HeapState, seen, width_at};
 ghost use Rattle.heap_model.specs.Agreement.{Agrees};
 ghost use Rattle.heap_model.specs.Reading.{IsMainCopy, LeadsTo};
+ghost use Rattle.heap_model.specs.declared.phase.Phase.TheVariants as phases;
+ghost use Rattle.heap_model.specs.declared.phase.Moving.{Moving};
+ghost use Rattle.heap_model.specs.Action.{Action};
+ghost use Rattle.heap_model.specs.Standing.{Stands};
 
 /// What a root holds reads as the graph heap's root.
 pub fn root_reads()
     ensures { (h : HeapState) (g : Graph) (j : ℕ) → Agrees h g → j < length h.roots → Reads (seen h) (slice_index h.roots j) (name_of (slice_index g.roots j)) }
+{}
+
+/// While blocks are moved, each address that reads as a name goes on to read as that name, also where
+/// nothing reaches it any more.
+pub fn moves_keep_names()
+    ensures { (h after : HeapState) (cost : ℕ) (present snapshot : Graph) (place : Moving) (x : ℕ) (n : Name) → Stands h present snapshot → h.phase ≡ phases.Moving place → Action h cost after
+        → Reads (seen h) x n → Reads (seen after) x n }
 {}
 
 /// 0 reads as null, and nothing else does.

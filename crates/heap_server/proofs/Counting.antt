@@ -1,26 +1,19 @@
 -- How many seats there are.
 use Rattle.std.proofs.Common.{◌≡◌, ℕ, zero, suc, List, [], ◌∷◌, ◌++◌, length, slice_set, slice_index_or, refl, sym, ap, ◌∙◌, arith, length-append}
+use Rattle.std.proofs.lemmas.List.{length-map, map-append}
 use Rattle.heap_server.specs.Views.{SeatView}
 use Rattle.heap_server.specs.Seats.{new_seats, upto, mutators_of}
-
-mutators_of-length : (seats : List SeatView) → length (mutators_of seats) ≡ length seats
-mutators_of-length [] = refl
-mutators_of-length (s ∷ seats) = omega (arith, mutators_of-length seats)
 
 upto-length : (n : ℕ) → length (upto n) ≡ n
 upto-length zero = refl
 upto-length (suc n) = omega (arith, upto-length n, length-append (upto n) (n ∷ []))
 
 pub seats_count : (seats : List SeatView) (n : ℕ) → mutators_of seats ≡ upto n → length seats ≡ n
-seats_count seats n all = sym (mutators_of-length seats) ∙ (ap length all ∙ upto-length n)
-
-mutators_of-append : (xs ys : List SeatView) → mutators_of (xs ++ ys) ≡ mutators_of xs ++ mutators_of ys
-mutators_of-append [] ys = refl
-mutators_of-append (s ∷ xs) ys = ap (λ (ms : List ℕ). s.mutator ∷ ms) (mutators_of-append xs ys)
+seats_count seats n all = sym (length-map seats (λ (s : SeatView). s.mutator)) ∙ (ap length all ∙ upto-length n)
 
 pub mutators_of-new : (n : ℕ) → mutators_of (new_seats n) ≡ upto n
 mutators_of-new zero = refl
-mutators_of-new (suc n) = mutators_of-append (new_seats n) (record { mutator = n; calls = 0 } ∷ []) ∙ ap (λ (ms : List ℕ). ms ++ n ∷ []) (mutators_of-new n)
+mutators_of-new (suc n) = map-append (λ (s : SeatView). s.mutator) (new_seats n) (record { mutator = n; calls = 0 } ∷ []) ∙ ap (λ (ms : List ℕ). ms ++ n ∷ []) (mutators_of-new n)
 
 -- another seat of the same mutator
 pub mutators_of-set : (seats : List SeatView) (i : ℕ) (s d : SeatView) → s.mutator ≡ (slice_index_or seats i d).mutator → mutators_of (slice_set seats i s) ≡ mutators_of seats

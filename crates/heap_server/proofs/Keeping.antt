@@ -3,32 +3,19 @@ use Rattle.std.proofs.Common.{◌≡◌, ℕ, ◌+◌, ◌-◌, ◌<◌, List, [
 use Rattle.graph_heap.specs.declared.command.Command.{Command}
 use Rattle.graph_heap.specs.declared.command.Reply.{Reply}
 use Rattle.graph_heap.specs.declared.command.Entry.{Entry}
-use Rattle.graph_heap.specs.Graph.{opening}
-use Rattle.graph_heap.specs.History.{IsLegal}
 use Rattle.heap_model.specs.declared.phase.Phase.{Phase}
 use Rattle.heap_model.specs.State.{HeapState}
 use Rattle.heap_model.specs.Opening.{IsOpening}
-use Rattle.heap_model.specs.Event.{Course, Event, Command_done, Cycle_begun, Quantum_done, present_of, snapshot_of, room_for, change_by, Enters, Begins, Collects, Does, IsCourse}
+use Rattle.heap_model.specs.Event.{Course, Event, Command_done, Cycle_begun, Quantum_done, present_of, room_for, change_by, Enters, Begins, Collects, Does}
 use Rattle.heap_model.specs.Led.{IsLed, cycles_in, units_in, opened}
-use Rattle.heap_model.proofs.Agreements.{consistent_agrees}
-use Rattle.heap_model.proofs.Rest.{held_is_kept}
-use Rattle.heap_model.proofs.Stood.{stands_limit}
+use Rattle.heap_model.specs.Settings.{HeapSettings, settings_of}
 use Rattle.heap_model.proofs.Left.{change_left}
 use Rattle.heap_model.proofs.Leading.{led_opening, led_more, led_course}
-use Rattle.heap_server.specs.Settings.{HeapSettings, settings_of}
+use Rattle.heap_model.proofs.Settings.{does_settings}
+use Rattle.machine.proofs.Headline.{course_holds}
 use Rattle.heap_server.specs.Views.{LockedView}
-use Rattle.heap_server.specs.Kept.{IsSound, IsKept, cycles_on}
-use Rattle.heap_server.proofs.Lasting.{does_settings}
+use Rattle.heap_server.specs.Kept.{IsKept, cycles_on}
 use Rattle.heap_server.proofs.Turning.{cycles_fall}
-
-course_sound : (settings : HeapSettings) (r : Course) → IsCourse r → settings_of r.heap ≡ settings → IsSound settings r
-course_sound settings r w e = record {
-  settings_are = e;
-  legal = subst (λ (s : HeapSettings). IsLegal (opening s.limits) r.history) e w.legal;
-  agrees = consistent_agrees r.heap (present_of r) (snapshot_of r) w.stands.consistent;
-  held = λ rests. held_is_kept r.heap (present_of r) (snapshot_of r) w.stands.consistent rests;
-  units = stands_limit r.heap (present_of r) (snapshot_of r) w.stands;
-}
 
 -- an event is done, and the books count it
 event_kept : (settings : HeapSettings) (v new : LockedView) (e : Event) → IsKept settings v → Does v.course e new.course → length new.course.history ≡ new.calls
@@ -38,7 +25,7 @@ event_kept settings v new e k d counted begun spent cycles =
     let led = subst (λ (n : ℕ). IsLed new.course n new.spent) begun (subst (λ (u : ℕ). IsLed new.course (v.begun + cycles_in (e ∷ [])) u) spent more) in
     record {
       some = k.some;
-      sound = course_sound settings new.course (led_course new.course new.begun new.spent led) (does_settings v.course e new.course d ∙ k.sound.settings_are);
+      sound = record { settings_are = does_settings v.course e new.course d ∙ k.sound.settings_are; holds = course_holds new.course (led_course new.course new.begun new.spent led) };
       counted = counted;
       led = led;
       cycles = cycles;
@@ -81,7 +68,7 @@ opening_kept settings v mutators o some history place is calls begun ended spent
     let idle : cycles_on v.course.heap.phase ≡ 0 = ap cycles_on o.phase in
     record {
       some = mutators;
-      sound = course_sound settings v.course (led_course v.course v.begun v.spent led) is;
+      sound = record { settings_are = is; holds = course_holds v.course (led_course v.course v.begun v.spent led) };
       counted = ap length history ∙ sym calls;
       led = led;
       cycles = omega arith;

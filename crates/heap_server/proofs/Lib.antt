@@ -3,4 +3,3 @@ pub mod Keeping
 pub mod Counting
 pub mod Settling
 pub mod Collecting
-pub mod Lasting

@@ -1,67 +1,68 @@
 -- Seats by their numbers, and what they have done of their scripts.
-use Rattle.std.proofs.Common.{◌≡◌, ℕ, zero, suc, ◌≤◌, ◌<◌, ◌⊎◌, ◌==◌, Bool, true, false, List, [], ◌∷◌, ◌++◌, length, map, take, slice_index_or, refl, sym, subst, ◌∙◌, arith}
+use Rattle.std.proofs.Common.{◌≡◌, ℕ, zero, suc, ◌≤◌, ◌<◌, ◌==◌, Bool, true, false, List, [], ◌∷◌, ◌++◌, length, map, take, drop, slice_index_or, refl, sym, subst, ap, ◌∙◌, arith}
 use Rattle.std.proofs.lemmas.Bool.{eqb-true, eq-eqb}
-use Rattle.std.specs.List.{sum_by, AllZip}
-use Rattle.std.proofs.lemmas.List.Sums.{sum_by-cons}
+use Rattle.std.proofs.lemmas.List.{length-map, map-append, take-append-drop}
+use Rattle.std.proofs.lemmas.List.Elements.{All-nil, All-push, All-take, All-drop, All-same}
+use Rattle.std.proofs.lemmas.List.Sums.{sum_by-append, sum_by-le}
+use Rattle.std.proofs.lemmas.Slice.Zip.{AllZip-long}
+use Rattle.std.proofs.Math.Seq.{take-append_seam, drop-append_seam}
+use Rattle.std.specs.List.{sum_by, All, AllZip}
 use Rattle.heap_server.specs.Views.{SeatView}
 use Rattle.heap_server.specs.Seats.{new_seats, mutators_of}
+use Rattle.heap_server.specs.Played.{HavePlayed}
+use Rattle.heap_server.proofs.Counting.{mutators_of-new}
 
--- no seat of the list has made a call
-abbrev pub AreFresh : List SeatView → Type 0
-AreFresh [] = Unit {0}
-AreFresh (s ∷ seats) = (s.calls ≡ 0) × AreFresh seats
+abbrev calls : SeatView → ℕ
+calls s = s.calls
 
-fresh_append : (xs ys : List SeatView) → AreFresh xs → AreFresh ys → AreFresh (xs ++ ys)
-fresh_append [] ys a b = b
-fresh_append (s ∷ xs) ys a b = (a.0, fresh_append xs ys a.1 b)
+abbrev IsFresh : SeatView → Type 0
+IsFresh s = s.calls ≡ 0
 
-fresh_new : (n : ℕ) → AreFresh (new_seats n)
-fresh_new zero = tt
-fresh_new (suc n) = fresh_append (new_seats n) (record { mutator = n; calls = 0 } ∷ []) (fresh_new n) (refl, tt)
+abbrev IsWithin : ℕ → ℕ → Type 0
+IsWithin n most = n ≤ most
 
-fresh_at : (seats : List SeatView) (i : ℕ) (d : SeatView) → AreFresh seats → i < length seats → (slice_index_or seats i d).calls ≡ 0
-fresh_at [] i d a lt = absurd (omega arith)
-fresh_at (s ∷ seats) zero d a lt = a.0
-fresh_at (s ∷ seats) (suc i) d a lt = fresh_at seats i d a.1 (omega arith)
+fresh_new : (n : ℕ) → All IsFresh (new_seats n)
+fresh_new zero = All-nil IsFresh
+fresh_new (suc n) = All-push IsFresh (new_seats n) (record { mutator = n; calls = 0 }) (fresh_new n) refl
 
-pub all_fresh : (seats : List SeatView) (n : ℕ) → seats ≡ new_seats n → (i : ℕ) (d : SeatView) → i < length seats → (slice_index_or seats i d).calls ≡ 0
-all_fresh seats n is i d lt = fresh_at seats i d (subst AreFresh (sym is) (fresh_new n)) lt
+-- new seats, in two parts
+pub first_fresh : (n : ℕ) (front rest : List SeatView) → front ++ rest ≡ new_seats n → All IsFresh front
+first_fresh n front rest all = All-same IsFresh front (take (length front) (front ++ rest)) (sym (take-append_seam front rest)) (All-take IsFresh (length front) (front ++ rest) (All-same IsFresh (front ++ rest) (new_seats n) all (fresh_new n)))
 
-pub mutators_same : (xs ys : List SeatView) → length xs ≡ length ys → ((i : ℕ) (d : SeatView) → i < length xs → (slice_index_or ys i d).mutator ≡ (slice_index_or xs i d).mutator) → mutators_of ys ≡ mutators_of xs
-mutators_same [] [] len h = refl
-mutators_same [] (y ∷ ys) len h = absurd (omega arith)
-mutators_same (x ∷ xs) [] len h = absurd (omega arith)
-mutators_same (x ∷ xs) (y ∷ ys) len h =
-    let one : y.mutator ≡ x.mutator = h 0 x (omega arith) in
-    let rest = mutators_same xs ys (omega arith) (λ i d lt. h (suc i) d (omega arith)) in
-    cc (one, rest)
+-- each script was played from the seat at its place
+pub each_played : {A : Type 0} (size : A → ℕ) (scripts : List A) (olds news : List SeatView) → length scripts ≡ length olds → length news ≡ length olds
+    → ((i : ℕ) (d : SeatView) (e : A) → i < length olds → ((slice_index_or news i d).mutator ≡ (slice_index_or olds i d).mutator) × ((slice_index_or news i d).calls ≤ size (slice_index_or scripts i e)))
+    → (mutators_of news ≡ mutators_of olds) × AllZip IsWithin (map calls news) (map size scripts)
+each_played size [] [] [] same long h = (refl, tt)
+each_played size [] [] (t ∷ news) same long h = absurd (omega arith)
+each_played size [] (s ∷ olds) news same long h = absurd (omega arith)
+each_played size (e ∷ scripts) [] news same long h = absurd (omega arith)
+each_played size (e ∷ scripts) (s ∷ olds) [] same long h = absurd (omega arith)
+each_played size (e ∷ scripts) (s ∷ olds) (t ∷ news) same long h =
+    let one = h 0 s e (omega arith) in
+    let mutator : t.mutator ≡ s.mutator = one.0 in
+    let rest = each_played size scripts olds news (omega arith) (omega arith) (λ i d f lt. h (suc i) d f (omega arith)) in
+    (cc (mutator, rest.0), (one.1, rest.1))
 
--- where only the first seats made calls, their calls are all
-pub first_sum : (k : ℕ) (seats : List SeatView) → ((i : ℕ) (d : SeatView) → k ≤ i → i < length seats → (slice_index_or seats i d).calls ≡ 0)
-    → sum_by (λ s. s.calls) seats ≡ sum_by (λ s. s.calls) (take k seats)
-first_sum zero [] h = refl
-first_sum (suc k) [] h = refl
-first_sum zero (s ∷ seats) h =
-    omega (arith, sum_by-cons (λ (t : SeatView). t.calls) s seats, h 0 s (omega arith) (omega arith), first_sum zero seats (λ i d ge lt. h (suc i) d (omega arith) (omega arith)))
-first_sum (suc k) (s ∷ seats) h =
-    omega (arith, sum_by-cons (λ (t : SeatView). t.calls) s seats, sum_by-cons (λ (t : SeatView). t.calls) s (take k seats), first_sum k seats (λ i d ge lt. h (suc i) d (omega arith) (omega arith)))
+-- scripts of these lengths are played from the first seats, and the others stay as they were
+pub first_played : (n : ℕ) (lengths : List ℕ) (front rest new : List SeatView) → front ++ rest ≡ new_seats n → mutators_of new ≡ mutators_of front → AllZip IsWithin (map calls new) lengths
+    → HavePlayed n lengths (new ++ rest)
+first_played n lengths front rest new all same within =
+    let long : length lengths ≡ length new = AllZip-long IsWithin (map calls new) lengths within ∙ length-map new calls in
+    let fresh = All-drop IsFresh (length front) (front ++ rest) (All-same IsFresh (front ++ rest) (new_seats n) all (fresh_new n)) in
+    record {
+      all = map-append (λ (s : SeatView). s.mutator) new rest ∙ (ap (λ (ms : List ℕ). ms ++ mutators_of rest) same ∙ (sym (map-append (λ (s : SeatView). s.mutator) front rest) ∙ (ap mutators_of all ∙ mutators_of-new n)));
+      within = subst (λ (seats : List SeatView). AllZip IsWithin (map calls seats) lengths) (sym (ap (λ (k : ℕ). take k (new ++ rest)) long ∙ take-append_seam new rest)) within;
+      rest = All-same IsFresh (drop (length lengths) (new ++ rest)) (drop (length front) (front ++ rest)) (ap (λ (k : ℕ). drop k (new ++ rest)) long ∙ (drop-append_seam new rest ∙ sym (drop-append_seam front rest))) fresh;
+    }
 
--- an element of a list that isn't empty
-pub some_of : {A : Type 0} (xs : List A) (i : ℕ) → i < length xs → A
-some_of [] i lt = absurd (omega arith)
-some_of (x ∷ xs) i lt = x
-
--- i is before k, or not
-pub before_or : (i k : ℕ) → (i < k) ⊎ (k ≤ i)
-before_or i k = grind arith
-
--- of no script more is done than it has
-pub done_within : {A : Type 0} (size : A → ℕ) (scripts : List A) (seats : List SeatView) → length scripts ≤ length seats
-    → ((i : ℕ) (d : SeatView) (e : A) → i < length scripts → (slice_index_or seats i d).calls ≤ size (slice_index_or scripts i e))
-    → AllZip (λ n most. n ≤ most) (map (λ s. s.calls) (take (length scripts) seats)) (map size scripts)
-done_within size [] seats le h = tt
-done_within size (e ∷ scripts) [] le h = absurd (omega arith)
-done_within size (e ∷ scripts) (s ∷ seats) le h = (h 0 s e (omega arith), done_within size scripts seats (omega arith) (λ i d f lt. h (suc i) d f (omega arith)))
+-- the calls of the first seats are all
+pub first_sum : (k : ℕ) (seats : List SeatView) → All IsFresh (drop k seats) → sum_by calls seats ≡ sum_by calls (take k seats)
+first_sum k seats none =
+    let whole = ap (sum_by calls) (take-append-drop k seats) in
+    let parts = sum_by-append calls (take k seats) (drop k seats) in
+    let last = sum_by-le calls 0 (drop k seats) (λ i d lt. omega (arith, none i d lt)) in
+    omega arith
 
 -- numbers that are the same at each place
 pub same_sizes : {A : Type 0} (size : A → ℕ) (scripts : List A) (done : List ℕ) → length scripts ≡ length done
@@ -73,11 +74,6 @@ same_sizes size (e ∷ scripts) (n ∷ done) len h =
     let one : n ≡ size e = h 0 e (omega arith) in
     let rest = same_sizes size scripts done (omega arith) (λ i f lt. h (suc i) f (omega arith)) in
     cc (one, rest)
-
-pub size_at : {A : Type 0} (size : A → ℕ) (scripts : List A) (i : ℕ) (e : A) → i < length scripts → slice_index_or (map size scripts) i 0 ≡ size (slice_index_or scripts i e)
-size_at size [] i e lt = absurd (omega arith)
-size_at size (f ∷ scripts) zero e lt = refl
-size_at size (f ∷ scripts) (suc i) e lt = size_at size scripts i e (omega arith)
 
 -- all is done where the scripts are done whole and each budget was used
 pub all_done : (all : Bool) (used count : ℕ) (W : Type 0) → W → all ≡ (used == count) → (all ≡ true → W × (used ≡ count)) × (W × (used ≡ count) → all ≡ true)

@@ -1,5 +1,5 @@
 -- What a quantum does to the cycle that is on.
-use Rattle.std.proofs.Common.{◌≡◌, ◌≢◌, ℕ, zero, suc, ◌+◌, ◌-◌, ◌<◌, ◌≤◌, ◌⊎◌, inl, inr, refl, ap, sym, ◌∙◌, arith}
+use Rattle.std.proofs.Common.{◌≡◌, ◌≢◌, ℕ, ◌+◌, ◌-◌, ◌<◌, ◌≤◌, ◌⊎◌, inl, inr, refl, ap, sym, ◌∙◌, arith}
 use Rattle.graph_heap.specs.Graph.{Graph}
 use Rattle.heap_model.specs.declared.phase.Phase.{Phase}
 use Rattle.heap_model.specs.declared.phase.Phase.TheVariants as phases
@@ -8,7 +8,6 @@ use Rattle.heap_model.specs.Action.{Chain, Nothing_done, Then}
 use Rattle.heap_model.specs.Standing.{Stands}
 use Rattle.heap_model.specs.Event.{Course, present_of, snapshot_of, Collects, IsCourse}
 use Rattle.heap_model.proofs.Turns.{action_cost}
-use Rattle.heap_model.proofs.Costs.{turn_left}
 use Rattle.heap_model.proofs.Stood.{stands_chain, idle_chain}
 use Rattle.machine.specs.declared.collector.Spent.{Spent}
 use Rattle.heap_server.specs.Views.{PacerView}
@@ -29,10 +28,6 @@ nothing_done h after spent p s w Nothing_done e = refl
 nothing_done h after spent p s w (Then u cost j k chain action) e =
     let c : 0 < cost = (action_cost j k cost (stands_chain h j u p s w chain).pages action).0 in absurd (omega arith)
 
-positive : (n : ℕ) → n ≢ 0 → 0 < n
-positive zero other = absurd (other refl)
-positive (suc n) other = omega arith
-
 -- what a quantum spends, and where it leaves the cycle
 module _ (r new : Course) (budget units : ℕ) (phase : Phase) (w : IsCourse r) (c : Collects r budget units phase new) where
   quantum_rests : r.heap.phase ≡ phases.Idle → (units ≡ 0) × (phase ≡ phases.Idle)
@@ -40,15 +35,10 @@ module _ (r new : Course) (budget units : ℕ) (phase : Phase) (w : IsCourse r) 
       let n = idle_chain r.heap new.heap units c.turn.chain idle in
       (n.1, sym c.ends ∙ (ap (λ (h : HeapState). h.phase) n.0 ∙ idle))
 
-  quantum_left : (phase ≡ phases.Idle) ⊎ (budget < units + 256)
-  quantum_left = elim (turn_left r.heap new.heap budget units (stands_chain r.heap new.heap units (present_of r) (snapshot_of r) w.stands c.turn.chain).pages c.turn) [
-    | inl i ↦ inl (sym c.ends ∙ i)
-    | inr l ↦ inr l
-  ]
-
-  quantum_spends : r.heap.phase ≢ phases.Idle → 0 < units
-  quantum_spends busy = elim quantum_left [
-    | inl i ↦ positive units (λ none. busy (sym (ap (λ (h : HeapState). h.phase) (nothing_done r.heap new.heap units (present_of r) (snapshot_of r) w.stands c.turn.chain none)) ∙ (c.ends ∙ i)))
+  quantum_spends : (phase ≡ phases.Idle) ⊎ (budget < units + 256) → r.heap.phase ≢ phases.Idle → 0 < units
+  quantum_spends left busy = elim left [
+    | inl i ↦ (
+        let some : units ≢ 0 = λ none. busy (sym (ap (λ (h : HeapState). h.phase) (nothing_done r.heap new.heap units (present_of r) (snapshot_of r) w.stands c.turn.chain none)) ∙ (c.ends ∙ i)) in omega arith)
     | inr l ↦ (let low = c.allowed.0 in omega arith)
   ]
 
@@ -59,9 +49,9 @@ module _ (r new : Course) (budget units : ℕ) (phase : Phase) (w : IsCourse r) 
     | inr b ↦ elim (idle_or phase) [ inl i ↦ (let p = b.1 in let q = i.1 in omega arith) | inr d ↦ (let p = b.1 in let q = d.1 in omega arith) ]
   ]
 
-pub quantum_paced : (r new : Course) (budget : ℕ) (s : Spent) (p q : PacerView) → IsCourse r → Collects r budget s.units s.phase new → p.ended + cycles_on r.heap.phase ≡ p.begun
+pub quantum_paced : (r new : Course) (budget : ℕ) (s : Spent) (p q : PacerView) → IsCourse r → Collects r budget s.units s.phase new → (s.phase ≡ phases.Idle) ⊎ (budget < s.units + 256) → p.ended + cycles_on r.heap.phase ≡ p.begun
     → q.begun ≡ p.begun → q.spent ≡ p.spent + s.units → q.ended ≡ p.ended + (cycles_on r.heap.phase - cycles_on s.phase) → IsPaced p budget s q
-quantum_paced r new budget s p q w c on begun spent ended = record {
+quantum_paced r new budget s p q w c left on begun spent ended = record {
   begun = begun;
   spent = spent;
   rests = λ all. elim (idle_or r.heap.phase) [
@@ -71,11 +61,11 @@ quantum_paced r new budget s p q w c on begun spent ended = record {
   runs = λ more. elim (idle_or r.heap.phase) [
     | inl i ↦ absurd (more (let e = i.1 in omega arith))
     | inr b ↦ (
-      quantum_spends r new budget s.units s.phase w c b.0,
+      quantum_spends r new budget s.units s.phase w c left b.0,
       c.turn.within,
       elim (idle_or s.phase) [
         | inl i ↦ inl (i.0, (let e = b.1 in let f = i.1 in omega arith))
-        | inr d ↦ inr (d.0, (let e = b.1 in let f = d.1 in omega arith), elim (quantum_left r new budget s.units s.phase w c) [ inl i ↦ absurd (d.0 i) | inr l ↦ l ])
+        | inr d ↦ inr (d.0, (let e = b.1 in let f = d.1 in omega arith), elim left [ inl i ↦ absurd (d.0 i) | inr l ↦ l ])
       ],
     )
   ];

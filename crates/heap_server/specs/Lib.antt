@@ -3,4 +3,3 @@ pub mod Kept
 pub mod Paced
 pub mod Seats
 pub mod Played
-pub mod Settings

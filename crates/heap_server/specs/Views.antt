@@ -1,6 +1,7 @@
 -- What a seat, the pacer and the locked state show.
 use Rattle.std.specs.Prelude.{ℕ}
 use Rattle.heap_model.specs.Event.{Course}
+use Rattle.heap_server.specs.declared.locked.Locked.TheInside.{Inside}
 
 -- a seat's mutator, and how many calls it has made
 pub record SeatView : Type 0 where
@@ -22,6 +23,9 @@ pub record LockedView : Type 0 where
   pub begun : ℕ
   pub ended : ℕ
   pub spent : ℕ
+
+abbrev pub locked_of : {N : Type 0} → Inside N → LockedView
+locked_of l = record { course = l.recorded.course; room = l.recorded.room; calls = l.calls.total; begun = l.begun.total; ended = l.ended.total; spent = l.units.total }
 
 -- what the pacer shows where its numbers are the totals of the books
 abbrev pub pacer_of : LockedView → PacerView

@@ -8,6 +8,7 @@ mod locked;
 mod naming;
 mod play;
 mod server;
+mod tally;
 mod workers;
 
 pub use fault::ServerFault;
@@ -16,6 +17,7 @@ pub use locked::{Locked, Pacer, Seat};
 pub use naming::{Begun, Calls, Ended, Naming, Opening, Units};
 pub use play::{Outcome, play_threads};
 pub use server::Server;
+pub use tally::Tally;
 
 #[cfg(test)]
 mod tests;

@@ -82,14 +82,14 @@ pub struct Locked<N: Naming> {
 }
 
 impl<N: Naming> Model for Locked<N> {
-    ghost use Rattle.heap_server.specs.Views.{LockedView};
+    ghost use Rattle.heap_server.specs.Views.{LockedView, locked_of};
     ghost use Rattle.heap_server.specs.Kept.{IsKept};
 
     ghost Value = { LockedView };
 
-    ghost view = { λ l. record { course = l.recorded.course; room = l.recorded.room; calls = l.calls.total; begun = l.begun.total; ended = l.ended.total; spent = l.units.total } };
+    ghost view = { locked_of };
 
-    ghost invariant = { λ l. IsKept N.settings (record { course = l.recorded.course; room = l.recorded.room; calls = l.calls.total; begun = l.begun.total; ended = l.ended.total; spent = l.units.total }) };
+    ghost invariant = { λ l. IsKept N.settings (locked_of l) };
 }
 
 impl<N: Naming> Locked<N> {
@@ -124,21 +124,12 @@ impl<N: Naming> Locked<N> {
         ensures room { 0 < self.old.room → IsOk result }
         ensures left { self.old.room ≤ self.new.room + 1 }
     {
-        let Locked {
-            recorded,
-            calls,
-            ..
-        } = self;
-        let Seat {
-            mutator,
-            made,
-            calls: mine,
-        } = seat;
-        calls.audit(mine);
-        let _before = recorded.history().len();
-        let receipt = recorded.call(*mutator, command)?;
-        calls.add(mine, 1);
-        *made += 1;
+        self.calls.audit(&mut seat.calls);
+        // a seat has made no more calls than there are entries, so that one more can be counted
+        let _entries = self.recorded.history().len();
+        let receipt = self.recorded.call(seat.mutator, command)?;
+        self.calls.add(&mut seat.calls, 1);
+        seat.made += 1;
         Ok(receipt)
     }
 
@@ -150,18 +141,11 @@ impl<N: Naming> Locked<N> {
         ensures books { OnOk result (self.new ≡ record self.old { course = self.new.course; begun = self.old.begun + 1 }) }
         ensures busy { OnErr result ((pacer.old.ended ≢ pacer.old.begun) × (self.new ≡ self.old) × (pacer.new ≡ pacer.old)) }
     {
-        let Locked {
-            recorded,
-            begun,
-            ended,
-            units,
-            ..
-        } = self;
-        begun.audit(&mut pacer.begun);
-        ended.audit(&mut pacer.ended);
-        units.audit(&mut pacer.units);
-        recorded.begin()?;
-        begun.add(&mut pacer.begun, 1);
+        self.begun.audit(&mut pacer.begun);
+        self.ended.audit(&mut pacer.ended);
+        self.units.audit(&mut pacer.units);
+        self.recorded.begin()?;
+        self.begun.add(&mut pacer.begun, 1);
         Ok(())
     }
 
@@ -174,20 +158,14 @@ impl<N: Naming> Locked<N> {
         ensures books { OnOk result ((self.new ≡ record self.old { course = self.new.course; ended = self.new.ended; spent = self.new.spent }) × (pacer.new ≡ pacer_of self.new)) }
         ensures err { OnErr result ((self.new ≡ self.old) × (pacer.new ≡ pacer.old)) }
     {
-        let Locked {
-            recorded,
-            begun,
-            ended,
-            units,
-            ..
-        } = self;
-        begun.audit(&mut pacer.begun);
-        ended.audit(&mut pacer.ended);
-        units.audit(&mut pacer.units);
-        let on = cycles_on(recorded.heap().phase());
-        let spent = recorded.quantum(budget)?;
-        units.add(&mut pacer.units, u64::from(spent.units));
-        ended.add(&mut pacer.ended, on - cycles_on(spent.phase));
+        self.begun.audit(&mut pacer.begun);
+        self.ended.audit(&mut pacer.ended);
+        self.units.audit(&mut pacer.units);
+        let on = cycles_on(self.recorded.heap().phase());
+        let spent = self.recorded.quantum(budget)?;
+        self.units.add(&mut pacer.units, u64::from(spent.units));
+        self.ended
+            .add(&mut pacer.ended, on - cycles_on(spent.phase));
         Ok(spent)
     }
 }

@@ -1,6 +1,6 @@
 //! The ledgers of a server: what names them, and how they are opened.
 ghost use Rattle.std.specs.Prelude.{◌≡◌, ℕ};
-ghost use Rattle.heap_server.specs.Settings.{HeapSettings};
+ghost use Rattle.heap_model.specs.Settings.{HeapSettings};
 
 use size_classes::Config;
 use std::marker::{Brand, PhantomData};

@@ -1,15 +1,16 @@
 //! A play: scripts of mutators, each in a thread of its own, beside a collector.
-ghost use Rattle.std.specs.Prelude.{◌≡◌, ◌↔◌, ℕ, ◌<◌, ◌≤◌, true, length, map, take, IfOk, slice_index_or, vec_len, vec_capacity};
+ghost use Rattle.std.specs.Prelude.{◌≡◌, ◌↔◌, ◌≤◌, true, length, map, take, IfOk, vec_len, vec_capacity};
 ghost use denote.Param.Send.{IsSync, IsSend};
-ghost use Rattle.heap_server.specs.Settings.{settings_by};
-ghost use Rattle.heap_server.specs.Views.{SeatView};
-ghost use Rattle.heap_server.specs.Seats.{new_seats, mutators_of, upto};
-ghost use Rattle.heap_server.specs.Played.{IsCollected, IsOutcome};
+ghost use Rattle.heap_model.specs.Settings.{settings_by};
+ghost use Rattle.heap_server.specs.Views.{PacerView};
+ghost use Rattle.heap_server.specs.Seats.{new_seats};
+ghost use Rattle.heap_server.specs.Played.{HavePlayed, IsCollected, IsOutcome};
 
 use crate::gate::Gate;
 use crate::locked::{Pacer, Seat};
 use crate::naming::{Naming, Opening};
 use crate::server::Server;
+use crate::tally::Tally;
 use crate::workers::{collect, play_seats};
 use graph_heap::{Command, NoMemory};
 use machine::Recorded;
@@ -29,6 +30,8 @@ pub struct Outcome {
     pub done: Vec<u64>,
     /// How many budgets were used.
     pub used: usize,
+    /// How many cycles were begun and how many units spent, for proofs alone.
+    pub tally: Tally,
     /// Whether all commands were done and all budgets used.
     pub all: bool,
 }
@@ -87,13 +90,13 @@ fn played<N: Naming + Send + Sync, G: Gate + Sync, R: Threads + Wait + Sync>(
         },
         move || -> Vec<Seat<N>>
             requires { IsSync R.row × IsSync G.row × IsSend N.row × IsSync N.row × (length scripts.now ≤ vec_len seats) × (seats.items ≡ new_seats N.settings.limits.mutators) }
-            ensures { (mutators_of result.items ≡ mutators_of seats.items) × ((i : ℕ) (d : SeatView) (e : _) → i < length scripts.entry.now → (slice_index_or result.items i d).calls ≤ vec_len (slice_index_or scripts.entry.now i e)) × ((i : ℕ) (d : SeatView) → length scripts.entry.now ≤ i → i < vec_len result → (slice_index_or result.items i d).calls ≡ 0) }
+            ensures { HavePlayed N.settings.limits.mutators (map vec_len scripts.entry.now) result.items }
         { play_seats(rt, shared, gate, scripts, seats) },
     );
     Ok(settled(server, seats, pacer, scripts, budgets, used, done))
 }
 
-/// Takes the server apart once all threads have ended.
+/// Takes the server apart once all threads have ended. The numbers are what the pacer shows.
 fn settled<N: Naming>(
     server: Server<N>,
     seats: Vec<Seat<N>>,
@@ -103,11 +106,11 @@ fn settled<N: Naming>(
     used: usize,
     mut done: Vec<u64>,
 ) -> Outcome
-    requires mutators { mutators_of seats.items ≡ upto N.settings.limits.mutators }
+    ghost numbers: { PacerView }
+    requires pacer { pacer ≡ numbers }
     requires fits { length scripts.now ≤ N.settings.limits.mutators }
-    requires played { (i : ℕ) (d : SeatView) (e : _) → i < length scripts.now → (slice_index_or seats.items i d).calls ≤ vec_len (slice_index_or scripts.now i e) }
-    requires rest { (i : ℕ) (d : SeatView) → length scripts.now ≤ i → i < vec_len seats → (slice_index_or seats.items i d).calls ≡ 0 }
-    requires collected { IsCollected budgets.now used pacer.begun pacer.spent }
+    requires played { HavePlayed N.settings.limits.mutators (map vec_len scripts.now) seats.items }
+    requires collected { IsCollected budgets.now used numbers.begun numbers.spent }
     requires room { (vec_len done ≡ 0) × (length scripts.now ≤ vec_capacity done) }
     ensures { IsOutcome N.settings (map vec_len scripts.now) budgets.now result }
 {
@@ -118,6 +121,7 @@ fn settled<N: Naming>(
         recorded,
         done,
         used,
+        tally: Tally::new(),
         all: whole && used == budgets.len(),
     }
 }

@@ -1,7 +1,7 @@
 //! The server: one lock round the heap, and the calls of seats and of the pacer.
 ghost use Rattle.std.specs.Prelude.{◌≡◌, ◌≢◌, ◌↔◌, ◌+◌, ◌<◌, length, IfOk, IsOk, OnErr, OnOk, vec_len};
 ghost use Rattle.std.specs.List.{sum_by};
-ghost use Rattle.heap_server.specs.Settings.{settings_by};
+ghost use Rattle.heap_model.specs.Settings.{settings_by};
 ghost use Rattle.heap_model.specs.Event.{IsBudget};
 ghost use Rattle.heap_model.specs.Led.{IsLed};
 ghost use Rattle.heap_server.specs.Kept.{IsSound};
@@ -81,8 +81,7 @@ impl<N: Naming> Server<N> {
         ensures counted { OnOk result (seat.new ≡ record seat.old { calls = seat.old.calls + 1 }) }
         ensures err { OnErr result (seat.new ≡ seat.old) }
     {
-        let receipt = self.locked.lock(rt).transact(seat, command)?;
-        Ok(receipt)
+        Ok(self.locked.lock(rt).transact(seat, command)?)
     }
 
     /// Begins a cycle of the collector, unless one is on.
@@ -115,29 +114,18 @@ impl<N: Naming> Server<N> {
 
     /// The heap with the history of all calls. All that `new` gave comes back: every seat, in its order,
     /// and the pacer. It waits for nobody.
-    pub fn close(self, seats: Vec<Seat<N>>, pacer: Pacer<N>) -> Recorded
+    pub fn close(self, seats: Vec<Seat<N>>, mut pacer: Pacer<N>) -> Recorded
         requires { mutators_of seats.items ≡ upto N.settings.limits.mutators }
         ensures sound { IsSound N.settings result.course }
         ensures counted { length result.course.history ≡ sum_by (λ s. s.calls) seats.items }
         ensures led { IsLed result.course pacer.begun pacer.spent }
     {
         let Server { locked } = self;
-        let Locked {
-            recorded,
-            mut calls,
-            mut begun,
-            mut units,
-            ..
-        } = locked.into_inner();
-        let Pacer {
-            begun: mut my_begun,
-            units: mut my_units,
-            ..
-        } = pacer;
-        begun.audit(&mut my_begun);
-        units.audit(&mut my_units);
-        let mut all = gathered(seats);
-        calls.audit(&mut all);
+        let mut locked = locked.into_inner();
+        locked.begun.audit(&mut pacer.begun);
+        locked.units.audit(&mut pacer.units);
+        locked.calls.audit(&mut gathered(seats));
+        let Locked { recorded, .. } = locked;
         recorded
     }
 }

@@ -1,9 +1,9 @@
 //! The workers of a play: one for each script, and the collector's.
-ghost use Rattle.std.specs.Prelude.{◌≡◌, ◌<◌, ◌≤◌, ℕ, length, slice_index_or, vec_len};
+ghost use Rattle.std.specs.Prelude.{◌≡◌, ◌<◌, ◌≤◌, length, map, slice_index_or, vec_len, All};
+ghost use Rattle.std.specs.List.{AllZip};
 ghost use denote.Param.Send.{IsSync, IsSend};
-ghost use Rattle.heap_server.specs.Views.{SeatView};
 ghost use Rattle.heap_server.specs.Seats.{new_seats, mutators_of};
-ghost use Rattle.heap_server.specs.Played.{IsPlayed, IsCollected};
+ghost use Rattle.heap_server.specs.Played.{IsPlayed, HavePlayed, IsCollected};
 
 use crate::gate::Gate;
 use crate::locked::{Pacer, Seat};
@@ -70,11 +70,11 @@ fn play_scripts<N: Naming + Send + Sync, G: Gate + Sync, R: Threads + Wait + Syn
     seats: &mut [Seat<N>],
 )
     requires count { length scripts.now ≡ length seats.old }
-    requires some { 0 < length scripts.now }
-    requires fresh { (i : ℕ) (d : SeatView) → i < length seats.old → (slice_index_or seats.old i d).calls ≡ 0 }
-    ensures { (i : ℕ) (d : SeatView) (e : _) → i < length seats.old → IsPlayed (slice_index_or scripts.now i e).items (slice_index_or seats.old i d) (slice_index_or seats.new i d) }
+    requires fresh { All (λ s. s.calls ≡ 0) seats.old }
+    ensures mutators { mutators_of seats.new ≡ mutators_of seats.old }
+    ensures within { AllZip (λ n most. n ≤ most) (map (λ s. s.calls) seats.new) (map vec_len scripts.now) }
 {
-    let threads = scripts.len();
+    let threads = scripts.len().max(1);
     thread::for_each_mut(
         rt,
         seats,
@@ -86,8 +86,8 @@ fn play_scripts<N: Naming + Send + Sync, G: Gate + Sync, R: Threads + Wait + Syn
     );
 }
 
-/// Plays each script from the seat at its place. The seats behind them stay as they are.
-fn play_first<N: Naming + Send + Sync, G: Gate + Sync, R: Threads + Wait + Sync>(
+/// Plays each script from the seat of its mutator.
+pub fn play_seats<N: Naming + Send + Sync, G: Gate + Sync, R: Threads + Wait + Sync>(
     rt: &R,
     server: &Server<N>,
     gate: &G,
@@ -95,32 +95,10 @@ fn play_first<N: Naming + Send + Sync, G: Gate + Sync, R: Threads + Wait + Sync>
     mut seats: Vec<Seat<N>>,
 ) -> Vec<Seat<N>>
     requires count { length scripts.now ≤ vec_len seats }
-    requires fresh { (i : ℕ) (d : SeatView) → i < vec_len seats → (slice_index_or seats.items i d).calls ≡ 0 }
-    ensures len { vec_len result ≡ vec_len seats }
-    ensures played { (i : ℕ) (d : SeatView) (e : _) → i < length scripts.now → IsPlayed (slice_index_or scripts.now i e).items (slice_index_or seats.items i d) (slice_index_or result.items i d) }
-    ensures same { (i : ℕ) (d : SeatView) → length scripts.now ≤ i → slice_index_or result.items i d ≡ slice_index_or seats.items i d }
+    requires new { seats.items ≡ new_seats N.settings.limits.mutators }
+    ensures { HavePlayed N.settings.limits.mutators (map vec_len scripts.now) result.items }
 {
-    let count = scripts.len();
-    if count > 0 {
-        let (playing, _) = seats.as_mut_slice().split_at_mut(count);
-        play_scripts(rt, server, gate, scripts, playing);
-    }
+    let (playing, _) = seats.as_mut_slice().split_at_mut(scripts.len());
+    play_scripts(rt, server, gate, scripts, playing);
     seats
-}
-
-/// Plays each script from the seat of its mutator.
-pub fn play_seats<N: Naming + Send + Sync, G: Gate + Sync, R: Threads + Wait + Sync>(
-    rt: &R,
-    server: &Server<N>,
-    gate: &G,
-    scripts: &[Vec<Command>],
-    seats: Vec<Seat<N>>,
-) -> Vec<Seat<N>>
-    requires count { length scripts.now ≤ vec_len seats }
-    requires fresh { seats.items ≡ new_seats N.settings.limits.mutators }
-    ensures mutators { mutators_of result.items ≡ mutators_of seats.items }
-    ensures played { (i : ℕ) (d : SeatView) (e : _) → i < length scripts.now → (slice_index_or result.items i d).calls ≤ vec_len (slice_index_or scripts.now i e) }
-    ensures rest { (i : ℕ) (d : SeatView) → length scripts.now ≤ i → i < vec_len result → (slice_index_or result.items i d).calls ≡ 0 }
-{
-    play_first(rt, server, gate, scripts, seats)
 }

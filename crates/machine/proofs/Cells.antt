@@ -1,5 +1,5 @@
 -- A reference cell, or a word cell, of an object that was found.
-use Rattle.std.proofs.Common.{◌≡◌, ◌≢◌, ℕ, ◌+◌, ◌-◌, ◌*◌, ◌/◌, ◌%◌, ◌<◌, inr, Bool, true, false, not, ◌==◌, cond, eqb, leb, length, get_or, Result, Ok, Err, ap, ◌∙◌, sym, subst, arith, refl}
+use Rattle.std.proofs.Common.{◌≡◌, ◌≢◌, ℕ, ◌+◌, ◌-◌, ◌*◌, ◌/◌, ◌%◌, ◌<◌, Bool, true, false, not, ◌==◌, cond, eqb, leb, length, get_or, Result, Ok, Err, ap, ◌∙◌, sym, subst, arith, refl}
 use Rattle.std.specs.Prelude.{nat_lt}
 use Rattle.std.proofs.lemmas.Bool.{ltb-true, lt-ltb, ne_eqb, ltb-false}
 use Rattle.graph_heap.specs.declared.command.Shape.{Shape}
@@ -13,20 +13,17 @@ use Rattle.size_classes.specs.Parts.{cells_of, pieces_of, part_cells}
 use Rattle.heap_model.specs.Store.{is_held, node_of}
 use Rattle.heap_model.specs.Core.{Name, null}
 use Rattle.heap_model.specs.Agree.{Reads}
-use Rattle.heap_model.specs.Cut.{is_cut, count_of, width_of, width_in, name_of, part_in, column_in}
+use Rattle.heap_model.specs.Cut.{is_cut, count_of, width_of, width_in, part_in, column_in}
 use Rattle.heap_model.specs.State.{HeapState, seen, width_at}
 use Rattle.heap_model.specs.Agreement.{Agrees, IsWhole}
-use Rattle.heap_model.specs.Written.{IsKnown}
 use Rattle.heap_model.specs.Reading.{IsMainCopy}
-use Rattle.heap_model.proofs.Shown.{copy_main, leads, shape_shown, ref_shown, piece_shown, word_shown}
+use Rattle.heap_model.proofs.Shown.{copy_main, leads, shape_shown, piece_shown}
 use Rattle.heap_model.proofs.Written.{cells_sum}
 use Rattle.heap_model.proofs.Cut.{part_below, word_below, spine_below}
-use Rattle.heap_model.proofs.Sameness.{known_ref}
-use Rattle.nodes.specs.declared.nodes.Referent.{Referent}
 use Rattle.arraylets.specs.declared.place.Place.{Place}
 use Rattle.arraylets.specs.Place.{ref_place, word_place, piece_cell, block_of}
 use Rattle.machine.specs.declared.plan.Found.{Found}
-use Rattle.machine.specs.Reading.{Names, IsFound, IsFoundRef, IsFoundWord}
+use Rattle.machine.specs.Reading.{IsFound, FindsRef, FindsWord}
 
 -- the cells of a part
 uncut_cells : (n : ℕ) → is_cut n ≡ false → (part : ℕ) → part_cells n part ≡ n
@@ -93,28 +90,28 @@ refused_by {A} b false c c' x y e eb ec at = rw eb (same_error A ℕ refusals.Wr
 
 module _ (h : HeapState) (g : Graph) (a : Agrees h g) (id : ℕ) (f : Found) (w : IsFound h g id f) where
   abbrev o : Object
-  o = object_of g.objects f.id
+  o = object_of g.objects id
 
   sum : length o.refs + length o.words ≡ cells_of o.shape
-  sum = cells_sum o (a.given f.id w.reaches).cells
+  sum = cells_sum o (a.given id w.reaches).cells
 
   -- the block of a part
   module _ (p : ℕ) (below : p < count_of o) where
     module _ (some : p ≢ 0) where
-      piece_reads : Reads (seen h) (piece_cell h.store f.block p) (record { identity = f.id; part = p })
-      piece_reads = piece_shown h g f.id p f.block a w.reaches (grind arith) below w.main
+      piece_reads : Reads (seen h) (piece_cell h.store f.block p) (record { identity = id; part = p })
+      piece_reads = piece_shown h g id p f.block a w.reaches (grind arith) below w.main
 
       pub piece_some : piece_cell h.store f.block p ≢ 0
       piece_some z =
-          let r = subst (λ x. Reads (seen h) x (record { identity = f.id; part = p })) z piece_reads in
-          let n : null ≡ record { identity = f.id; part = p } = r.main.name in
+          let r = subst (λ x. Reads (seen h) x (record { identity = id; part = p })) z piece_reads in
+          let n : null ≡ record { identity = id; part = p } = r.main.name in
           let q : 0 ≡ p = ap (λ (x : Name). x.part) n in
           absurd (some (sym q))
 
       pub piece_held : is_held h.store (piece_cell h.store f.block p - 1) ≡ true
       piece_held = (leads h (piece_cell h.store f.block p) _ piece_reads piece_some).held
 
-      pub piece_main : IsMainCopy h.store (node_of h.store (piece_cell h.store f.block p - 1)).forward (record { identity = f.id; part = p })
+      pub piece_main : IsMainCopy h.store (node_of h.store (piece_cell h.store f.block p - 1)).forward (record { identity = id; part = p })
       piece_main = (leads h (piece_cell h.store f.block p) _ piece_reads piece_some).main
 
       pub spine_within : length (node_of h.store f.block).cells ≡ part_cells (cells_of f.shape) 0 → p - 1 < length (node_of h.store f.block).cells
@@ -125,18 +122,18 @@ module _ (h : HeapState) (g : Graph) (a : Agrees h g) (id : ℕ) (f : Found) (w 
           let width : width_of o 0 ≡ pieces_of (cells_of o.shape) = (let c' = s.1 in rw c' (ap pieces_of sum)) in
           subst (λ n. p - 1 < n) (width ∙ sym (spine_cells (cells_of o.shape) c) ∙ ap (λ s. part_cells (cells_of s) 0) (sym w.shape) ∙ sym cells) s.0
 
-    pub part_main : IsMainCopy h.store (block_of h.store f.block p) (record { identity = f.id; part = p })
+    pub part_main : IsMainCopy h.store (block_of h.store f.block p) (record { identity = id; part = p })
     part_main = by_part (p == 0) refl
       where
-        by_part : (b : Bool) → (p == 0) ≡ b → IsMainCopy h.store (cond b f.block (node_of h.store (piece_cell h.store f.block p - 1)).forward) (record { identity = f.id; part = p })
-        by_part true e = let z : 0 ≡ p = grind arith in subst (λ k. IsMainCopy h.store f.block (record { identity = f.id; part = k })) z w.main
+        by_part : (b : Bool) → (p == 0) ≡ b → IsMainCopy h.store (cond b f.block (node_of h.store (piece_cell h.store f.block p - 1)).forward) (record { identity = id; part = p })
+        by_part true e = let z : 0 ≡ p = grind arith in subst (λ k. IsMainCopy h.store f.block (record { identity = id; part = k })) z w.main
         by_part false e = piece_main (λ z. clash z e)
           where
             clash : p ≡ 0 → (p == 0) ≡ false → ⊥
             clash z f = grind arith
 
     part_shape : (node_of h.store (block_of h.store f.block p)).shape ≡ o.shape
-    part_shape = shape_shown h g f.id p (block_of h.store f.block p) a w.reaches below part_main
+    part_shape = shape_shown h g id p (block_of h.store f.block p) a w.reaches below part_main
 
     part_length : IsWhole h.store → length (node_of h.store (block_of h.store f.block p)).cells ≡ part_cells (cells_of o.shape) p
     part_length whole =
@@ -158,20 +155,17 @@ module _ (h : HeapState) (g : Graph) (a : Agrees h g) (id : ℕ) (f : Found) (w 
 
       ref_within : i < length o.refs
       ref_within =
-          let n = (a.given f.id w.reaches).cells.refs in
+          let n = (a.given id w.reaches).cells.refs in
           let l = ltb-true i (ref_cells f.shape) ref_parts.1 in
           subst (λ z. i < z) (ap ref_cells w.shape ∙ sym n) l
 
       pub ref_below : place.part < count_of o
       ref_below = subst (λ p. p < count_of o) (ap (λ n. part_in n i) sum ∙ sym ref_part) (part_below o i ref_within)
 
-      ref_copy : IsMainCopy h.store (block_of h.store f.block place.part) (record { identity = f.id; part = part_in (cells_of o.shape) i })
-      ref_copy = subst (λ p. IsMainCopy h.store (block_of h.store f.block place.part) (record { identity = f.id; part = p })) ref_part (part_main place.part ref_below)
+      ref_copy : IsMainCopy h.store (block_of h.store f.block place.part) (record { identity = id; part = part_in (cells_of o.shape) i })
+      ref_copy = subst (λ p. IsMainCopy h.store (block_of h.store f.block place.part) (record { identity = id; part = p })) ref_part (part_main place.part ref_below)
 
-      pub ref_block_held : is_held h.store (block_of h.store f.block place.part) ≡ true
-      ref_block_held = ref_copy.held
-
-      pub ref_cell_within : IsWhole h.store → place.cell < length (node_of h.store (block_of h.store f.block place.part)).cells
+      ref_cell_within : IsWhole h.store → place.cell < length (node_of h.store (block_of h.store f.block place.part)).cells
       ref_cell_within whole =
           let n = part_length place.part ref_below whole in
           let l : i < cells_of o.shape = (let r = ref_within in omega (arith, r, sum)) in
@@ -179,29 +173,14 @@ module _ (h : HeapState) (g : Graph) (a : Agrees h g) (id : ℕ) (f : Found) (w 
           let q : part_cells (cells_of o.shape) place.part ≡ part_cells (cells_of o.shape) (part_in (cells_of o.shape) i) = ap (part_cells (cells_of o.shape)) ref_part in
           omega (arith, n, c, q, ref_column)
 
-      -- what it holds reads as what the graph heap's cell holds
-      pub ref_reads : (x : ℕ) → x ≡ get_or (node_of h.store (block_of h.store f.block place.part)).cells place.cell 0 → Reads (seen h) x (name_of (get_or o.refs i 0))
-      ref_reads x e =
-          subst (λ z. Reads (seen h) z (name_of (get_or o.refs i 0))) (ap (λ n. get_or (node_of h.store (block_of h.store f.block place.part)).cells n 0) (sym ref_column) ∙ sym e)
-          (ref_shown h g f.id i (block_of h.store f.block place.part) a w.reaches ref_within ref_copy)
-
-      ref_at_is : ref_at g.objects f.id i ≡ Ok (get_or o.refs i 0)
+      ref_at_is : ref_at g.objects id i ≡ Ok (get_or o.refs i 0)
       ref_at_is =
           let t : takes_refs o.shape ≡ true = ap takes_refs (sym w.shape) ∙ ref_parts.0 in
           let l : nat_lt i (length o.refs) ≡ true = lt-ltb i (length o.refs) ref_within in
           ap (λ z. z >>= λ o. ref_cell o i) w.object ∙ rw (t, l) refl
 
-      pub ref_known : IsKnown g (get_or o.refs i 0)
-      ref_known = known_ref g f.id i (inr w.reaches) ref_within
-
-      pub found_ref : IsWhole h.store → (value : Referent) → Names h g (get_or o.refs i 0) value
-          → IsFoundRef h g id i (record { id = f.id; block = block_of h.store f.block place.part; cell = place.cell; value = value })
-      found_ref whole value n = record {
-        identity = w.identity;
-        value = ref_at_is ∙ ap Ok n.identity;
-        place = (w.reaches, ref_within, copy_main h (block_of h.store f.block place.part) _ ref_copy, ref_column, ref_cell_within whole);
-        names = subst (λ k. Names h g k value) n.identity n;
-      }
+      pub found_ref : IsWhole h.store → FindsRef h g id i (Ok (record { block = block_of h.store f.block place.part; index = place.cell }))
+      found_ref whole = (ref_at_is, (w.reaches, record { below = ref_within; main = copy_main h (block_of h.store f.block place.part) _ ref_copy; index = ref_column; within = ref_cell_within whole }))
 
     -- a word cell
     module _ (place : Place) (at : word_place f.shape i ≡ Ok place) where
@@ -217,25 +196,22 @@ module _ (h : HeapState) (g : Graph) (a : Agrees h g) (id : ℕ) (f : Found) (w 
 
       word_within : i < length o.words
       word_within =
-          let n = (a.given f.id w.reaches).cells.words in
+          let n = (a.given id w.reaches).cells.words in
           let l = ltb-true i (word_cells f.shape) word_parts.1 in
           subst (λ z. i < z) (ap word_cells w.shape ∙ sym n) l
 
       pub word_part_below : place.part < count_of o
       word_part_below = subst (λ p. p < count_of o) (ap (λ n. part_in n i) sum ∙ sym word_part) (word_below o i word_within)
 
-      word_copy : IsMainCopy h.store (block_of h.store f.block place.part) (record { identity = f.id; part = part_in (cells_of o.shape) i })
-      word_copy = subst (λ p. IsMainCopy h.store (block_of h.store f.block place.part) (record { identity = f.id; part = p })) word_part (part_main place.part word_part_below)
-
-      pub word_block_held : is_held h.store (block_of h.store f.block place.part) ≡ true
-      word_block_held = word_copy.held
+      word_copy : IsMainCopy h.store (block_of h.store f.block place.part) (record { identity = id; part = part_in (cells_of o.shape) i })
+      word_copy = subst (λ p. IsMainCopy h.store (block_of h.store f.block place.part) (record { identity = id; part = p })) word_part (part_main place.part word_part_below)
 
       word_column : place.cell ≡ width_at (node_of h.store (block_of h.store f.block place.part)) + column_in (cells_of o.shape) i
       word_column =
           word_cell_is ∙ ap (λ n. n + column_in (cells_of o.shape) i)
           (sym (ap (λ s. width_in (ref_cells s) (word_cells s) (node_of h.store (block_of h.store f.block place.part)).part) (part_shape place.part word_part_below) ∙ ap (width_in (ref_cells o.shape) (word_cells o.shape)) word_copy.part))
 
-      pub word_cell_within : fits f.shape ≡ true → IsWhole h.store → place.cell < length (node_of h.store (block_of h.store f.block place.part)).cells
+      word_cell_within : fits f.shape ≡ true → IsWhole h.store → place.cell < length (node_of h.store (block_of h.store f.block place.part)).cells
       word_cell_within fit whole =
           let n = part_length place.part word_part_below whole in
           let l = ltb-true i (word_cells f.shape) word_parts.1 in
@@ -243,29 +219,24 @@ module _ (h : HeapState) (g : Graph) (a : Agrees h g) (id : ℕ) (f : Found) (w 
           let q : part_cells (cells_of o.shape) place.part ≡ part_cells (cells_of o.shape) (part_in (cells_of o.shape) i) = ap (part_cells (cells_of o.shape)) word_part in
           omega (arith, n, c, q, word_cell_is)
 
-      word_at_is : word_at g.objects f.id i ≡ Ok (get_or o.words i 0)
+      word_at_is : word_at g.objects id i ≡ Ok (get_or o.words i 0)
       word_at_is =
           let t : takes_words o.shape ≡ true = ap takes_words (sym w.shape) ∙ word_parts.0 in
           let l : nat_lt i (length o.words) ≡ true = lt-ltb i (length o.words) word_within in
           ap (λ z. z >>= λ o. word_cell o i) w.object ∙ rw (t, l) refl
 
-      pub found_word : fits f.shape ≡ true → IsWhole h.store → (word : ℕ) → word ≡ get_or (node_of h.store (block_of h.store f.block place.part)).cells place.cell 0
-          → IsFoundWord h g id i (record { id = f.id; block = block_of h.store f.block place.part; cell = place.cell; word = word })
-      found_word fit whole word e = record {
-        identity = w.identity;
-        value = word_at_is ∙ ap Ok (sym (e ∙ ap (λ n. get_or (node_of h.store (block_of h.store f.block place.part)).cells n 0) word_column ∙ word_shown h g f.id i (block_of h.store f.block place.part) a w.reaches word_within word_copy));
-        place = (w.reaches, word_within, copy_main h (block_of h.store f.block place.part) _ word_copy, word_column, word_cell_within fit whole);
-      }
+      pub found_word : fits f.shape ≡ true → IsWhole h.store → FindsWord h g id i (Ok (record { block = block_of h.store f.block place.part; index = place.cell }))
+      found_word fit whole = (word_at_is, (w.reaches, record { below = word_within; main = copy_main h (block_of h.store f.block place.part) _ word_copy; index = word_column; within = word_cell_within fit whole }))
 
     -- the graph heap refuses as the place does
     pub ref_refused : (e : Refusal) → ref_place f.shape i ≡ Err e → ref_at g.objects id i ≡ Err e
     ref_refused e at =
-        let n : length o.refs ≡ ref_cells f.shape = (a.given f.id w.reaches).cells.refs ∙ ap ref_cells (sym w.shape) in
-        ap (λ k. ref_at g.objects k i) w.identity ∙ ap (λ z. z >>= λ o. ref_cell o i) w.object
+        let n : length o.refs ≡ ref_cells f.shape = (a.given id w.reaches).cells.refs ∙ ap ref_cells (sym w.shape) in
+        ap (λ z. z >>= λ o. ref_cell o i) w.object
         ∙ refused_by (takes_refs o.shape) (takes_refs f.shape) (nat_lt i (length o.refs)) (nat_lt i (ref_cells f.shape)) (get_or o.refs i 0) _ e (ap takes_refs (sym w.shape)) (ap (nat_lt i) n) at
 
     pub word_refused : (e : Refusal) → word_place f.shape i ≡ Err e → word_at g.objects id i ≡ Err e
     word_refused e at =
-        let n : length o.words ≡ word_cells f.shape = (a.given f.id w.reaches).cells.words ∙ ap word_cells (sym w.shape) in
-        ap (λ k. word_at g.objects k i) w.identity ∙ ap (λ z. z >>= λ o. word_cell o i) w.object
+        let n : length o.words ≡ word_cells f.shape = (a.given id w.reaches).cells.words ∙ ap word_cells (sym w.shape) in
+        ap (λ z. z >>= λ o. word_cell o i) w.object
         ∙ refused_by (takes_words o.shape) (takes_words f.shape) (nat_lt i (length o.words)) (nat_lt i (word_cells f.shape)) (get_or o.words i 0) _ e (ap takes_words (sym w.shape)) (ap (nat_lt i) n) at

@@ -1,29 +1,32 @@
 -- A change done: the heap stands for the graph heap after it, and for each that it agreed with.
-use Rattle.std.proofs.Common.{◌≡◌, ℕ, ◌+◌, ◌<◌, ◌^◌, Bool, true, false, ◌==◌, if◌then◌else◌, length, ap, ◌∙◌, sym, subst, refl}
+use Rattle.std.proofs.Common.{◌≡◌, ℕ, ◌+◌, ◌<◌, ◌^◌, Bool, true, false, ◌==◌, if◌then◌else◌, length, ap, ◌∙◌, sym, subst, refl, inl, inr}
 use Rattle.graph_heap.specs.declared.command.Change.{Change}
 use Rattle.graph_heap.specs.declared.command.Change.TheVariants as changes
 use Rattle.graph_heap.specs.Shape.{fits}
 use Rattle.graph_heap.specs.Graph.{Graph, Object, object_of, changed, with_ref, with_word, new_object}
-use Rattle.size_classes.specs.Parts.{cells_of, parts_in}
 use Rattle.heap_model.specs.State.{HeapState}
 use Rattle.heap_model.specs.Standing.{Stands}
 use Rattle.heap_model.specs.Agreement.{Agrees}
-use Rattle.heap_model.specs.Alike.{IsFounded}
-use Rattle.heap_model.specs.Change.{DoesChange, Does_nothing, Does_root, Does_ref, Does_word, Does_new}
+use Rattle.heap_model.specs.Alike.{IsAlike, IsFounded}
+use Rattle.heap_model.specs.Written.{IsKnown}
+use Rattle.heap_model.specs.Change.{DoesChange}
 use Rattle.heap_model.proofs.Agreements.{consistent_agrees}
-use Rattle.heap_model.proofs.Sameness.{each_changed, reach_some}
+use Rattle.heap_model.proofs.Sameness.{each_changed, reach_some, alike_back, alike_sym}
 use Rattle.heap_model.proofs.Changes.{put_each, object-append}
 use Rattle.heap_model.proofs.Changed.{stands_changed}
-use Rattle.heap_model.proofs.Recorded.{records_stay}
-use Rattle.heap_model.proofs.Taken.{takes_count}
 use Rattle.heap_model.proofs.Left.{change_left}
-use Rattle.machine.specs.Heap.{IsHeap}
-use Rattle.machine.specs.Plan.{IsPlanned, change_of}
+use Rattle.raw_heap.specs.Heap.{IsHeap}
+use Rattle.machine.specs.Plan.{IsPlanned}
+use Rattle.machine.specs.Reading.{IsRefCell, IsWordCell}
 use Rattle.machine.specs.declared.plan.Write.{Write}
 use Rattle.machine.specs.declared.plan.Write.TheVariants as writes
 
 pub present_agrees : (h : HeapState) (w : IsHeap h) → Agrees h w.present
 present_agrees h w = consistent_agrees h w.present w.snapshot w.stands.consistent
+
+-- what is known of the value t for each graph heap, of the fields h at present
+pub at_present : (P : HeapState → Graph → Type 0) (h t : HeapState) → h ≡ t → (w : IsHeap h) → ((g : Graph) → Agrees t g → P t g) → P h w.present
+at_present P h t is w known = subst (λ (x : HeapState). (g : Graph) → Agrees x g → P x g) (sym is) known w.present (present_agrees h w)
 
 -- no object becomes too large
 fits_changed : (g : Graph) (c : Change) → IsFounded g c → ((id : ℕ) → fits (object_of g.objects id).shape ≡ true) → (id : ℕ) → fits (object_of (changed g c).objects id).shape ≡ true
@@ -39,21 +42,26 @@ fits_changed g (changes.New cell id shape) f w = λ k. by_last k (k == length g.
     by_last k true e = ap (λ (o : Object). fits o.shape) (object-append g.objects (new_object shape) k ∙ ap (λ t. if t then new_object shape else object_of g.objects k) e) ∙ f.2
     by_last k false e = ap (λ (o : Object). fits o.shape) (object-append g.objects (new_object shape) k ∙ ap (λ t. if t then new_object shape else object_of g.objects k) e) ∙ w k
 
-pub change_count : (h after : HeapState) (g : Graph) (c : Change) → DoesChange h g c after → length after.store.pages ≡ length h.store.pages
-change_count h after g c Does_nothing = refl
-change_count h after g c (Does_root cell id y k r i) = ap length (records_stay h k _ r).pages
-change_count h after g c (Does_ref id i value address y k new at r main w) = ap length w.pages ∙ ap length (records_stay h k _ r).pages
-change_count h after g c (Does_word id i word address new at w) = ap length w.pages
-change_count h after g c (Does_new cell id shape k new at r makes takes) =
-    takes_count (cells_of shape) at k.store.pages (parts_in (cells_of shape)) new.pages takes ∙ ap length (records_stay h k _ r).pages
-
 -- the change of a planned write is one of what is there
-pub founded : (h : HeapState) (g : Graph) → Agrees h g → (w : Write) → IsPlanned h g w → IsFounded g (change_of w)
-founded h g a writes.Nothing p = tt
-founded h g a (writes.Root cell id x) p = (subst (λ n. cell < n) a.roots p.0, p.1)
-founded h g a (writes.Ref id i value block cell x) p = (p.0.0, (a.given id p.0.0).below, p.0.1, p.1.0)
-founded h g a (writes.Word id i word block cell) p = (p.0, (a.given id p.0).below, p.1)
-founded h g a (writes.New cell id shape) p = (subst (λ n. cell < n) a.roots p.0, p.1 ∙ a.next, p.3)
+pub founded : (h : HeapState) (g : Graph) → Agrees h g → (c : Change) (w : Write) → IsPlanned h g c w → IsFounded g c
+founded h g a c writes.Nothing p = subst (λ (x : Change). IsFounded g x) (sym p) tt
+founded h g a c (writes.Root cell x) p = subst (λ (x : Change). IsFounded g x) (sym p.1) (subst (λ n. cell < n) a.roots p.2, p.3)
+founded h g a c (writes.Ref at x) p = subst (λ (x : Change). IsFounded g x) (sym p.3) (p.4.0, (a.given p.0 p.4.0).below, p.4.1.below, p.5)
+founded h g a c (writes.Word at word) p = subst (λ (x : Change). IsFounded g x) (sym p.2) (p.3.0, (a.given p.0 p.3.0).below, p.3.1.below)
+founded h g a c (writes.New cell shape) p = subst (λ (x : Change). IsFounded g x) (sym p.0) (subst (λ n. cell < n) a.roots p.1, a.next, p.3)
+
+-- what is planned for one graph heap is for each that can't be told from it
+known_alike : (f g : Graph) → IsAlike f g → (id : ℕ) → IsKnown f id → IsKnown g id
+known_alike f g a id k = elim k [ inl e ↦ inl e | inr r ↦ inr (alike_back g f (alike_sym f g a) id r) ]
+
+pub planned_alike : (h : HeapState) (f g : Graph) → IsAlike f g → (c : Change) (w : Write) → IsPlanned h f c w → IsPlanned h g c w
+planned_alike h f g a c writes.Nothing p = p
+planned_alike h f g a c (writes.Root cell x) p = (p.0, p.1, p.2, known_alike f g a p.0 p.3, p.4)
+planned_alike h f g a c (writes.Ref at x) p =
+    (p.0, p.1, p.2, p.3, (alike_back g f (alike_sym f g a) p.0 p.4.0, subst (λ (o : Object). IsRefCell h o p.0 p.1 at) (a.object p.0 p.4.0) p.4.1), known_alike f g a p.2 p.5, p.6)
+planned_alike h f g a c (writes.Word at word) p =
+    (p.0, p.1, p.2, (alike_back g f (alike_sym f g a) p.0 p.3.0, subst (λ (o : Object). IsWordCell h o p.0 p.1 at) (a.object p.0 p.3.0) p.3.1))
+planned_alike h f g a c (writes.New cell shape) p = p
 
 module _ (h after : HeapState) (w : IsHeap h) (c : Change) (is_founded : IsFounded w.present c) (does : DoesChange h w.present c after) where
   stands_after : Stands after (changed w.present c) w.snapshot

@@ -1,5 +1,5 @@
 -- What a root or a cell holds, found by way of its reference.
-use Rattle.std.proofs.Common.{◌==◌, Bool, ◌≡◌, ◌≢◌, ℕ, ◌+◌, ◌-◌, ◌<◌, ◌≤◌, true, false, cond, eqb, List, length, get_or, Ok, Err, ap, ◌∙◌, sym, subst, arith, refl}
+use Rattle.std.proofs.Common.{◌==◌, Bool, ◌≡◌, ◌≢◌, ℕ, ◌+◌, ◌-◌, ◌<◌, ◌≤◌, true, false, cond, eqb, List, length, get_or, inr, Ok, Err, ap, ◌∙◌, sym, subst, arith, refl}
 use Rattle.std.specs.Prelude.{slice_get}
 use Rattle.std.proofs.lemmas.Bool.{ne_eqb}
 use Rattle.std.proofs.lemmas.Option.{slice_get-get_or}
@@ -18,14 +18,16 @@ use Rattle.heap_model.specs.State.{HeapState, seen}
 use Rattle.heap_model.specs.Agreement.{Agrees}
 use Rattle.heap_model.specs.Written.{IsKnown}
 use Rattle.heap_model.specs.Reading.{IsMainCopy}
-use Rattle.heap_model.proofs.Shown.{leads, copy_main, main_copy, root_reads, shape_shown}
-use Rattle.heap_model.proofs.Sameness.{known_root, known_reaches}
+use Rattle.heap_model.proofs.Shown.{leads, copy_main, main_copy, root_reads, shape_shown, ref_shown, word_shown}
+use Rattle.heap_model.proofs.Sameness.{known_root, known_ref, known_reaches}
 use Rattle.heap_model.proofs.Cut.{count_some}
-use Rattle.machine.specs.Heap.{IsHeap}
+use Rattle.raw_heap.specs.Heap.{IsHeap}
 use Rattle.machine.proofs.Doing.{present_agrees}
-use Rattle.machine.specs.Reading.{Names, IsFound}
+use Rattle.raw_heap.proofs.Standing.{follows}
+use Rattle.machine.specs.Reading.{Names, IsFound, IsRefPlace, IsWordPlace}
+use Rattle.machine.specs.declared.plan.Cell.{Cell}
 use Rattle.nodes.specs.declared.nodes.Referent.{Referent}
-use Rattle.nodes.specs.Referent.{referent_of}
+use Rattle.nodes.specs.Referent.{referent_of, CanFollow}
 
 pub object_at-given : (xs : List Object) (id : ℕ) → 0 < id → id ≤ length xs → object_at xs id ≡ Ok (object_of xs id)
 unfolding object_of
@@ -58,13 +60,6 @@ module _ (h : HeapState) (x n : ℕ) (r : Reads (seen h) x (name_of n)) where
         where
           some : x ≡ 0 → (x == 0) ≡ false → ⊥
           some z f = grind arith
-
-  -- its block, and that of the main copy, are held
-  pub block_held : x ≢ 0 → is_held h.store (x - 1) ≡ true
-  block_held some = (leads h x (name_of n) r some).held
-
-  pub main_held : x ≢ 0 → is_held h.store (node_of h.store (x - 1)).forward ≡ true
-  main_held some = (leads h x (name_of n) r some).main.held
 
 pub names_by : (h : HeapState) (g : Graph) (x id : ℕ) (r : Referent) → Reads (seen h) x (name_of id) → IsKnown g id → r ≡ referent_of h.store x → Names h g id r
 names_by h g x id r reads known e =
@@ -111,18 +106,43 @@ module _ (h : HeapState) (w : IsHeap h) (r : Referent) (some : r.reference ≢ 0
 
   pub finds_by : (g : Graph) → Agrees h g → (id : ℕ) → Names h g id r → (shape : Shape) → shape ≡ (node_of h.store block).shape → IsFound h g id (record { block = block; id = r.identity; shape = shape })
   finds_by g a id n shape es =
-      let m = subst (λ k. IsMainCopy h.store block (name_of k)) n.identity (block_main g id n) in
-      let ne : 0 < r.identity = positive r.identity (λ z. some (a.null r.reference (subst (λ k. IsMain (seen h) r.reference (name_of k)) (n.identity ∙ z) n.main))) in
-      let reaches : Reaches g r.identity = known_reaches g r.identity (subst (IsKnown g) n.identity n.known) ne in
+      let m = block_main g id n in
+      let some_id : 0 < id = positive id (λ z. some (a.null r.reference (subst (λ k. IsMain (seen h) r.reference (name_of k)) z n.main))) in
+      let reaches : Reaches g id = known_reaches g id n.known some_id in
       record {
         identity = n.identity;
         reaches = reaches;
-        object = object_at-given g.objects r.identity ne (a.given r.identity reaches).below;
-        shape = es ∙ shape_shown h g r.identity 0 block a reaches (count_some _) m;
+        object = object_at-given g.objects id some_id (a.given id reaches).below;
+        shape = es ∙ shape_shown h g id 0 block a reaches (count_some _) m;
         main = m;
       }
 
   pub object_fits : (present : ℕ) → Names h w.present present r → (shape : Shape) → shape ≡ (node_of h.store block).shape → fits shape ≡ true
   object_fits present named shape es =
       let f = finds_by w.present (present_agrees h w) present named shape es in
-      subst (λ z. fits z ≡ true) (sym f.shape) (w.fits r.identity)
+      subst (λ z. fits z ≡ true) (sym f.shape) (w.fits present)
+
+-- a reference cell of an object that can be reached
+module _ (h : HeapState) (g : Graph) (a : Agrees h g) (id i : ℕ) (at : Cell) (p : IsRefPlace h g id i at) where
+  pub ref_held : is_held h.store at.block ≡ true
+  ref_held = (main_copy h at.block _ p.1.main).held
+
+  module _ (x : ℕ) (e : x ≡ get_or (node_of h.store at.block).cells at.index 0) where
+    reads_ref : Reads (seen h) x (name_of (get_or (object_of g.objects id).refs i 0))
+    reads_ref =
+        subst (λ z. Reads (seen h) z (name_of (get_or (object_of g.objects id).refs i 0))) (sym (e ∙ ap (λ z. get_or (node_of h.store at.block).cells z 0) p.1.index))
+        (ref_shown h g id i at.block a p.0 p.1.below (main_copy h at.block _ p.1.main))
+
+    pub ref_follows : CanFollow h.store x
+    ref_follows = follows h x _ reads_ref
+
+    pub ref_names : (r : Referent) → r ≡ referent_of h.store x → Names h g (get_or (object_of g.objects id).refs i 0) r
+    ref_names r er = names_by h g x _ r reads_ref (known_ref g id i (inr p.0) p.1.below) er
+
+-- a word cell
+module _ (h : HeapState) (g : Graph) (a : Agrees h g) (id i : ℕ) (at : Cell) (p : IsWordPlace h g id i at) where
+  pub word_held : is_held h.store at.block ≡ true
+  word_held = (main_copy h at.block _ p.1.main).held
+
+  pub word_is : (x : ℕ) → x ≡ get_or (node_of h.store at.block).cells at.index 0 → x ≡ get_or (object_of g.objects id).words i 0
+  word_is x e = e ∙ ap (λ z. get_or (node_of h.store at.block).cells z 0) p.1.index ∙ word_shown h g id i at.block a p.0 p.1.below (main_copy h at.block _ p.1.main)

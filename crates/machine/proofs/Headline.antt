@@ -17,8 +17,8 @@ course_holds r w = record {
   agrees = λ spent h chain. consistent_agrees h (present_of r) (snapshot_of r) (stands_chain r.heap h spent (present_of r) (snapshot_of r) w.stands chain).consistent;
   held = λ id reach. reached_held r.heap (present_of r) (snapshot_of r) w.stands.consistent id reach;
   swept = λ spent cost h after chain action from to. sweep_change h after cost (present_of r) (snapshot_of r) (stands_chain r.heap h spent (present_of r) (snapshot_of r) w.stands chain) action from to;
-  kept = λ rests. held_is_kept r.heap (present_of r) (snapshot_of r) w.stands.consistent rests;
-  units = stands_limit r.heap (present_of r) (snapshot_of r) w.stands;
+  kept = λ spent h chain rests. held_is_kept h (present_of r) (snapshot_of r) (stands_chain r.heap h spent (present_of r) (snapshot_of r) w.stands chain).consistent rests;
+  units = λ spent h chain. stands_limit h (present_of r) (snapshot_of r) (stands_chain r.heap h spent (present_of r) (snapshot_of r) w.stands chain);
   ends = λ start begins. ends_soon r start w begins;
 }
 

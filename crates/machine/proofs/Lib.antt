@@ -4,10 +4,7 @@ pub mod Courses
 pub mod Doing
 pub mod Effects
 pub mod Finding
-pub mod Following
 pub mod Headline
-pub mod Moving
-pub mod Opening
 pub mod Planning
 pub mod Plans
 pub mod Reached

@@ -1,5 +1,5 @@
 -- A new object planned.
-use Rattle.std.proofs.Common.{◌≡◌, ℕ, ◌+◌, ◌<◌, ◌≤◌, ◌↔◌, Bool, true, false, cond, List, length, Option, Some, IfSome, Result, Ok, Err, ap, ◌∙◌, sym, subst, arith, refl, slice_index}
+use Rattle.std.proofs.Common.{◌≡◌, ℕ, ◌+◌, ◌<◌, ◌≤◌, ◌^◌, ◌↔◌, Bool, true, false, cond, List, length, Option, Some, IfSome, Result, Ok, Err, ap, ◌∙◌, sym, subst, arith, refl, slice_index}
 use Rattle.std.specs.Prelude.{nat_lt, IsNone, is_some}
 use Rattle.std.proofs.lemmas.Bool.{lt-ltb, le-ltb}
 use Rattle.graph_heap.specs.declared.command.Shape.{Shape}
@@ -19,6 +19,8 @@ use Rattle.heap_model.specs.Pages.{Page, has_room}
 use Rattle.heap_model.specs.State.{HeapState}
 use Rattle.heap_model.specs.Agreement.{Agrees}
 use Rattle.heap_model.proofs.Rooms.{room_same}
+use Rattle.machine.specs.Plan.{PlansFor}
+use Rattle.machine.specs.declared.plan.Write.TheVariants as writes
 
 -- the parts of a shape that isn't too large
 pub fits_by : (o : Option ℕ) (b : Bool) (p : ℕ) → o ≡ Some p → (IsNone o ↔ (b ≡ false)) → b ≡ true
@@ -68,5 +70,8 @@ module _ (h : HeapState) (g : Graph) (a : Agrees h g) (m dst root : ℕ) (shape 
     pub full_effect : (room : Bool) → room ≡ false → effect_of room g m (commands.New dst shape) ≡ Err refusals.NoSpace
     full_effect room e = chained shape _ _ _ _ _ _ _ _ slot_is fitting_is next_is (ap with_room e)
 
-    pub new_effect : (room : Bool) → room ≡ true → effect_of room g m (commands.New dst shape) ≡ Ok (replies.Made h.next, changes.New root h.next shape)
+    new_effect : (room : Bool) → room ≡ true → effect_of room g m (commands.New dst shape) ≡ Ok (replies.Made h.next, changes.New root h.next shape)
     new_effect room e = chained shape _ _ _ _ _ _ _ _ slot_is fitting_is next_is (ap with_room e)
+
+    pub new_plans : has_room h.store.pages (needed shape) ≡ true → root < length h.roots → h.next < 2 ^ 63 → PlansFor h g m (commands.New dst shape) (Ok (record { reply = replies.Made h.next; write = writes.New root shape }))
+    new_plans room below small = (changes.New root h.next shape, new_effect (has_room h.store.pages (needed shape)) room, (refl, below, small, fit, room))

@@ -1,5 +1,5 @@
 -- Plans, from what was found.
-use Rattle.std.proofs.Common.{◌≡◌, ℕ, ◌<◌, length, Ok, sym, subst}
+use Rattle.std.proofs.Common.{◌≡◌, ℕ, ◌<◌, length, Ok, sym, subst, refl}
 use Rattle.graph_heap.specs.declared.command.Command.{Command}
 use Rattle.graph_heap.specs.declared.command.Reply.{Reply}
 use Rattle.graph_heap.specs.declared.command.Change.TheVariants as changes
@@ -8,14 +8,11 @@ use Rattle.graph_heap.specs.Effect.{slot_at, static_at, effect_of}
 use Rattle.heap_model.specs.State.{HeapState}
 use Rattle.nodes.specs.declared.nodes.Referent.{Referent}
 use Rattle.machine.specs.declared.plan.Planned.{Planned}
-use Rattle.machine.specs.declared.plan.Write.{Write}
+use Rattle.machine.specs.declared.plan.Cell.{Cell}
 use Rattle.machine.specs.declared.plan.Write.TheVariants as writes
-use Rattle.machine.specs.declared.plan.FoundRef.{FoundRef}
-use Rattle.machine.specs.declared.plan.FoundWord.{FoundWord}
-use Rattle.machine.specs.Reading.{Names, IsFoundRef, IsFoundWord}
+use Rattle.machine.specs.Reading.{Names, FindsRef, FindsWord}
 use Rattle.heap_model.specs.Event.{room_for}
 use Rattle.machine.specs.Plan.{PlansFor}
-use Rattle.machine.proofs.Effects.{named}
 
 -- what is known of the fields h, of the value t
 module _ {h t : HeapState} (is : h ≡ t) where
@@ -31,23 +28,18 @@ module _ {h t : HeapState} (is : h ≡ t) where
 module _ (h : HeapState) (g : Graph) (m : ℕ) (c : Command) where
   -- a reply alone
   pub reply_plans : (reply : Reply) (p : Planned) → p ≡ record { reply = reply; write = writes.Nothing } → effect_of (room_for h c) g m c ≡ Ok (reply, changes.Nothing) → PlansFor h g m c (Ok p)
-  reply_plans reply p e effect = subst (λ (q : Planned). PlansFor h g m c (Ok q)) (sym e) (effect, tt)
+  reply_plans reply p e effect = subst (λ (q : Planned). PlansFor h g m c (Ok q)) (sym e) (changes.Nothing, effect, refl)
 
   -- a write of a root
-  pub root_plans : (reply : Reply) (d id : ℕ) (r : Referent) (w : Write) → w ≡ writes.Root d r.identity r.reference → effect_of (room_for h c) g m c ≡ Ok (reply, changes.Root d r.identity) → d < length h.roots → Names h g id r
-      → PlansFor h g m c (Ok (record { reply = reply; write = w }))
-  root_plans reply d id r w e effect below n =
-      let k = named h g id r n in
-      subst (λ (x : Write). PlansFor h g m c (Ok (record { reply = reply; write = x }))) (sym e) (effect, (below, k.0, k.1))
+  pub root_plans : (reply : Reply) (d id : ℕ) (r : Referent) → effect_of (room_for h c) g m c ≡ Ok (reply, changes.Root d id) → d < length h.roots → Names h g id r
+      → PlansFor h g m c (Ok (record { reply = reply; write = writes.Root d r.reference }))
+  root_plans reply d id r effect below n = (changes.Root d id, effect, (id, refl, below, n.known, n.main))
 
   -- a write of a reference cell
-  pub ref_plans : (reply : Reply) (id i of : ℕ) (f : FoundRef) (r : Referent) (w : Write) → w ≡ writes.Ref f.id i r.identity f.block f.cell r.reference → effect_of (room_for h c) g m c ≡ Ok (reply, changes.Ref f.id i r.identity)
-      → IsFoundRef h g of i f → Names h g id r → PlansFor h g m c (Ok (record { reply = reply; write = w }))
-  ref_plans reply id i of f r w e effect found n =
-      subst (λ (x : Write). PlansFor h g m c (Ok (record { reply = reply; write = x }))) (sym e) (effect, (found.place, named h g id r n))
+  pub ref_plans : (reply : Reply) (id i value : ℕ) (at : Cell) (r : Referent) → effect_of (room_for h c) g m c ≡ Ok (reply, changes.Ref id i value) → FindsRef h g id i (Ok at) → Names h g value r
+      → PlansFor h g m c (Ok (record { reply = reply; write = writes.Ref at r.reference }))
+  ref_plans reply id i value at r effect found n = (changes.Ref id i value, effect, (id, i, value, refl, found.1, n.known, n.main))
 
   -- a write of a word cell
-  pub word_plans : (reply : Reply) (i of word : ℕ) (f : FoundWord) (w : Write) → w ≡ writes.Word f.id i word f.block f.cell → effect_of (room_for h c) g m c ≡ Ok (reply, changes.Word f.id i word)
-      → IsFoundWord h g of i f → PlansFor h g m c (Ok (record { reply = reply; write = w }))
-  word_plans reply i of word f w e effect found =
-      subst (λ (x : Write). PlansFor h g m c (Ok (record { reply = reply; write = x }))) (sym e) (effect, found.place)
+  pub word_plans : (reply : Reply) (id i word : ℕ) (at : Cell) → effect_of (room_for h c) g m c ≡ Ok (reply, changes.Word id i word) → FindsWord h g id i (Ok at) → PlansFor h g m c (Ok (record { reply = reply; write = writes.Word at word }))
+  word_plans reply id i word at effect found = (changes.Word id i word, effect, (id, i, refl, found.1))

@@ -1,127 +1,85 @@
 -- The writes of the heap, each a change of the graph heap.
-use Rattle.std.proofs.Common.{◌≡◌, ℕ, ◌+◌, ◌*◌, ◌<◌, ◌≤◌, true, length, get_or, set, ap, ◌∙◌, sym, subst, arith}
+use Rattle.std.proofs.Common.{◌≡◌, ℕ, ◌+◌, ◌*◌, ◌<◌, ◌≤◌, length, get_or, set, ap, ◌∙◌, sym, subst, refl, arith}
 use Rattle.graph_heap.specs.declared.command.Shape.{Shape}
+use Rattle.graph_heap.specs.declared.command.Change.{Change}
 use Rattle.graph_heap.specs.declared.command.Change.TheVariants as changes
-use Rattle.graph_heap.specs.Shape.{fits}
-use Rattle.graph_heap.specs.Graph.{Graph, object_of, changed}
+use Rattle.graph_heap.specs.Graph.{Graph}
 use Rattle.size_classes.specs.Parts.{cells_of, parts_in}
 use Rattle.heap_model.specs.Block.{with_cell}
-use Rattle.heap_model.specs.Store.{Store, is_held, node_of, Writes}
-use Rattle.heap_model.specs.Agree.{Reads}
-use Rattle.heap_model.specs.Cut.{name_of}
-use Rattle.heap_model.specs.State.{HeapState, seen}
+use Rattle.heap_model.specs.Store.{Store, node_of, Writes}
+use Rattle.heap_model.specs.State.{HeapState}
 use Rattle.heap_model.specs.Agreement.{Agrees}
 use Rattle.heap_model.specs.Change.{DoesChange, Does_root, Does_ref, Does_word, Does_new, Records}
 use Rattle.heap_model.specs.Making.{MakesObject}
 use Rattle.heap_model.specs.Taking.{Takes}
-use Rattle.heap_model.proofs.Shown.{main_copy, ref_shown}
-use Rattle.heap_model.proofs.Recorded.{records_cells}
+use Rattle.heap_model.specs.Settings.{HeapSettings}
+use Rattle.heap_model.proofs.Settings.{change_settings}
+use Rattle.heap_model.proofs.Sameness.{told}
 use Rattle.nodes.specs.Referent.{CanFollow}
-use Rattle.machine.specs.Heap.{IsHeap}
-use Rattle.machine.specs.Plan.{IsPlanned, change_of}
+use Rattle.raw_heap.specs.declared.heap.RawHeap.{RawHeap}
+use Rattle.raw_heap.specs.Heap.{state_of, IsHeap, IsRawHeap}
+use Rattle.machine.specs.Plan.{IsPlanned, CanPerform, DoesEach, Performs}
+use Rattle.machine.specs.declared.plan.Cell.{Cell}
 use Rattle.machine.specs.declared.plan.Write.{Write}
 use Rattle.machine.specs.declared.plan.Write.TheVariants as writes
-use Rattle.machine.proofs.Doing.{present_agrees, founded, heap_after, agrees_after}
+use Rattle.machine.proofs.Doing.{present_agrees, at_present, founded, planned_alike, heap_after, agrees_after}
 use Rattle.machine.proofs.Finding.{reads_root}
-use Rattle.machine.proofs.Following.{follows}
+use Rattle.raw_heap.proofs.Standing.{follows}
 
--- what is planned for the value t, of the fields h
-abbrev pub PlannedFor : HeapState → Write → Type 0
-PlannedFor t w = (g : Graph) → Agrees t g → IsPlanned t g w
+-- of the fields h, which are seen as the value t
+module _ (h t : HeapState) (is : h ≡ t) (w : IsHeap h) (write : Write) where
+  pub planned_now : CanPerform t write → (c : Change) × IsPlanned h w.present c write
+  planned_now can = at_present (λ x g. (c : Change) × IsPlanned x g c write) h t is w can
 
-module _ (h t : HeapState) (is : h ≡ t) (w : IsHeap h) (write : Write) (planned : PlannedFor t write) where
-  pub planned_here : PlannedFor h write
-  planned_here = subst (λ (x : HeapState). PlannedFor x write) (sym is) planned
+  module _ (after : HeapState) (does : DoesEach h write after) where
+    pub stays_heap : CanPerform t write → IsHeap after
+    stays_heap can =
+        let p = planned_now can in let b = present_agrees h w in
+        heap_after h after w p.0 (founded h w.present b p.0 write p.1) (does w.present p.0 b p.1)
 
-  pub planned_now : IsPlanned h w.present write
-  planned_now = planned_here w.present (present_agrees h w)
+    performed : Performs h write after
+    performed g c a p =
+        let b = present_agrees h w in
+        let q = planned_alike h g w.present (told h g w.present a b) c write p in
+        (does g c a p, agrees_after h after w c (founded h w.present b c write q) (does w.present c b q) g a)
 
-  -- done for each graph heap with which it agrees, the heap stands for the one after
-  pub stays_heap : (after : HeapState) → ((g : Graph) → Agrees h g → DoesChange h g (change_of write) after) → IsHeap after
-  stays_heap after does = heap_after h after w (change_of write) (founded h w.present (present_agrees h w) write planned_now) (does w.present (present_agrees h w))
-
-  pub does_for : (after : HeapState) → ((g : Graph) → Agrees h g → DoesChange h g (change_of write) after) → (g : Graph) → Agrees t g → DoesChange t g (change_of write) after
-  does_for after does = subst (λ (x : HeapState). (g : Graph) → Agrees x g → DoesChange x g (change_of write) after) is does
-
-  pub agrees_for : (after : HeapState) → ((g : Graph) → Agrees h g → DoesChange h g (change_of write) after) → (g : Graph) → Agrees t g → Agrees after (changed g (change_of write))
-  agrees_for after does g a =
-      let b = present_agrees h w in
-      agrees_after h after w (change_of write) (founded h w.present b write planned_now) (does w.present b) g (subst (λ (x : HeapState). Agrees x g) (sym is) a)
+    pub performs : Performs t write after
+    performs = subst (λ (x : HeapState). Performs x write after) is performed
 
 -- what a root holds can be followed
 pub root_follows : (h : HeapState) (w : IsHeap h) (root x : ℕ) → root < length h.roots → x ≡ get_or h.roots root 0 → CanFollow h.store x
 root_follows h w root x below e = follows h x _ (reads_root h w.present (present_agrees h w) root below x e)
 
-pub root_does : (h k : HeapState) (cell id x before : ℕ) → PlannedFor h (writes.Root cell id x) → before ≡ get_or h.roots cell 0 → Records h before k
-    → (g : Graph) → Agrees h g → DoesChange h g (changes.Root cell id) (record k { roots = set k.roots cell x })
-root_does h k cell id x before planned e r g a = Does_root cell id x k (subst (λ z. Records h z k) e r) (planned g a).2
+module _ (h k : HeapState) (before : ℕ) (r : Records h before k) where
+  pub root_does : (cell x : ℕ) → before ≡ get_or h.roots cell 0 → DoesEach h (writes.Root cell x) (record k { roots = set k.roots cell x })
+  root_does cell x e g c a p =
+      subst (λ (z : Change). DoesChange h g z (record k { roots = set k.roots cell x })) (sym p.1) (Does_root cell p.0 x k (subst (λ z. Records h z k) e r) p.4)
 
--- a reference cell
-module _ (h : HeapState) (w : IsHeap h) (id i value block cell x : ℕ) (planned : PlannedFor h (writes.Ref id i value block cell x)) where
-  pub ref_held : is_held h.store block ≡ true
-  ref_held = (main_copy h block _ (planned w.present (present_agrees h w)).0.2).held
+  pub ref_does : (at : Cell) (x : ℕ) (new : Store) → before ≡ get_or (node_of h.store at.block).cells at.index 0 → Writes k.store new at.block (with_cell (node_of k.store at.block) at.index x)
+      → DoesEach h (writes.Ref at x) (record k { store = new })
+  ref_does at x new e wr g c a p =
+      subst (λ (z : Change). DoesChange h g z (record k { store = new })) (sym p.3)
+      (Does_ref p.0 p.1 p.2 at.block x k new p.4.1.main
+      (subst (λ z. Records h z k) (e ∙ ap (λ z. get_or (node_of h.store at.block).cells z 0) p.4.1.index) r) p.6
+      (subst (λ z. Writes k.store new at.block (with_cell (node_of k.store at.block) z x)) p.4.1.index wr))
 
-  pub ref_within : cell < length (node_of h.store block).cells
-  ref_within = (planned w.present (present_agrees h w)).0.4
+  pub new_does : (cell block : ℕ) (shape : Shape) (new : Store) → before ≡ get_or h.roots cell 0
+      → ((at : ℕ → ℕ) × (at 0 ≡ block) × MakesObject k.store shape k.sense k.next at new × Takes (cells_of shape) at k.store.pages (parts_in (cells_of shape)) new.pages)
+      → DoesEach h (writes.New cell shape) (record k { store = new; next = k.next + 1; roots = set k.roots cell (block + 1) })
+  new_does cell block shape new e makes g c a p =
+      subst (λ (z : Change). DoesChange h g z (record k { store = new; next = k.next + 1; roots = set k.roots cell (block + 1) })) (sym p.0)
+      (subst (λ b. DoesChange h g (changes.New cell h.next shape) (record k { store = new; next = k.next + 1; roots = set k.roots cell (b + 1) })) makes.1
+      (Does_new cell h.next shape k new makes.0 (subst (λ z. Records h z k) e r) makes.2 makes.3))
 
-  pub ref_follows : (before : ℕ) → before ≡ get_or (node_of h.store block).cells cell 0 → CanFollow h.store before
-  ref_follows before e =
-      let p = (planned w.present (present_agrees h w)).0 in
-      let reads = ref_shown h w.present id i block (present_agrees h w) p.0 p.1 (main_copy h block _ p.2) in
-      follows h before _ (subst (λ z. Reads (seen h) z (name_of (get_or (object_of w.present.objects id).refs i 0))) (sym (e ∙ ap (λ z. get_or (node_of h.store block).cells z 0) p.3)) reads)
+pub word_does : (h : HeapState) (at : Cell) (word : ℕ) (new : Store) → Writes h.store new at.block (with_cell (node_of h.store at.block) at.index word) → DoesEach h (writes.Word at word) (record h { store = new })
+word_does h at word new wr g c a p =
+    subst (λ (z : Change). DoesChange h g z (record h { store = new })) (sym p.2)
+    (Does_word p.0 p.1 word at.block new p.3.1.main (subst (λ z. Writes h.store new at.block (with_cell (node_of h.store at.block) z word)) p.3.1.index wr))
 
-  module _ (k : HeapState) (before : ℕ) (e : before ≡ get_or (node_of h.store block).cells cell 0) (r : Records h before k) where
-    pub ref_still_within : cell < length (node_of k.store block).cells
-    ref_still_within = subst (λ z. cell < length z) (sym (records_cells h k before block r ref_held)) ref_within
-
-    pub ref_does : (new : Store) → Writes k.store new block (with_cell (node_of k.store block) cell x) → (g : Graph) → Agrees h g → DoesChange h g (changes.Ref id i value) (record k { store = new })
-    ref_does new writes g a =
-        let p = planned g a in
-        Does_ref id i value block x k new p.0.2
-        (subst (λ z. Records h z k) (e ∙ ap (λ z. get_or (node_of h.store block).cells z 0) p.0.3) r) p.1.1
-        (subst (λ z. Writes k.store new block (with_cell (node_of k.store block) z x)) p.0.3 writes)
-
--- a word cell
-module _ (h : HeapState) (w : IsHeap h) (id i word block cell : ℕ) (planned : PlannedFor h (writes.Word id i word block cell)) where
-  pub word_held : is_held h.store block ≡ true
-  word_held = (main_copy h block _ (planned w.present (present_agrees h w)).2).held
-
-  pub word_within : cell < length (node_of h.store block).cells
-  word_within = (planned w.present (present_agrees h w)).4
-
-  pub word_does : (new : Store) → Writes h.store new block (with_cell (node_of h.store block) cell word) → (g : Graph) → Agrees h g → DoesChange h g (changes.Word id i word) (record h { store = new })
-  word_does new writes g a =
-      let p = planned g a in
-      Does_word id i word block new p.2 (subst (λ z. Writes h.store new block (with_cell (node_of h.store block) z word)) p.3 writes)
-
--- a new object
-pub new_does : (h k : HeapState) (cell before block : ℕ) (shape : Shape) (new : Store) → before ≡ get_or h.roots cell 0 → Records h before k
-    → ((at : ℕ → ℕ) × (at 0 ≡ block) × MakesObject k.store shape k.sense k.next at new × Takes (cells_of shape) at k.store.pages (parts_in (cells_of shape)) new.pages)
-    → (g : Graph) → Agrees h g → DoesChange h g (changes.New cell h.next shape) (record k { store = new; next = k.next + 1; roots = set k.roots cell (block + 1) })
-new_does h k cell before block shape new e r makes g a =
-    subst (λ b. DoesChange h g (changes.New cell h.next shape) (record k { store = new; next = k.next + 1; roots = set k.roots cell (b + 1) })) makes.1
-    (Does_new cell h.next shape k new makes.0 (subst (λ z. Records h z k) e r) makes.2 makes.3)
-
-module _ (h : HeapState) (w : IsHeap h) (cell : ℕ) (shape : Shape) (below : cell < length h.roots) (fit : fits shape ≡ true) where
-  pub makes_heap : (after : HeapState) → ((g : Graph) → Agrees h g → DoesChange h g (changes.New cell h.next shape) after) → IsHeap after
-  makes_heap after does =
-      let a = present_agrees h w in
-      heap_after h after w (changes.New cell h.next shape) (subst (λ n. cell < n) a.roots below, a.next, fit) (does w.present a)
-
-pub makes_for : (h t : HeapState) → h ≡ t → (cell : ℕ) (shape : Shape) (after : HeapState) → ((g : Graph) → Agrees h g → DoesChange h g (changes.New cell h.next shape) after)
-    → (g : Graph) → Agrees t g → DoesChange t g (changes.New cell t.next shape) after
-makes_for h t is cell shape after does = subst (λ (x : HeapState). (g : Graph) → Agrees x g → DoesChange x g (changes.New cell x.next shape) after) is does
-
-pub made_agrees : (h t : HeapState) → h ≡ t → (w : IsHeap h) (cell : ℕ) (shape : Shape) → cell < length h.roots → fits shape ≡ true → (after : HeapState) → ((g : Graph) → Agrees h g → DoesChange h g (changes.New cell h.next shape) after)
-    → (g : Graph) → Agrees t g → Agrees after (changed g (changes.New cell t.next shape))
-made_agrees h t is w cell shape below fit after does g a =
-    let b = present_agrees h w in
-    let c = agrees_after h after w (changes.New cell h.next shape) (subst (λ n. cell < n) b.roots below, b.next, fit) (does w.present b) g (subst (λ (x : HeapState). Agrees x g) (sym is) a) in
-    subst (λ (x : HeapState). Agrees after (changed g (changes.New cell x.next shape))) is c
-
--- as many pages and no less memory
-pub memory_left : (old new room more : ℕ) → 512 * old ≤ room → new ≡ old → room ≤ more → 512 * new ≤ more
-memory_left old new room more l e m = subst (λ n. 512 * n ≤ more) (sym e) (omega arith)
-
-pub none_less : (n : ℕ) → n ≤ n
-none_less n = omega arith
+-- a write done leaves a heap
+pub written_heap : (a b : RawHeap) → IsRawHeap a → (write : Write) → CanPerform (state_of a) write → DoesEach (state_of a) write (state_of b) → a.grey.room ≤ b.grey.room → IsRawHeap b
+written_heap a b w write can does more =
+    let p = can w.heap.present (present_agrees (state_of a) w.heap) in
+    let count : length b.nodes.pages ≡ length a.nodes.pages = ap (λ (x : HeapSettings). x.pages) (change_settings (state_of a) (state_of b) w.heap.present p.0 (does w.heap.present p.0 (present_agrees (state_of a) w.heap) p.1)) in
+    let memory = w.memory in
+    record { heap = stays_heap (state_of a) (state_of a) refl w.heap write (state_of b) does can; memory = omega arith }

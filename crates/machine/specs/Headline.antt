@@ -23,7 +23,7 @@ pub record Holds (r : Course) : Type 0 where
   pub held : (id : ℕ) → Reaches (present_of r) id → IsHeld r.heap (present_of r) id
   pub swept : EachSweepEnds r
   pub kept : HoldsKept r
-  pub units : r.heap.units ≤ cycle_limit r.heap
+  pub units : (spent : ℕ) (h : HeapState) → Chain r.heap spent h → h.units ≤ cycle_limit h
   pub ends : (start : Course) → Begins r start → EndsSoon start
 
 -- The history only grows, and an object that was made and can't be reached is never reached again.

@@ -5,14 +5,15 @@ use Rattle.graph_heap.specs.declared.command.Refusal.{Refusal}
 use Rattle.graph_heap.specs.declared.command.Change.{Change}
 use Rattle.graph_heap.specs.declared.command.Change.TheVariants as changes
 use Rattle.graph_heap.specs.Shape.{fits}
-use Rattle.graph_heap.specs.Graph.{Graph}
-use Rattle.graph_heap.specs.Effect.{effect_of}
+use Rattle.graph_heap.specs.Graph.{Graph, changed}
+use Rattle.graph_heap.specs.Effect.{effect_of, settled}
 use Rattle.size_classes.specs.Need.{needed}
 use Rattle.heap_model.specs.Pages.{has_room}
 use Rattle.heap_model.specs.Agree.{IsMain}
 use Rattle.heap_model.specs.Cut.{name_of}
 use Rattle.heap_model.specs.State.{HeapState, seen}
 use Rattle.heap_model.specs.Agreement.{Agrees}
+use Rattle.heap_model.specs.Change.{DoesChange}
 use Rattle.heap_model.specs.Written.{IsKnown}
 use Rattle.heap_model.specs.Event.{room_for}
 use Rattle.machine.specs.Reading.{IsRefPlace, IsWordPlace}
@@ -20,27 +21,36 @@ use Rattle.machine.specs.declared.plan.Planned.{Planned}
 use Rattle.machine.specs.declared.plan.Write.{Write}
 use Rattle.machine.specs.declared.plan.Write.TheVariants as writes
 
--- what a write changes in the graph heap
-abbrev pub change_of : Write → Change
-change_of writes.Nothing = changes.Nothing
-change_of (writes.Root cell id reference) = changes.Root cell id
-change_of (writes.Ref id i value block cell reference) = changes.Ref id i value
-change_of (writes.Word id i word block cell) = changes.Word id i word
-change_of (writes.New cell id shape) = changes.New cell id shape
-
--- The heap has the place of a write: a root or a reference cell that gets null or what is known, by the
--- reference of its main copy; a word cell; or room for the parts of an object.
-abbrev pub IsPlanned : HeapState → Graph → Write → Type 0
-IsPlanned h g writes.Nothing = Unit {0}
-IsPlanned h g (writes.Root cell id x) = (cell < length h.roots) × IsKnown g id × IsMain (seen h) x (name_of id)
-IsPlanned h g (writes.Ref id i value block cell x) = IsRefPlace h g id i block cell × (IsKnown g value × IsMain (seen h) x (name_of value))
-IsPlanned h g (writes.Word id i word block cell) = IsWordPlace h g id i block cell
-IsPlanned h g (writes.New cell id shape) = (cell < length h.roots) × (id ≡ h.next) × (id < 2 ^ 63) × (fits shape ≡ true) × (has_room h.store.pages (needed shape) ≡ true)
+-- The write is that of a change of the graph heap: a root or a reference cell gets null or what is known,
+-- by the reference of its main copy; a word cell gets the word; or an object is made, for whose parts there
+-- is room.
+abbrev pub IsPlanned : HeapState → Graph → Change → Write → Type 0
+IsPlanned h g c writes.Nothing = c ≡ changes.Nothing
+IsPlanned h g c (writes.Root cell x) = (id : ℕ) × (c ≡ changes.Root cell id) × (cell < length h.roots) × IsKnown g id × IsMain (seen h) x (name_of id)
+IsPlanned h g c (writes.Ref at x) = (id : ℕ) × (i : ℕ) × (value : ℕ) × (c ≡ changes.Ref id i value) × IsRefPlace h g id i at × IsKnown g value × IsMain (seen h) x (name_of value)
+IsPlanned h g c (writes.Word at word) = (id : ℕ) × (i : ℕ) × (c ≡ changes.Word id i word) × IsWordPlace h g id i at
+IsPlanned h g c (writes.New cell shape) = (c ≡ changes.New cell h.next shape) × (cell < length h.roots) × (h.next < 2 ^ 63) × (fits shape ≡ true) × (has_room h.store.pages (needed shape) ≡ true)
 
 -- the plan is what the graph heap does, for each graph heap with which the heap agrees
 abbrev pub PlansFor : HeapState → Graph → ℕ → Command → Result Planned Refusal → Type 0
-PlansFor h g m c (Ok p) = (effect_of (room_for h c) g m c ≡ Ok (p.reply, change_of p.write)) × IsPlanned h g p.write
+PlansFor h g m c (Ok p) = (change : Change) × (effect_of (room_for h c) g m c ≡ Ok (p.reply, change)) × IsPlanned h g change p.write
 PlansFor h g m c (Err e) = effect_of (room_for h c) g m c ≡ Err e
 
 abbrev pub Plans : HeapState → ℕ → Command → Result Planned Refusal → Type 0
 Plans h m c result = (g : Graph) → Agrees h g → PlansFor h g m c result
+
+-- the same, where a refusal is a reply
+abbrev pub IsPlan : HeapState → ℕ → Command → Planned → Type 0
+IsPlan h m c p = (g : Graph) → Agrees h g → (change : Change) × (settled (effect_of (room_for h c) g m c) ≡ (p.reply, change)) × IsPlanned h g change p.write
+
+-- the write is that of some change, for each graph heap with which the heap agrees
+abbrev pub CanPerform : HeapState → Write → Type 0
+CanPerform h w = (g : Graph) → Agrees h g → (change : Change) × IsPlanned h g change w
+
+-- whatever change of such a graph heap the write is of, the heap does it
+abbrev pub DoesEach : HeapState → Write → HeapState → Type 0
+DoesEach h w after = (g : Graph) (change : Change) → Agrees h g → IsPlanned h g change w → DoesChange h g change after
+
+-- and agrees with the graph heap after it
+abbrev pub Performs : HeapState → Write → HeapState → Type 0
+Performs h w after = (g : Graph) (change : Change) → Agrees h g → IsPlanned h g change w → DoesChange h g change after × Agrees after (changed g change)

@@ -1,7 +1,7 @@
 -- How commands read the words of the heap.
-use Rattle.std.specs.Prelude.{◌≡◌, ℕ, ◌+◌, ◌<◌, length, Result, Ok, Err}
+use Rattle.std.specs.Prelude.{◌≡◌, ℕ, ◌+◌, ◌<◌, length, slice_index, Result, Ok, Err}
 use Rattle.graph_heap.specs.declared.command.Refusal.{Refusal}
-use Rattle.graph_heap.specs.Graph.{Graph, object_of}
+use Rattle.graph_heap.specs.Graph.{Graph, Object, object_of}
 use Rattle.graph_heap.specs.Effect.{object_at, ref_at, word_at}
 use Rattle.graph_heap.specs.Reach.{Reaches}
 use Rattle.size_classes.specs.Parts.{cells_of}
@@ -13,8 +13,7 @@ use Rattle.heap_model.specs.Written.{IsKnown}
 use Rattle.heap_model.specs.Reading.{IsMainCopy}
 use Rattle.nodes.specs.declared.nodes.Referent.{Referent}
 use Rattle.machine.specs.declared.plan.Found.{Found}
-use Rattle.machine.specs.declared.plan.FoundRef.{FoundRef}
-use Rattle.machine.specs.declared.plan.FoundWord.{FoundWord}
+use Rattle.machine.specs.declared.plan.Cell.{Cell}
 
 -- What a root or a cell holds, an identity or null, is named by it and by the reference of its main copy.
 pub record Names (h : HeapState) (g : Graph) (id : ℕ) (r : Referent) : Type 0 where
@@ -25,10 +24,10 @@ pub record Names (h : HeapState) (g : Graph) (id : ℕ) (r : Referent) : Type 0 
 -- The object of an identity was found, by its main copy.
 pub record IsFound (h : HeapState) (g : Graph) (id : ℕ) (f : Found) : Type 0 where
   pub identity : id ≡ f.id
-  pub reaches : Reaches g f.id
-  pub object : object_at g.objects f.id ≡ Ok (object_of g.objects f.id)
-  pub shape : f.shape ≡ (object_of g.objects f.id).shape
-  pub main : IsMainCopy h.store f.block (name_of f.id)
+  pub reaches : Reaches g id
+  pub object : object_at g.objects id ≡ Ok (object_of g.objects id)
+  pub shape : f.shape ≡ (object_of g.objects id).shape
+  pub main : IsMainCopy h.store f.block (name_of id)
 
 -- what is found is what the graph heap finds, or its refusal
 abbrev pub Finds : HeapState → Graph → ℕ → Result Found Refusal → Type 0
@@ -36,37 +35,31 @@ Finds h g id (Ok f) = IsFound h g id f
 Finds h g id (Err e) = object_at g.objects id ≡ Err e
 
 -- a cell of a block is reference cell i of an object, or word cell i
-abbrev pub IsRefPlace : HeapState → Graph → ℕ → ℕ → ℕ → ℕ → Type 0
-IsRefPlace h g id i block cell =
-    Reaches g id × (i < length (object_of g.objects id).refs)
-    × IsMain (seen h) (block + 1) (record { identity = id; part = part_in (cells_of (object_of g.objects id).shape) i })
-    × (cell ≡ column_in (cells_of (object_of g.objects id).shape) i)
-    × (cell < length (node_of h.store block).cells)
+pub record IsRefCell (h : HeapState) (o : Object) (id i : ℕ) (at : Cell) : Type 0 where
+  pub below : i < length o.refs
+  pub main : IsMain (seen h) (at.block + 1) (record { identity = id; part = part_in (cells_of o.shape) i })
+  pub index : at.index ≡ column_in (cells_of o.shape) i
+  pub within : at.index < length (node_of h.store at.block).cells
 
-abbrev pub IsWordPlace : HeapState → Graph → ℕ → ℕ → ℕ → ℕ → Type 0
-IsWordPlace h g id i block cell =
-    Reaches g id × (i < length (object_of g.objects id).words)
-    × IsMain (seen h) (block + 1) (record { identity = id; part = part_in (cells_of (object_of g.objects id).shape) i })
-    × (cell ≡ width_at (node_of h.store block) + column_in (cells_of (object_of g.objects id).shape) i)
-    × (cell < length (node_of h.store block).cells)
+pub record IsWordCell (h : HeapState) (o : Object) (id i : ℕ) (at : Cell) : Type 0 where
+  pub below : i < length o.words
+  pub main : IsMain (seen h) (at.block + 1) (record { identity = id; part = part_in (cells_of o.shape) i })
+  pub index : at.index ≡ width_at (node_of h.store at.block) + column_in (cells_of o.shape) i
+  pub within : at.index < length (node_of h.store at.block).cells
 
--- a reference cell was found
-pub record IsFoundRef (h : HeapState) (g : Graph) (id i : ℕ) (f : FoundRef) : Type 0 where
-  pub identity : id ≡ f.id
-  pub value : ref_at g.objects f.id i ≡ Ok f.value.identity
-  pub place : IsRefPlace h g f.id i f.block f.cell
-  pub names : Names h g f.value.identity f.value
+-- and the object can be reached
+abbrev pub IsRefPlace : HeapState → Graph → ℕ → ℕ → Cell → Type 0
+IsRefPlace h g id i at = Reaches g id × IsRefCell h (object_of g.objects id) id i at
 
-abbrev pub FindsRef : HeapState → Graph → ℕ → ℕ → Result FoundRef Refusal → Type 0
-FindsRef h g id i (Ok f) = IsFoundRef h g id i f
+abbrev pub IsWordPlace : HeapState → Graph → ℕ → ℕ → Cell → Type 0
+IsWordPlace h g id i at = Reaches g id × IsWordCell h (object_of g.objects id) id i at
+
+-- a reference cell was found, or the graph heap's refusal
+abbrev pub FindsRef : HeapState → Graph → ℕ → ℕ → Result Cell Refusal → Type 0
+FindsRef h g id i (Ok at) = (ref_at g.objects id i ≡ Ok (slice_index (object_of g.objects id).refs i)) × IsRefPlace h g id i at
 FindsRef h g id i (Err e) = ref_at g.objects id i ≡ Err e
 
--- a word cell was found
-pub record IsFoundWord (h : HeapState) (g : Graph) (id i : ℕ) (f : FoundWord) : Type 0 where
-  pub identity : id ≡ f.id
-  pub value : word_at g.objects f.id i ≡ Ok f.word
-  pub place : IsWordPlace h g f.id i f.block f.cell
-
-abbrev pub FindsWord : HeapState → Graph → ℕ → ℕ → Result FoundWord Refusal → Type 0
-FindsWord h g id i (Ok f) = IsFoundWord h g id i f
+-- a word cell was found, or the graph heap's refusal
+abbrev pub FindsWord : HeapState → Graph → ℕ → ℕ → Result Cell Refusal → Type 0
+FindsWord h g id i (Ok at) = (word_at g.objects id i ≡ Ok (slice_index (object_of g.objects id).words i)) × IsWordPlace h g id i at
 FindsWord h g id i (Err e) = word_at g.objects id i ≡ Err e

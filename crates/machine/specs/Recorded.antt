@@ -1,6 +1,7 @@
 -- A heap and its history.
 use Rattle.std.specs.Prelude.{◌≡◌, ◌↔◌, ◌⊎◌, ℕ, ◌+◌, ◌-◌, ◌<◌, ◌≤◌, true, false, List, [], ◌∷◌, ◌++◌, map, Result, Ok, Err, vec_len, vec_capacity}
 use Rattle.graph_heap.specs.declared.command.Command.{Command}
+use Rattle.graph_heap.specs.declared.command.Entry.{Entry}
 use Rattle.graph_heap.specs.declared.no_memory.NoMemory.{NoMemory}
 use Rattle.heap_model.specs.declared.phase.Phase.TheVariants as phases
 use Rattle.heap_model.specs.declared.phase.Moving.{Moving}
@@ -31,6 +32,11 @@ recorded_of a = record {
   course = record { heap = a.heap; history = a.history.items; place = a.place };
   room = vec_capacity a.history - vec_len a.history;
 }
+
+-- what a caller gets for a command: its entry in the history, and the place of that entry, from 0
+pub record ReceiptView : Type 0 where
+  pub entry : Entry
+  pub place : ℕ
 
 -- what a call to begin a cycle, or to spend a budget, did
 abbrev pub begin_done : Result (Unit {0}) Busy → done.Event
@@ -69,9 +75,11 @@ EachSweepEnds r =
     (spent cost : ℕ) (h after : HeapState) → Chain r.heap spent h → Action h cost after → is_sweeping h.phase ≡ true → is_sweeping after.phase ≡ false
     → IsSwept after (present_of r) (snapshot_of r) × ((k : ℕ) → HasNoMark (page_at after.store.pages k))
 
--- in idle, and while blocks are moved, the held objects are exactly those that are kept
+-- In idle, and while blocks are moved, within a quantum too, the held objects are exactly those that are kept.
 abbrev pub HoldsKept : Course → Type 0
-HoldsKept r = (r.heap.phase ≡ phases.Idle) ⊎ ((place : Moving) × (r.heap.phase ≡ phases.Moving place)) → (id : ℕ) → 0 < id → IsHeld r.heap (present_of r) id ↔ IsKept (present_of r) (snapshot_of r) id
+HoldsKept r =
+    (spent : ℕ) (h : HeapState) → Chain r.heap spent h → (h.phase ≡ phases.Idle) ⊎ ((place : Moving) × (h.phase ≡ phases.Moving place))
+    → (id : ℕ) → 0 < id → IsHeld h (present_of r) id ↔ IsKept (present_of r) (snapshot_of r) id
 
 -- Behind a cycle that has begun, one of the first quanta of budgets of at least k ends in idle, for any k
 -- from 256 on, whatever comes between them.

@@ -1,53 +1,44 @@
 //! The heap.
 ghost use Rattle.std.specs.Prelude.{◌≡◌, length, IfOk};
-ghost use Rattle.graph_heap.specs.Graph.{Graph, changed};
+ghost use Rattle.graph_heap.specs.Graph.{Graph};
 ghost use Rattle.graph_heap.specs.Effect.{reply_of, next_of};
-ghost use Rattle.size_classes.specs.Config.{limits_of};
 ghost use Rattle.heap_model.specs.Opening.{IsOpening};
+ghost use Rattle.heap_model.specs.Settings.{settings_of, settings_by};
 ghost use Rattle.heap_model.specs.Agreement.{Agrees};
 ghost use Rattle.heap_model.specs.Change.{DoesChange};
 ghost use Rattle.heap_model.specs.Event.{change_by, room_for};
-ghost use Rattle.machine.specs.Plan.{Plans, IsPlanned, change_of};
+ghost use Rattle.machine.specs.Plan.{Plans, IsPlan, CanPerform, Performs};
 
 use crate::plan::{Planned, Write};
 use graph_heap::{Command, NoMemory, Refusal, Reply};
-use heap_model::phase::Phase;
-use nodes::Nodes;
-use roots::Roots;
-use satb_barrier::Grey;
+use raw_heap::RawHeap;
 use size_classes::Config;
 use std::alloc::Global;
 use std::marker::Model;
 
 mod collecting;
 mod inspecting;
-mod moving;
 mod planning;
 mod reading;
 mod writing;
 
+use writing::do_write;
+
 /// A heap of objects, with its roots. Contracts see the heap as it lies in words.
 #[derive(Drop)]
 pub struct Heap {
-    config: Config,
-    nodes: Nodes,
-    roots: Roots,
-    next: u64,
-    phase: Phase,
-    units: u64,
-    sense: bool,
-    grey: Grey,
+    raw: RawHeap,
 }
 
 impl Model for Heap {
     ghost use Rattle.heap_model.specs.State.{HeapState};
-    ghost use Rattle.machine.specs.Heap.{state_of, IsHeap, HasMemory};
+    ghost use Rattle.raw_heap.specs.Heap.{state_of, IsRawHeap};
 
     ghost Value = { HeapState };
 
-    ghost view = { state_of };
+    ghost view = { λ a. state_of a.raw };
 
-    ghost invariant = { λ a. IsHeap (state_of a) × HasMemory a };
+    ghost invariant = { λ a. IsRawHeap a.raw };
 }
 
 impl Heap {
@@ -55,33 +46,10 @@ impl Heap {
     /// Only want of memory is refused.
     pub fn new(alloc: Global, config: &Config) -> Result<Heap, NoMemory>
         ensures opening { IfOk result IsOpening }
-        ensures limits { IfOk result (λ h. h.limits ≡ limits_of config.now) }
-        ensures pages { IfOk result (λ h. length h.store.pages ≡ config.now.pages) }
-        ensures defrag { IfOk result (λ h. (h.defrag_below ≡ config.now.defrag_below) × (h.defrag_pages ≡ config.now.defrag_pages)) }
+        ensures settings { IfOk result (λ h. settings_of h ≡ settings_by config.now) }
     {
-        let nodes = Nodes::new(alloc, config.pages)?;
-        let roots = Roots::new(alloc, config)?;
-        let grey = Grey::new(alloc, 512 * config.pages as usize)?;
-        Ok(Heap {
-            config: *config,
-            nodes,
-            roots,
-            next: 1,
-            phase: Phase::Idle,
-            units: 0,
-            sense: false,
-            grey,
-        })
-    }
-
-    /// What `step` would reply. Nothing changes.
-    pub fn answer(&self, mutator: u32, command: &Command) -> Reply
-        ensures { (g : Graph) → Agrees self.now g → result ≡ reply_of (room_for self.now command.now) g mutator command.now }
-    {
-        match self.plan(mutator, command) {
-            Ok(planned) => planned.reply,
-            Err(refusal) => Reply::Refused(refusal),
-        }
+        let raw = RawHeap::new(alloc, config)?;
+        Ok(Heap { raw })
     }
 
     /// Does a command of a mutator, and replies. Whatever graph heap the heap agrees with, the reply
@@ -93,17 +61,23 @@ impl Heap {
         ensures agrees { (g : Graph) → Agrees self.old g → Agrees self.new (next_of (room_for self.old command) g mutator command) }
         ensures does { (g : Graph) → Agrees self.old g → DoesChange self.old g (change_by (room_for self.old command) g mutator command) self.new }
     {
-        match self.plan(mutator, &command) {
-            Ok(planned) => {
-                self.apply(&planned.write);
-                planned.reply
-            }
-            Err(refusal) => Reply::Refused(refusal),
+        let planned = self.plan(mutator, &command);
+        self.perform(&planned.write);
+        planned.reply
+    }
+
+    /// What a command does: its reply, and the write that is left to be done. Nothing changes.
+    pub(crate) fn plan(&self, mutator: u32, command: &Command) -> Planned
+        ensures { IsPlan self.now mutator command.now result }
+    {
+        match self.plan_command(mutator, command) {
+            Ok(planned) => planned,
+            Err(refusal) => Planned::reply(Reply::Refused(refusal)),
         }
     }
 
-    /// What a command does.
-    fn plan(&self, mutator: u32, command: &Command) -> Result<Planned, Refusal>
+    /// What a command does where nothing refuses it.
+    fn plan_command(&self, mutator: u32, command: &Command) -> Result<Planned, Refusal>
         ensures { Plans self.now mutator command.now result }
     {
         match *command {
@@ -133,35 +107,11 @@ impl Heap {
         }
     }
 
-    /// Does what was planned.
-    fn apply(&mut self, write: &Write)
-        requires { (g : Graph) → Agrees self.old g → IsPlanned self.old g write.now }
-        ensures does { (g : Graph) → Agrees self.old g → DoesChange self.old g (change_of write.now) self.new }
-        ensures agrees { (g : Graph) → Agrees self.old g → Agrees self.new (changed g (change_of write.now)) }
+    /// Does the write that was planned.
+    pub(crate) fn perform(&mut self, write: &Write)
+        requires { CanPerform self.old write.now }
+        ensures { Performs self.old write.now self.new }
     {
-        match *write {
-            Write::Nothing => {}
-            Write::Root {
-                cell,
-                id,
-                reference,
-            } => self.write_root(cell, id, reference),
-            Write::Ref {
-                id,
-                i,
-                value,
-                block,
-                cell,
-                reference,
-            } => self.write_ref(id, i, value, block, cell, reference),
-            Write::Word {
-                id,
-                i,
-                word,
-                block,
-                cell,
-            } => self.write_word(id, i, word, block, cell),
-            Write::New { cell, id, shape } => self.write_new(cell, id, shape),
-        }
+        do_write(&mut self.raw, write);
     }
 }

@@ -2,7 +2,6 @@
 ghost use Rattle.std.specs.Prelude.{◌≡◌};
 
 use graph_heap::{Reply, Shape};
-use nodes::Referent;
 
 /// What a command does: its reply, and the one write of the heap.
 #[derive(Clone, Copy, Debug, PartialEq, Eq)]
@@ -23,40 +22,26 @@ impl Planned {
     }
 }
 
-/// A write of the heap, with the identities by which the graph heap tells of it.
+/// A write of the heap. A reference is the address of a main copy plus one, or 0 for null.
 #[derive(Clone, Copy, Debug, PartialEq, Eq)]
 pub enum Write {
     Nothing,
-    /// A root gets a reference: the address of a main copy plus one, or 0 for null.
-    Root {
-        cell: usize,
-        id: u64,
-        reference: u64,
-    },
-    /// A cell of a block gets a reference, that of a main copy of `value` or 0 for null; it is
-    /// reference cell i of an object.
-    Ref {
-        id: u64,
-        i: u32,
-        value: u64,
-        block: usize,
-        cell: usize,
-        reference: u64,
-    },
-    /// A cell of a block gets a word; it is word cell i of an object.
-    Word {
-        id: u64,
-        i: u32,
-        word: u64,
-        block: usize,
-        cell: usize,
-    },
+    /// A root gets a reference.
+    Root { cell: usize, reference: u64 },
+    /// A reference cell of an object gets a reference.
+    Ref { at: Cell, reference: u64 },
+    /// A word cell of an object gets a word.
+    Word { at: Cell, word: u64 },
     /// An object is made, and a root gets its reference.
-    New {
-        cell: usize,
-        id: u64,
-        shape: Shape,
-    },
+    New { cell: usize, shape: Shape },
+}
+
+/// Where a cell of an object stands: in a block, a main copy of a part of the object, by its number
+/// among the cells there.
+#[derive(Clone, Copy, Debug, PartialEq, Eq)]
+pub struct Cell {
+    pub block: usize,
+    pub index: usize,
 }
 
 /// The main copy of an object.
@@ -65,22 +50,4 @@ pub struct Found {
     pub block: usize,
     pub id: u64,
     pub shape: Shape,
-}
-
-/// A reference cell of an object: where it stands, and what it holds.
-#[derive(Clone, Copy, Debug, PartialEq, Eq)]
-pub struct FoundRef {
-    pub id: u64,
-    pub block: usize,
-    pub cell: usize,
-    pub value: Referent,
-}
-
-/// A word cell of an object: where it stands, and what it holds.
-#[derive(Clone, Copy, Debug, PartialEq, Eq)]
-pub struct FoundWord {
-    pub id: u64,
-    pub block: usize,
-    pub cell: usize,
-    pub word: u64,
 }

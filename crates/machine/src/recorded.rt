@@ -2,12 +2,12 @@
 ghost use Rattle.std.specs.Prelude.{◌≡◌, ◌⊎◌, ◌+◌, ◌<◌, ◌≤◌, [], ◌∷◌, length, IfOk, IsOk, OnErr, OnOk};
 ghost use Rattle.graph_heap.specs.Graph.{opening};
 ghost use Rattle.graph_heap.specs.History.{IsLegal};
-ghost use Rattle.size_classes.specs.Config.{limits_of};
 ghost use Rattle.heap_model.specs.Agreement.{Agrees};
 ghost use Rattle.heap_model.specs.Event.{present_of, Does};
 ghost use Rattle.heap_model.specs.Event as done;
 ghost use Rattle.heap_model.specs.declared.phase.Phase.TheVariants as phases;
 ghost use Rattle.heap_model.specs.Opening.{IsOpening};
+ghost use Rattle.heap_model.specs.Settings.{settings_of, settings_by};
 ghost use Rattle.heap_model.specs.Spent.{cycle_limit};
 ghost use Rattle.machine.specs.Headline.{AlwaysHolds};
 ghost use Rattle.machine.specs.Recorded.{begin_done, quantum_done, RunsFront, commands_in, EachSweepEnds, EndsSoon, HoldsKept};
@@ -43,19 +43,44 @@ impl Model for Recorded {
 }
 
 /// What a caller gets for a command: its entry in the history, and the place of that entry, from 0.
+/// `Recorded::call` alone makes one.
 #[derive(Clone, Copy, Debug, PartialEq, Eq)]
 pub struct Receipt {
-    pub entry: Entry,
-    pub place: usize,
+    entry: Entry,
+    place: usize,
+}
+
+impl Model for Receipt {
+    ghost use Rattle.machine.specs.Recorded.{ReceiptView};
+
+    ghost Value = { ReceiptView };
+
+    ghost view = { λ r. record { entry = r.entry; place = r.place } };
+
+    ghost inverse = { λ v. record { entry = v.entry; place = v.place } };
+}
+
+impl Receipt {
+    /// The entry: the mutator, the command and the reply.
+    pub fn entry(&self) -> &Entry
+        ensures { result.now ≡ self.now.entry }
+    {
+        &self.entry
+    }
+
+    /// The place of the entry in the history, from 0.
+    pub fn place(&self) -> usize
+        ensures { result ≡ self.now.place }
+    {
+        self.place
+    }
 }
 
 impl Recorded {
     /// A new heap, without history. Only want of memory is refused.
     pub fn new(alloc: Global, config: &Config) -> Result<Recorded, NoMemory>
         ensures heap { IfOk result (λ r. IsOpening r.course.heap) }
-        ensures limits { IfOk result (λ r. r.course.heap.limits ≡ limits_of config.now) }
-        ensures pages { IfOk result (λ r. length r.course.heap.store.pages ≡ config.now.pages) }
-        ensures defrag { IfOk result (λ r. (r.course.heap.defrag_below ≡ config.now.defrag_below) × (r.course.heap.defrag_pages ≡ config.now.defrag_pages)) }
+        ensures settings { IfOk result (λ r. settings_of r.course.heap ≡ settings_by config.now) }
         ensures history { IfOk result (λ r. r.course.history ≡ []) }
         ensures place { IfOk result (λ r. r.course.place ≡ 0) }
     {
@@ -87,15 +112,15 @@ impl Recorded {
         ensures left { self.old.room ≤ self.new.room + 1 }
         ensures err { OnErr result (self.new.course ≡ self.old.course) }
     {
-        let place = self.history.len();
-        let reply = self.heap.answer(mutator, &command);
+        let planned = self.heap.plan(mutator, &command);
         let entry = Entry {
             mutator,
             command,
-            reply,
+            reply: planned.reply,
         };
+        let place = self.history.len();
         self.history.push(entry)?;
-        self.heap.step(mutator, command);
+        self.heap.perform(&planned.write);
         Ok(Receipt { entry, place })
     }
 

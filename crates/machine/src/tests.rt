@@ -11,16 +11,8 @@ mod moving;
 mod refusing;
 
 const ONE_PAGE: Settings = Settings {
-    pages: 1,
-    mutators: 1,
     slots: 9,
-    statics: 0,
-    identities: 9223372036854775807,
-    defrag_below: 0,
-    defrag_pages: 0,
-    collector_ticks: 10,
-    mutator_ticks: 12,
-    rate: 100,
+    ..Settings::DEFAULTS
 };
 
 const MANY_SLOTS: Settings = Settings {
@@ -64,7 +56,7 @@ fn expect(
 ) -> Result<(), NoMemory> {
     for (command, reply) in steps {
         assert_eq!(rt;
-            heap.call(mutator, *command)?.entry.reply,
+            heap.call(mutator, *command)?.entry().reply,
             *reply,
             "{command:?}"
         );
@@ -74,7 +66,7 @@ fn expect(
 
 /// The reply to a command of mutator 0.
 fn told(heap: &mut Recorded, command: Command) -> Result<Reply, NoMemory> {
-    Ok(heap.call(0, command)?.entry.reply)
+    Ok(heap.call(0, command)?.entry().reply)
 }
 
 /// The reply to a request for an object of so many words.
@@ -138,7 +130,7 @@ fn words_are_kept(rt: HostRuntime) -> Result<(), NoMemory> {
         told(&mut heap, Command::Get { obj: 0, i: 0 })? == Reply::Refused(Refusal::NullSlot)
     );
     assert!(rt;
-        heap.heap().answer(1, &Command::Clear { dst: 0 }) == Reply::Refused(Refusal::BadSlot)
+        heap.heap().plan(1, &Command::Clear { dst: 0 }).reply == Reply::Refused(Refusal::BadSlot)
     );
     Ok(())
 }

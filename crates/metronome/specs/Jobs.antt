@@ -18,7 +18,7 @@ use Rattle.transcripts.specs.declared.histories.Checked.TheVariants.{Good, Wrong
 use Rattle.transcripts.specs.Histories.{EntriesChecked}
 use Rattle.transcripts.specs.Scripts.{ScriptsRead}
 use Rattle.heap_server.specs.declared.play.Outcome.{Outcome}
-use Rattle.heap_server.specs.Settings.{settings_by}
+use Rattle.heap_model.specs.Settings.{settings_of, settings_by}
 use Rattle.heap_server.specs.Played.{IsOutcome}
 use Rattle.player.specs.declared.style.Style.{Style}
 use Rattle.player.specs.declared.style.Style.TheVariants.{Replies, Entries, Nothing}
@@ -35,9 +35,7 @@ use Rattle.metronome.specs.Windows.{AllTold, FirstTold}
 -- a player of a configuration at time 0: its heap is as at the start, and it has no history
 pub record IsNew (config : Config) (p : PlayerState) : Type 0 where
   pub heap : IsOpening p.course.heap
-  pub limits : p.course.heap.limits ≡ limits_of config
-  pub pages : length p.course.heap.store.pages ≡ config.pages
-  pub defrag : (p.course.heap.defrag_below ≡ config.defrag_below) × (p.course.heap.defrag_pages ≡ config.defrag_pages)
+  pub settings : settings_of p.course.heap ≡ settings_by config
   pub history : p.course.history ≡ []
   pub place : p.course.place ≡ 0
   pub timetable : p.timetable ≡ timetables.opening config.collector_ticks config.mutator_ticks

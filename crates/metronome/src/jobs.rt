@@ -1,6 +1,6 @@
 //! What each subcommand does, from a source to a sink.
 ghost use Rattle.std.specs.Prelude.{◌≡◌, ◌≤◌, ◌++◌, length, map, replicate, vec_len, IfOk, IfErr, OnOk, OnErr, string_bytes};
-ghost use Rattle.heap_server.specs.Settings.{settings_by};
+ghost use Rattle.heap_model.specs.Settings.{settings_by};
 ghost use Rattle.trace.specs.Streams.{GrowsByPart, given_by, taken_by};
 ghost use Rattle.player.specs.declared.style.Style.TheVariants.{Entries};
 ghost use Rattle.player.specs.Playing.{stage, written_of};

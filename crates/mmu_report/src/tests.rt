@@ -7,15 +7,8 @@ use std::test::Fail;
 
 const SETTINGS: Settings = Settings {
     pages: 2,
-    mutators: 1,
     slots: 2,
-    statics: 0,
-    identities: 9223372036854775807,
-    defrag_below: 0,
-    defrag_pages: 0,
-    collector_ticks: 10,
-    mutator_ticks: 12,
-    rate: 100,
+    ..Settings::DEFAULTS
 };
 
 fn opened(alloc: Global) -> Result<Schedule, Fail> {

@@ -189,9 +189,11 @@ impl Row {
         self.leaving = true;
     }
 
-    /// Takes a free block for one that is moved: it is held, and the page receiving.
+    /// Takes a free block of a page that isn't leaving for one that is moved: it is held, and the page
+    /// receiving.
     pub fn receive(&mut self, index: usize)
-        requires { IsSomeAnd (page_in self.old) (λ p. IsOpen p index) }
+        requires free { IsSomeAnd (page_in self.old) (λ p. IsOpen p index) }
+        requires leaving { IsSomeAnd (page_in self.old) (λ p. p.leaving ≡ false) }
         ensures { IfSome (page_in self.old) (λ p. page_in self.new ≡ Some (record (with_held p index true) { receiving = true })) }
     {
         self.held[index] = true;

@@ -230,10 +230,12 @@ impl PageTable {
         self.rows[page].leave();
     }
 
-    /// Takes a free block of a page for one that is moved there: it is held, and the page receiving.
+    /// Takes a free block of a page that isn't leaving for one that is moved there: it is held, and the page
+    /// receiving.
     pub fn receive(&mut self, block: Block)
         requires page { block.page < length self.old }
         requires free { IsSomeAnd (page_at self.old block.page) (λ p. IsOpen p block.index) }
+        requires leaving { IsSomeAnd (page_at self.old block.page) (λ p. p.leaving ≡ false) }
         ensures { IfSome (page_at self.old block.page) (λ p. self.new ≡ slice_set self.old block.page (Some (record (with_held p block.index true) { receiving = true }))) }
     {
         self.rows[block.page].receive(block.index);

@@ -40,7 +40,7 @@ fn play_command<K: Sink>(
     let Ok(receipt) = player.call(mutator, command) else {
         return Err(TextFault::NoMemory);
     };
-    match write_line(sink, style, &receipt.entry) {
+    match write_line(sink, style, receipt.entry()) {
         Ok(()) => Ok(()),
         Err(WriteFailed) => Err(TextFault::Write),
     }

@@ -3,7 +3,7 @@ ghost use Rattle.std.specs.Prelude.{◌≡◌, ◌+◌, ◌*◌, ◌<◌, ◌≤
 ghost use Rattle.heap_model.specs.declared.phase.Phase.TheVariants as phases;
 ghost use Rattle.heap_model.specs.Event.{IsBudget, Command_done, Does};
 ghost use Rattle.heap_model.specs.Opening.{IsOpening};
-ghost use Rattle.size_classes.specs.Config.{limits_of};
+ghost use Rattle.heap_model.specs.Settings.{settings_of, settings_by};
 ghost use Rattle.quanta.specs.Timetable as timetables;
 ghost use Rattle.trace.specs.declared.line.Line.{Line};
 ghost use Rattle.player.specs.Player.{DoesLine};
@@ -68,9 +68,7 @@ impl Player {
     /// A new heap without history, at time 0. Only want of memory is refused.
     pub fn new(alloc: Global, config: &Config) -> Result<Player, NoMemory>
         ensures heap { IfOk result (λ p. IsOpening p.course.heap) }
-        ensures limits { IfOk result (λ p. p.course.heap.limits ≡ limits_of config.now) }
-        ensures pages { IfOk result (λ p. length p.course.heap.store.pages ≡ config.now.pages) }
-        ensures defrag { IfOk result (λ p. (p.course.heap.defrag_below ≡ config.now.defrag_below) × (p.course.heap.defrag_pages ≡ config.now.defrag_pages)) }
+        ensures settings { IfOk result (λ p. settings_of p.course.heap ≡ settings_by config.now) }
         ensures history { IfOk result (λ p. p.course.history ≡ []) }
         ensures place { IfOk result (λ p. p.course.place ≡ 0) }
         ensures timetable { IfOk result (λ p. p.timetable ≡ timetables.opening config.now.collector_ticks config.now.mutator_ticks) }

@@ -15,12 +15,7 @@ const FOUR_PAGES: Settings = Settings {
     mutators: 2,
     slots: 4,
     statics: 1,
-    identities: 9223372036854775807,
-    defrag_below: 0,
-    defrag_pages: 0,
-    collector_ticks: 10,
-    mutator_ticks: 12,
-    rate: 100,
+    ..Settings::DEFAULTS
 };
 
 const ONE_PAGE: Settings = Settings {

@@ -6,16 +6,10 @@ use size_classes::{Config, Settings};
 #[test]
 fn slots_come_before_statics(rt: HostRuntime) -> Result<(), NoMemory> {
     let settings = Settings {
-        pages: 1,
         mutators: 2,
         slots: 4,
         statics: 1,
-        identities: 9223372036854775807,
-        defrag_below: 0,
-        defrag_pages: 0,
-        collector_ticks: 10,
-        mutator_ticks: 12,
-        rate: 100,
+        ..Settings::DEFAULTS
     };
     let Ok(config) = Config::check(&settings) else {
         panic!(rt; "the settings are good");

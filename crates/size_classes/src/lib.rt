@@ -4,15 +4,17 @@
 pub mod class;
 pub mod config;
 pub mod fault;
+pub mod key;
 pub mod need;
 pub mod parts;
 mod settings;
 
-pub use class::{Class, class_of};
-pub use config::Config;
-pub use fault::{ConfigFault, Key};
+pub use class::{CLASSES, Class, PAGE_WORDS, class_of};
+pub use config::{Config, LEAST_BUDGET, MOST_BUDGET, MOST_PAGES};
+pub use fault::ConfigFault;
+pub use key::{Key, Row};
 pub use need::Need;
-pub use parts::{Parts, parts_of};
+pub use parts::{ARRAY_CELLS, PART_CELLS, Parts, parts_of};
 pub use settings::Settings;
 
 #[cfg(test)]

@@ -3,14 +3,14 @@ ghost use Rattle.std.specs.Prelude.{◌≡◌, ◌+◌, ◌<◌, ◌^◌, ℕ, l
 ghost use Rattle.size_classes.specs.Need.{blocks_needed};
 ghost use Rattle.size_classes.specs.Parts.{parts_in};
 
-use crate::class::{Class, class_of};
+use crate::class::{CLASSES, Class, class_of};
 use crate::parts::Parts;
 use std::marker::Model;
 
 /// How many blocks of each class an object needs. Contracts see the list of these numbers, by class.
 #[derive(Clone, Copy, Debug, PartialEq, Eq)]
 pub struct Need {
-    blocks: [u32; 38],
+    blocks: [u32; CLASSES],
 }
 
 impl Model for Need {
@@ -26,9 +26,11 @@ impl Model for Need {
 impl Need {
     /// No block.
     fn none() -> Need
-        ensures { result ≡ replicate 38 0 }
+        ensures { result ≡ replicate CLASSES 0 }
     {
-        Need { blocks: [0; 38] }
+        Need {
+            blocks: [0; CLASSES],
+        }
     }
 
     /// One block more.
@@ -42,7 +44,7 @@ impl Need {
 
     /// What the parts of an object need, one block for each.
     pub fn of(parts: &Parts) -> Need
-        ensures { (class : ℕ) → class < 38 → slice_index result class ≡ blocks_needed parts.now (parts_in parts.now) class }
+        ensures { (class : ℕ) → class < CLASSES → slice_index result class ≡ blocks_needed parts.now (parts_in parts.now) class }
     {
         let mut need = Need::none();
         for part in 0..parts.count() {

@@ -39,15 +39,10 @@ fn arrays_are_cut(rt: HostRuntime) {
 
 const SETTINGS: Settings = Settings {
     pages: 3,
-    mutators: 1,
     slots: 12,
-    statics: 0,
-    identities: 9223372036854775807,
     defrag_below: 4,
     defrag_pages: 1,
-    collector_ticks: 10,
-    mutator_ticks: 12,
-    rate: 100,
+    ..Settings::DEFAULTS
 };
 
 #[test]

@@ -8,7 +8,7 @@ const CROWD: Settings = Settings {
     pages: 8,
     mutators: 64,
     statics: 2,
-    ..TWO_SEATS
+    ..FOUR_PAGES
 };
 
 /// How many commands each mutator does.

@@ -1,7 +1,7 @@
 //! A gate that holds two workers and the collector until all three have come.
 ghost use Rattle.std.specs.Prelude.{◌≡◌, ◌<◌, ◌≤◌};
 
-use super::playing::{FOUR_PAGES, played};
+use super::playing::played;
 use super::*;
 use graph_heap::NoMemory;
 use std::sync::atomic::{AtomicU64, Ordering};

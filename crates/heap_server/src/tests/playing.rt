@@ -5,9 +5,10 @@ use super::*;
 use graph_heap::{Entry, Limits, NoMemory, Reference};
 use std::thread::Threads;
 
-pub const FOUR_PAGES: Settings = Settings {
-    pages: 4,
-    ..TWO_SEATS
+const MANY_SLOTS: Settings = Settings {
+    slots: 256,
+    statics: 0,
+    ..FOUR_PAGES
 };
 
 /// Makes an object, puts it into the static if that is empty, and loads what the static holds.
@@ -23,14 +24,6 @@ pub const RACE: [Command; 3] = [
     },
     Command::LoadStatic { dst: 1, k: 0 },
 ];
-
-/// The configuration of settings.
-pub fn config_of(rt: &impl Abort, settings: &Settings) -> Config {
-    let Ok(config) = Config::check(settings) else {
-        panic!(rt; "the settings are good");
-    };
-    config
-}
 
 /// Whether each entry is a step of the graph heap.
 fn is_legal(alloc: Global, limits: &Limits, history: &[Entry]) -> Result<bool, NoMemory> {
@@ -151,11 +144,27 @@ fn a_race_beside_a_collector(rt: HostRuntime) -> Result<(), NoMemory> {
     race(&rt, &[256; 100])
 }
 
-/// A whole cycle over no object: 9 roots, 4 pages, and a unit for each of the three changes of phase.
+/// One whole cycle over no object, which spends so many units.
+fn alone<R: Threads + Wait + Abort + AllocGlobal + Sync>(
+    rt: &R,
+    settings: &Settings,
+    budgets: &[u32],
+    units: u64,
+) -> Result<(), NoMemory> {
+    let outcome = played(rt, settings, &[], budgets, &OpenGate)?;
+    assert!(rt; outcome.recorded.heap().units() == units);
+    assert!(rt; outcome.recorded.heap().phase() == Phase::Idle);
+    Ok(())
+}
+
+/// 9 roots, 4 pages, and a unit for each of the three changes of phase.
 #[test]
 fn a_collector_alone(rt: HostRuntime) -> Result<(), NoMemory> {
-    let outcome = played(&rt, &FOUR_PAGES, &[], &[256], &OpenGate)?;
-    assert!(&rt; outcome.recorded.heap().units() == 16);
-    assert!(&rt; outcome.recorded.heap().phase() == Phase::Idle);
-    Ok(())
+    alone(&rt, &FOUR_PAGES, &[256], 16)
+}
+
+/// 512 roots, 4 pages, and a unit for each of the three changes of phase: 256, 256 and 7.
+#[test]
+fn each_budget_is_spent(rt: HostRuntime) -> Result<(), NoMemory> {
+    alone(&rt, &MANY_SLOTS, &[256; 3], 519)
 }

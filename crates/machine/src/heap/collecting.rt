@@ -1,109 +1,71 @@
 //! The collector: a cycle is begun, and goes on by quanta.
-ghost use Rattle.std.specs.Prelude.{◌≡◌, ◌≢◌, ◌↔◌, ◌⊎◌, ◌+◌, ◌<◌, ◌≤◌, IfOk, IsTrue, true, false};
+ghost use Rattle.std.specs.Prelude.{◌≡◌, ◌⊎◌, ◌+◌, ◌<◌, ◌≤◌, IfOk};
 ghost use Rattle.graph_heap.specs.Graph.{Graph};
 ghost use Rattle.heap_model.specs.declared.phase.Phase.TheVariants as phases;
-ghost use Rattle.heap_model.specs.State.{HeapState};
 ghost use Rattle.heap_model.specs.Agreement.{Agrees};
-ghost use Rattle.heap_model.specs.Action.{Action};
-ghost use Rattle.heap_model.specs.Action as actions;
-ghost use Rattle.heap_model.specs.Written as written;
-ghost use Rattle.satb_barrier.specs.Grey.{HasRoom};
-ghost use Rattle.marker.specs.Scanning.{CanScan};
-ghost use Rattle.machine.specs.Collecting.{Begins, Spends, MarksIn, SweepsOn, ActsIn, IsSmall};
-ghost use Rattle.machine.specs.Moving.{is_emptying};
+ghost use Rattle.heap_model.specs.Spent.{cycle_limit};
+ghost use Rattle.heap_model.specs.Standing.{Stands};
+ghost use Rattle.heap_model.specs.Turn.{SpendsTurn};
+ghost use Rattle.raw_heap.specs.Acting.{ActsIn};
+ghost use Rattle.raw_heap.specs.Heap.{state_of, IsRawHeap};
+ghost use Rattle.machine.specs.Collecting.{Begins, Spends};
 
 use super::Heap;
 use crate::collector::{BudgetOutOfRange, Busy, Spent};
-use heap_model::phase::{Moving, Phase};
-use marker::{Scanned, scan_one};
-use nodes::Nodes;
-use roots::Roots;
-use satb_barrier::Grey;
-use size_classes::Config;
-use sweeper::{Swept, sweep_one};
+use defrag::move_next;
+use heap_model::phase::Phase;
+use marker::{scan_part, scan_root};
+use raw_heap::RawHeap;
+use sweeper::sweep_next;
 
-/// One step of the roots or of marking, and the place of the phase after it.
-fn mark(nodes: &mut Nodes, roots: &mut Roots, grey: &mut Grey, sense: bool, phase: Phase) -> Phase
-    requires traces { written.records phase ≡ true }
-    requires place { CanScan nodes.old roots.old.cells phase }
-    requires room { HasRoom sense nodes.old grey.old }
-    requires small { IsSmall phase }
-    ensures marks { MarksIn sense phase nodes.old roots.old.cells grey.old.parts nodes.new roots.new.cells grey.new.parts result }
-    ensures limits { roots.new.limits ≡ roots.old.limits }
-    ensures room { grey.old.room ≤ grey.new.room }
+/// Does the next action of the collector if its units fit in the room that is left, and answers them.
+/// Nothing changes where they don't, or where no cycle is on.
+fn act(heap: &mut RawHeap, room: u32) -> Option<u32>
+    requires { IsRawHeap heap.old }
+    ensures acts { ActsIn heap.old room heap.new result }
+    ensures grey { heap.old.grey.room ≤ heap.new.grey.room }
 {
-    let scanned = scan_one(nodes, roots, grey, sense, phase);
-    match phase {
-        Phase::Roots { next } => match scanned {
-            Scanned::Root => Phase::Roots { next: next + 1 },
-            _ => Phase::Marking { part: 0, cell: 0 },
-        },
-        Phase::Marking { part, cell } => match scanned {
-            Scanned::Header(part) => Phase::Marking { part, cell: 0 },
-            Scanned::Cell => Phase::Marking {
-                part,
-                cell: cell + 1,
-            },
-            _ => Phase::Sweeping { page: 0, block: 0 },
-        },
-        _ => phase,
+    match heap.phase {
+        Phase::Idle => return None,
+        Phase::Moving(place) => return move_next(heap, place, room),
+        _ if room == 0 => return None,
+        Phase::Roots { next } => scan_root(heap, next),
+        Phase::Marking { part, cell } => scan_part(heap, part, cell),
+        Phase::Sweeping { page, block } => sweep_next(heap, page, block),
     }
+    Some(1)
 }
 
-/// One step of the sweep, and the place of the phase after it.
-fn sweep(nodes: &mut Nodes, config: &Config, sense: bool, page: u32, block: u32) -> Phase
-    requires small { IsSmall (phases.Sweeping page block) }
-    ensures { SweepsOn config.now sense page block nodes.old nodes.new result }
+/// Does actions while their units fit in what is left of a budget, until no cycle is on, and answers the
+/// units spent.
+fn spend(heap: &mut RawHeap, budget: u32) -> u32
+    requires { IsRawHeap heap.old }
+    ensures raw { IsRawHeap heap.new }
+    ensures turn { SpendsTurn (state_of heap.old) budget (state_of heap.new) result }
 {
-    match sweep_one(nodes, sense, page as usize, block as usize) {
-        Swept::Looked | Swept::Freed => Phase::Sweeping {
-            page,
-            block: block + 1,
-        },
-        Swept::Closed => Phase::Sweeping {
-            page: page + 1,
-            block: 0,
-        },
-        Swept::Nothing => after_sweep(nodes, config),
+    let mut units = 0;
+    while let Some(cost) = act(heap, budget - units) {
+        units += cost;
     }
-}
-
-/// The phase behind a sweep: moving begins where pages may be emptied, and fewer are free than the
-/// configuration wants.
-fn after_sweep(nodes: &Nodes, config: &Config) -> Phase
-    ensures { (h : HeapState) → h.store ≡ nodes.now → h.defrag_below ≡ config.now.defrag_below → h.defrag_pages ≡ config.now.defrag_pages → result ≡ actions.after_sweep h }
-{
-    if 0 < config.defrag_pages && nodes.free_pages() < config.defrag_below as usize {
-        return Phase::Moving(Moving::Pass {
-            class: 0,
-            page: 0,
-            candidate: None,
-            chosen: 0,
-        });
-    }
-    Phase::Idle
+    units
 }
 
 impl Heap {
-    /// The phase of the collector, with how far it has come.
+    /// The phase of the collector, with how far it has come. A heap always stands for some graph heap at
+    /// present, and for one when the last cycle began.
     pub fn phase(&self) -> Phase
-        ensures { result ≡ self.now.phase }
+        ensures phase { result ≡ self.now.phase }
+        ensures stands { (present : Graph) × (snapshot : Graph) × Stands self.now present snapshot }
     {
-        self.phase
+        self.raw.phase
     }
 
-    /// The units of work that were spent since the last cycle began.
+    /// The units of work that were spent since the last cycle began: no more than a cycle may spend.
     pub fn units(&self) -> u64
-        ensures { result ≡ self.now.units }
+        ensures units { result ≡ self.now.units }
+        ensures within { result ≤ cycle_limit self.now }
     {
-        self.units
-    }
-
-    /// Whether no cycle is on.
-    fn is_idle(&self) -> bool
-        ensures { IsTrue result ↔ (self.now.phase ≡ phases.Idle) }
-    {
-        matches!(self.phase, Phase::Idle)
+        self.raw.units
     }
 
     /// Begins a cycle: the sense of the colour is turned, so that no block is marked. It costs nothing.
@@ -112,86 +74,14 @@ impl Heap {
         ensures begins { Begins self.old self.new result }
         ensures agrees { (g : Graph) → Agrees self.old g → Agrees self.new g }
     {
-        if !self.is_idle() {
+        if !matches!(self.raw.phase, Phase::Idle) {
             return Err(Busy);
         }
-        self.grey.clear();
-        self.sense = !self.sense;
-        self.phase = Phase::Roots { next: 0 };
-        self.units = 0;
+        self.raw.grey.clear();
+        self.raw.sense = !self.raw.sense;
+        self.raw.phase = Phase::Roots { next: 0 };
+        self.raw.units = 0;
         Ok(())
-    }
-
-    /// Does the next action of the roots or of marking.
-    fn mark_next(&mut self)
-        requires { written.records self.old.phase ≡ true }
-        ensures acts { Action self.old 1 self.new }
-        ensures agrees { (g : Graph) → Agrees self.old g → Agrees self.new g }
-    {
-        self.phase = mark(
-            &mut self.nodes,
-            &mut self.roots,
-            &mut self.grey,
-            self.sense,
-            self.phase,
-        );
-        self.units += 1;
-    }
-
-    /// Does the next action of the sweep.
-    fn sweep_next(&mut self, page: u32, block: u32)
-        requires { self.old.phase ≡ phases.Sweeping page block }
-        ensures acts { Action self.old 1 self.new }
-        ensures agrees { (g : Graph) → Agrees self.old g → Agrees self.new g }
-    {
-        self.phase = sweep(&mut self.nodes, &self.config, self.sense, page, block);
-        self.units += 1;
-    }
-
-    /// Does the next action of the collector where no page is emptied, if there is room for its one
-    /// unit.
-    fn act_once(&mut self, room: u32) -> Option<u32>
-        requires busy { self.old.phase ≢ phases.Idle }
-        requires other { is_emptying self.old.phase ≡ false }
-        ensures acts { ActsIn self.old room self.new result }
-        ensures agrees { (g : Graph) → Agrees self.old g → Agrees self.new g }
-    {
-        if room == 0 {
-            return None;
-        }
-        match self.phase {
-            Phase::Sweeping { page, block } => self.sweep_next(page, block),
-            Phase::Moving(
-                Moving::Pass {
-                    class,
-                    page,
-                    candidate,
-                    chosen,
-                },
-            ) => self.pass_next(class, page, candidate, chosen),
-            _ => self.mark_next(),
-        }
-        Some(1)
-    }
-
-    /// Does the next action of the collector if its units fit in the room that is left, and answers
-    /// them. Else nothing changes.
-    fn act(&mut self, room: u32) -> Option<u32>
-        requires { self.old.phase ≢ phases.Idle }
-        ensures acts { ActsIn self.old room self.new result }
-        ensures agrees { (g : Graph) → Agrees self.old g → Agrees self.new g }
-    {
-        match self.phase {
-            Phase::Moving(
-                Moving::Emptying {
-                    class,
-                    page,
-                    block,
-                    chosen,
-                },
-            ) => self.empty_next(class, page, block, chosen, room),
-            _ => self.act_once(room),
-        }
     }
 
     /// Spends units of a budget: the next action is done while its units fit in what is left, until no
@@ -205,16 +95,10 @@ impl Heap {
         if budget < 256 || 1_000_000 < budget {
             return Err(BudgetOutOfRange);
         }
-        let mut units = 0;
-        while !self.is_idle() {
-            let Some(cost) = self.act(budget - units) else {
-                break;
-            };
-            units += cost;
-        }
+        let units = spend(&mut self.raw, budget);
         Ok(Spent {
             units,
-            phase: self.phase,
+            phase: self.raw.phase,
         })
     }
 }

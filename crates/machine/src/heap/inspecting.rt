@@ -16,7 +16,7 @@ impl Heap {
         ensures pages { result ≡ length self.now.store.pages }
         ensures within { result ≤ 4096 }
     {
-        self.nodes.pages()
+        self.raw.nodes.pages()
     }
 
     /// How many pages are free.
@@ -24,7 +24,7 @@ impl Heap {
         ensures free { result ≡ page_list.free_pages self.now.store.pages }
         ensures within { result ≤ 4096 }
     {
-        self.nodes.free_pages()
+        self.raw.nodes.free_pages()
     }
 
     /// What is told of a page: None where it is free, or where there is no such page.
@@ -32,14 +32,14 @@ impl Heap {
         ensures view { result ≡ view_of (page_at self.now.store.pages page) }
         ensures within { IfSome result (λ v. v.held ≤ 512) }
     {
-        self.nodes.page(page)
+        self.raw.nodes.page(page)
     }
 
     /// How many root cells there are.
     pub fn root_cells(&self) -> usize
         ensures { result ≡ length self.now.roots }
     {
-        self.roots.cells().len()
+        self.raw.roots.cells().len()
     }
 
     /// How many root cells aren't null.
@@ -47,13 +47,13 @@ impl Heap {
         ensures used { result ≡ used_in self.now.roots }
         ensures within { result ≤ length self.now.roots }
     {
-        self.roots.used()
+        self.raw.roots.used()
     }
 
     /// How many main copies and old copies there are.
     pub fn copies(&self) -> Copies
         ensures { result ≡ copies_in self.now.store }
     {
-        self.nodes.copies()
+        self.raw.nodes.copies()
     }
 }

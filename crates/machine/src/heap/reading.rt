@@ -1,14 +1,14 @@
 //! How the heap is read: by way of references and forwarding words.
-ghost use Rattle.std.specs.Prelude.{◌≡◌, ◌<◌, true, length, slice_index, IfOk};
-ghost use Rattle.graph_heap.specs.Graph.{Graph};
+ghost use Rattle.std.specs.Prelude.{◌≡◌, ◌<◌, ℕ, true, length, slice_index, IfOk};
+ghost use Rattle.graph_heap.specs.Graph.{Graph, object_of};
 ghost use Rattle.graph_heap.specs.Shape.{fits};
 ghost use Rattle.size_classes.specs.Parts.{cells_of, part_cells};
 ghost use Rattle.heap_model.specs.Store.{is_held, node_of};
 ghost use Rattle.heap_model.specs.Agreement.{Agrees};
-ghost use Rattle.machine.specs.Reading.{Names, Finds, FindsRef, FindsWord};
+ghost use Rattle.machine.specs.Reading.{Names, Finds, FindsRef, FindsWord, IsRefPlace, IsWordPlace};
 
 use super::Heap;
-use crate::plan::{Found, FoundRef, FoundWord};
+use crate::plan::{Cell, Found};
 use arraylets::{part_block, ref_place, word_place};
 use graph_heap::Refusal;
 use nodes::Referent;
@@ -19,7 +19,7 @@ impl Heap {
         requires { root < length self.now.roots }
         ensures { (g : Graph) → Agrees self.now g → Names self.now g (slice_index g.roots root) result }
     {
-        self.nodes.resolve(self.roots.get(root))
+        self.raw.nodes.resolve(self.raw.roots.get(root))
     }
 
     /// The object that a root holds, by its main copy.
@@ -35,7 +35,7 @@ impl Heap {
             return Err(Refusal::NullSlot);
         }
         let block = held.reference as usize - 1;
-        let shape = self.nodes.shape(block);
+        let shape = self.raw.nodes.shape(block);
         Ok(Found {
             block,
             id: held.identity,
@@ -43,37 +43,49 @@ impl Heap {
         })
     }
 
-    /// Reference cell i of the object that a root holds.
-    pub(super) fn find_ref(&self, root: usize, i: u32) -> Result<FoundRef, Refusal>
+    /// Where reference cell i of the object that a root holds stands.
+    pub(super) fn find_ref(&self, root: usize, i: u32) -> Result<Cell, Refusal>
         requires { root < length self.now.roots }
         ensures { (g : Graph) → Agrees self.now g → FindsRef self.now g (slice_index g.roots root) i result }
     {
         let found = self.object(root)?;
         let place = ref_place(found.shape, i)?;
-        let block = part_block(&self.nodes, found.block, place.part);
-        let value = self.nodes.resolve(self.nodes.cell(block, place.cell));
-        Ok(FoundRef {
-            id: found.id,
+        let block = part_block(&self.raw.nodes, found.block, place.part);
+        Ok(Cell {
             block,
-            cell: place.cell,
-            value,
+            index: place.cell,
         })
     }
 
-    /// Word cell i of the object that a root holds.
-    pub(super) fn find_word(&self, root: usize, i: u32) -> Result<FoundWord, Refusal>
+    /// Where word cell i of the object that a root holds stands.
+    pub(super) fn find_word(&self, root: usize, i: u32) -> Result<Cell, Refusal>
         requires { root < length self.now.roots }
         ensures { (g : Graph) → Agrees self.now g → FindsWord self.now g (slice_index g.roots root) i result }
     {
         let found = self.object(root)?;
         let place = word_place(found.shape, i)?;
-        let block = part_block(&self.nodes, found.block, place.part);
-        let word = self.nodes.cell(block, place.cell);
-        Ok(FoundWord {
-            id: found.id,
+        let block = part_block(&self.raw.nodes, found.block, place.part);
+        Ok(Cell {
             block,
-            cell: place.cell,
-            word,
+            index: place.cell,
         })
+    }
+
+    /// What a reference cell holds.
+    pub(super) fn held_in(&self, at: Cell) -> Referent
+        requires { (g : Graph) → Agrees self.now g → (id : ℕ) × (i : ℕ) × IsRefPlace self.now g id i at }
+        ensures { (g : Graph) (id i : ℕ) → Agrees self.now g → IsRefPlace self.now g id i at → Names self.now g (slice_index (object_of g.objects id).refs i) result }
+    {
+        self.raw
+            .nodes
+            .resolve(self.raw.nodes.cell(at.block, at.index))
+    }
+
+    /// What a word cell holds.
+    pub(super) fn word_in(&self, at: Cell) -> u64
+        requires { (g : Graph) → Agrees self.now g → (id : ℕ) × (i : ℕ) × IsWordPlace self.now g id i at }
+        ensures { (g : Graph) (id i : ℕ) → Agrees self.now g → IsWordPlace self.now g id i at → result ≡ slice_index (object_of g.objects id).words i }
+    {
+        self.raw.nodes.cell(at.block, at.index)
     }
 }

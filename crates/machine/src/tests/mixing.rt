@@ -160,7 +160,7 @@ fn mix(rt: &impl Abort, heap: &mut Recorded, limit: u64) -> Result<Mixed, NoMemo
         let mutator = random.next() % 2;
         let kind = (random.next() % 17) as usize;
         let command = command_of(kind, &mut random);
-        let reply = heap.call(mutator, command)?.entry.reply;
+        let reply = heap.call(mutator, command)?.entry().reply;
         if !matches!(reply, Reply::Refused(_)) {
             done[14 * mutator as usize + kind.min(13)] = true;
         }

@@ -9,7 +9,7 @@ fn stands(rt: &impl Abort, heap: &Heap, phase: Phase, units: u64) {
     let described = Reply::Described(1, Shape::Plain { refs: 0, words: 1 });
     assert_eq!(rt; heap.phase(), phase);
     assert_eq!(rt; heap.units(), units);
-    assert_eq!(rt; heap.answer(0, &Command::Describe { a: 0 }), described);
+    assert_eq!(rt; heap.plan(0, &Command::Describe { a: 0 }).reply, described);
 }
 
 /// Budgets that are out of range are refused, and so is a beginning while a cycle is on.

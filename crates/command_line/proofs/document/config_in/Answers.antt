@@ -2,7 +2,7 @@ use Rattle.std.proofs.Common.{◌∙◌, ap, sym}
 use Rattle.std.proofs.lemmas.Result.{err_from_is_err_and}
 use Rattle.size_classes.specs.Config.{budget_fault}
 use Rattle.toml.specs.View.{table_view}
-use Rattle.command_line.proofs.Faults.{document_fault-key, document_fault-budget, fault_of-within}
+use Rattle.command_line.proofs.Faults.{document_fault-key, document_fault-budget}
 use Rattle.command_line.proofs.document.config_in.Goals as goal
 
 pub returns-in_err-settings-clause-fault : goal.returns-in_err-settings-clause-fault
@@ -14,7 +14,6 @@ returns-in_err-settings-clause-fault c =
 pub returns-clause-fault : goal.returns-clause-fault
 returns-clause-fault c =
     let known = sym c.has_unknown_key.ensures ∙ c.if-has_unknown_key.false in
-    c.check.ensures.fault
-    ∙ fault_of-within c.in_ok-settings.settings c.in_ok-settings.ensures.ranges
+    c.check_budget.ensures.fault
     ∙ ap budget_fault c.in_ok-settings.ensures.values
     ∙ sym (document_fault-budget (table_view c.args.document.now) known (sym c.in_ok-settings.ensures.fault))

@@ -2,7 +2,7 @@ use Rattle.std.proofs.Common.{rules, ◌∙◌, not, tests, string_bytes}
 use Rattle.std.proofs.lemmas.Iterator.Search.{any_from_yields_List}
 use Rattle.std.proofs.lemmas.Iterator.Consumers.{YieldsList-from_rest}
 use Rattle.std.specs.Map.{keys_of}
-use Rattle.command_line.specs.Keys.{is_known}
+use Rattle.command_line.specs.Document.{is_known}
 use Rattle.command_line.proofs.Values.{any_unknown}
 use Rattle.command_line.proofs.document.has_unknown_key.Goals as goal
 

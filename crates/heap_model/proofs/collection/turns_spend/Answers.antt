@@ -1,7 +1,6 @@
 use Rattle.heap_model.proofs.Held.{store_pages}
 use Rattle.heap_model.proofs.Turns.{action_cost as it0}
 use Rattle.heap_model.proofs.Turns.{chain_units as it1}
-use Rattle.heap_model.proofs.Turns.{turn_spends as it2}
 use Rattle.heap_model.proofs.collection.turns_spend.Goals as goal
 
 pub returns-clause-cost : goal.returns-clause-cost
@@ -9,6 +8,3 @@ returns-clause-cost c = λ h after cost w a. it0 h after cost (store_pages h.sto
 
 pub returns-clause-spent : goal.returns-clause-spent
 returns-clause-spent c = it1
-
-pub returns-clause-ends : goal.returns-clause-ends
-returns-clause-ends c = λ h after budget spent w t. it2 h after budget spent (store_pages after.store w) t

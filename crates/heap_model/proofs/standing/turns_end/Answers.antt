@@ -1,9 +1,6 @@
-use Rattle.heap_model.proofs.Costs.{turn_spent, turn_left}
+use Rattle.heap_model.proofs.Costs.{turn_left}
 use Rattle.heap_model.proofs.Stood.{stands_chain, idle_chain}
 use Rattle.heap_model.proofs.standing.turns_end.Goals as goal
-
-pub returns-clause-turn : goal.returns-clause-turn
-returns-clause-turn c = turn_spent
 
 pub returns-clause-idle : goal.returns-clause-idle
 returns-clause-idle c = λ h after budget spent i t. idle_chain h after spent t.chain i

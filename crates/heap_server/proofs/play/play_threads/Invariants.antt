@@ -1,4 +1,4 @@
-use Rattle.heap_server.specs.Settings.{settings_by}
+use Rattle.heap_model.specs.Settings.{settings_by}
 use Rattle.heap_server.proofs.play.play_threads.Given as goal
 
 -- the ledgers that were just opened

@@ -1,27 +1,25 @@
-use Rattle.std.proofs.Common.{◌∙◌, ◌≡◌, length, ap, arith, slice_index_or, inl, inr}
+use Rattle.std.proofs.Common.{◌≡◌, ◌++◌, length, map, take, drop, ap, sym, subst, ◌∙◌, arith, length-append, vec_len, List, ℕ}
+use Rattle.std.proofs.Math.Seq.{take-append_seam}
 use Rattle.heap_server.specs.Views.{SeatView}
-use Rattle.heap_server.proofs.Settling.{mutators_same, all_fresh, some_of, before_or}
+use Rattle.heap_server.specs.Seats.{new_seats}
+use Rattle.heap_server.specs.Played.{HavePlayed}
+use Rattle.heap_server.proofs.Settling.{first_fresh, first_played}
 use Rattle.heap_server.proofs.workers.play_seats.Goals as goal
 
-pub play_first-requires-clause-fresh : goal.play_first-requires-clause-fresh
-play_first-requires-clause-fresh g c κs within = λ i d lt.
-    all_fresh c.args.seats.items g.N.Naming.settings.limits.mutators c.requires.fresh i d (omega (arith, lt, c.args.seats.ok.0))
+pub play_scripts-requires-clause-fresh : goal.play_scripts-requires-clause-fresh
+play_scripts-requires-clause-fresh g c κs within =
+    let split = c.split_at_mut-playing in
+    first_fresh g.N.Naming.settings.limits.mutators split.result.0.now split.result.1.now (sym split.ensures.value ∙ (c.as_mut_slice.ensures.value ∙ c.requires.new))
 
-pub returns-clause-mutators : goal.returns-clause-mutators
-returns-clause-mutators g c =
-    let first = c.play_first.ensures in
-    let olds = c.args.seats.items in
-    let news = c.play_first.result.items in
-    mutators_same olds news (omega (arith, c.args.seats.ok.0, c.play_first.result.ok.0, first.len)) (λ i d le.
-    elim (before_or i (length c.args.scripts.now)) as (λ _. (slice_index_or news i d).mutator ≡ (slice_index_or olds i d).mutator) [
-      | inl lt ↦ (first.played i d (some_of c.args.scripts.now i lt) lt).mutator
-      | inr ge ↦ ap (λ s. s.mutator) (first.same i d ge)
-    ])
-
-pub returns-clause-played : goal.returns-clause-played
-returns-clause-played g c = λ i d e le. omega (arith, (c.play_first.ensures.played i d e le).within, (slice_index_or c.args.scripts.now i e).ok.0)
-
-pub returns-clause-rest : goal.returns-clause-rest
-returns-clause-rest g c = λ i d ge lt.
-    let first = c.play_first.ensures in
-    ap (λ (s : SeatView). s.calls) (first.same i d ge) ∙ all_fresh c.args.seats.items g.N.Naming.settings.limits.mutators c.requires.fresh i d (omega (arith, lt, c.args.seats.ok.0, c.play_first.result.ok.0, first.len))
+pub returns : goal.returns
+returns g c =
+    let n = g.N.Naming.settings.limits.mutators in
+    let split = c.split_at_mut-playing in
+    let front = split.result.0.now in
+    let rest = split.result.1.now in
+    let seats = c.play_scripts.new.seats ++ rest in
+    let all : front ++ rest ≡ new_seats n = sym split.ensures.value ∙ (c.as_mut_slice.ensures.value ∙ c.requires.new) in
+    let long : length seats ≡ c.args.seats.len = omega (arith, length-append c.play_scripts.new.seats rest, split.ensures.front_len, split.ensures.back_len, c.play_scripts.auto.seats, ap length c.as_mut_slice.ensures.value, c.args.seats.ok.0) in
+    let same : take c.args.seats.len (seats ++ drop (length seats) c.args.seats.items) ≡ seats = ap (λ (k : ℕ). take k (seats ++ drop (length seats) c.args.seats.items)) (sym long) ∙ take-append_seam seats (drop (length seats) c.args.seats.items) in
+    let lengths = map (λ s. vec_len s) c.args.scripts.now in
+    subst (λ (all : List SeatView). HavePlayed n lengths all) (sym same) (first_played n lengths front rest c.play_scripts.new.seats all c.play_scripts.ensures.mutators c.play_scripts.ensures.within)

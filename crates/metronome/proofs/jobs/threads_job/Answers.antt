@@ -4,7 +4,7 @@ use Rattle.std.specs.declared.alloc.Global.{Global}
 use Rattle.graph_heap.specs.declared.command.Command.{Command}
 use Rattle.graph_heap.specs.declared.command.Limits.{Limits}
 use Rattle.graph_heap.specs.declared.command.Entry.{Entry}
-use Rattle.heap_server.specs.Settings.{settings_by}
+use Rattle.heap_model.specs.Settings.{settings_by}
 use Rattle.trace.specs.Streams.{GrowsByPart, given_by}
 use Rattle.transcripts.specs.Scripts.{ScriptsRead}
 use Rattle.heap_server.specs.Played.{IsOutcome}

@@ -1,9 +1,8 @@
 use Rattle.std.proofs.Common.{◌≡◌, ◌<◌, length, ap, ◌∙◌, arith}
-use Rattle.heap_server.specs.Settings.{HeapSettings}
+use Rattle.heap_model.specs.Settings.{HeapSettings}
 use Rattle.heap_server.specs.Seats.{mutators_of, upto}
 use Rattle.heap_server.proofs.Counting.{seats_count, mutators_of-new}
 use Rattle.heap_server.proofs.Keeping.{opening_kept}
-use Rattle.heap_server.proofs.Lasting.{new_settings}
 use Rattle.heap_server.proofs.server.Server.new.Goals as goal
 
 pub invariant_of-new : goal.invariant_of-new
@@ -11,8 +10,8 @@ invariant_of-new g c =
     let count : c.args.opening.config.mutators ≡ g.N.Naming.settings.limits.mutators = ap (λ (s : HeapSettings). s.limits.mutators) c.requires.calls.1 in
     let mutators : 0 < g.N.Naming.settings.limits.mutators = omega (arith, count, c.args.opening.config.mutators_in_range.0) in
     let r = c.in_ok-recorded.ensures in
-    let pages : 0 < length c.in_ok-recorded.recorded.course.heap.store.pages = omega (arith, r.pages, c.args.opening.config.pages_in_range.0) in
-    opening_kept _ _ mutators r.heap pages r.history r.place (new_settings c.in_ok-recorded.recorded.course.heap c.args.opening.config r.limits r.pages r.defrag ∙ c.requires.calls.1) c.open-calls.ensures.total c.open-begun.ensures.total c.open-ended.ensures.total c.open-units.ensures.total
+    let pages : 0 < length c.in_ok-recorded.recorded.course.heap.store.pages = omega (arith, ap (λ (s : HeapSettings). s.pages) r.settings, c.args.opening.config.pages_in_range.0) in
+    opening_kept _ _ mutators r.heap pages r.history r.place (r.settings ∙ c.requires.calls.1) c.open-calls.ensures.total c.open-begun.ensures.total c.open-ended.ensures.total c.open-units.ensures.total
 
 pub returns-clause-mutators : goal.returns-clause-mutators
 returns-clause-mutators g c =

@@ -2,7 +2,7 @@ use Rattle.std.proofs.Common.{◌<◌, length, slice_index, subst, sym}
 use Rattle.heap_model.specs.State.{HeapState}
 use Rattle.heap_model.specs.Agreement.{Agrees}
 use Rattle.machine.specs.Reading.{Names}
-use Rattle.machine.specs.Heap.{state_of}
+use Rattle.raw_heap.specs.Heap.{state_of}
 use Rattle.machine.proofs.Writing.{root_follows}
 use Rattle.machine.proofs.Finding.{names_by, reads_root, root_known}
 use Rattle.machine.proofs.heap.Heap.held.Goals as goal
@@ -15,4 +15,4 @@ returns c g a =
     (names_by _ g c.get.result _ c.resolve.result (reads_root _ g a' c.args.root below c.get.result c.get.ensures) (root_known _ g a' c.args.root below) c.resolve.ensures)
 
 pub resolve-requires-clause-main : goal.resolve-requires-clause-main
-resolve-requires-clause-main c some = (root_follows (state_of c.self.inside) c.self.invariant.0 c.args.root c.get.result (subst (λ (x : HeapState). c.args.root < length x.roots) (sym c.self.view_is) c.requires) c.get.ensures some).1
+resolve-requires-clause-main c some = (root_follows (state_of c.self.inside.raw) c.self.invariant.heap c.args.root c.get.result (subst (λ (x : HeapState). c.args.root < length x.roots) (sym c.self.view_is) c.requires) c.get.ensures some).1

@@ -4,12 +4,15 @@ use Rattle.machine.proofs.Effects.{stored_word_effect, kept_word_effect}
 use Rattle.machine.proofs.Plans.{placed, reply_plans, word_plans}
 use Rattle.machine.proofs.heap.Heap.plan_compare_put.Goals as goal
 
+pub word_in-word-requires : goal.word_in-word-requires
+word_in-word-requires c g a = (_, c.args.i, (c.in_ok-at.ensures g a).1)
+
 pub returns : goal.returns
 returns c g a =
-    word_plans c.args.self.now g c.args.mutator (commands.ComparePut c.args.obj c.args.i c.args.old c.args.new) replies.Stored c.args.i _ c.args.new c.in_ok-found.found c.word_write.result c.word_write.ensures
-    (stored_word_effect c.args.self.now g a c.args.mutator c.args.obj c.args.i c.args.old c.args.new c.in_ok-root.root c.in_ok-found.found (placed c.self.view_is c.args.mutator c.args.obj c.in_ok-root.root c.in_ok-root.ensures.place) (c.in_ok-found.ensures g a) c.if-found-old.false) (c.in_ok-found.ensures g a)
+    word_plans c.args.self.now g c.args.mutator (commands.ComparePut c.args.obj c.args.i c.args.old c.args.new) replies.Stored _ c.args.i c.args.new c.in_ok-at.at
+    (stored_word_effect c.args.self.now g a c.args.mutator c.args.obj c.args.i c.args.old c.args.new c.in_ok-root.root c.word_in-word.result c.in_ok-at.at (placed c.self.view_is c.args.mutator c.args.obj c.in_ok-root.root c.in_ok-root.ensures.place) (c.in_ok-at.ensures g a) (c.word_in-word.ensures g _ c.args.i a (c.in_ok-at.ensures g a).1) c.if-word-old.false) (c.in_ok-at.ensures g a)
 
-pub returns-then-found-old : goal.returns-then-found-old
-returns-then-found-old c g a =
-    reply_plans c.args.self.now g c.args.mutator (commands.ComparePut c.args.obj c.args.i c.args.old c.args.new) (replies.KeptWord c.in_ok-found.found.word) c.reply.result c.reply.ensures
-    (kept_word_effect c.args.self.now g a c.args.mutator c.args.obj c.args.i c.args.old c.args.new c.in_ok-root.root c.in_ok-found.found (placed c.self.view_is c.args.mutator c.args.obj c.in_ok-root.root c.in_ok-root.ensures.place) (c.in_ok-found.ensures g a) c.if-found-old.true)
+pub returns-then-word-old : goal.returns-then-word-old
+returns-then-word-old c g a =
+    reply_plans c.args.self.now g c.args.mutator (commands.ComparePut c.args.obj c.args.i c.args.old c.args.new) (replies.KeptWord c.word_in-word.result) c.reply.result c.reply.ensures
+    (kept_word_effect c.args.self.now g a c.args.mutator c.args.obj c.args.i c.args.old c.args.new c.in_ok-root.root c.word_in-word.result c.in_ok-at.at (placed c.self.view_is c.args.mutator c.args.obj c.in_ok-root.root c.in_ok-root.ensures.place) (c.in_ok-at.ensures g a) (c.word_in-word.ensures g _ c.args.i a (c.in_ok-at.ensures g a).1) c.if-word-old.true)

@@ -6,5 +6,5 @@ use Rattle.machine.proofs.heap.Heap.plan_copy.Goals as goal
 
 pub returns : goal.returns
 returns c g a =
-    root_plans c.args.self.now g c.args.mutator (commands.Copy c.args.dst c.args.src) replies.Done c.in_ok-cell.cell _ c.held.result c.root_write.result c.root_write.ensures
-    (copy_effect c.args.self.now g a c.args.mutator c.args.dst c.args.src c.in_ok-cell.cell c.in_ok-source.source c.held.result (placed c.self.view_is c.args.mutator c.args.dst c.in_ok-cell.cell c.in_ok-cell.ensures.place) (placed c.self.view_is c.args.mutator c.args.src c.in_ok-source.source c.in_ok-source.ensures.place) (c.held.ensures g a)) (within c.self.view_is c.in_ok-cell.cell c.in_ok-cell.ensures.within) (c.held.ensures g a)
+    root_plans c.args.self.now g c.args.mutator (commands.Copy c.args.dst c.args.src) replies.Done c.in_ok-cell.cell _ c.held.result
+    (copy_effect c.args.self.now g a c.args.mutator c.args.dst c.args.src c.in_ok-cell.cell c.in_ok-source.source (placed c.self.view_is c.args.mutator c.args.dst c.in_ok-cell.cell c.in_ok-cell.ensures.place) (placed c.self.view_is c.args.mutator c.args.src c.in_ok-source.source c.in_ok-source.ensures.place)) (within c.self.view_is c.in_ok-cell.cell c.in_ok-cell.ensures.within) (c.held.ensures g a)

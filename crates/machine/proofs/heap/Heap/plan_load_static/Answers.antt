@@ -6,5 +6,5 @@ use Rattle.machine.proofs.heap.Heap.plan_load_static.Goals as goal
 
 pub returns : goal.returns
 returns c g a =
-    root_plans c.args.self.now g c.args.mutator (commands.LoadStatic c.args.dst c.args.k) (replies.Ref c.held-held.result.identity) c.in_ok-cell.cell _ c.held-held.result c.root_write.result c.root_write.ensures
+    root_plans c.args.self.now g c.args.mutator (commands.LoadStatic c.args.dst c.args.k) (replies.Ref c.held-held.result.identity) c.in_ok-cell.cell _ c.held-held.result
     (load_static_effect c.args.self.now g a c.args.mutator c.args.dst c.args.k c.in_ok-cell.cell c.in_ok-source.source c.held-held.result (placed c.self.view_is c.args.mutator c.args.dst c.in_ok-cell.cell c.in_ok-cell.ensures.place) (placed_static c.self.view_is c.args.k c.in_ok-source.source c.in_ok-source.ensures.place) (c.held-held.ensures g a)) (within c.self.view_is c.in_ok-cell.cell c.in_ok-cell.ensures.within) (c.held-held.ensures g a)

@@ -6,5 +6,6 @@ use Rattle.machine.proofs.heap.Heap.plan_store.Goals as goal
 
 pub returns : goal.returns
 returns c g a =
-    ref_plans c.args.self.now g c.args.mutator (commands.Store c.args.obj c.args.i c.args.src) replies.Done _ c.args.i _ c.in_ok-found.found c.held.result c.ref_write.result c.ref_write.ensures
-    (store_effect c.args.self.now g a c.args.mutator c.args.obj c.args.i c.args.src c.in_ok-root.root c.in_ok-source.source c.in_ok-found.found c.held.result (placed c.self.view_is c.args.mutator c.args.obj c.in_ok-root.root c.in_ok-root.ensures.place) (placed c.self.view_is c.args.mutator c.args.src c.in_ok-source.source c.in_ok-source.ensures.place) (c.in_ok-found.ensures g a) (c.held.ensures g a)) (c.in_ok-found.ensures g a) (c.held.ensures g a)
+    ref_plans c.args.self.now g c.args.mutator (commands.Store c.args.obj c.args.i c.args.src) replies.Done _ c.args.i _ c.in_ok-at.at c.held.result
+    (store_effect c.args.self.now g a c.args.mutator c.args.obj c.args.i c.args.src c.in_ok-root.root c.in_ok-source.source c.in_ok-at.at (placed c.self.view_is c.args.mutator c.args.obj c.in_ok-root.root c.in_ok-root.ensures.place) (placed c.self.view_is c.args.mutator c.args.src c.in_ok-source.source c.in_ok-source.ensures.place) (c.in_ok-at.ensures g a))
+    (c.in_ok-at.ensures g a) (c.held.ensures g a)

@@ -6,5 +6,5 @@ use Rattle.machine.proofs.heap.Heap.plan_store_static.Goals as goal
 
 pub returns : goal.returns
 returns c g a =
-    root_plans c.args.self.now g c.args.mutator (commands.StoreStatic c.args.k c.args.src) replies.Done c.in_ok-cell.cell _ c.held.result c.root_write.result c.root_write.ensures
-    (store_static_effect c.args.self.now g a c.args.mutator c.args.k c.args.src c.in_ok-source.source c.in_ok-cell.cell c.held.result (placed c.self.view_is c.args.mutator c.args.src c.in_ok-source.source c.in_ok-source.ensures.place) (placed_static c.self.view_is c.args.k c.in_ok-cell.cell c.in_ok-cell.ensures.place) (c.held.ensures g a)) (within c.self.view_is c.in_ok-cell.cell c.in_ok-cell.ensures.within) (c.held.ensures g a)
+    root_plans c.args.self.now g c.args.mutator (commands.StoreStatic c.args.k c.args.src) replies.Done c.in_ok-cell.cell _ c.held.result
+    (store_static_effect c.args.self.now g a c.args.mutator c.args.k c.args.src c.in_ok-source.source c.in_ok-cell.cell (placed c.self.view_is c.args.mutator c.args.src c.in_ok-source.source c.in_ok-source.ensures.place) (placed_static c.self.view_is c.args.k c.in_ok-cell.cell c.in_ok-cell.ensures.place)) (within c.self.view_is c.in_ok-cell.cell c.in_ok-cell.ensures.within) (c.held.ensures g a)

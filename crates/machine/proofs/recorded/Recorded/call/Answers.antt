@@ -1,20 +1,24 @@
-use Rattle.std.proofs.Common.{refl, subst}
+use Rattle.std.proofs.Common.{subst}
 use Rattle.heap_model.specs.Event.{Command_done, Enters, present_of, snapshot_of}
 use Rattle.heap_model.proofs.Agreements.{consistent_agrees}
 use Rattle.heap_model.proofs.Course.{does_course}
 use Rattle.machine.specs.Recorded.{RecordedHeap, recorded_of}
+use Rattle.machine.proofs.Replying.{enters}
 use Rattle.machine.proofs.recorded.Recorded.call.Goals as goal
+
+pub perform-requires : goal.perform-requires
+perform-requires c g a = let p = c.plan-planned.ensures g a in (p.0, p.2)
 
 pub invariant_of-self-2 : goal.invariant_of-self-2
 invariant_of-self-2 c =
     let r = (recorded_of c.self.inside).course in
     let a = consistent_agrees r.heap (present_of r) (snapshot_of r) c.self.invariant.stands.consistent in
-    does_course r (Command_done c.args.mutator c.args.command c.answer-reply.result) (record r { heap = c.step.new.self; history = c.push.new.self.items }) c.self.invariant
-    (record { replies = c.answer-reply.ensures (present_of r) a; change = c.step.ensures.does (present_of r) a; history = c.in_ok-push.ensures.items; place = refl })
+    does_course r (Command_done c.args.mutator c.args.command c.plan-planned.result.reply) (record r { heap = c.perform.new.self; history = c.push.new.self.items }) c.self.invariant
+    (enters r c.args.mutator c.args.command c.plan-planned.result c.perform.new.self c.push.new.self.items a c.plan-planned.ensures c.perform.ensures c.in_ok-push.ensures.items)
 
 pub returns-clause-does : goal.returns-clause-does
 returns-clause-does c =
     let r = (recorded_of c.self.inside).course in
     let a = consistent_agrees r.heap (present_of r) (snapshot_of r) c.self.invariant.stands.consistent in
-    subst (λ (x : RecordedHeap). Enters x.course c.args.mutator c.args.command c.answer-reply.result (record r { heap = c.step.new.self; history = c.push.new.self.items })) c.self.view_is
-    (record { replies = c.answer-reply.ensures (present_of r) a; change = c.step.ensures.does (present_of r) a; history = c.in_ok-push.ensures.items; place = refl })
+    subst (λ (x : RecordedHeap). Enters x.course c.args.mutator c.args.command c.plan-planned.result.reply (record r { heap = c.perform.new.self; history = c.push.new.self.items })) c.self.view_is
+    (enters r c.args.mutator c.args.command c.plan-planned.result c.perform.new.self c.push.new.self.items a c.plan-planned.ensures c.perform.ensures c.in_ok-push.ensures.items)

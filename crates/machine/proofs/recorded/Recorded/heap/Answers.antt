@@ -1,15 +1,12 @@
 use Rattle.std.proofs.Common.{subst}
 use Rattle.heap_model.specs.Event.{IsCourse, present_of, snapshot_of}
-use Rattle.heap_model.proofs.Rest.{held_is_kept}
 use Rattle.heap_model.proofs.Stood.{stands_limit}
 use Rattle.machine.specs.Recorded.{RecordedHeap}
+use Rattle.machine.proofs.Headline.{course_holds}
 use Rattle.machine.proofs.recorded.Recorded.heap.Goals as goal
 
 pub returns-clause-held : goal.returns-clause-held
-returns-clause-held c rests =
-    let r = c.args.self.now.course in
-    let w = subst (λ (x : RecordedHeap). IsCourse x.course) c.self.view_is c.self.invariant in
-    held_is_kept r.heap (present_of r) (snapshot_of r) w.stands.consistent rests
+returns-clause-held c = (course_holds c.args.self.now.course (subst (λ (x : RecordedHeap). IsCourse x.course) c.self.view_is c.self.invariant)).kept
 
 pub returns-clause-units : goal.returns-clause-units
 returns-clause-units c =

@@ -1,0 +1,45 @@
+use Rattle.std.proofs.Common.{◌≡◌, Some, subst, sym, ap, ◌∙◌, arith, true, false, refl}
+use Rattle.heap_model.specs.Action.{Action, looked, is_chosen}
+use Rattle.raw_heap.specs.declared.heap.RawHeap.{RawHeap}
+use Rattle.raw_heap.specs.Heap.{state_of}
+use Rattle.raw_heap.proofs.Standing.{units_small}
+use Rattle.defrag.proofs.Looks.{looks, chooses, chooses_none}
+use Rattle.defrag.proofs.choosing.look_next.Goals as goal
+use Rattle.defrag.proofs.choosing.look_next.Goals.{in_default-via-in-Some+else-is_chosen, in_default-via-in_default}
+
+pub go_to-requires : goal.go_to-requires
+go_to-requires c = let u = units_small c.args.heap.now c.requires.heap in omega arith
+
+pub go_to-requires-in-Some : goal.go_to-requires-in-Some
+go_to-requires-in-Some c = let u = units_small c.args.heap.now c.requires.heap in omega arith
+
+pub go_to-requires-in_default : goal.go_to-requires-in_default
+go_to-requires-in_default c = let u = units_small c.args.heap.now c.requires.heap in omega arith
+
+pub returns-then-page-pages-clause-acts : goal.returns-then-page-pages-clause-acts
+returns-then-page-pages-clause-acts c =
+    subst (λ (x : RawHeap). Action (state_of c.args.heap.now) 1 (state_of x)) (sym c.go_to.ensures)
+    (looks c.args.class c.args.page c.args.candidate c.requires.class c.args.heap.now.nodes c.look-candidate.result
+    (subst (λ k. c.look-candidate.result ≡ looked c.args.heap.now.nodes.pages k c.args.page c.args.candidate) c.new-number.ensures c.look-candidate.ensures) (state_of c.args.heap.now) c.args.chosen refl c.requires.pass
+    (omega (arith, c.pages.ensures.pages, c.if-page-pages.true)))
+
+pub returns-in-Some-clause-acts : goal.returns-in-Some-clause-acts
+returns-in-Some-clause-acts c =
+    subst (λ (x : RawHeap). Action (state_of c.args.heap.now) 1 (state_of x)) (sym c.go_to-in-Some.ensures)
+    (chooses c.args.class c.args.page c.args.candidate c.requires.class c.args.heap.now.nodes c.look-candidate.result
+    (subst (λ k. c.look-candidate.result ≡ looked c.args.heap.now.nodes.pages k c.args.page c.args.candidate) c.new-number.ensures c.look-candidate.ensures) (state_of c.args.heap.now) c.args.chosen refl c.requires.pass
+    c.in-Some.found c.leave.new.self c.in-Some.is (omega (arith, c.pages.ensures.pages, c.requires.page, c.if-page-pages.false))
+    (subst (λ k. is_chosen c.args.heap.now.nodes.pages k (Some c.in-Some.found) ≡ true) c.new-number.ensures (sym c.is_chosen.ensures ∙ c.if-is_chosen.true))
+    c.leave.ensures.kept c.leave.ensures.pages)
+
+pub returns-in_default-clause-acts : goal.returns-in_default-clause-acts
+returns-in_default-clause-acts c =
+    subst (λ (x : RawHeap). Action (state_of c.args.heap.now) 1 (state_of x)) (sym c.go_to-in_default.ensures)
+    (chooses_none c.args.class c.args.page c.args.candidate c.requires.class c.args.heap.now.nodes c.look-candidate.result
+    (subst (λ k. c.look-candidate.result ≡ looked c.args.heap.now.nodes.pages k c.args.page c.args.candidate) c.new-number.ensures c.look-candidate.ensures) (state_of c.args.heap.now) c.args.chosen refl c.requires.pass
+    (omega (arith, c.pages.ensures.pages, c.requires.page, c.if-page-pages.false))
+    (elim c.in_default.branch [
+      | in_default-via-in-Some+else-is_chosen w ↦ ap (is_chosen c.args.heap.now.nodes.pages c.args.class) w.in-Some.is
+          ∙ subst (λ k. is_chosen c.args.heap.now.nodes.pages k (Some w.in-Some.found) ≡ false) c.new-number.ensures (sym w.is_chosen.ensures ∙ w.if-is_chosen.false)
+      | in_default-via-in_default w ↦ ap (is_chosen c.args.heap.now.nodes.pages c.args.class) w.in_default.is
+    ]))

@@ -1,0 +1,12 @@
+use Rattle.heap_model.specs.Settings.{settings_by}
+use Rattle.heap_server.proofs.tests.rows.follow_row.Given as goal
+
+-- the ledgers that were just opened
+abbrev pub ghosts-follow : goal.ghosts-follow
+ghosts-follow g a = record {
+  settings = settings_by a.opening.config;
+  calls = a.opening.calls.name;
+  begun = a.opening.begun.name;
+  ended = a.opening.ended.name;
+  units = a.opening.units.name;
+}

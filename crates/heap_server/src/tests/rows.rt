@@ -1,0 +1,168 @@
+//! Objects that fill pages, and a cycle, through one seat and the pacer.
+ghost use Rattle.std.specs.Prelude.{◌≡◌};
+ghost use Rattle.heap_model.specs.Settings.{settings_by};
+
+use super::*;
+use machine::{BudgetOutOfRange, Busy, Spent};
+
+const ONE_PAGE: Settings = Settings {
+    pages: 1,
+    mutators: 1,
+    slots: 9,
+    statics: 0,
+    ..FOUR_PAGES
+};
+
+/// Blocks are moved where fewer than four pages are free, so after each sweep.
+const SPARSE: Settings = Settings {
+    pages: 3,
+    slots: 12,
+    defrag_below: 4,
+    defrag_pages: 1,
+    ..ONE_PAGE
+};
+
+/// The shape of a large object: eight fill a page.
+const LARGE: Shape = Shape::WordArray(252);
+
+fn new(dst: u32, shape: Shape) -> Command {
+    Command::New { dst, shape }
+}
+
+/// So many large objects are made, in the slots from 0 on, and commands follow with these replies; then a cycle,
+/// and more commands.
+#[derive(Clone, Copy)]
+struct Row<'a> {
+    objects: u32,
+    before: &'a [(Command, Reply)],
+    /// What each quantum of 256 units spends.
+    spent: &'a [u32],
+    after: &'a [(Command, Reply)],
+}
+
+/// Calls commands, and looks at the replies.
+fn call_all<N: Naming, R: Wait + Abort>(
+    rt: &R,
+    server: &Server<N>,
+    seat: &mut Seat<N>,
+    steps: &[(Command, Reply)],
+) -> Result<(), ServerFault> {
+    for (command, reply) in steps {
+        let place = seat.made() as usize;
+        assert!(rt; call(rt, server, seat, place, *command)? == *reply);
+    }
+    Ok(())
+}
+
+/// A whole cycle, between quanta in idle, which spend nothing. While it is on none begins, and a budget that no
+/// quantum may have changes nothing.
+fn collect<N: Naming, R: Wait + Abort>(
+    rt: &R,
+    server: &Server<N>,
+    pacer: &mut Pacer<N>,
+    spent: &[u32],
+) {
+    let idle = Spent {
+        units: 0,
+        phase: Phase::Idle,
+    };
+    assert!(rt; server.quantum(pacer, 256, rt) == Ok(idle));
+    assert!(rt; server.begin(pacer, rt) == Ok(()));
+    for units in spent {
+        assert!(rt; server.begin(pacer, rt) == Err(Busy));
+        assert!(rt; server.quantum(pacer, 255, rt) == Err(BudgetOutOfRange));
+        assert!(rt; server.quantum(pacer, 1000001, rt) == Err(BudgetOutOfRange));
+        let Ok(done) = server.quantum(pacer, 256, rt) else {
+            panic!(rt; "the budget is good");
+        };
+        assert!(rt; done.units == *units);
+    }
+    assert!(rt; server.quantum(pacer, 256, rt) == Ok(idle));
+}
+
+/// Does what the row says.
+fn follow<N: Naming, R: Wait + Abort>(
+    rt: &R,
+    alloc: Global,
+    opening: Opening,
+    row: &Row,
+) -> Result<(), ServerFault>
+    requires calls { (opening.calls.name ≡ N.calls) × (settings_by opening.config ≡ N.settings) }
+    requires begun { opening.begun.name ≡ N.begun }
+    requires ended { opening.ended.name ≡ N.ended }
+    requires units { opening.units.name ≡ N.units }
+{
+    let (server, mut seats, mut pacer) = Server::<N>::new(alloc, opening)?;
+    let Some(mut seat) = seats.pop() else {
+        panic!(rt; "there is a seat");
+    };
+    for dst in 0..row.objects {
+        let made = (new(dst, LARGE), Reply::Made(u64::from(dst) + 1));
+        call_all(rt, &server, &mut seat, &[made])?;
+    }
+    call_all(rt, &server, &mut seat, row.before)?;
+    collect(rt, &server, &mut pacer, row.spent);
+    call_all(rt, &server, &mut seat, row.after)
+}
+
+/// The row, at a server of its own.
+fn follow_row<R: Wait + Abort + AllocGlobal>(
+    rt: &R,
+    settings: &Settings,
+    row: &Row,
+) -> Result<(), ServerFault> {
+    let config = config_of(rt, settings);
+    follow::<Brand, _>(rt, rt.alloc(), Opening::new(&config), row)
+}
+
+/// The cycle: 9 roots, 7 headers, 8 blocks and a page, and a unit for each of the three changes of phase.
+#[test]
+fn a_page_fills_up(rt: HostRuntime) -> Result<(), ServerFault> {
+    let null = Reply::Refused(Refusal::NullSlot);
+    let row = Row {
+        objects: 8,
+        before: &[
+            (new(8, LARGE), Reply::Refused(Refusal::NoSpace)),
+            (Command::Describe { a: 7 }, Reply::Described(8, LARGE)),
+            (Command::Describe { a: 8 }, null),
+            (Command::Clear { dst: 3 }, Reply::Done),
+        ],
+        spent: &[28],
+        after: &[(new(3, LARGE), Reply::Made(9))],
+    };
+    follow_row(&rt, &ONE_PAGE, &row)
+}
+
+/// The cycle: 12 roots, 9 for marking, 428 for sweeping, 114 looks at pages, a move of 256 words, and a unit
+/// for each of the four changes of phase.
+#[test]
+fn a_sparse_page_is_emptied(rt: HostRuntime) -> Result<(), ServerFault> {
+    let small = Shape::Plain { refs: 1, words: 0 };
+    let (obj, i) = (9, 0);
+    let store = Command::Store { obj, i, src: 8 };
+    let load = Command::Load { dst: 10, obj, i };
+    let (expect, null) = (10, 11);
+    let compare_store = Command::CompareStore {
+        obj,
+        i,
+        expect,
+        new: null,
+    };
+    let row = Row {
+        objects: 9,
+        before: &[
+            (new(9, small), Reply::Made(10)),
+            (store, Reply::Done),
+            (Command::Clear { dst: 0 }, Reply::Done),
+            (Command::Clear { dst: 1 }, Reply::Done),
+        ],
+        spent: &[256, 256, 54, 256, 1],
+        after: &[
+            (load, Reply::Ref(9)),
+            (Command::Same { a: 8, b: 10 }, Reply::Is(true)),
+            (compare_store, Reply::Stored),
+            (Command::Describe { a: 8 }, Reply::Described(9, LARGE)),
+        ],
+    };
+    follow_row(&rt, &SPARSE, &row)
+}

@@ -1,0 +1,38 @@
+use Rattle.std.proofs.Common.{sym, subst, ap}
+use Rattle.graph_heap.specs.declared.command.Change.{Change}
+use Rattle.heap_model.specs.Change.{DoesChange, Does_nothing}
+use Rattle.machine.specs.Plan.{IsPlanned, CanPerform, DoesEach}
+use Rattle.machine.specs.declared.plan.Write.{Write}
+use Rattle.machine.specs.declared.plan.Write.TheVariants as writes
+use Rattle.raw_heap.specs.Heap.{state_of}
+use Rattle.machine.proofs.Doing.{present_agrees}
+use Rattle.machine.proofs.Finding.{word_held}
+use Rattle.machine.proofs.Writing.{word_does}
+use Rattle.machine.proofs.heap.writing.do_write.Goals as goal
+
+pub returns-in-Nothing-clause-does : goal.returns-in-Nothing-clause-does
+returns-in-Nothing-clause-does c =
+    let h = state_of c.args.heap.now in
+    subst (λ (w : Write). DoesEach h w h) (sym c.in-Nothing.is) (λ g x a p. subst (λ (y : Change). DoesChange h g y h) (sym p) Does_nothing)
+
+pub set_cell-requires-clause-held : goal.set_cell-requires-clause-held
+set_cell-requires-clause-held c =
+    let w = c.requires.heap.heap in
+    let p = subst (CanPerform (state_of c.args.heap.now)) c.in-Word.is c.requires.write w.present (present_agrees _ w) in
+    word_held (state_of c.args.heap.now) w.present (present_agrees _ w) p.1.0 p.1.1 c.in-Word.at p.1.3
+
+pub set_cell-requires-clause-within : goal.set_cell-requires-clause-within
+set_cell-requires-clause-within c =
+    let w = c.requires.heap.heap in
+    (subst (CanPerform (state_of c.args.heap.now)) c.in-Word.is c.requires.write w.present (present_agrees _ w)).1.3.1.within
+
+pub returns-in-Word-clause-does : goal.returns-in-Word-clause-does
+returns-in-Word-clause-does c =
+    let h = state_of c.args.heap.now in
+    subst (λ (w : Write). DoesEach h w (record h { store = c.set_cell.new.self })) (sym c.in-Word.is) (word_does h c.in-Word.at c.in-Word.word _ c.set_cell.ensures)
+
+pub write_new-requires-clause-write : goal.write_new-requires-clause-write
+write_new-requires-clause-write c = subst (CanPerform (state_of c.args.heap.now)) c.in-New.is c.requires.write
+
+pub returns-in-New-clause-does : goal.returns-in-New-clause-does
+returns-in-New-clause-does c = subst (λ (w : Write). DoesEach (state_of c.args.heap.now) w (state_of c.write_new.new.heap)) (sym c.in-New.is) c.write_new.ensures.does

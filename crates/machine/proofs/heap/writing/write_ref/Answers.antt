@@ -1,0 +1,38 @@
+use Rattle.std.proofs.Common.{◌<◌, length, sym, subst}
+use Rattle.heap_model.proofs.Recorded.{records_cells, records_held}
+use Rattle.raw_heap.specs.Heap.{state_of}
+use Rattle.machine.proofs.Doing.{present_agrees}
+use Rattle.machine.proofs.Finding.{ref_held, ref_follows}
+use Rattle.machine.proofs.Writing.{ref_does}
+use Rattle.machine.proofs.heap.writing.write_ref.Goals as goal
+
+pub cell-before-requires-clause-held : goal.cell-before-requires-clause-held
+cell-before-requires-clause-held c =
+    let w = c.requires.heap.heap in
+    let p = c.requires.write w.present (present_agrees _ w) in
+    ref_held (state_of c.args.heap.now) w.present (present_agrees _ w) p.1.0 p.1.1 c.args.at p.1.4
+
+pub cell-before-requires-clause-within : goal.cell-before-requires-clause-within
+cell-before-requires-clause-within c = (c.requires.write c.requires.heap.heap.present (present_agrees _ c.requires.heap.heap)).1.4.1.within
+
+pub record-requires-clause-leads : goal.record-requires-clause-leads
+record-requires-clause-leads c =
+    let w = c.requires.heap.heap in
+    let p = c.requires.write w.present (present_agrees _ w) in
+    ref_follows (state_of c.args.heap.now) w.present (present_agrees _ w) p.1.0 p.1.1 c.args.at p.1.4 c.cell-before.result c.cell-before.ensures
+
+pub set_cell-requires-clause-held : goal.set_cell-requires-clause-held
+set_cell-requires-clause-held c =
+    let w = c.requires.heap.heap in
+    let p = c.requires.write w.present (present_agrees _ w) in
+    records_held (state_of c.args.heap.now) (state_of c.record.new.heap) c.cell-before.result c.args.at.block c.record.ensures.records (ref_held (state_of c.args.heap.now) w.present (present_agrees _ w) p.1.0 p.1.1 c.args.at p.1.4)
+
+pub set_cell-requires-clause-within : goal.set_cell-requires-clause-within
+set_cell-requires-clause-within c =
+    let w = c.requires.heap.heap in
+    let p = c.requires.write w.present (present_agrees _ w) in
+    let held = ref_held (state_of c.args.heap.now) w.present (present_agrees _ w) p.1.0 p.1.1 c.args.at p.1.4 in
+    subst (λ z. c.args.at.index < length z) (sym (records_cells (state_of c.args.heap.now) (state_of c.record.new.heap) c.cell-before.result c.args.at.block c.record.ensures.records held)) p.1.4.1.within
+
+pub returns-clause-does : goal.returns-clause-does
+returns-clause-does c = ref_does (state_of c.args.heap.now) (state_of c.record.new.heap) c.cell-before.result c.record.ensures.records c.args.at c.args.reference _ c.cell-before.ensures c.set_cell.ensures

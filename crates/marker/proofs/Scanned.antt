@@ -1,0 +1,91 @@
+-- What the invariant says of the part in scan.
+use Rattle.std.proofs.Common.{◌≡◌, ◌≢◌, ℕ, ◌+◌, ◌-◌, ◌*◌, ◌<◌, ◌≤◌, ◌^◌, Bool, true, false, ◌==◌, if◌then◌else◌, length, get_or, ap, ◌∙◌, sym, subst, refl, arith}
+use Rattle.heap_model.specs.declared.phase.Phase.TheVariants as phases
+use Rattle.heap_model.specs.Store.{is_held, node_of}
+use Rattle.heap_model.specs.Cut.{view}
+use Rattle.heap_model.specs.State.{HeapState, seen, width_at, collector_by}
+use Rattle.heap_model.specs.Collector.{Collector, Coherent}
+use Rattle.heap_model.proofs.Acting.{wide_within, scanned_held, scanned_cell_held, held_behind, at_phase}
+use Rattle.heap_model.proofs.Apart.{lie_apart}
+use Rattle.nodes.specs.declared.nodes.Referent.{Referent}
+use Rattle.nodes.specs.Referent.{CanFollow, referent_of}
+use Rattle.raw_heap.proofs.Standing.{main_held}
+use Rattle.raw_heap.specs.declared.heap.RawHeap.{RawHeap}
+use Rattle.raw_heap.specs.Heap.{state_of, IsRawHeap}
+
+module _ (a : RawHeap) (w : IsRawHeap a) (part cell : ℕ) (e : a.phase ≡ phases.Marking part cell) where
+  abbrev h : HeapState
+  h = state_of a
+
+  abbrev m : Collector
+  m = collector_by (seen h) h.store.pages (phases.Marking part cell) h.grey
+
+  abbrev c : Coherent m (view w.heap.present) (view w.heap.snapshot)
+  c = at_phase h (phases.Marking part cell) (view w.heap.present) (view w.heap.snapshot) e w.heap.stands.consistent.parts
+
+  none_left : part ≡ 0 → cell ≡ 0
+  none_left z = let l : cell ≤ (seen h).width part = c.stage.1.column in let v : cell ≤ 0 = subst (λ x. cell ≤ (seen h).width x) z l in omega arith
+
+  module _ (some : part ≢ 0) where
+    positive : 0 < part
+    positive = grind arith
+
+    pub part_held : is_held a.nodes (part - 1) ≡ true
+    part_held = held_behind h part positive c.stage.1.scanning_held
+
+    not_null : (part == 0) ≡ false
+    not_null = grind arith
+
+    wide : (seen h).width part ≡ width_at (node_of h.store (part - 1))
+    wide = rw not_null refl
+
+    column : cell ≤ width_at (node_of a.nodes (part - 1))
+    column = subst (λ n. cell ≤ n) wide c.stage.1.column
+
+    pub cells_within : width_at (node_of a.nodes (part - 1)) ≤ length (node_of a.nodes (part - 1)).cells
+    cells_within = wide_within h (part - 1) w.heap.stands.consistent.whole part_held
+
+    cell_is : (seen h).cell part cell ≡ get_or (node_of h.store (part - 1)).cells cell 0
+    cell_is = rw not_null refl
+
+    scans_follow : cell < (seen h).width part → CanFollow h.store ((seen h).cell part cell)
+    scans_follow l some' =
+        let x = (seen h).cell part cell in
+        let up : 0 < x = more x some' in
+        let held = scanned_cell_held m (view w.heap.present) (view w.heap.snapshot) c c.stage l in
+        let main = scanned_held m (view w.heap.present) (view w.heap.snapshot) c c.stage l in
+        (held_behind h x up held, follow x up main)
+      where
+        more : (x : ℕ) → x ≢ 0 → 0 < x
+        more x ne = grind arith
+
+        follow : (x : ℕ) → 0 < x → (seen h).held ((seen h).forward x) ≡ true → is_held h.store (node_of h.store (x - 1)).forward ≡ true
+        follow x up main =
+            let z : (x == 0) ≡ false = grind arith in
+            let f : (seen h).forward x ≡ (node_of h.store (x - 1)).forward + 1 = rw z refl in
+            let g = held_behind h ((node_of h.store (x - 1)).forward + 1) (omega arith) (ap (seen h).held (sym f) ∙ main) in
+            subst (λ k. is_held h.store k ≡ true) (omega arith) g
+
+    cell_follows : cell < width_at (node_of a.nodes (part - 1)) → CanFollow a.nodes (get_or (node_of a.nodes (part - 1)).cells cell 0)
+    cell_follows l = subst (CanFollow h.store) cell_is (scans_follow (subst (λ n. cell < n) (sym wide) l))
+
+    -- the main copy that a cell names is held
+    pub cell_main : cell < width_at (node_of a.nodes (part - 1)) → (r : Referent) → r ≡ referent_of a.nodes (get_or (node_of a.nodes (part - 1)).cells cell 0) → r.reference ≢ 0 → is_held a.nodes (r.reference - 1) ≡ true
+    cell_main l r is = main_held a.nodes _ r is (cell_follows l)
+
+    pub cell_small : cell < 2 ^ 31
+    cell_small =
+        let apart = lie_apart h w.heap.stands.pages w.heap.stands.consistent.whole in
+        let f = apart.fits part c.stage.1.scanning_held positive in
+        let i = apart.inside part c.stage.1.scanning_held positive in
+        let l = c.stage.1.column in
+        let s = w.heap.small in
+        omega arith
+
+  -- all cells of the part in scan were scanned
+  pub all_scanned : (part ≢ 0 → width_at (node_of a.nodes (part - 1)) ≤ cell) → cell ≡ (seen (state_of a)).width part
+  all_scanned past = by_null (part == 0) refl
+    where
+      by_null : (t : Bool) → (part == 0) ≡ t → cell ≡ (if t then 0 else width_at (node_of h.store (part - 1)))
+      by_null true z = none_left (grind arith)
+      by_null false z = let ne : part ≢ 0 = grind arith in omega (arith, column ne, past ne)

@@ -1,0 +1,43 @@
+-- The opening heap.
+use Rattle.std.proofs.Common.{◌≡◌, ℕ, ◌+◌, ◌*◌, ◌<◌, ◌≤◌, ◌^◌, true, [], List, Option, None, length, replicate, ap, ◌∙◌, sym, arith}
+use Rattle.std.proofs.Math.Nat.{mul-le-mul_right}
+use Rattle.std.proofs.lemmas.List.{length-replicate}
+use Rattle.graph_heap.specs.Shape.{fits}
+use Rattle.graph_heap.specs.Graph.{opening, object_of}
+use Rattle.heap_model.specs.Pages.{Page}
+use Rattle.heap_model.specs.Store.{Store}
+use Rattle.heap_model.specs.State.{HeapState}
+use Rattle.heap_model.specs.Opening.{IsOpening}
+use Rattle.heap_model.specs.Spent.{cycle_limit}
+use Rattle.heap_model.proofs.Stood.{stands_opening}
+use Rattle.raw_heap.specs.declared.heap.RawHeap.{RawHeap}
+use Rattle.raw_heap.specs.Heap.{state_of, IsRawHeap}
+
+no_object_fits : (id : ℕ) → fits (object_of [] id).shape ≡ true
+unfolding object_of
+no_object_fits id = grind arith
+
+-- What a cycle may spend is small, with at most 4096 pages, to be emptied too, and 16640 roots.
+small_limit : (h : HeapState) → length h.store.pages ≤ 4096 → length h.roots ≤ 16640 → h.defrag_pages ≤ 4096 → cycle_limit h < 2 ^ 31
+small_limit h p r d = let z : (h.defrag_pages + 38) * length h.store.pages ≤ 4134 * length h.store.pages = mul-le-mul_right (length h.store.pages) (omega (arith, d)) in omega (arith, z)
+
+pub opening_heap : (a : RawHeap) → IsOpening (state_of a) → 0 < length a.nodes.pages → length a.nodes.pages ≤ 4096 → length a.roots.cells ≤ 16640 → a.config.defrag_pages ≤ 4096 → 512 * length a.nodes.pages ≤ a.grey.room → IsRawHeap a
+opening_heap a o some few row most memory = record {
+  heap = record {
+    present = opening a.roots.limits;
+    snapshot = opening a.roots.limits;
+    stands = stands_opening (state_of a) o some;
+    fits = no_object_fits;
+    small = small_limit (state_of a) few row most;
+  };
+  memory = memory;
+}
+
+-- the pages of a new store are free
+pub all_free : (s : Store) (n : ℕ) (words : List ℕ) → s ≡ record { pages = replicate n None; words = words } → s.pages ≡ replicate (length s.pages) None
+all_free s n words e =
+    let p : s.pages ≡ replicate {A = Option Page} n None = ap (λ (x : Store). x.pages) e in
+    p ∙ ap (λ k. replicate {A = Option Page} k None) (sym (ap length p ∙ length-replicate {A = Option Page} n None))
+
+pub new_count : (s : Store) (n : ℕ) (words : List ℕ) → s ≡ record { pages = replicate n None; words = words } → length s.pages ≡ n
+new_count s n words e = ap (λ (x : Store). length x.pages) e ∙ length-replicate {A = Option Page} n None

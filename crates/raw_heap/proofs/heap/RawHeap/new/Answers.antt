@@ -1,0 +1,14 @@
+use Rattle.std.proofs.Common.{◌≡◌, ◌*◌, ◌<◌, ◌≤◌, length, subst, sym, refl, rules, arith}
+use Rattle.roots.specs.Row.{Row}
+use Rattle.raw_heap.specs.declared.heap.RawHeap.{RawHeap}
+use Rattle.raw_heap.proofs.Opening.{opening_heap, all_free, new_count}
+use Rattle.raw_heap.proofs.heap.RawHeap.new.Goals as goal
+
+pub returns-clause-heap : goal.returns-clause-heap
+returns-clause-heap c =
+    let count : length c.in_ok-nodes.nodes.pages ≡ c.args.config.now.pages = new_count c.in_ok-nodes.nodes c.args.config.now.pages _ c.in_ok-nodes.ensures in
+    let some : 0 < length c.in_ok-nodes.nodes.pages = (let p = c.args.config.now.pages_in_range.0 in omega arith) in
+    let few : length c.in_ok-nodes.nodes.pages ≤ 4096 = (let p = c.args.config.now.pages_in_range.1 in omega arith) in
+    let row : length c.in_ok-roots.roots.cells ≤ 16640 = subst (λ (x : Row). length x.cells ≤ 16640) c.roots.view_is (subst (λ n. n ≤ 16640) (sym c.roots.invariant.whole) c.roots.invariant.few) in
+    opening_heap _ (record { pages = all_free _ _ _ c.in_ok-nodes.ensures; roots = search rules; next = refl; phase = refl; units = refl; grey = c.in_ok-grey.ensures.empty }) some few row c.args.config.now.defrag_pages_in_range
+    (subst (λ n. 512 * n ≤ c.in_ok-grey.grey.room) (sym count) c.in_ok-grey.ensures.room)

@@ -1,0 +1,37 @@
+-- The fields of a heap, as the heap in words.
+use Rattle.std.specs.Prelude.{◌≡◌, ◌*◌, ◌<◌, ◌≤◌, ◌^◌, ℕ, true, length}
+use Rattle.graph_heap.specs.Graph.{Graph, object_of}
+use Rattle.graph_heap.specs.Shape.{fits}
+use Rattle.heap_model.specs.State.{HeapState}
+use Rattle.heap_model.specs.Spent.{cycle_limit}
+use Rattle.heap_model.specs.Standing.{Stands}
+use Rattle.raw_heap.specs.declared.heap.RawHeap.{RawHeap}
+
+abbrev pub state_of : RawHeap → HeapState
+state_of a = record {
+  limits = a.roots.limits;
+  defrag_below = a.config.defrag_below;
+  defrag_pages = a.config.defrag_pages;
+  store = a.nodes;
+  roots = a.roots.cells;
+  next = a.next;
+  phase = a.phase;
+  units = a.units;
+  sense = a.sense;
+  grey = a.grey.parts;
+}
+
+-- The heap stands for some graph heaps, no object of which is too large, and what a cycle may spend is a
+-- small number.
+pub record IsHeap (h : HeapState) : Type 0 where
+  pub present : Graph
+  pub snapshot : Graph
+  pub stands : Stands h present snapshot
+  pub fits : (id : ℕ) → fits (object_of present.objects id).shape ≡ true
+  pub small : cycle_limit h < 2 ^ 31
+
+-- What holds of the fields between two steps: they are a heap, and there is memory for as many grey parts as
+-- there can be, since a block has four words at least.
+pub record IsRawHeap (a : RawHeap) : Type 0 where
+  pub heap : IsHeap (state_of a)
+  pub memory : 512 * length a.nodes.pages ≤ a.grey.room

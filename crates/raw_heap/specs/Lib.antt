@@ -1,0 +1,3 @@
+pub mod Acting
+pub mod Grey
+pub mod Heap

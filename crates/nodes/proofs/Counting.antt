@@ -1,7 +1,7 @@
 -- Copies are counted from address to address.
 use Rattle.std.proofs.Common.{◌≡◌, ℕ, zero, suc, ◌+◌, ◌-◌, ◌*◌, ◌/◌, ◌%◌, ◌<◌, ◌≤◌, ◌==◌, ◌⊎◌, inl, inr, if◌then◌else◌, Bool, true, false, ◌&&◌, not, List, Option, Some, None, length, get_or, ap, ◌∙◌, sym, subst, arith, refl, add-one}
 use Rattle.std.specs.Prelude.{IfSome, IsSomeAnd, slice_get, option_map}
-use Rattle.std.proofs.lemmas.Bool.{eqb-true}
+use Rattle.std.proofs.lemmas.Bool.{eqb-true, and_parts}
 use Rattle.std.proofs.lemmas.List.{get_or_past}
 use Rattle.std.proofs.lemmas.Option.{slice_get-get_or}
 use Rattle.std.proofs.Math.Nat.{div-mul-le_self, mul-le-mul_right}
@@ -96,10 +96,6 @@ not_true : (b : Bool) → (b ≡ true → ⊥) → b ≡ false
 not_true true never = absurd (never refl)
 not_true false never = refl
 
-both_parts : (a b : Bool) → (a && b) ≡ true → (a ≡ true) × (b ≡ true)
-both_parts true b p = (refl, p)
-both_parts false b p = absurd (cc)
-
 whole_places : (n s : ℕ) → n % s ≡ 0 → n ≡ n / s * s
 whole_places n s e = grind arith
 
@@ -135,7 +131,7 @@ module _ (s : Store) (whole : IsStore s) (k : ℕ) (p : Page) (there : page_at s
   unfolding is_held
   held_there b e h =
       let f : held_in (Some p) (b % 2048) ≡ true = subst (λ o. held_in o (b % 2048) ≡ true) there (subst (λ n. held_in (page_at s.pages n) (b % 2048) ≡ true) e h) in
-      let g = both_parts (b % 2048 % size_of p.class == 0) (get_or p.held (b % 2048 / size_of p.class) false) f in
+      let g = and_parts (b % 2048 % size_of p.class == 0) (get_or p.held (b % 2048 / size_of p.class) false) f in
       (b % 2048 / size_of p.class, whole_places (b % 2048) (size_of p.class) (eqb-true (b % 2048 % size_of p.class) 0 g.0), flag_within p.held (b % 2048 / size_of p.class) g.1)
 
   -- no block begins within another, and none behind the last

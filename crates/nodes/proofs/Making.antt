@@ -1,7 +1,7 @@
 -- A block is taken, and a part is made in it.
 use Rattle.std.proofs.Common.{◌≡◌, ◌≢◌, ℕ, zero, suc, ◌+◌, ◌*◌, ◌/◌, ◌%◌, ◌<◌, ◌≤◌, ◌⊎◌, Bool, true, false, ◌&&◌, eqb, List, Option, Some, None, length, get_or, set, replicate, ap, ◌∙◌, sym, subst, arith, refl, inl, inr, length-set}
 use Rattle.std.specs.Prelude.{slice_get, position}
-use Rattle.std.proofs.lemmas.Bool.{eqb-true, ne_eqb}
+use Rattle.std.proofs.lemmas.Bool.{eqb-true, ne_eqb, and_parts}
 use Rattle.std.proofs.lemmas.List.{get_or-set_other, get_or-set_same, length-replicate}
 use Rattle.std.proofs.lemmas.List.Quantifiers.{position-Some}
 use Rattle.std.proofs.lemmas.Option.{slice_get_within, get_or_from_slice_get, slice_get-get_or}
@@ -15,10 +15,6 @@ use Rattle.headers.proofs.Written.{new_block_here, new_block_others}
 use Rattle.headers.proofs.Fresh.{length-spliced}
 use Rattle.nodes.proofs.Places.{held_place, apart, count_in}
 
-both_parts : (a b : Bool) → (a && b) ≡ true → (a ≡ true) × (b ≡ true)
-both_parts true b p = (refl, p)
-both_parts false b p = absurd (cc)
-
 first_case : (o q : Option ℕ) (n : ℕ) → first_of o q ≡ Some n → (o ≡ Some n) ⊎ (q ≡ Some n)
 first_case None q n e = inr e
 first_case (Some i) q n e = inl e
@@ -30,7 +26,7 @@ pub data Chosen (class : ℕ) (o : Option Page) : Type 0 where
 
 usable_page : (class : ℕ) (o : Option Page) → is_usable class o ≡ true → Chosen class o
 usable_page class None h = absurd (cc)
-usable_page class (Some p) h = WasUsed p refl (eqb-true p.class class (both_parts (eqb p.class class) _ h).0)
+usable_page class (Some p) h = WasUsed p refl (eqb-true p.class class (and_parts (eqb p.class class) _ h).0)
 
 free_page : (class : ℕ) (o : Option Page) → is_free o ≡ true → Chosen class o
 free_page class None h = WasFree refl

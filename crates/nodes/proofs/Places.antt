@@ -1,6 +1,6 @@
 -- A held block is a whole block of its page, and two have no word in common.
-use Rattle.std.proofs.Common.{◌≡◌, ℕ, ◌+◌, ◌*◌, ◌/◌, ◌%◌, ◌<◌, ◌≤◌, ◌⊎◌, Bool, true, false, ◌&&◌, eqb, List, Option, Some, None, length, get_or, ap, ◌∙◌, sym, subst, arith, refl, inl, inr}
-use Rattle.std.proofs.lemmas.Bool.{eqb-true}
+use Rattle.std.proofs.Common.{◌≡◌, ℕ, ◌+◌, ◌*◌, ◌/◌, ◌%◌, ◌<◌, ◌≤◌, ◌⊎◌, Bool, true, false, eqb, List, Option, Some, None, length, get_or, ap, ◌∙◌, sym, subst, arith, refl, inl, inr}
+use Rattle.std.proofs.lemmas.Bool.{eqb-true, and_parts}
 use Rattle.std.proofs.lemmas.List.{get_or_past}
 use Rattle.std.proofs.lemmas.Option.{slice_get-get_or}
 use Rattle.size_classes.specs.Sizes.{size_of, blocks_in}
@@ -8,10 +8,6 @@ use Rattle.size_classes.proofs.Table.{size_low}
 use Rattle.heap_model.specs.Pages.{Page, IsPage, page_at}
 use Rattle.heap_model.specs.Store.{Store, IsStore, size_in, held_in, size_at, is_held}
 use Rattle.nodes.specs.Place.{IsPlace}
-
-both_parts : (a b : Bool) → (a && b) ≡ true → (a ≡ true) × (b ≡ true)
-both_parts true b p = (refl, p)
-both_parts false b p = absurd (cc)
 
 -- a flag that is set is one of the list
 flag_within : (flags : List Bool) (i : ℕ) → get_or flags i false ≡ true → i < length flags
@@ -33,7 +29,7 @@ exact n s e = grind arith
 pub held_in-page : (o : Option Page) (offset : ℕ) → held_in o offset ≡ true → HeldIn o offset
 held_in-page None offset h = absurd (cc)
 held_in-page (Some p) offset h =
-    let parts = both_parts (eqb (offset % size_of p.class) 0) (get_or p.held (offset / size_of p.class) false) h in
+    let parts = and_parts (eqb (offset % size_of p.class) 0) (get_or p.held (offset / size_of p.class) false) h in
     record { page = p; is = refl; whole = exact offset (size_of p.class) (eqb-true (offset % size_of p.class) 0 parts.0); flag = parts.1 }
 
 below_or : (a b : ℕ) → (a < b) ⊎ (b ≤ a)

@@ -1,5 +1,6 @@
 -- One page, and a block of it taken.
 use Rattle.std.proofs.Common.{◌≡◌, ℕ, zero, suc, ◌<◌, ◌⊎◌, inl, inr, Bool, true, false, not, List, length, take, set, get_or, replicate, map, Option, Some, None, ap, ◌∙◌, sym, refl, arith, subst}
+use Rattle.std.proofs.lemmas.Bool.{not-true}
 use Rattle.std.specs.Prelude.{option_map, slice_get, position, IsTrue, slice_set}
 use Rattle.std.proofs.lemmas.List.{map-set, length-take, length-map, get_or-map}
 use Rattle.std.proofs.lemmas.Option.{slice_get-get_or}
@@ -26,15 +27,11 @@ held_new class l r flags after o e is =
     ap (λ (x : List Bool). let p : Page = record { class = class; leaving = false; receiving = false; held = x } in Some p) is
     ∙ ap (λ x. Some (with_held (page_of_class class (page_by l r flags x)) 0 true)) (sym e)
 
-not_false : (b : Bool) → not b ≡ true → b ≡ false
-not_false true e = absurd (cc)
-not_false false e = refl
-
 pub open_old : (class c : ℕ) (l r : Bool) (flags : List Bool) (o : Option ℕ) (b : ℕ) → o ≡ Some c → position not (take (blocks_in c) flags) ≡ Some b → IsOpen (page_of_class class (page_by l r flags o)) b
 open_old class c l r flags o b e at =
     let xs = take (blocks_in c) flags in
     let found = position-Some not xs b false at in
-    subst (λ x. IsOpen (page_of_class class (page_by l r flags x)) b) (sym e) (slice_get-get_or xs b false found.0 ∙ ap Some (not_false (get_or xs b false) found.1))
+    subst (λ x. IsOpen (page_of_class class (page_by l r flags x)) b) (sym e) (slice_get-get_or xs b false found.0 ∙ ap Some (not-true (get_or xs b false) found.1))
 
 pub held_old : (class c : ℕ) (l r : Bool) (flags : List Bool) (o : Option ℕ) (b : ℕ) → o ≡ Some c → position not (take (blocks_in c) flags) ≡ Some b →
     page_by l r (set flags b true) o ≡ Some (with_held (page_of_class class (page_by l r flags o)) b true)

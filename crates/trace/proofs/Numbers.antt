@@ -3,7 +3,7 @@ use Rattle.std.proofs.Common.{◌≡◌, ℕ, ◌^◌, ◌<◌, Bool, true, fals
 use Rattle.std.specs.Prelude.{decimal}
 use Rattle.std.specs.Str.{bytes_eq}
 use Rattle.std.specs.Str.Parse.{digits_value}
-use Rattle.std.proofs.lemmas.Bool.{lt-ltb, ltb-true}
+use Rattle.std.proofs.lemmas.Bool.{lt-ltb, ltb-true, and_parts}
 use Rattle.std.proofs.lemmas.Slice.Eq.{bytes_eq-Decides}
 use Rattle.std.proofs.lemmas.Fmt.{decimal_is_IsNumeral}
 use Rattle.trace.specs.Reading.{number_in}
@@ -11,10 +11,6 @@ use Rattle.trace.specs.Reading.{number_in}
 both_true : (a b : Bool) → a ≡ true → b ≡ true → (a && b) ≡ true
 both_true true b p q = q
 both_true false b p q = p
-
-both_parts : (a b : Bool) → (a && b) ≡ true → (a ≡ true) × (b ≡ true)
-both_parts true b p = (refl, p)
-both_parts false b p = absurd (cc)
 
 -- what is spelled so is read
 pub number_in-spelled : (bits n : ℕ) (bytes : List ℕ) → n < 2 ^ bits → n < 2 ^ 64 → bytes ≡ decimal n → number_in bits bytes ≡ Some n
@@ -34,7 +30,7 @@ pub number_in-Some : (bits n : ℕ) (bytes : List ℕ) → number_in bits bytes 
 unfolding number_in
 number_in-Some bits n bytes e =
     let f = found_case (nat_lt (digits_value 10 bytes) (2 ^ bits) && bytes_eq bytes (decimal (digits_value 10 bytes))) (digits_value 10 bytes) n e in
-    let parts = both_parts (nat_lt (digits_value 10 bytes) (2 ^ bits)) (bytes_eq bytes (decimal (digits_value 10 bytes))) f.0 in
+    let parts = and_parts (nat_lt (digits_value 10 bytes) (2 ^ bits)) (bytes_eq bytes (decimal (digits_value 10 bytes))) f.0 in
     (subst (λ m. m < 2 ^ bits) f.1 (ltb-true (digits_value 10 bytes) (2 ^ bits) parts.0), (bytes_eq-Decides bytes (decimal (digits_value 10 bytes))).0 parts.1 ∙ ap decimal f.1)
 
 none_case : (o : Option ℕ) → ((n : ℕ) → o ≡ Some n → ⊥) → o ≡ None

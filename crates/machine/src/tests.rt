@@ -6,6 +6,7 @@ use size_classes::{Config, Settings};
 use std::process::Abort;
 
 mod collecting;
+mod many_pages;
 mod mixing;
 mod moving;
 mod refusing;

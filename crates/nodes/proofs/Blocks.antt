@@ -1,6 +1,5 @@
 -- A block of a page in use, held or not.
-use Rattle.std.proofs.Common.{◌≡◌, ℕ, ◌+◌, ◌*◌, ◌/◌, ◌%◌, ◌<◌, ◌≤◌, ◌&&◌, eqb, false, Some, None, Option, length, get_or, ap, ◌∙◌, sym, subst, arith, refl}
-use Rattle.std.specs.Prelude.{IsSomeAnd}
+use Rattle.std.proofs.Common.{◌≡◌, ℕ, ◌+◌, ◌*◌, ◌/◌, ◌%◌, ◌<◌, ◌≤◌, ◌&&◌, eqb, false, Some, None, length, get_or, ap, ◌∙◌, sym, subst, arith, refl}
 use Rattle.std.proofs.lemmas.Option.{slice_get-get_or}
 use Rattle.size_classes.specs.Sizes.{size_of, blocks_in}
 use Rattle.size_classes.proofs.Table.{size_low}
@@ -59,15 +58,9 @@ module _ (s : Store) (whole : IsStore s) (k i : ℕ) (p : Page) (there : page_at
   pub address_is : (b : ℕ) → b / 2048 ≡ k → b % 2048 ≡ i * size_of p.class → b ≡ address_of p.class k i
   address_is b e f = omega (arith, e, f)
 
--- where a block begins, and that it ends within its page, by the size that the code knows
-pub address_by : (s : Store) → IsStore s → (k i size : ℕ) → IsSomeAnd (page_at s.pages k) (λ p. i < length p.held) → size ≡ size_in (page_at s.pages k)
-    → (i * size + size ≤ 2048) × (k < 4096) × (2048 * k + i * size + size ≤ length s.words)
-address_by s whole k i size h e = by_page (page_at s.pages k) refl h e
-  where
-    by_page : (o : Option Page) → page_at s.pages k ≡ o → IsSomeAnd o (λ p. i < length p.held) → size ≡ size_in o → (i * size + size ≤ 2048) × (k < 4096) × (2048 * k + i * size + size ≤ length s.words)
-    by_page None there h e = absurd h
-    by_page (Some p) there h e =
-        let f : (i + 1) * size ≤ 2048 = subst (λ n. (i + 1) * n ≤ 2048) (sym e) (fit s whole k i p there h) in
-        let d : (i + 1) * size ≡ i * size + size = grind arith in
-        let b : k < length s.pages = page_below s whole k i p there h in
-        (omega (arith, f, d), omega (arith, b, whole.few), omega (arith, f, d, b, whole.words))
+  -- where it begins and ends in its page, by the size that the code knows
+  pub block_by : (size : ℕ) → size ≡ size_of p.class → (k < 4096) × (i * size + size ≤ 2048)
+  block_by size e =
+      let f : (i + 1) * size ≤ 2048 = subst (λ n. (i + 1) * n ≤ 2048) (sym e) fit in
+      let d : (i + 1) * size ≡ i * size + size = grind arith in
+      (omega (arith, page_below, whole.few), omega (arith, f, d))

@@ -11,7 +11,8 @@ use Rattle.heap_model.specs.Block.{node_at}
 use Rattle.heap_model.specs.Pages.{Page, IsPage, page_at, with_held}
 use Rattle.heap_model.specs.Store.{Store, IsStore, size_in, held_in, size_at, is_held, node_of, address_of}
 use Rattle.heap_model.specs.Action.{KeepsBlocks, Frees, held_on, closed}
-use Rattle.nodes.specs.Pages.{blocks_on}
+use Rattle.pages.specs.Together.{KeepsHeld}
+use Rattle.nodes.proofs.Carried.{frees_then, still_store}
 use Rattle.nodes.proofs.Places.{count_in}
 
 and_false : (b : Bool) → (b && false) ≡ false
@@ -168,26 +169,6 @@ held_by s whole k i class size (Some p) there ec es h =
     same_class : {a b : ℕ} → Some a ≡ Some b → a ≡ b
     same_class e = cc
 
--- how many blocks a page has, by the class that the code knows
-pub blocks_by : (s t : Store) → s ≡ t → IsStore s → (k : ℕ) → k < length t.pages → (class blocks : ℕ) → option_map (λ (p : Page). p.class) (page_at s.pages k) ≡ Some class → blocks ≡ blocks_in class → blocks ≡ blocks_on (page_at t.pages k)
-blocks_by s t is whole k below class blocks ec eb =
-    let b : k < length s.pages = subst (λ (x : Store). k < length x.pages) (sym is) below in
-    subst (λ (x : Store). blocks ≡ blocks_on (page_at x.pages k)) is (by_page (page_at s.pages k) (λ p e. whole.pages k p (slice_get-get_or s.pages k None b ∙ ap Some e)) ec)
-  where
-    same_class : {a b : ℕ} → Some a ≡ Some b → a ≡ b
-    same_class e = cc
-
-    by_page : (o : Option Page) → ((p : Page) → o ≡ Some p → IsPage p) → option_map (λ (p : Page). p.class) o ≡ Some class → blocks ≡ blocks_on o
-    by_page None good e = absurd (cc)
-    by_page (Some p) good e = eb ∙ ap blocks_in (sym (same_class e)) ∙ sym (good p refl).blocks
-
-pub none_by : (s t : Store) → s ≡ t → (k : ℕ) → option_map (λ (p : Page). p.class) (page_at s.pages k) ≡ None → 0 ≡ blocks_on (page_at t.pages k)
-none_by s t is k e = subst (λ (x : Store). 0 ≡ blocks_on (page_at x.pages k)) is (by_page (page_at s.pages k) e)
-  where
-    by_page : (o : Option Page) → option_map (λ (p : Page). p.class) o ≡ None → 0 ≡ blocks_on o
-    by_page None e = refl
-    by_page (Some p) e = absurd (cc)
-
 abbrev one_if : Bool → ℕ
 one_if b = cond b 1 0
 
@@ -256,25 +237,26 @@ module _ (s : Store) (whole : IsStore s) (k : ℕ) (within : k < length s.pages)
 
 -- the same, of a value t as which the fields s are seen
 module _ (s t : Store) (is : s ≡ t) (whole : IsStore s) (k i : ℕ) (new : List (Option Page)) where
-  freed_at : (o : Option Page) → page_at s.pages k ≡ o → IsSomeAnd o (λ p. slice_get p.held i ≡ Some true) → IfSome o (λ p. new ≡ set s.pages k (Some (with_held p i false)))
-      → IfSome o (λ p. Frees s (record { pages = new; words = s.words }) (address_of p.class k i)) × IsStore (record { pages = new; words = s.words })
-  freed_at None e h is = absurd h
-  freed_at (Some p) e h is = (
-    subst (λ g. Frees s (record { pages = g; words = s.words }) (address_of p.class k i)) (sym is) (frees s whole k i p e h),
-    subst (λ g. IsStore (record { pages = g; words = s.words })) (sym is) (freed_store s whole k i p e h),
-  )
+  module _ (words : List ℕ) (kept : KeepsHeld new s.words words) where
+    freed_at : (o : Option Page) → page_at s.pages k ≡ o → IsSomeAnd o (λ p. slice_get p.held i ≡ Some true) → IfSome o (λ p. new ≡ set s.pages k (Some (with_held p i false)))
+        → IfSome o (λ p. Frees s (record { pages = new; words = words }) (address_of p.class k i)) × IsStore (record { pages = new; words = words })
+    freed_at None e h is = absurd h
+    freed_at (Some p) e h is = (
+      frees_then s new words kept (address_of p.class k i) (subst (λ g. Frees s (record { pages = g; words = s.words }) (address_of p.class k i)) (sym is) (frees s whole k i p e h)),
+      still_store new s.words words kept.len (subst (λ g. IsStore (record { pages = g; words = s.words })) (sym is) (freed_store s whole k i p e h)),
+    )
 
-  module _ (held : IsSomeAnd (page_at t.pages k) (λ p. slice_get p.held i ≡ Some true)) (given : IfSome (page_at s.pages k) (λ p. new ≡ set s.pages k (Some (with_held p i false)))) where
-    held_here : IsSomeAnd (page_at s.pages k) (λ p. slice_get p.held i ≡ Some true)
-    held_here = subst (λ (x : Store). IsSomeAnd (page_at x.pages k) (λ p. slice_get p.held i ≡ Some true)) (sym is) held
+    module _ (held : IsSomeAnd (page_at t.pages k) (λ p. slice_get p.held i ≡ Some true)) (given : IfSome (page_at s.pages k) (λ p. new ≡ set s.pages k (Some (with_held p i false)))) where
+      held_here : IsSomeAnd (page_at s.pages k) (λ p. slice_get p.held i ≡ Some true)
+      held_here = subst (λ (x : Store). IsSomeAnd (page_at x.pages k) (λ p. slice_get p.held i ≡ Some true)) (sym is) held
 
-    pub frees_by : IfSome (page_at t.pages k) (λ p. Frees t (record { pages = new; words = s.words }) (address_of p.class k i))
-    frees_by =
-        subst (λ (x : Store). IfSome (page_at x.pages k) (λ p. Frees x (record { pages = new; words = s.words }) (address_of p.class k i))) is
-        (freed_at (page_at s.pages k) refl held_here given).0
+      pub frees_by : IfSome (page_at t.pages k) (λ p. Frees t (record { pages = new; words = words }) (address_of p.class k i))
+      frees_by =
+          subst (λ (x : Store). IfSome (page_at x.pages k) (λ p. Frees x (record { pages = new; words = words }) (address_of p.class k i))) is
+          (freed_at (page_at s.pages k) refl held_here given).0
 
-    pub freed_store_by : IsStore (record { pages = new; words = s.words })
-    freed_store_by = (freed_at (page_at s.pages k) refl held_here given).1
+      pub freed_store_by : IsStore (record { pages = new; words = words })
+      freed_store_by = (freed_at (page_at s.pages k) refl held_here given).1
 
   module _ (below : k < length t.pages) (given : new ≡ set s.pages k (closed (page_at s.pages k))) where
     below_here : k < length s.pages

@@ -1,10 +1,16 @@
 -- A page is marked as leaving.
-use Rattle.std.proofs.Common.{◌≡◌, ℕ, ◌%◌, ◌<◌, true, false, List, Option, Some, None, length, set, ap, ◌∙◌, sym, subst, refl}
+use Rattle.std.proofs.Common.{◌≡◌, ℕ, ◌*◌, ◌%◌, ◌<◌, true, false, List, Option, Some, None, length, set, ap, ◌∙◌, sym, subst, refl}
 use Rattle.std.specs.Prelude.{IfSome, IsSomeAnd}
 use Rattle.std.proofs.lemmas.Option.{slice_get-get_or}
 use Rattle.heap_model.specs.Pages.{Page, IsPage, page_at}
 use Rattle.heap_model.specs.Store.{Store, IsStore, size_in, held_in}
 use Rattle.heap_model.specs.Action.{KeepsBlocks}
+use Rattle.pages.specs.declared.page.PageRecord.{PageRecord}
+use Rattle.pages.specs.Index.{row_at}
+use Rattle.pages.specs.Together.{page_by}
+use Rattle.pages.proofs.Telling.{page_is}
+use Rattle.nodes.specs.Joined.{joined}
+use Rattle.nodes.proofs.Joining.{below_by}
 use Rattle.nodes.proofs.Freeing.{page_within, held_change, node_change, store_change}
 
 module _ (s : Store) (whole : IsStore s) (k : ℕ) (p : Page) (there : page_at s.pages k ≡ Some p) (receiving : p.receiving ≡ false) where
@@ -44,3 +50,13 @@ module _ (s t : Store) (is : s ≡ t) (whole : IsStore s) (k : ℕ) (receiving :
 
   pub left_store_by : IsStore (record { pages = new; words = s.words })
   left_store_by = both.1
+
+-- its record isn't receiving either
+pub receiving_by : (rows : List (Option PageRecord)) (words : List ℕ) (t : Store) → joined rows words ≡ t → (page : ℕ) → page < length t.pages → IsSomeAnd (page_at t.pages page) (λ p. p.receiving ≡ false) → IsSomeAnd (row_at rows page) (λ r. r.receiving ≡ false)
+receiving_by rows words t is page below h =
+    by_row (row_at rows page)
+    (subst (λ o. IsSomeAnd o (λ p. p.receiving ≡ false)) (page_is rows words page None (below_by rows words t is page below)) (subst (λ (x : Store). IsSomeAnd (page_at x.pages page) (λ p. p.receiving ≡ false)) (sym is) h))
+  where
+    by_row : (o : Option PageRecord) → IsSomeAnd (page_by words (2048 * page) o) (λ p. p.receiving ≡ false) → IsSomeAnd o (λ r. r.receiving ≡ false)
+    by_row None h = h
+    by_row (Some r) h = h

@@ -1,7 +1,10 @@
 pub mod Blocks
+pub mod Carried
 pub mod Counting
 pub mod Following
 pub mod Freeing
+pub mod Fresh
+pub mod Joining
 pub mod Leaving
 pub mod Made
 pub mod Making

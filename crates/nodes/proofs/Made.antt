@@ -1,65 +1,118 @@
 -- A part made, as the code knows it: of the value t as which the fields s are seen.
-use Rattle.std.proofs.Common.{◌≡◌, ℕ, ◌+◌, ◌*◌, ◌/◌, ◌<◌, ◌≤◌, ◌^◌, true, List, ◌∷◌, Option, Some, length, set, replicate, ap, ◌∙◌, sym, subst, arith}
+use Rattle.std.proofs.Common.{◌≡◌, ℕ, ◌+◌, ◌*◌, ◌/◌, ◌<◌, ◌≤◌, true, List, ◌∷◌, Option, Some, length, set, replicate, ap, ◌∙◌, sym, subst, arith}
+use Rattle.std.proofs.lemmas.List.{length-replicate}
 use Rattle.heap_model.specs.Header.{Header, HeaderFits, header_word}
 use Rattle.heap_model.specs.Block.{cell_count, new_node, new_words, spliced}
 use Rattle.heap_model.specs.Pages.{Page, page_for, page_at, page_of_class, with_held, IsOpen, TakesBlock}
-use Rattle.heap_model.specs.Store.{Store, IsStore, Adds, address_of}
+use Rattle.heap_model.specs.Store.{Store, IsStore, Adds, is_held, size_at, address_of}
 use Rattle.size_classes.specs.Sizes.{size_of}
-use Rattle.nodes.proofs.Making.{fit, within, few_words, page_place, made_store, adds}
+use Rattle.pages.specs.declared.page.PageRecord.{PageRecord}
+use Rattle.pages.specs.Together.{pages_in, Together, KeepsHeld}
+use Rattle.pages.proofs.Telling.{WritesBlock}
+use Rattle.nodes.specs.Joined.{joined, AreNodes}
+use Rattle.nodes.proofs.Carried.{still_store, adds_then}
+use Rattle.nodes.proofs.Joining.{HeldBlock, held_block, writes_spliced, same_pages, still_together}
+use Rattle.nodes.proofs.Making.{fit, within, few_words, page_place, held_after, size_here, made_store, adds}
 
 module _ (s t : Store) (is : s ≡ t) (whole : IsStore s) (class k i size : ℕ) (small : class < 38) (size_is : size ≡ size_of class) (found : page_for s.pages class ≡ Some k) (was_free : IsOpen (page_of_class class (page_at s.pages k)) i) where
-  product_small : i * size + size ≤ 2048
-  product_small =
+  pub block_small : i * size + size ≤ 2048
+  block_small =
       let f : (i + 1) * size ≤ 2048 = subst (λ n. (i + 1) * n ≤ 2048) (sym size_is) (fit s whole class k i small found was_free) in
       let e : (i + 1) * size ≡ i * size + size = grind arith in omega (arith, f, e)
 
   pub page_small : k < 4096
   page_small = omega (arith, within s whole class k i small found was_free, whole.few)
 
-  pub offset_small : i * size < 2 ^ 64
-  offset_small = omega (arith, product_small)
+  module _ (address : ℕ) (at : address ≡ 2048 * k + i * size) where
+    pub address_within : address ≤ 8388608
+    address_within = omega (arith, at, block_small, page_small)
 
-  pub address_small : 2048 * k + i * size < 2 ^ 64
-  address_small = omega (arith, product_small, page_small)
+    address_is : address ≡ address_of class k i
+    address_is = at ∙ ap (λ n. 2048 * k + i * n) size_is
 
-  pub address_within : 2048 * k + i * size ≤ 8388608
-  address_within = omega (arith, product_small, page_small)
+    pub words_there : (cells : ℕ) → cells + 4 ≤ size_of class → address + (4 + cells) ≤ length s.words
+    words_there cells room = let f = few_words s whole class k i small found was_free in omega (arith, f, address_is)
 
-  address_is : 2048 * k + i * size ≡ address_of class k i
-  address_is = ap (λ n. 2048 * k + i * n) size_is
+    pub page_by : page_for t.pages class ≡ Some (address / 2048)
+    page_by =
+        subst (λ (x : Store). page_for x.pages class ≡ Some (address / 2048)) is
+        (found ∙ ap Some (sym (ap (λ n. n / 2048) address_is ∙ page_place s whole class k i small found was_free)))
 
-  pub words_there : (cells : ℕ) → cells + 4 ≤ size_of class → 2048 * k + i * size + (4 + cells) ≤ length s.words
-  words_there cells room = let f = few_words s whole class k i small found was_free in omega (arith, f, address_is)
+    module _ (h : Header) (fits : HeaderFits h) (identity cells : ℕ) (count : cells ≡ cell_count h) (room : cells + 4 ≤ size_of class)
+        (pages : List (Option Page)) (taken : pages ≡ set s.pages k (Some (with_held (page_of_class class (page_at s.pages k)) i true))) (mid : List ℕ) (kept : KeepsHeld s.pages s.words mid)
+        (words : List ℕ) (begun : words ≡ spliced mid address (address ∷ header_word h ∷ identity ∷ 0 ∷ replicate cells 0)) where
+      room' : cell_count h + 4 ≤ size_of class
+      room' = subst (λ n. n + 4 ≤ size_of class) count room
 
-  pub page_by : page_for t.pages class ≡ Some ((2048 * k + i * size) / 2048)
-  page_by =
-      subst (λ (x : Store). page_for x.pages class ≡ Some ((2048 * k + i * size) / 2048)) is
-      (found ∙ ap Some (sym (ap (λ n. n / 2048) address_is ∙ page_place s whole class k i small found was_free)))
+      abbrev midway : Store
+      midway = record { pages = s.pages; words = mid }
 
-  module _ (h : Header) (fits : HeaderFits h) (identity cells : ℕ) (count : cells ≡ cell_count h) (room : cells + 4 ≤ size_of class)
-      (pages : List (Option Page)) (taken : pages ≡ set s.pages k (Some (with_held (page_of_class class (page_at s.pages k)) i true)))
-      (words : List ℕ) (begun : words ≡ spliced s.words (2048 * k + i * size) ((2048 * k + i * size) ∷ header_word h ∷ identity ∷ 0 ∷ replicate cells 0)) where
-    room' : cell_count h + 4 ≤ size_of class
-    room' = subst (λ n. n + 4 ≤ size_of class) count room
+      midway_whole : IsStore midway
+      midway_whole = still_store s.pages s.words mid kept.len whole
 
-    words_are : words ≡ spliced s.words (address_of class k i) (new_words (address_of class k i) h identity)
-    words_are =
-        begun ∙ ap (λ a. spliced s.words a (a ∷ header_word h ∷ identity ∷ 0 ∷ replicate cells 0)) address_is
-        ∙ ap (λ n. spliced s.words (address_of class k i) (address_of class k i ∷ header_word h ∷ identity ∷ 0 ∷ replicate n 0)) count
+      words_are : words ≡ spliced mid (address_of class k i) (new_words (address_of class k i) h identity)
+      words_are =
+          begun ∙ ap (λ a. spliced mid a (a ∷ header_word h ∷ identity ∷ 0 ∷ replicate cells 0)) address_is
+          ∙ ap (λ n. spliced mid (address_of class k i) (address_of class k i ∷ header_word h ∷ identity ∷ 0 ∷ replicate n 0)) count
 
-    both : (P : Store → Type 0) → P (record { pages = set s.pages k (Some (with_held (page_of_class class (page_at s.pages k)) i true)); words = spliced s.words (address_of class k i) (new_words (address_of class k i) h identity) }) → P (record { pages = pages; words = words })
-    both P p =
-        subst (λ w. P (record { pages = pages; words = w })) (sym words_are)
-        (subst (λ g. P (record { pages = g; words = spliced s.words (address_of class k i) (new_words (address_of class k i) h identity) })) (sym taken) p)
+      both : (P : Store → Type 0) → P (record { pages = set s.pages k (Some (with_held (page_of_class class (page_at s.pages k)) i true)); words = spliced mid (address_of class k i) (new_words (address_of class k i) h identity) }) → P (record { pages = pages; words = words })
+      both P p =
+          subst (λ w. P (record { pages = pages; words = w })) (sym words_are)
+          (subst (λ g. P (record { pages = g; words = spliced mid (address_of class k i) (new_words (address_of class k i) h identity) })) (sym taken) p)
 
-    pub store_by : IsStore (record { pages = pages; words = words })
-    store_by = both IsStore (made_store s whole class k i small found was_free identity h fits room')
+      pub store_by : IsStore (record { pages = pages; words = words })
+      store_by = both IsStore (made_store midway midway_whole class k i small found was_free identity h fits room')
 
-    pub adds_by : Adds t (record { pages = pages; words = words }) (2048 * k + i * size) (new_node (2048 * k + i * size) h identity)
-    adds_by =
-        subst (λ (x : Store). Adds x (record { pages = pages; words = words }) (2048 * k + i * size) (new_node (2048 * k + i * size) h identity)) is
-        (subst (λ a. Adds s (record { pages = pages; words = words }) a (new_node a h identity)) (sym address_is)
-        (both (λ x. Adds s x (address_of class k i) (new_node (address_of class k i) h identity)) (adds s whole class k i small found was_free identity h fits room')))
+      pub adds_by : Adds t (record { pages = pages; words = words }) address (new_node address h identity)
+      adds_by =
+          subst (λ (x : Store). Adds x (record { pages = pages; words = words }) address (new_node address h identity)) is
+          (subst (λ a. Adds s (record { pages = pages; words = words }) a (new_node a h identity)) (sym address_is)
+          (adds_then s.pages s.words mid kept (record { pages = pages; words = words }) (address_of class k i) (new_node (address_of class k i) h identity)
+          (both (λ x. Adds midway x (address_of class k i) (new_node (address_of class k i) h identity)) (adds midway midway_whole class k i small found was_free identity h fits room'))))
+
+-- with the records: the part is written in a block that is held by then
+module _ (rows : List (Option PageRecord)) (words : List ℕ) (t : Store) (is : joined rows words ≡ t) (are : AreNodes rows words) (class k i size : ℕ) (small : class < 38) (size_is : size ≡ size_of class)
+    (found : page_for (pages_in rows words) class ≡ Some k) (was_free : IsOpen (page_of_class class (page_at (pages_in rows words) k)) i) (address : ℕ) (at : address ≡ 2048 * k + i * size)
+    (h : Header) (fits : HeaderFits h) (identity cells : ℕ) (count : cells ≡ cell_count h) (room : cells + 4 ≤ size_of class)
+    (after : List (Option PageRecord)) (mid : List ℕ) (together : Together after mid) (taken : pages_in after mid ≡ set (pages_in rows words) k (Some (with_held (page_of_class class (page_at (pages_in rows words) k)) i true)))
+    (kept : KeepsHeld (pages_in rows words) words mid) (new : List ℕ) (begun : new ≡ spliced mid address (address ∷ header_word h ∷ identity ∷ 0 ∷ replicate cells 0)) where
+  there : address ≡ address_of class k i
+  there = at ∙ ap (λ n. 2048 * k + i * n) size_is
+
+  now_held : is_held (joined after mid) address ≡ true
+  now_held =
+      ap (is_held (joined after mid)) there
+      ∙ ap (λ (g : List (Option Page)). is_held (record { pages = g; words = mid }) (address_of class k i)) taken ∙ held_after (joined rows words) are.whole class k i small found was_free mid
+
+  block : HeldBlock after mid address
+  block = held_block after mid address now_held
+
+  size_there : size_of block.row.class ≡ size_of class
+  size_there =
+      sym block.size ∙ ap (size_at (joined after mid)) there
+      ∙ ap (λ (g : List (Option Page)). size_at (record { pages = g; words = mid }) (address_of class k i)) taken ∙ size_here (joined rows words) are.whole class k i small found was_free mid
+
+  others_length : length (address ∷ header_word h ∷ identity ∷ 0 ∷ replicate cells 0) ≡ cells + 4
+  others_length = omega (arith, length-replicate {A = ℕ} cells 0)
+
+  write : WritesBlock mid new address (size_of block.row.class)
+  write =
+      writes_spliced mid new (address ∷ header_word h ∷ identity ∷ 0 ∷ replicate cells 0) address (size_of block.row.class)
+      (let f = words_there (joined rows words) t is are.whole class k i size small size_is found was_free address at cells room in omega (arith, f, kept.len, others_length))
+      (omega (arith, others_length)) (omega (arith, others_length, room, size_there))
+      (address_within (joined rows words) t is are.whole class k i size small size_is found was_free address at) begun
+
+  pub pages_made : pages_in after new ≡ set (pages_in rows words) k (Some (with_held (page_of_class class (page_at (pages_in rows words) k)) i true))
+  pages_made = same_pages after mid new together address block write ∙ taken
+
+  pub nodes_made : AreNodes after new
+  nodes_made = record {
+    whole = store_by (joined rows words) t is are.whole class k i size small size_is found was_free address at h fits identity cells count room (pages_in after new) pages_made mid kept new begun;
+    together = still_together after mid new together address block write;
+  }
+
+  pub adds_made : Adds t (joined after new) address (new_node address h identity)
+  adds_made = adds_by (joined rows words) t is are.whole class k i size small size_is found was_free address at h fits identity cells count room (pages_in after new) pages_made mid kept new begun
 
 -- the block was taken as the pages say
 pub takes_by : (s t : Store) → s ≡ t → (class page index address : ℕ) (new : List (Option Page)) → page_for s.pages class ≡ Some page → page_for t.pages class ≡ Some (address / 2048)

@@ -10,7 +10,7 @@ use Rattle.heap_model.specs.Store.{Store, IsStore, size_in, held_in, size_at, is
 use Rattle.nodes.specs.Place.{IsPlace}
 
 -- a flag that is set is one of the list
-flag_within : (flags : List Bool) (i : ℕ) → get_or flags i false ≡ true → i < length flags
+pub flag_within : (flags : List Bool) (i : ℕ) → get_or flags i false ≡ true → i < length flags
 flag_within flags i e = let p = get_or_past flags i false in grind arith
 
 pub count_in : (size blocks index : ℕ) → blocks ≡ 2048 / size → 4 ≤ size → index < blocks → (index + 1) * size ≤ 2048
@@ -47,7 +47,7 @@ page_is s address p whole e =
     let h : address / 2048 < length s.pages = page_within s.pages (address / 2048) p e in
     whole.pages (address / 2048) p (slice_get-get_or s.pages (address / 2048) None h ∙ ap Some e)
 
-placed : (address k offset s : ℕ) → k ≡ address / 2048 → offset ≡ address % 2048 → offset ≡ (offset / s) * s → address ≡ 2048 * k + (offset / s) * s
+pub placed : (address k offset s : ℕ) → k ≡ address / 2048 → offset ≡ address % 2048 → offset ≡ (offset / s) * s → address ≡ 2048 * k + (offset / s) * s
 placed address k offset s ek eo e = omega (arith, e)
 
 pub held_place : (s : Store) (address : ℕ) → IsStore s → is_held s address ≡ true → IsPlace s address

@@ -1,5 +1,5 @@
 -- Reads and writes of one held block.
-use Rattle.std.proofs.Common.{◌≡◌, ℕ, ◌+◌, ◌<◌, ◌≤◌, ◌≢◌, ◌⊎◌, Bool, true, List, length, drop, set, get_or, ap, ◌∙◌, sym, arith, refl, inl, inr, subst, length-set}
+use Rattle.std.proofs.Common.{◌≡◌, ℕ, ◌+◌, ◌<◌, ◌≤◌, ◌≢◌, ◌⊎◌, Bool, true, List, Option, length, drop, set, get_or, ap, ◌∙◌, sym, arith, refl, inl, inr, subst}
 use Rattle.std.proofs.lemmas.List.{get_or-take, get_or-drop, length-take, length-drop}
 use Rattle.graph_heap.specs.declared.command.Shape.{Shape}
 use Rattle.graph_heap.specs.Shape.{ref_cells, word_cells}
@@ -8,8 +8,13 @@ use Rattle.heap_model.specs.Block.{words_at, node_in, cell_count, with_cell, wit
 use Rattle.heap_model.specs.Store.{Store, IsStore, size_at, is_held, node_of, Writes}
 use Rattle.heap_model.specs.Cut.{width_in}
 use Rattle.heap_model.specs.State.{width_at}
+use Rattle.size_classes.specs.Sizes.{size_of}
 use Rattle.headers.proofs.Frames.{node_at-other}
 use Rattle.headers.proofs.Written.{cell_written, colour_written}
+use Rattle.pages.specs.declared.page.PageRecord.{PageRecord}
+use Rattle.pages.proofs.Telling.{WritesBlock}
+use Rattle.nodes.specs.Joined.{joined, AreNodes}
+use Rattle.nodes.proofs.Joining.{HeldBlock, held_block, first_held, writes_later, still_nodes, through}
 use Rattle.nodes.proofs.Places.{held_place, inside, apart}
 
 module _ (s : Store) (whole : IsStore s) (a : ℕ) (held : is_held s a ≡ true) where
@@ -87,10 +92,6 @@ module _ (s : Store) (whole : IsStore s) (a : ℕ) (held : is_held s a ≡ true)
       pages = refl;
     }
 
--- a write of words leaves what a store is
-pub still_store : (s : Store) (at v : ℕ) → IsStore s → IsStore (record s { words = set s.words at v })
-still_store s at v whole = record { pages = whole.pages; words = length-set s.words at v ∙ whole.words; few = whole.few }
-
 -- the same, of the value t as which the fields s are seen
 module _ (s t : Store) (is : s ≡ t) (whole : IsStore s) (a : ℕ) (held : is_held t a ≡ true) where
   held' : is_held s a ≡ true
@@ -136,3 +137,38 @@ module _ (s t : Store) (is : s ≡ t) (whole : IsStore s) (a : ℕ) (held : is_h
     writes_by v words e =
         subst (λ (x : Store). Writes x (record s { words = words }) a (with_cell (node_of x a) i v)) is
         (subst (λ w. Writes s (record s { words = w }) a (with_cell (node_of s a) i v)) (sym e) (writes_cell s whole a held' i within' v))
+
+-- the same, with the records: no write of colour or cell marks the block as free
+module _ (rows : List (Option PageRecord)) (words : List ℕ) (t : Store) (is : joined rows words ≡ t) (are : AreNodes rows words) (a : ℕ) (held : is_held t a ≡ true) (new : List ℕ) where
+  held_here : is_held (joined rows words) a ≡ true
+  held_here = subst (λ (x : Store). is_held x a ≡ true) (sym is) held
+
+  block : HeldBlock rows words a
+  block = held_block rows words a held_here
+
+  later : (k v : ℕ) → 0 < k → k < size_at (joined rows words) a → new ≡ set words (a + k) v → WritesBlock words new a (size_of block.row.class)
+  later k v some within e = writes_later words new a (size_of block.row.class) k v (first_held rows words a block) some (subst (λ n. k < n) block.size within) e
+
+  module _ (c : Bool) (e : new ≡ set words (a + 1) (recoloured (get_or words (a + 1) 0) c)) where
+    colour_write : WritesBlock words new a (size_of block.row.class)
+    colour_write = later 1 (recoloured (get_or words (a + 1) 0) c) (omega arith) (omega (arith, four (joined rows words) are.whole a held_here)) e
+
+    pub recoloured_nodes : AreNodes rows new
+    recoloured_nodes = still_nodes rows words new are.together a block colour_write are.whole
+
+    pub recolours : Writes t (joined rows new) a (with_colour (node_of t a) c)
+    recolours =
+        through rows words new are.together a block colour_write (λ x. Writes t x a (with_colour (node_of t a) c))
+        (recolours_by (joined rows words) t is are.whole a held c new e)
+
+  module _ (i v : ℕ) (within : i < length (node_of t a).cells) (e : new ≡ set words (a + (4 + i)) v) where
+    cell_write : WritesBlock words new a (size_of block.row.class)
+    cell_write = later (4 + i) v (omega arith) (cell_within (joined rows words) are.whole a held_here i (subst (λ (x : Store). i < length (node_of x a).cells) (sym is) within)) e
+
+    pub rewritten_nodes : AreNodes rows new
+    rewritten_nodes = still_nodes rows words new are.together a block cell_write are.whole
+
+    pub rewrites : Writes t (joined rows new) a (with_cell (node_of t a) i v)
+    rewrites =
+        through rows words new are.together a block cell_write (λ x. Writes t x a (with_cell (node_of t a) i v))
+        (writes_by (joined rows words) t is are.whole a held i within v new e)

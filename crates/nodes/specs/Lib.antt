@@ -1,3 +1,4 @@
+pub mod Joined
 pub mod Moving
 pub mod Place
 pub mod Referent

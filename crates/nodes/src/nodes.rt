@@ -4,13 +4,13 @@ ghost use Rattle.size_classes.specs.Sizes.{size_of};
 ghost use Rattle.size_classes.specs.Parts.{part_cells, cells_of};
 ghost use Rattle.heap_model.specs.Header.{ShapeFits};
 ghost use Rattle.heap_model.specs.Block.{cell_count, with_forward, with_colour, with_cell, new_node};
-ghost use Rattle.heap_model.specs.Pages.{has_room, page_for, page_at, is_usable, free_on, free_blocks, with_held, TakesBlock};
+ghost use Rattle.heap_model.specs.Pages.{has_room, page_for, page_at, is_usable, free_on, free_blocks, with_held, IsOpen, TakesBlock};
 ghost use Rattle.heap_model.specs.Pages as page_list;
 ghost use Rattle.heap_model.specs.Action.{Frees, KeepsBlocks, MovesBlock, closed, held_on, is_choosable};
 ghost use Rattle.heap_model.specs.State.{same_colour, width_at};
 ghost use Rattle.heap_model.specs.Cut.{width_in};
 ghost use Rattle.heap_model.specs.Store.{size_in, is_held, node_of, address_of, Writes, Adds};
-ghost use Rattle.pages.specs.Places.{first_open, FindsHeld};
+ghost use Rattle.pages.specs.Places.{FindsHeld};
 ghost use Rattle.nodes.specs.Moving.{CanMove};
 ghost use Rattle.nodes.specs.Pages.{blocks_on};
 ghost use Rattle.nodes.specs.Referent.{referent_of};
@@ -48,8 +48,19 @@ fn width_of(refs: u32, words: u32, part: u32) -> usize
     }
 }
 
+/// The address of a block of a page, by its number there and the size of the page's blocks.
+fn address(page: usize, index: usize, size: usize) -> usize
+    requires page { page < 4096 }
+    requires block { index * size + size ≤ 2048 }
+    ensures { result ≡ 2048 * page + index * size }
+{
+    2048 * page + index * size
+}
+
 /// The blocks of a heap. Contracts see the pages and the words; a method that writes says what the
-/// record of its one block becomes, and that every other held block keeps its own.
+/// record of its one block becomes, and that every other held block keeps its own. The table and the
+/// arena go together throughout: no write marks a held block as free, and none touches the list of a
+/// page's free blocks.
 #[derive(Drop)]
 pub struct Nodes {
     table: PageTable,
@@ -57,13 +68,14 @@ pub struct Nodes {
 }
 
 impl Model for Nodes {
-    ghost use Rattle.heap_model.specs.Store.{Store, IsStore};
+    ghost use Rattle.heap_model.specs.Store.{Store};
+    ghost use Rattle.nodes.specs.Joined.{joined, AreNodes};
 
     ghost Value = { Store };
 
-    ghost view = { λ n. record { pages = n.table; words = n.arena } };
+    ghost view = { λ n. joined n.table n.arena };
 
-    ghost invariant = { λ n. IsStore (record { pages = n.table; words = n.arena }) };
+    ghost invariant = { λ n. AreNodes n.table n.arena };
 }
 
 impl Nodes {
@@ -201,7 +213,7 @@ impl Nodes {
         ensures freed { IfSome (page_at self.old.pages page) (λ p. Frees self.old self.new (address_of p.class page index)) }
         ensures pages { IfSome (page_at self.old.pages page) (λ p. self.new.pages ≡ slice_set self.old.pages page (Some (with_held p index false))) }
     {
-        self.table.give(Block { page, index });
+        self.table.give(&mut self.arena, Block { page, index });
     }
 
     /// Closes a page, as the sweeper does when it has looked at all its blocks: its marks go, and if no
@@ -250,7 +262,7 @@ impl Nodes {
     }
 
     /// The size of the blocks of a page, in words; 0 for a free page.
-    pub fn block_size(&self, page: usize) -> usize
+    fn block_size(&self, page: usize) -> usize
         requires { page < length self.now.pages }
         ensures size { result ≡ size_in (page_at self.now.pages page) }
         ensures within { result ≤ 256 }
@@ -302,21 +314,13 @@ impl Nodes {
         self.table.usable(class)
     }
 
-    /// The first free block of a page in use.
-    pub fn open_block(&self, page: usize) -> Option<usize>
-        requires { page < length self.now.pages }
-        ensures { result ≡ first_open (page_at self.now.pages page) }
-    {
-        self.table.open_block(page)
-    }
-
     /// The first held block of a page from a place on. On a free page none is.
     pub fn next_held(&self, page: usize, from: usize) -> Option<usize>
         requires { page < length self.now.pages }
         ensures finds { FindsHeld (page_at self.now.pages page) from result }
         ensures within { IfSome result (λ i. i < 512) }
     {
-        self.table.next_held(page, from)
+        self.table.next_held(&self.arena, page, from)
     }
 
     /// Marks a page in use as leaving: it gets no block from then on. The same blocks are held, and say
@@ -330,34 +334,22 @@ impl Nodes {
         self.table.leave(page);
     }
 
-    /// The address of a block of a page, held or not, by its number there.
-    fn address(&self, page: usize, index: usize) -> usize
-        requires page { page < length self.now.pages }
-        requires block { IsSomeAnd (page_at self.now.pages page) (λ p. index < length p.held) }
-        ensures address { IfSome (page_at self.now.pages page) (λ p. result ≡ address_of p.class page index) }
-        ensures within { result + size_in (page_at self.now.pages page) ≤ length self.now.words }
-    {
-        // The words are read here only to know how many there are.
-        let _words = &self.arena;
-        2048 * page + index * self.block_size(page)
-    }
-
-    /// Moves a held block to a free one of a page of the same class that isn't leaving: it is copied, both
-    /// forward to the copy, and the page is receiving. Every other block is held or not, and says, as before.
-    pub fn move_block(&mut self, page: usize, index: usize, to: usize, place: usize)
-        requires { CanMove self.old.pages page index to place }
-        ensures moved { IfSome (page_at self.old.pages page) (λ p. MovesBlock self.old self.new (address_of p.class page index) (address_of p.class to place)) }
-        ensures pages { IfSome (page_at self.old.pages to) (λ q. self.new.pages ≡ slice_set self.old.pages to (Some (record (with_held q place true) { receiving = true }))) }
+    /// Moves a held block to a free one of a page of the same class that isn't leaving, and answers which:
+    /// it is copied, both forward to the copy, and the page is receiving. Every other block is held or not,
+    /// and says, as before.
+    pub fn move_block(&mut self, page: usize, index: usize, to: usize) -> usize
+        requires { CanMove self.old.pages page index to }
+        ensures free { IsSomeAnd (page_at self.old.pages to) (λ q. IsOpen q result) }
+        ensures moved { IfSome (page_at self.old.pages page) (λ p. MovesBlock self.old self.new (address_of p.class page index) (address_of p.class to result)) }
+        ensures pages { IfSome (page_at self.old.pages to) (λ q. self.new.pages ≡ slice_set self.old.pages to (Some (record (with_held q result true) { receiving = true }))) }
     {
         let size = self.block_size(page);
-        let from = self.address(page, index);
-        let target = self.address(to, place);
-        self.table.receive(Block {
-            page: to,
-            index: place,
-        });
+        let from = address(page, index, size);
+        let place = self.table.receive(&mut self.arena, to);
+        let target = address(to, place, size);
         self.arena.set_forward(from, target as u64);
         self.arena.copy_block(from, target, size);
+        place
     }
 
     /// The address of a block of a page, by its number there, if it is held.
@@ -368,8 +360,8 @@ impl Nodes {
         ensures block { IfSome result (λ address. is_held self.now address ≡ true) }
     {
         let class = self.table.class(page)?;
-        if self.table.is_held(Block { page, index }) {
-            Some(2048 * page + index * class.size() as usize)
+        if self.table.is_held(&self.arena, Block { page, index }) {
+            Some(address(page, index, class.size() as usize))
         } else {
             None
         }
@@ -398,8 +390,8 @@ impl Nodes {
         ensures made { IfSome result (λ address. Adds self.old self.new address (new_node address (record { shape = shape; part = part; colour = colour }) identity)) }
         ensures kept { IsNone result → self.new ≡ self.old }
     {
-        let block = self.table.take(class)?;
-        let address = 2048 * block.page + block.index * class.size() as usize;
+        let block = self.table.take(&mut self.arena, class)?;
+        let address = address(block.page, block.index, class.size() as usize);
         self.arena
             .begin(address, shape, part, colour, identity, cells);
         Some(address)

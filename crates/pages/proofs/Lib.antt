@@ -1,5 +1,7 @@
-mod Few
-mod Giving
+pub mod OfBits
+pub mod Threading
+pub mod Indexing
+pub mod Telling
+pub mod Reading
 pub mod Needing
-pub mod Places
-pub mod Taking
+pub mod Taken

@@ -1,4 +1,8 @@
+pub mod Bits
+pub mod BitRow
+pub mod FreeList
+pub mod Index
 pub mod Places
-pub mod Row
 pub mod Table
+pub mod Together
 pub mod View

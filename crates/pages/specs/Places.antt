@@ -1,12 +1,11 @@
 -- Blocks of a page, found from its first on.
-use Rattle.std.specs.Prelude.{◌≢◌, ℕ, ◌≤◌, true, not, slice_get, Option, Some, None, position, IfSome, IsSomeAnd}
-use Rattle.heap_model.specs.Pages.{Page}
+use Rattle.std.specs.Prelude.{◌≡◌, ◌≢◌, ℕ, ◌≤◌, false, true, slice_get, Option, Some, None, IfSome, IsSomeAnd}
+use Rattle.heap_model.specs.Pages.{Page, IsOpen}
 use Rattle.heap_model.specs.Action.{IsNext}
 
--- the first free block of a page in use
-abbrev pub first_open : Option Page → Option ℕ
-first_open None = None
-first_open (Some p) = position not p.held
+-- a page in use that isn't leaving and has a free block
+abbrev pub CanReceive : Option Page → Type 0
+CanReceive o = IsSomeAnd o (λ p. (p.leaving ≡ false) × ((i : ℕ) × IsOpen p i))
 
 -- the page has no held block from a place on
 abbrev pub NoneHeld : ℕ → Option Page → Type 0

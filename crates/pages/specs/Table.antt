@@ -1,8 +1,11 @@
--- The rows, as a list of pages.
-use Rattle.std.specs.Prelude.{List, map, Option}
-use Rattle.heap_model.specs.Pages.{Page}
+-- The table, as the list of its records.
+use Rattle.std.specs.Prelude.{List, Option}
 use Rattle.pages.specs.declared.table.PageTable.TheInside.{Inside}
-use Rattle.pages.specs.Row.{page_in}
+use Rattle.pages.specs.declared.page.PageRecord.{PageRecord}
+use Rattle.pages.specs.Index.{IsIndex}
 
-abbrev pub pages_in : Inside → List (Option Page)
-pages_in t = map page_in t.rows.items
+abbrev pub rows_in : Inside → List (Option PageRecord)
+rows_in t = t.rows.items
+
+abbrev pub IsKept : Inside → Type 0
+IsKept t = IsIndex t.rows.items t.usable.items t.free t.free_blocks.items t.free_pages

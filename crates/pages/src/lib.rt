@@ -1,11 +1,17 @@
-//! The table of pages: which page is in use by which class, and which of its blocks are held. This is
-//! the plain table, a row of flags for each page, searched from page 0.
+//! The table of pages: which page is in use by which class, and which of its blocks are held. The free
+//! blocks of a page are threaded through their headers, and rows of bits find the page of the next block
+//! at once.
 #![tactic(auto)]
 
-pub mod row;
+mod bits;
+mod free_list;
+mod page;
 pub mod table;
 pub mod view;
 
-pub use row::Row;
+pub use page::PageRecord;
 pub use table::{Block, PageTable};
 pub use view::PageView;
+
+#[cfg(test)]
+mod tests;

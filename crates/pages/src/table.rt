@@ -1,19 +1,21 @@
 //! All pages.
-ghost use Rattle.std.specs.Prelude.{◌≡◌, ◌<◌, ◌≤◌, option_map, slice_get, IsTrue, IsSomeAnd, false, ◌^◌, ◌-◌, ◌↔◌, position, length, replicate, IsNone, IfSome, Some, None, true, IfOk, slice_set, slice_index, count_by, sum_by};
-ghost use Rattle.heap_model.specs.Pages.{is_free, is_usable, page_for, page_at, page_of_class, with_held, IsOpen, free_on, free_blocks, has_room, pages_needed, whole_pages};
-ghost use Rattle.heap_model.specs.Pages as pages;
-ghost use Rattle.heap_model.specs.Action.{held_on, closed, is_choosable};
-ghost use Rattle.size_classes.specs.Sizes.{blocks_in};
-ghost use Rattle.pages.specs.Places.{first_open, FindsHeld};
-ghost use Rattle.pages.specs.Row.{page_in};
-ghost use Rattle.pages.specs.View.{view_of};
+ghost use Rattle.std.specs.Prelude.{◌≡◌, ◌+◌, ◌*◌, ◌<◌, ◌≤◌, ◌↔◌, slice_get, slice_set, position, length, replicate, List, ℕ, IsNone, IfSome, IsSomeAnd, Some, None, true, false, IfOk};
+ghost use Rattle.heap_model.specs.Pages.{page_for, page_at, page_of_class, fresh_page, with_held, IsOpen};
+ghost use Rattle.heap_model.specs.Action.{closed};
+ghost use Rattle.pages.specs.Index.{row_at, OfClass, row_usable, row_free, bit, HasFree};
+ghost use Rattle.pages.specs.Places.{CanReceive};
+ghost use Rattle.pages.specs.Together.{pages_in, Together, KeepsHeld};
 
-use crate::row::Row;
-use crate::view::PageView;
+use crate::bits::BitRow;
+use crate::free_list::{pop, push, thread};
+use crate::page::{PageRecord, free_on, is_usable};
 use graph_heap::NoMemory;
-use size_classes::{Class, Need};
+use headers::Arena;
+use size_classes::Class;
 use std::alloc::Global;
 use std::marker::Model;
+
+pub mod reading;
 
 /// A block: the number of its page, and its own on that page, both from 0.
 #[derive(Clone, Copy, Debug, PartialEq, Eq)]
@@ -22,23 +24,37 @@ pub struct Block {
     pub index: usize,
 }
 
-/// The pages of a heap. Contracts see the list of them: each is free, or a class with its marks and
-/// its held blocks.
+/// The pages of a heap: a record for each that is in use; for each class a bit for each page that isn't
+/// leaving and has a free block, and how many such blocks there are; a bit for each free page, and how
+/// many there are. Contracts see the list of the records. With the words of the arena they are the pages.
 #[derive(Drop)]
 pub struct PageTable {
-    rows: Vec<Row>,
+    rows: Vec<Option<PageRecord>>,
+    usable: Vec<BitRow>,
+    free: BitRow,
+    free_blocks: Vec<usize>,
+    free_pages: usize,
 }
 
 impl Model for PageTable {
-    ghost use Rattle.std.specs.Prelude.{List, Option, length, ◌≤◌};
-    ghost use Rattle.heap_model.specs.Pages.{Page};
-    ghost use Rattle.pages.specs.Table.{pages_in};
+    ghost use Rattle.std.specs.Prelude.{List, Option};
+    ghost use Rattle.pages.specs.declared.page.PageRecord.{PageRecord};
+    ghost use Rattle.pages.specs.Table.{rows_in, IsKept};
 
-    ghost Value = { List (Option Page) };
+    ghost Value = { List (Option PageRecord) };
 
-    ghost view = { pages_in };
+    ghost view = { rows_in };
 
-    ghost invariant = { λ t. length t.rows.items ≤ 4096 };
+    ghost invariant = { IsKept };
+}
+
+/// A number of pages, where one that counted or not does or doesn't.
+fn counted(pages: usize, was: bool, is: bool) -> usize
+    requires some { bit was ≤ pages }
+    requires room { pages ≤ 4096 }
+    ensures { result + bit was ≡ pages + bit is }
+{
+    pages - was as usize + is as usize
 }
 
 impl PageTable {
@@ -48,231 +64,196 @@ impl PageTable {
         ensures { IfOk result (λ t. t ≡ replicate pages None) }
     {
         let mut rows = Vec::with_capacity(alloc, pages as usize)?;
-        for _ in 0..pages {
-            rows.push(Row::new(alloc)?)?;
+        'rows: for _ in 0..pages {
+            rows.push(None)?;
         }
-        Ok(PageTable { rows })
-    }
-
-    /// How many pages are free.
-    pub fn free_pages(&self) -> usize
-        ensures free { result ≡ pages.free_pages self.now }
-        ensures within { result ≤ 4096 }
-    {
-        free_rows(self.rows.as_slice())
-    }
-
-    /// How many blocks of a class are free, on pages that aren't leaving.
-    pub fn free_blocks(&self, class: Class) -> usize
-        ensures free { result ≡ free_blocks self.now class }
-        ensures within { result ≤ 2097152 }
-    {
-        free_on_rows(self.rows.as_slice(), class)
-    }
-
-    /// Whether there is room for so many blocks of each class: the blocks that are needed beside the
-    /// free ones are taken in whole pages, and these together are at most the free pages.
-    pub fn room(&self, need: &Need) -> bool
-        ensures { result ≡ has_room self.now (λ class. slice_index need.now class) }
-    {
-        let mut pages = 0u64;
-        for number in 0..38u8 {
-            let class = Class::new(number);
-            pages += self.pages_for(class, need.blocks(class));
+        let mut usable = Vec::with_capacity(alloc, 38)?;
+        'classes: for _ in 0..38u8 {
+            let one = BitRow::new(alloc)?;
+            usable.push(one)?;
         }
-        pages <= self.free_pages() as u64
-    }
-
-    /// How many free pages so many blocks of a class need.
-    fn pages_for(&self, class: Class, blocks: u32) -> u64
-        ensures pages { result ≡ whole_pages class (blocks - free_blocks self.now class) }
-        ensures within { result ≤ 2 ^ 32 }
-    {
-        if blocks == 0 {
-            return 0;
+        let mut free = BitRow::new(alloc)?;
+        for page in 0..pages as usize {
+            free.set(page, true);
         }
-        let missing = u64::from(blocks).saturating_sub(self.free_blocks(class) as u64);
-        missing.div_ceil(u64::from(class.blocks_per_page()))
+        let free_blocks = vec![in alloc; 0; 38]?;
+        Ok(PageTable {
+            rows,
+            usable,
+            free,
+            free_blocks,
+            free_pages: pages as usize,
+        })
     }
 
     /// The first page of the class that isn't leaving and has a free block.
-    #[tactic(auto, using(crate::proofs::Places::places))]
-    pub fn usable(&self, class: Class) -> Option<usize>
-        ensures { result ≡ position (is_usable class) self.now }
+    fn first_usable(&self, class: Class) -> Option<usize>
+        ensures place { result ≡ position (row_usable class) self.now }
+        ensures within { IfSome result (λ k. k < 4096) }
     {
-        usable_row(self.rows.as_slice(), class)
+        self.usable[class.number()].first()
     }
 
     /// The first free page.
-    #[tactic(auto, using(crate::proofs::Places::places))]
     fn first_free(&self) -> Option<usize>
-        ensures { result ≡ position is_free self.now }
+        ensures place { result ≡ position row_free self.now }
+        ensures within { IfSome result (λ k. k < 4096) }
     {
-        free_row(self.rows.as_slice())
+        self.free.first()
     }
 
-    /// The page of the next block of a class.
-    fn page_for(&self, class: Class) -> Option<usize>
-        ensures { result ≡ page_for self.now class }
+    /// The record of a page.
+    fn row(&self, page: usize) -> Option<PageRecord>
+        requires { page < length self.now }
+        ensures row { result ≡ row_at self.now page }
+        ensures few { page < 4096 }
     {
-        match self.usable(class) {
-            Some(page) => Some(page),
-            None => self.first_free(),
-        }
+        self.rows[page]
+    }
+
+    /// Gives a page another record. It was free or of the class, and is.
+    fn put(&mut self, page: usize, class: Class, row: Option<PageRecord>)
+        requires page { page < length self.old }
+        requires was { OfClass class (row_at self.old page) }
+        requires is { OfClass class row }
+        ensures { self.new ≡ slice_set self.old page row }
+    {
+        let old = self.rows[page];
+        let number = class.number();
+        let less = free_on(class, old);
+        let more = free_on(class, row);
+        let was_free = old.is_none();
+        let is_free = row.is_none();
+        self.usable[number].set(page, is_usable(class, row));
+        self.free.set(page, is_free);
+        self.free_blocks[number] = self.free_blocks[number] - less + more;
+        self.free_pages = counted(self.free_pages, was_free, is_free);
+        self.rows[page] = row;
+    }
+
+    /// Gives a free page a class, and puts all its blocks on its list.
+    fn use_page(&mut self, arena: &mut Arena, page: usize, class: Class)
+        requires page { page < length self.old }
+        requires small { page < 4096 }
+        requires together { Together self.old arena.old }
+        requires free { row_at self.old page ≡ None }
+        ensures together { Together self.new arena.new }
+        ensures page { pages_in self.new arena.new ≡ slice_set (pages_in self.old arena.old) page (Some (fresh_page class)) }
+        ensures len { length self.new ≡ length self.old }
+        ensures words { KeepsHeld (pages_in self.old arena.old) arena.old arena.new }
+        ensures usable { HasFree class (row_at self.new page) }
+    {
+        let row = thread(arena, page, class);
+        self.put(page, class, Some(row));
+    }
+
+    /// Takes the first free block of a page in use.
+    fn take_on(&mut self, arena: &mut Arena, page: usize, class: Class) -> usize
+        requires page { page < length self.old }
+        requires together { Together self.old arena.old }
+        requires usable { HasFree class (row_at self.old page) }
+        ensures together { Together self.new arena.new }
+        ensures free { IsOpen (page_of_class class (page_at (pages_in self.old arena.old) page)) result }
+        ensures held { pages_in self.new arena.new ≡ slice_set (pages_in self.old arena.old) page (Some (with_held (page_of_class class (page_at (pages_in self.old arena.old) page)) result true)) }
+        ensures words { KeepsHeld (pages_in self.old arena.old) arena.old arena.new }
+    {
+        let mut row = self.row(page).unwrap();
+        let index = pop(arena, page, &mut row);
+        self.put(page, class, Some(row));
+        index
     }
 
     /// Takes a block of a class: a free one of the first page of the class that isn't leaving and has
     /// one, else of the first free page, which gets the class. None where there is no such page, and
-    /// then nothing changes.
-    pub fn take(&mut self, class: Class) -> Option<Block>
-        ensures none { IsNone result ↔ IsNone (page_for self.old class) }
-        ensures page { IfSome result (λ b. page_for self.old class ≡ Some b.page) }
-        ensures open { IfSome result (λ b. IsOpen (page_of_class class (page_at self.old b.page)) b.index) }
-        ensures held { IfSome result (λ b. self.new ≡ slice_set self.old b.page (Some (with_held (page_of_class class (page_at self.old b.page)) b.index true))) }
-        ensures kept { IsNone result → self.new ≡ self.old }
+    /// then nothing changes. The words of held blocks stay.
+    pub fn take(&mut self, arena: &mut Arena, class: Class) -> Option<Block>
+        requires { Together self.old arena.old }
+        ensures together { Together self.new arena.new }
+        ensures none { IsNone result ↔ IsNone (page_for (pages_in self.old arena.old) class) }
+        ensures page { IfSome result (λ b. page_for (pages_in self.old arena.old) class ≡ Some b.page) }
+        ensures open { IfSome result (λ b. IsOpen (page_of_class class (page_at (pages_in self.old arena.old) b.page)) b.index) }
+        ensures held { IfSome result (λ b. pages_in self.new arena.new ≡ slice_set (pages_in self.old arena.old) b.page (Some (with_held (page_of_class class (page_at (pages_in self.old arena.old) b.page)) b.index true))) }
+        ensures words { IfSome result (λ _. KeepsHeld (pages_in self.old arena.old) arena.old arena.new) }
+        ensures kept { IsNone result → (self.new ≡ self.old) × (arena.new ≡ arena.old) }
     {
-        let page = self.page_for(class)?;
-        let row = &mut self.rows[page];
-        let index = row.take(class);
-        Some(Block { page, index })
+        match self.first_usable(class) {
+            Some(page) => {
+                let index = self.take_on(arena, page, class);
+                Some(Block { page, index })
+            }
+            None => match self.first_free() {
+                Some(page) => {
+                    self.use_page(arena, page, class);
+                    let index = self.take_on(arena, page, class);
+                    Some(Block { page, index })
+                }
+                None => None,
+            },
+        }
     }
 
-    /// How many pages there are.
-    pub fn len(&self) -> usize
-        ensures pages { result ≡ length self.now }
-        ensures within { result ≤ 4096 }
-    {
-        self.rows.len()
-    }
-
-    /// The class of a page that is in use; None for a free page.
-    pub fn class(&self, page: usize) -> Option<Class>
-        requires { page < length self.now }
-        ensures { result ≡ option_map (λ p. p.class) (page_at self.now page) }
-    {
-        self.rows[page].class()
-    }
-
-    /// Whether a block is held. On a free page none is.
-    pub fn is_held(&self, block: Block) -> bool
-        requires { block.page < length self.now }
-        ensures { IsTrue result ↔ IsSomeAnd (page_at self.now block.page) (λ p. slice_get p.held block.index ≡ Some true) }
-    {
-        self.rows[block.page].is_held(block.index)
-    }
-
-    /// How many blocks of a page are held.
-    pub fn held(&self, page: usize) -> usize
-        requires { page < length self.now }
-        ensures held { result ≡ held_on (page_at self.now page) }
-        ensures within { result ≤ 512 }
-    {
-        self.rows[page].held()
-    }
-
-    /// What is told of a page: None where it is free, or where there is no such page.
-    pub fn page(&self, page: usize) -> Option<PageView>
-        ensures view { result ≡ view_of (page_at self.now page) }
-        ensures within { IfSome result (λ v. v.held ≤ 512) }
-    {
-        self.rows.get(page)?.view()
-    }
-
-    /// Gives a held block back. Every other block, and every other page, stays.
-    pub fn give(&mut self, block: Block)
+    /// Gives a held block back. Every other block, and every other page, stays, and so do the words of the
+    /// blocks that are held then.
+    pub fn give(&mut self, arena: &mut Arena, block: Block)
+        requires together { Together self.old arena.old }
         requires page { block.page < length self.old }
-        requires held { IsSomeAnd (page_at self.old block.page) (λ p. slice_get p.held block.index ≡ Some true) }
-        ensures { IfSome (page_at self.old block.page) (λ p. self.new ≡ slice_set self.old block.page (Some (with_held p block.index false))) }
+        requires held { IsSomeAnd (page_at (pages_in self.old arena.old) block.page) (λ p. slice_get p.held block.index ≡ Some true) }
+        ensures together { Together self.new arena.new }
+        ensures given { IfSome (page_at (pages_in self.old arena.old) block.page) (λ p. pages_in self.new arena.new ≡ slice_set (pages_in self.old arena.old) block.page (Some (with_held p block.index false))) }
+        ensures words { KeepsHeld (pages_in self.new arena.new) arena.old arena.new }
     {
-        self.rows[block.page].give(block.index);
+        let mut row = self.row(block.page).unwrap();
+        push(arena, block.page, &mut row, block.index);
+        self.put(block.page, row.class, Some(row));
     }
 
-    /// Whether a page is of the class, and neither leaving nor receiving.
-    pub fn is_choosable(&self, class: Class, page: usize) -> bool
-        requires { page < length self.now }
-        ensures { result ≡ is_choosable class (page_at self.now page) }
+    /// Takes the first free block of a page that isn't leaving, for one that is moved there: it is held,
+    /// and the page receiving. The words of held blocks stay.
+    pub fn receive(&mut self, arena: &mut Arena, page: usize) -> usize
+        requires together { Together self.old arena.old }
+        requires page { page < length self.old }
+        requires free { CanReceive (page_at (pages_in self.old arena.old) page) }
+        ensures together { Together self.new arena.new }
+        ensures open { IsSomeAnd (page_at (pages_in self.old arena.old) page) (λ p. IsOpen p result) }
+        ensures held { IfSome (page_at (pages_in self.old arena.old) page) (λ p. pages_in self.new arena.new ≡ slice_set (pages_in self.old arena.old) page (Some (record (with_held p result true) { receiving = true }))) }
+        ensures words { KeepsHeld (pages_in self.old arena.old) arena.old arena.new }
     {
-        self.rows[page].is_choosable(class)
+        let mut row = self.row(page).unwrap();
+        let index = pop(arena, page, &mut row);
+        row.receiving = true;
+        self.put(page, row.class, Some(row));
+        index
     }
 
-    /// How many free blocks of a class a page has, none if it is leaving.
-    pub fn free_on(&self, class: Class, page: usize) -> usize
-        requires { page < length self.now }
-        ensures free { result ≡ free_on class (page_at self.now page) }
-        ensures within { result ≤ 512 }
-    {
-        self.rows[page].free_on(class)
-    }
-
-    /// The first free block of a page in use.
-    pub fn open_block(&self, page: usize) -> Option<usize>
-        requires { page < length self.now }
-        ensures { result ≡ first_open (page_at self.now page) }
-    {
-        self.rows[page].first_open()
-    }
-
-    /// The first held block of a page from a place on. On a free page none is.
-    pub fn next_held(&self, page: usize, from: usize) -> Option<usize>
-        requires { page < length self.now }
-        ensures finds { FindsHeld (page_at self.now page) from result }
-        ensures within { IfSome result (λ i. i < 512) }
-    {
-        self.rows[page].next_held(from)
-    }
-
-    /// Marks a page in use as leaving: it gets no block from then on.
+    /// Marks a page in use as leaving: it gets no block from then on. With whatever words the table goes
+    /// together, it still does.
     pub fn leave(&mut self, page: usize)
         requires page { page < length self.old }
-        requires receiving { IsSomeAnd (page_at self.old page) (λ p. p.receiving ≡ false) }
-        ensures { IfSome (page_at self.old page) (λ p. self.new ≡ slice_set self.old page (Some (record p { leaving = true }))) }
+        requires receiving { IsSomeAnd (row_at self.old page) (λ r. r.receiving ≡ false) }
+        ensures together { (words : List ℕ) → Together self.old words → Together self.new words }
+        ensures mark { (words : List ℕ) → Together self.old words → IfSome (page_at (pages_in self.old words) page) (λ p. pages_in self.new words ≡ slice_set (pages_in self.old words) page (Some (record p { leaving = true }))) }
     {
-        self.rows[page].leave();
-    }
-
-    /// Takes a free block of a page that isn't leaving for one that is moved there: it is held, and the page
-    /// receiving.
-    pub fn receive(&mut self, block: Block)
-        requires page { block.page < length self.old }
-        requires free { IsSomeAnd (page_at self.old block.page) (λ p. IsOpen p block.index) }
-        requires leaving { IsSomeAnd (page_at self.old block.page) (λ p. p.leaving ≡ false) }
-        ensures { IfSome (page_at self.old block.page) (λ p. self.new ≡ slice_set self.old block.page (Some (record (with_held p block.index true) { receiving = true }))) }
-    {
-        self.rows[block.page].receive(block.index);
+        let mut row = self.row(page).unwrap();
+        row.leaving = true;
+        self.put(page, row.class, Some(row));
     }
 
     /// Closes a page, as the sweeper does when it has looked at all its blocks: the marks leaving and
-    /// receiving go, and if no block is held the page becomes free.
+    /// receiving go, and if no block is held the page becomes free. With whatever words the table goes
+    /// together, it still does.
     pub fn close_page(&mut self, page: usize)
         requires { page < length self.old }
-        ensures { self.new ≡ slice_set self.old page (closed (page_at self.old page)) }
+        ensures together { (words : List ℕ) → Together self.old words → Together self.new words }
+        ensures closed { (words : List ℕ) → Together self.old words → pages_in self.new words ≡ slice_set (pages_in self.old words) page (closed (page_at (pages_in self.old words) page)) }
     {
-        self.rows[page].close();
+        if let Some(mut row) = self.row(page) {
+            if row.held == 0 {
+                self.put(page, row.class, None);
+            } else {
+                row.leaving = false;
+                row.receiving = false;
+                self.put(page, row.class, Some(row));
+            }
+        }
     }
-}
-
-fn usable_row(rows: &[Row], class: Class) -> Option<usize>
-    ensures { result ≡ position (λ r. is_usable class (page_in r)) rows.now }
-{
-    rows.iter().position(|r| r.is_usable(class))
-}
-
-fn free_row(rows: &[Row]) -> Option<usize>
-    ensures { result ≡ position (λ r. is_free (page_in r)) rows.now }
-{
-    rows.iter().position(|r| r.is_free())
-}
-
-fn free_rows(rows: &[Row]) -> usize
-    ensures free { result ≡ count_by (λ r. is_free (page_in r)) rows.now }
-    ensures within { result ≤ length rows.now }
-{
-    rows.iter().filter(|r| r.is_free()).count()
-}
-
-fn free_on_rows(rows: &[Row], class: Class) -> usize
-    requires { length rows.now ≤ 4096 }
-    ensures { result ≡ sum_by (λ r. free_on class (page_in r)) rows.now }
-{
-    rows.iter().map(|r| r.free_on(class)).sum()
 }

@@ -1,4 +1,4 @@
-use Rattle.std.proofs.Common.{inr, ◌+◌, ◌<◌, refl, sym, subst, ap, ◌∙◌, arith}
+use Rattle.std.proofs.Common.{inr, ◌+◌, ◌<◌, refl, sym, subst, ap, arith}
 use Rattle.std.specs.Prelude.{is_some}
 use Rattle.size_classes.specs.Sizes.{size_of}
 use Rattle.heap_model.specs.declared.phase.Phase.TheVariants as phases
@@ -7,7 +7,7 @@ use Rattle.heap_model.specs.Action.{Action, goes_to}
 use Rattle.raw_heap.specs.declared.heap.RawHeap.{RawHeap}
 use Rattle.raw_heap.specs.Heap.{state_of}
 use Rattle.raw_heap.proofs.Standing.{units_small}
-use Rattle.defrag.proofs.Moves.{page_in, class_small, chosen_small, costs_one, looks_again, ends, costs_words, has_place, can_move, moves_block}
+use Rattle.defrag.proofs.Moves.{page_in, class_small, chosen_small, costs_one, looks_again, ends, costs_words, can_move, moves_block}
 use Rattle.defrag.proofs.moving.empty_next.Goals as goal
 
 pub next_move-requires : goal.next_move-requires
@@ -38,15 +38,8 @@ returns-then-words-room-clause-acts c = (
   ),
 )
 
-pub unwrap-place-requires : goal.unwrap-place-requires
-unwrap-place-requires c =
-    ap is_some c.open_block.ensures
-    ∙ has_place c.args.heap.now c.requires.heap c.args.class c.args.page c.args.block c.args.chosen c.requires.phase c.in-Some.next c.in-Some.ensures.next
-
 pub move_block-requires : goal.move_block-requires
-move_block-requires c =
-    can_move c.args.heap.now c.requires.heap c.args.class c.args.page c.args.block c.args.chosen c.requires.phase c.in-Some.next c.in-Some.ensures.next
-    c.unwrap-place.result (sym c.open_block.ensures ∙ c.unwrap-place.ensures)
+move_block-requires c = can_move c.args.heap.now c.requires.heap c.args.class c.args.page c.args.block c.args.chosen c.requires.phase c.in-Some.next c.in-Some.ensures.next
 
 pub go_to-requires : goal.go_to-requires
 go_to-requires c = let u = units_small c.args.heap.now c.requires.heap in let s = c.size-words.ensures.within in omega arith
@@ -56,6 +49,6 @@ returns-clause-acts c = (
   subst (λ (x : RawHeap). Action (state_of c.args.heap.now) c.size-words.result (state_of x)) (sym c.go_to.ensures)
       (subst (λ w. Action (state_of c.args.heap.now) w (goes_to (record (state_of c.args.heap.now) { store = c.move_block.new.self }) w (phases.Moving (moves.Emptying c.args.class c.args.page (c.in-Some.next.index + 1) c.args.chosen)))) (sym c.size-words.ensures.size)
       (moves_block c.args.heap.now c.requires.heap c.args.class c.args.page c.args.block c.args.chosen c.requires.phase c.in-Some.next c.in-Some.ensures.next
-      c.unwrap-place.result (sym c.open_block.ensures ∙ c.unwrap-place.ensures) c.move_block.new.self c.move_block.ensures.moved c.move_block.ensures.pages)),
+      c.move_block.result c.move_block.new.self c.move_block.ensures.free c.move_block.ensures.moved c.move_block.ensures.pages)),
   c.if-words-room.false,
 )

@@ -1,8 +1,14 @@
-use Rattle.nodes.proofs.Leaving.{keeps_by, left_store_by}
+use Rattle.nodes.proofs.Leaving.{receiving_by, keeps_by, left_store_by}
 use Rattle.nodes.proofs.nodes.Nodes.leave.Goals as goal
 
+pub leave-requires-clause-receiving : goal.leave-requires-clause-receiving
+leave-requires-clause-receiving c = receiving_by _ _ _ c.self.view_is c.args.page c.requires.page c.requires.receiving
+
 pub invariant_of-self : goal.invariant_of-self
-invariant_of-self c = left_store_by _ _ c.self.view_is c.self.invariant c.args.page c.requires.receiving c.leave.new.self c.leave.ensures
+invariant_of-self c = record {
+  whole = left_store_by _ _ c.self.view_is c.self.invariant.whole c.args.page c.requires.receiving _ (c.leave.ensures.mark _ c.self.invariant.together);
+  together = c.leave.ensures.together _ c.self.invariant.together;
+}
 
 pub returns-clause-kept : goal.returns-clause-kept
-returns-clause-kept c = keeps_by _ _ c.self.view_is c.self.invariant c.args.page c.requires.receiving c.leave.new.self c.leave.ensures
+returns-clause-kept c = keeps_by _ _ c.self.view_is c.self.invariant.whole c.args.page c.requires.receiving _ (c.leave.ensures.mark _ c.self.invariant.together)

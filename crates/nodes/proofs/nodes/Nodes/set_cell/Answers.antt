@@ -1,8 +1,11 @@
-use Rattle.nodes.proofs.Writing.{cell_inside, writes_by}
+use Rattle.nodes.proofs.Writing.{cell_inside, rewritten_nodes, rewrites}
 use Rattle.nodes.proofs.nodes.Nodes.set_cell.Goals as goal
 
 pub set_cell-requires : goal.set_cell-requires
-set_cell-requires c = cell_inside _ _ c.self.view_is c.self.invariant c.args.block c.requires.held c.args.i c.requires.within
+set_cell-requires c = cell_inside _ _ c.self.view_is c.self.invariant.whole c.args.block c.requires.held c.args.i c.requires.within
+
+pub invariant_of-self : goal.invariant_of-self
+invariant_of-self c = rewritten_nodes _ _ _ c.self.view_is c.self.invariant c.args.block c.requires.held _ c.args.i c.args.value c.requires.within c.set_cell.ensures
 
 pub returns : goal.returns
-returns c = writes_by _ _ c.self.view_is c.self.invariant c.args.block c.requires.held c.args.i c.requires.within c.args.value _ c.set_cell.ensures
+returns c = rewrites _ _ _ c.self.view_is c.self.invariant c.args.block c.requires.held _ c.args.i c.args.value c.requires.within c.set_cell.ensures

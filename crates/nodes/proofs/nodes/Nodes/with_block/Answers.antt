@@ -7,30 +7,30 @@ use Rattle.nodes.proofs.nodes.Nodes.with_block.Goals as goal
 use Rattle.nodes.proofs.nodes.Nodes.with_block.Goals.{then-is_main, else-is_main}
 
 pub part-is_first-requires : goal.part-is_first-requires
-part-is_first-requires c = omega (arith, header_inside _ _ c.self.view_is c.self.invariant c.args.block c.requires.held)
+part-is_first-requires c = omega (arith, header_inside _ _ c.self.view_is c.self.invariant.whole c.args.block c.requires.held)
 
 pub overflow_add-result : goal.overflow_add-result
 overflow_add-result c =
     let f = few_below c.args.self.now c.args.block c.args.before c.requires.before in
-    let b = header_inside _ _ c.self.view_is c.self.invariant c.args.block c.requires.held in
-    let w = c.self.invariant.words in
-    let p = c.self.invariant.few in
+    let b = header_inside _ _ c.self.view_is c.self.invariant.whole c.args.block c.requires.held in
+    let w = c.self.invariant.whole.words in
+    let p = c.self.invariant.whole.few in
     omega (arith, f.0, b, w, p, c.from.ensures, number_few c.if-is_main.from)
 
 pub overflow_add-result-2 : goal.overflow_add-result-2
 overflow_add-result-2 c =
     let f = few_below c.args.self.now c.args.block c.args.before c.requires.before in
-    let b = header_inside _ _ c.self.view_is c.self.invariant c.args.block c.requires.held in
-    let w = c.self.invariant.words in
-    let p = c.self.invariant.few in
+    let b = header_inside _ _ c.self.view_is c.self.invariant.whole c.args.block c.requires.held in
+    let w = c.self.invariant.whole.words in
+    let p = c.self.invariant.whole.few in
     omega (arith, f.1, b, w, p, c.from-2.ensures, number_few (c.forward_of.result == c.args.block))
 
 pub overflow_add-result-3 : goal.overflow_add-result-3
 overflow_add-result-3 c =
     let f = few_below c.args.self.now c.args.block c.args.before c.requires.before in
-    let b = header_inside _ _ c.self.view_is c.self.invariant c.args.block c.requires.held in
-    let w = c.self.invariant.words in
-    let p = c.self.invariant.few in
+    let b = header_inside _ _ c.self.view_is c.self.invariant.whole c.args.block c.requires.held in
+    let w = c.self.invariant.whole.words in
+    let p = c.self.invariant.whole.few in
     omega (arith, f.2, b, w, p, c.from-3.ensures, number_few (not (c.forward_of.result == c.args.block)))
 
 pub returns : goal.returns
@@ -42,5 +42,5 @@ returns c =
     block_counted c.args.self.now c.args.block c.args.before (c.forward_of.result == c.args.block) (c.part-is_first.result == 0) c.from.result c.from-2.result c.from-3.result
     c.requires.held c.requires.before
     (ap (λ n. n == c.args.block) (sym c.forward_of.ensures))
-    (ap (λ n. n == 0) (sym (c.part-is_first.ensures.says ∙ part_by _ _ c.self.view_is c.self.invariant c.args.block c.requires.held)))
+    (ap (λ n. n == 0) (sym (c.part-is_first.ensures.says ∙ part_by _ _ c.self.view_is c.self.invariant.whole c.args.block c.requires.held)))
     (c.from.ensures ∙ ap from_bool both) c.from-2.ensures c.from-3.ensures

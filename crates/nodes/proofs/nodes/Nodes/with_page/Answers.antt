@@ -10,19 +10,19 @@ use Rattle.nodes.proofs.nodes.Nodes.with_page.Goals.{in-Some-held_block, in_defa
 
 pub returns-in_default : goal.returns-in_default
 returns-in_default c =
-    let none = subst (λ (x : Store). option_map (λ (p : Page). p.class) (page_at x.pages c.args.page) ≡ None) c.self.view_is (sym c.in_default.ensures) in
-    c.requires.before ∙ sym (free_done c.args.self.now (subst IsStore c.self.view_is c.self.invariant) c.args.page none)
+    let none = subst (λ (x : Store). option_map (λ (p : Page). p.class) (page_at x.pages c.args.page) ≡ None) c.self.view_is (sym (c.in_default.ensures _ c.self.invariant.together)) in
+    c.requires.before ∙ sym (free_done c.args.self.now (subst IsStore c.self.view_is c.self.invariant.whole) c.args.page none)
 
 pub with_block-copies-requires-clause-before : goal.with_block-copies-requires-clause-before
 with_block-copies-requires-clause-before c =
-    let is = subst (λ (x : Store). option_map (λ (p : Page). p.class) (page_at x.pages c.args.page) ≡ Some c.in-Some.class) c.self.view_is (sym c.in-Some.ensures) in
-    let b = block_there c.args.self.now (subst IsStore c.self.view_is c.self.invariant) c.args.page c.in-Some.class is c.loop-index.index c.in-Some-held_block.block c.in-Some-held_block.ensures.address in
+    let is = subst (λ (x : Store). option_map (λ (p : Page). p.class) (page_at x.pages c.args.page) ≡ Some c.in-Some.class) c.self.view_is (sym (c.in-Some.ensures _ c.self.invariant.together)) in
+    let b = block_there c.args.self.now (subst IsStore c.self.view_is c.self.invariant.whole) c.args.page c.in-Some.class is c.loop-index.index c.in-Some-held_block.block c.in-Some-held_block.ensures.address in
     c.loop-index.invariant ∙ ap (copies_below c.args.self.now) (sym b)
 
 pub loop-index-preserved : goal.loop-index-preserved
 loop-index-preserved c =
-    let w = subst IsStore c.self.view_is c.self.invariant in
-    let is = subst (λ (x : Store). option_map (λ (p : Page). p.class) (page_at x.pages c.args.page) ≡ Some c.in-Some.class) c.self.view_is (sym c.in-Some.ensures) in
+    let w = subst IsStore c.self.view_is c.self.invariant.whole in
+    let is = subst (λ (x : Store). option_map (λ (p : Page). p.class) (page_at x.pages c.args.page) ≡ Some c.in-Some.class) c.self.view_is (sym (c.in-Some.ensures _ c.self.invariant.together)) in
     let below : c.loop-index.index < blocks_in c.in-Some.class = subst (λ n. c.loop-index.index < n) c.blocks_per_page-index-end.ensures.blocks c.loop-index-test.true in
     elim c.match-held_block.branch [
       | in-Some-held_block v ↦ (let b = block_there c.args.self.now w c.args.page c.in-Some.class is c.loop-index.index v.in-Some-held_block.block v.in-Some-held_block.ensures.address in
@@ -33,6 +33,6 @@ loop-index-preserved c =
 
 pub returns : goal.returns
 returns c =
-    let is = subst (λ (x : Store). option_map (λ (p : Page). p.class) (page_at x.pages c.args.page) ≡ Some c.in-Some.class) c.self.view_is (sym c.in-Some.ensures) in
+    let is = subst (λ (x : Store). option_map (λ (p : Page). p.class) (page_at x.pages c.args.page) ≡ Some c.in-Some.class) c.self.view_is (sym (c.in-Some.ensures _ c.self.invariant.together)) in
     let e : c.loop-index.index ≡ c.blocks_per_page-index-end.result = omega arith in
-    c.loop-index.invariant ∙ all_done c.args.self.now (subst IsStore c.self.view_is c.self.invariant) c.args.page c.in-Some.class is c.loop-index.index (e ∙ c.blocks_per_page-index-end.ensures.blocks)
+    c.loop-index.invariant ∙ all_done c.args.self.now (subst IsStore c.self.view_is c.self.invariant.whole) c.args.page c.in-Some.class is c.loop-index.index (e ∙ c.blocks_per_page-index-end.ensures.blocks)

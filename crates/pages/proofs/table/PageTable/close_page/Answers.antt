@@ -1,10 +1,20 @@
-use Rattle.std.proofs.Common.{◌<◌, length, ap, arith}
-use Rattle.std.proofs.lemmas.List.{length-map}
-use Rattle.pages.specs.Row.{page_in}
-use Rattle.pages.proofs.Giving.{row_closed}
+use Rattle.std.proofs.Common.{false, Some, None, ap, ◌∙◌, sym, set, cond, eq-eqb}
+use Rattle.std.proofs.lemmas.Bool.{ne_eqb}
+use Rattle.pages.proofs.Reading.{closed_by, unchanged_by}
 use Rattle.pages.proofs.table.PageTable.close_page.Goals as goal
 
-pub returns : goal.returns
-returns c =
-    let below : c.args.page < length c.self.inside.rows.items = omega (arith, c.requires, ap length c.self.view_is, length-map c.self.inside.rows.items page_in) in
-    row_closed c.self.inside.rows.items c.args.self.now c.self.view_is c.args.page c.index_mut.result.now c.index_mut.ensures.value below c.close.new.self c.close.ensures
+pub returns-then-row-eq0-clause-closed : goal.returns-then-row-eq0-clause-closed
+returns-then-row-eq0-clause-closed c = λ words t.
+    let r = c.in-Some.row in
+    closed_by c.args.self.now words t c.args.page c.requires (Some r) c.put.new.self (sym c.in-Some.is ∙ c.row.ensures.row)
+    (c.put.ensures ∙ ap (λ b. set c.args.self.now c.args.page (cond b None (Some (record r { leaving = false; receiving = false })))) (sym (eq-eqb r.held 0 c.if-row-eq0.true)))
+
+pub returns-else-row-eq0-clause-closed : goal.returns-else-row-eq0-clause-closed
+returns-else-row-eq0-clause-closed c = λ words t.
+    let r = c.in-Some.row in
+    closed_by c.args.self.now words t c.args.page c.requires (Some r) c.put-else-row-eq0.new.self (sym c.in-Some.is ∙ c.row.ensures.row)
+    (c.put-else-row-eq0.ensures ∙ ap (λ b. set c.args.self.now c.args.page (cond b None (Some (record r { leaving = false; receiving = false })))) (sym (ne_eqb r.held 0 c.if-row-eq0.false)))
+
+pub returns-in_default-clause-closed : goal.returns-in_default-clause-closed
+returns-in_default-clause-closed c = λ words t.
+    closed_by c.args.self.now words t c.args.page c.requires None c.args.self.now (sym c.in_default.is ∙ c.row.ensures.row) (unchanged_by c.args.self.now words t c.args.page c.requires c.row.result c.row.ensures.row c.in_default.is)

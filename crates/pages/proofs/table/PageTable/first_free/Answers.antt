@@ -1,12 +1,11 @@
-use Rattle.std.proofs.Common.{◌∙◌, ap, sym, List, Option}
+use Rattle.std.proofs.Common.{None, ap, ◌∙◌}
 use Rattle.std.specs.Prelude.{position}
-use Rattle.heap_model.specs.Pages.{Page, is_free}
-use Rattle.pages.specs.declared.row.Row.{Row}
-use Rattle.pages.specs.Row.{page_in}
-use Rattle.pages.proofs.Places.{position-map}
+use Rattle.pages.specs.BitRow.{has_bit}
+use Rattle.pages.specs.Index.{row_free}
+use Rattle.pages.proofs.Indexing.{lowest_is}
 use Rattle.pages.proofs.table.PageTable.first_free.Goals as goal
 
-pub returns : goal.returns
-returns c =
-    c.free_row.ensures ∙ ap (λ (rows : List Row). position (λ r. is_free (page_in r)) rows) c.as_slice.ensures.value
-    ∙ sym (position-map page_in is_free c.self.inside.rows.items) ∙ ap (λ (pages : List (Option Page)). position is_free pages) c.self.view_is
+pub returns-clause-place : goal.returns-clause-place
+returns-clause-place c =
+    lowest_is row_free c.self.inside.rows.items None (has_bit c.self.inside.free) c.self.invariant.few c.self.invariant.free_bits c.self.invariant.free_past
+    c.first.result c.first.ensures.within c.first.ensures.here c.first.ensures.first c.first.ensures.none ∙ ap (position row_free) c.self.view_is

@@ -1,11 +1,6 @@
-use Rattle.std.proofs.Common.{◌<◌, length, ap, arith, true}
-use Rattle.std.proofs.lemmas.List.{length-map}
-use Rattle.heap_model.specs.Pages.{Page}
-use Rattle.pages.specs.Row.{page_in}
-use Rattle.pages.proofs.Giving.{row_becomes}
+use Rattle.std.proofs.Common.{◌∙◌, sym}
+use Rattle.pages.proofs.Reading.{left_by}
 use Rattle.pages.proofs.table.PageTable.leave.Goals as goal
 
-pub returns : goal.returns
-returns c =
-    let below : c.args.page < length c.self.inside.rows.items = omega (arith, c.requires.page, ap length c.self.view_is, length-map c.self.inside.rows.items page_in) in
-    row_becomes c.self.inside.rows.items c.args.self.now c.self.view_is c.args.page c.index_mut.result.now c.index_mut.ensures.value below (λ (p : Page). record p { leaving = true }) c.leave.new.self c.leave.ensures
+pub returns-clause-mark : goal.returns-clause-mark
+returns-clause-mark c = λ words t. left_by c.args.self.now words t c.args.page c.requires.page c.unwrap-row.result c.put.new.self (sym c.unwrap-row.ensures ∙ c.row.ensures.row) c.put.ensures

@@ -1,7 +1,20 @@
-use Rattle.std.proofs.Common.{◌≡◌, map, replicate, None, Option}
-use Rattle.heap_model.specs.Pages.{Page}
-use Rattle.pages.specs.Row.{page_in}
+use Rattle.std.proofs.Common.{◌≡◌, ℕ, ◌<◌, ◌≤◌, length, replicate, Option, None}
+use Rattle.pages.specs.declared.page.PageRecord.{PageRecord}
+use Rattle.pages.specs.BitRow.{has_bit}
+use Rattle.pages.specs.Index.{class_bit}
 use Rattle.pages.proofs.table.PageTable.new.Given as goal
 
-abbrev pub invariant-loop : goal.invariant-loop
-invariant-loop l = map page_in l.rows.items ≡ replicate {A = Option Page} l.counter None
+abbrev pub invariant-rows : goal.invariant-rows
+invariant-rows l = l.rows.items ≡ replicate {A = Option PageRecord} l.counter None
+
+abbrev pub invariant-classes : goal.invariant-classes
+invariant-classes l = record {
+  long : length l.usable.items ≡ l.counter;
+  none : (c k : ℕ) → c < l.counter → k < 4096 → class_bit l.usable.items c k ≡ 0;
+}
+
+abbrev pub invariant-loop-page : goal.invariant-loop-page
+invariant-loop-page l = record {
+  some : (k : ℕ) → k < l.page → has_bit l.free k ≡ 1;
+  past : (k : ℕ) → l.page ≤ k → k < 4096 → has_bit l.free k ≡ 0;
+}

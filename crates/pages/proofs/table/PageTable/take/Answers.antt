@@ -1,27 +1,36 @@
-use Rattle.std.proofs.Common.{◌≡◌, ℕ, ◌∙◌, sym, subst, ◌⊎◌, List, Option, Some, true, map, get_or}
-use Rattle.std.specs.Prelude.{slice_set, IsTrue}
-use Rattle.heap_model.specs.Pages.{Page, is_free, is_usable, page_for, page_at, page_of_class, with_held}
-use Rattle.pages.specs.declared.row.Row.{Row}
-use Rattle.pages.specs.Row.{page_in}
-use Rattle.pages.proofs.Taking.{may_take, taken_by}
+use Rattle.std.proofs.Common.{Some, None}
+use Rattle.heap_model.specs.Pages.{page_for}
+use Rattle.pages.specs.Together.{pages_in}
+use Rattle.pages.proofs.Telling.{usable_here, free_here, for_usable, for_free, open_fresh, held_fresh, some_iff, none_iff, keeps_both}
 use Rattle.pages.proofs.table.PageTable.take.Goals as goal
 
--- of the pages that the rows are seen as
-module _ (rows : List Row) (pages : List (Option Page)) (is : map page_in rows ≡ pages) (page : ℕ) (row : Row) (there : row ≡ get_or rows page row) (class : ℕ) (found : page_for pages class ≡ Some page) where
-  found_in : page_for (map page_in rows) class ≡ Some page
-  found_in = subst (λ x. page_for x class ≡ Some page) (sym is) found
+pub take_on-index-requires-clause-usable : goal.take_on-index-requires-clause-usable
+take_on-index-requires-clause-usable c = (usable_here c.args.self.now c.args.class c.in-Some.page c.in-Some.ensures.place).1
 
-  may : IsTrue (is_free (page_in row)) ⊎ IsTrue (is_usable class (page_in row))
-  may = may_take rows page row there class found_in
+pub use_page-requires-clause-free : goal.use_page-requires-clause-free
+use_page-requires-clause-free c = (free_here c.args.self.now c.in-Some-first_free.page c.in-Some-first_free.ensures.place).1
 
-  taken : (block : ℕ) (new : Row) → page_in new ≡ Some (with_held (page_of_class class (page_in row)) block true)
-      → map page_in (slice_set rows page new) ≡ slice_set pages page (Some (with_held (page_of_class class (page_at pages page)) block true))
-  taken block new e = subst (λ x. map page_in (slice_set rows page new) ≡ slice_set x page (Some (with_held (page_of_class class (page_at x page)) block true))) is (taken_by rows page row there class block new found_in e)
+pub returns-in-Some-clause-none : goal.returns-in-Some-clause-none
+returns-in-Some-clause-none c = some_iff (page_for (pages_in c.args.self.now c.args.arena.now) c.args.class) c.in-Some.page (for_usable c.args.self.now c.args.arena.now c.requires c.args.class c.in-Some.page c.in-Some.ensures.place)
 
-pub take-index-requires : goal.take-index-requires
-take-index-requires c =
-    may c.self.inside.rows.items c.args.self.now c.self.view_is c.in_ok-page.page c.index_mut-row.result.now c.index_mut-row.ensures.value c.args.class (sym c.page_for.ensures ∙ c.in_ok-page.was)
+pub returns-in-Some-clause-page : goal.returns-in-Some-clause-page
+returns-in-Some-clause-page c = (for_usable c.args.self.now c.args.arena.now c.requires c.args.class c.in-Some.page c.in-Some.ensures.place)
 
-pub returns-clause-held : goal.returns-clause-held
-returns-clause-held c =
-    taken c.self.inside.rows.items c.args.self.now c.self.view_is c.in_ok-page.page c.index_mut-row.result.now c.index_mut-row.ensures.value c.args.class (sym c.page_for.ensures ∙ c.in_ok-page.was) c.take-index.result c.take-index.new.self c.take-index.ensures.held
+pub returns-in-Some-first_free-clause-none : goal.returns-in-Some-first_free-clause-none
+returns-in-Some-first_free-clause-none c = some_iff (page_for (pages_in c.args.self.now c.args.arena.now) c.args.class) c.in-Some-first_free.page (for_free c.args.self.now c.args.arena.now c.requires c.args.class (Some c.in-Some-first_free.page) c.in-None.ensures.place c.in-Some-first_free.ensures.place)
+
+pub returns-in-Some-first_free-clause-page : goal.returns-in-Some-first_free-clause-page
+returns-in-Some-first_free-clause-page c = (for_free c.args.self.now c.args.arena.now c.requires c.args.class (Some c.in-Some-first_free.page) c.in-None.ensures.place c.in-Some-first_free.ensures.place)
+
+pub returns-in-Some-first_free-clause-open : goal.returns-in-Some-first_free-clause-open
+returns-in-Some-first_free-clause-open c = open_fresh c.args.self.now c.args.arena.now c.in-Some-first_free.page c.args.class (free_here c.args.self.now c.in-Some-first_free.page c.in-Some-first_free.ensures.place).0 (free_here c.args.self.now c.in-Some-first_free.page c.in-Some-first_free.ensures.place).1 (pages_in c.use_page.new.self c.use_page.new.arena) c.use_page.ensures.page c.take_on-index-in-Some-first_free.result c.take_on-index-in-Some-first_free.ensures.free
+
+pub returns-in-Some-first_free-clause-held : goal.returns-in-Some-first_free-clause-held
+returns-in-Some-first_free-clause-held c = held_fresh c.args.self.now c.args.arena.now c.in-Some-first_free.page c.args.class (free_here c.args.self.now c.in-Some-first_free.page c.in-Some-first_free.ensures.place).0 (free_here c.args.self.now c.in-Some-first_free.page c.in-Some-first_free.ensures.place).1 (pages_in c.use_page.new.self c.use_page.new.arena) c.use_page.ensures.page c.take_on-index-in-Some-first_free.result _ c.take_on-index-in-Some-first_free.ensures.held
+
+pub returns-in-None-first_free-clause-none : goal.returns-in-None-first_free-clause-none
+returns-in-None-first_free-clause-none c = none_iff (page_for (pages_in c.args.self.now c.args.arena.now) c.args.class) (for_free c.args.self.now c.args.arena.now c.requires c.args.class None c.in-None.ensures.place c.in-None-first_free.ensures.place)
+
+pub returns-in-Some-first_free-clause-words : goal.returns-in-Some-first_free-clause-words
+returns-in-Some-first_free-clause-words c =
+    keeps_both c.args.self.now c.args.arena.now c.use_page.new.arena c.take_on-index-in-Some-first_free.new.arena c.in-Some-first_free.page (pages_in c.use_page.new.self c.use_page.new.arena) _ (free_here c.args.self.now c.in-Some-first_free.page c.in-Some-first_free.ensures.place).0 (free_here c.args.self.now c.in-Some-first_free.page c.in-Some-first_free.ensures.place).1 c.use_page.ensures.page c.use_page.ensures.words c.take_on-index-in-Some-first_free.ensures.words

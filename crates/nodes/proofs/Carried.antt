@@ -1,0 +1,45 @@
+-- A change of blocks, with words that stayed in held blocks before it or after it.
+use Rattle.std.proofs.Common.{◌≡◌, ℕ, true, List, Option, length, ap, ◌∙◌}
+use Rattle.heap_model.specs.Action.{Frees, MovesBlock}
+use Rattle.heap_model.specs.Block.{Node, with_forward}
+use Rattle.heap_model.specs.Pages.{Page}
+use Rattle.heap_model.specs.Store.{Store, IsStore, Adds, is_held}
+use Rattle.pages.specs.Together.{KeepsHeld}
+use Rattle.nodes.proofs.Joining.{node_kept}
+
+pub still_store : (pages : List (Option Page)) (words new : List ℕ) → length new ≡ length words → IsStore (record { pages = pages; words = words }) → IsStore (record { pages = pages; words = new })
+still_store pages words new e s = record { pages = s.pages; words = e ∙ s.words; few = s.few }
+
+-- words stayed, and then a block was added or moved
+module _ (pages : List (Option Page)) (words mid : List ℕ) (kept : KeepsHeld pages words mid) (new : Store) where
+  pub adds_then : (a : ℕ) (node : Node) → Adds (record { pages = pages; words = mid }) new a node → Adds (record { pages = pages; words = words }) new a node
+  unfolding is_held
+  adds_then a node x = record {
+    free = x.free;
+    held = x.held;
+    here = x.here;
+    others = λ b h. x.others b h ∙ node_kept pages words mid kept b h;
+    same = x.same;
+  }
+
+  pub moves_then : (from to : ℕ) → is_held (record { pages = pages; words = words }) from ≡ true → MovesBlock (record { pages = pages; words = mid }) new from to → MovesBlock (record { pages = pages; words = words }) new from to
+  unfolding is_held
+  moves_then from to h x =
+      let source = node_kept pages words mid kept from h in
+      record {
+        free = x.free;
+        held = x.held;
+        copy = x.copy ∙ ap (λ n. with_forward n to) source;
+        forward = x.forward ∙ ap (λ n. with_forward n to) source;
+        same = x.same;
+        nodes = λ b ne h. x.nodes b ne h ∙ node_kept pages words mid kept b h;
+      }
+
+-- a block was freed, and the words of the others stayed
+pub frees_then : (s : Store) (pages : List (Option Page)) (new : List ℕ) → KeepsHeld pages s.words new → (a : ℕ) → Frees s (record { pages = pages; words = s.words }) a → Frees s (record { pages = pages; words = new }) a
+unfolding is_held
+frees_then s pages new kept a x = record {
+  gone = x.gone;
+  same = x.same;
+  nodes = λ b ne h. node_kept pages s.words new kept b (x.same b ne ∙ h) ∙ x.nodes b ne h;
+}

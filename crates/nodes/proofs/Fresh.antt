@@ -1,0 +1,40 @@
+-- Free pages alone.
+use Rattle.std.proofs.Common.{◌≡◌, ℕ, ◌*◌, ◌<◌, ◌≤◌, List, Option, Some, None, length, get_or, replicate, ap, ◌∙◌, sym, subst, arith}
+use Rattle.std.proofs.lemmas.List.{length-replicate, get_or-replicate, same_lists}
+use Rattle.std.proofs.lemmas.Option.{get_or_from_slice_get, none-some}
+use Rattle.heap_model.specs.Pages.{Page}
+use Rattle.heap_model.specs.Store.{Store, IsStore}
+use Rattle.heap_model.proofs.Opening.{page_none}
+use Rattle.pages.specs.declared.page.PageRecord.{PageRecord}
+use Rattle.pages.specs.Together.{page_by, pages_in}
+use Rattle.pages.proofs.Indexing.{row_none}
+use Rattle.pages.proofs.Telling.{fresh_together, length-pages, page_is}
+use Rattle.nodes.specs.Joined.{joined, AreNodes}
+
+free_pages : (n : ℕ) → pages_in (replicate n None) (replicate (2048 * n) 0) ≡ replicate n None
+free_pages n =
+    let rows : List (Option PageRecord) = replicate n None in
+    let words : List ℕ = replicate (2048 * n) 0 in
+    let count : length rows ≡ n = length-replicate {A = Option PageRecord} n None in
+    same_lists (pages_in rows words) (replicate n None) (length-pages rows words ∙ count ∙ sym (length-replicate {A = Option Page} n None))
+    (λ k d h. let below : k < length rows = omega (arith, h, length-pages rows words) in
+    page_is rows words k d below ∙ ap (page_by words (2048 * k)) (row_none n k) ∙ sym (get_or-replicate {A = Option Page} n k None d (omega (arith, below, count))))
+
+module _ (n : ℕ) (few : n ≤ 4096) (rows : List (Option PageRecord)) (words : List ℕ) (rows_are : rows ≡ replicate n None) (words_are : words ≡ replicate (2048 * n) 0) where
+  both : (P : List (Option PageRecord) → List ℕ → Type 0) → P (replicate n None) (replicate (2048 * n) 0) → P rows words
+  both P p = subst (λ r. P r words) (sym rows_are) (subst (P (replicate n None)) (sym words_are) p)
+
+  pub fresh_is : joined rows words ≡ record { pages = replicate n None; words = replicate (2048 * n) 0 }
+  fresh_is = both (λ r w. joined r w ≡ record { pages = replicate n None; words = replicate (2048 * n) 0 }) (ap (λ (g : List (Option Page)). let s : Store = record { pages = g; words = replicate (2048 * n) 0 } in s) (free_pages n))
+
+  free_store : (s : Store) → s.pages ≡ replicate n None → length s.words ≡ 2048 * n → IsStore s
+  free_store s p w =
+      let count : length s.pages ≡ n = ap (λ (g : List (Option Page)). length g) p ∙ length-replicate {A = Option Page} n None in
+      record {
+        pages = λ k q e. absurd (none-some q (sym (page_none n k) ∙ ap (λ (g : List (Option Page)). get_or g k None) (sym p) ∙ get_or_from_slice_get s.pages k (Some q) None e));
+        words = w ∙ ap (λ m. 2048 * m) (sym count);
+        few = omega (arith, count, few);
+      }
+
+  pub fresh_nodes : AreNodes rows words
+  fresh_nodes = both AreNodes (record { whole = free_store (joined (replicate n None) (replicate (2048 * n) 0)) (free_pages n) (length-replicate {A = ℕ} (2048 * n) 0); together = fresh_together n })

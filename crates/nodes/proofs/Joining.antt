@@ -1,0 +1,129 @@
+-- The words of held blocks, and writes of them, with the records.
+use Rattle.std.proofs.Common.{◌≡◌, ℕ, ◌+◌, ◌-◌, ◌*◌, ◌/◌, ◌%◌, ◌<◌, ◌≤◌, true, false, not, eqb, List, Option, Some, length, get_or, set, ap, ◌∙◌, sym, subst, arith, refl, length-set, inl, inr}
+use Rattle.std.specs.Prelude.{slice_get}
+use Rattle.std.proofs.lemmas.Bool.{ne_eqb}
+use Rattle.std.proofs.lemmas.Grind.{common_steps}
+use Rattle.std.proofs.lemmas.List.{get_or-set_same, get_or-set_other}
+use Rattle.std.proofs.lemmas.Option.{slice_get_within, slice_get-get_or, get_or_from_slice_get}
+use Rattle.size_classes.specs.Sizes.{size_of, blocks_in}
+use Rattle.heap_model.specs.Block.{node_in, spliced}
+use Rattle.heap_model.specs.Pages.{Page, page_at}
+use Rattle.heap_model.specs.Store.{Store, IsStore, size_in, size_at, is_held, node_of}
+use Rattle.headers.proofs.Fresh.{words_at-same, length-spliced, spliced_other}
+use Rattle.pages.specs.declared.page.PageRecord.{PageRecord}
+use Rattle.pages.specs.FreeList.{flags_of, free_mark}
+use Rattle.pages.specs.Index.{row_at}
+use Rattle.pages.specs.Together.{pages_in, Together, KeepsHeld, Tells}
+use Rattle.pages.proofs.Telling.{WritesBlock, held_place, write_keeps, write_same, length-pages}
+use Rattle.pages.proofs.Threading.{get_flag, length-flags}
+use Rattle.nodes.specs.Joined.{joined, AreNodes}
+use Rattle.nodes.proofs.Places.{held_in-page, flag_within, placed}
+
+-- what the records tell, of the value t as which the fields are seen
+pub told : (rows : List (Option PageRecord)) (words : List ℕ) (t : Store) → joined rows words ≡ t → AreNodes rows words → {X : Type 0} (f : List (Option Page) → X) (v : X) → Tells rows (λ pages. v ≡ f pages) → v ≡ f t.pages
+told rows words t is are f v tells = tells words are.together ∙ ap (λ (x : Store). f x.pages) is
+
+pub below_by : (rows : List (Option PageRecord)) (words : List ℕ) (t : Store) → joined rows words ≡ t → (page : ℕ) → page < length t.pages → page < length rows
+below_by rows words t is page h = let e : length rows ≡ length t.pages = sym (length-pages rows words) ∙ ap (λ (x : Store). length x.pages) is in omega (arith, h, e)
+
+-- a held block says what it said where its words stayed
+pub node_kept : (pages : List (Option Page)) (words new : List ℕ) → KeepsHeld pages words new → (b : ℕ) → is_held (record { pages = pages; words = words }) b ≡ true
+    → node_of (record { pages = pages; words = new }) b ≡ node_of (record { pages = pages; words = words }) b
+unfolding node_of size_at is_held
+node_kept pages words new kept b h =
+    let f = held_in-page (page_at pages (b / 2048)) (b % 2048) h in
+    let size = size_of f.page.class in
+    let i = b % 2048 / size in
+    let flag : slice_get f.page.held i ≡ Some true = slice_get-get_or f.page.held i false (flag_within f.page.held i f.flag) ∙ ap Some f.flag in
+    let place : b ≡ 2048 * (b / 2048) + i * size = placed b (b / 2048) (b % 2048) size refl refl f.whole in
+    ap node_in (words_at-same new words b (size_in (page_at pages (b / 2048))) kept.len
+    (λ n low high. let small : n - b < size = omega (arith, low, high, ap size_in f.is) in
+    let at : n ≡ 2048 * (b / 2048) + i * size + (n - b) = omega (arith, low, place) in
+    ap (λ m. get_or new m 0) at ∙ kept.each (b / 2048) f.page i (n - b) f.is flag small ∙ ap (λ m. get_or words m 0) (sym at)))
+
+-- a held block, by the record of its page
+pub record HeldBlock (rows : List (Option PageRecord)) (words : List ℕ) (a : ℕ) : Type 0 where
+  pub row : PageRecord
+  pub row_is : row_at rows (a / 2048) ≡ Some row
+  pub below : a / 2048 < length rows
+  pub index : ℕ
+  pub flag : slice_get (flags_of words (2048 * (a / 2048)) row.class) index ≡ Some true
+  pub place : 2048 * (a / 2048) + index * size_of row.class ≡ a
+  pub size : size_at (joined rows words) a ≡ size_of row.class
+
+pub held_block : (rows : List (Option PageRecord)) (words : List ℕ) (a : ℕ) → is_held (joined rows words) a ≡ true → HeldBlock rows words a
+unfolding is_held size_at
+held_block rows words a h =
+    let f = held_in-page (page_at (pages_in rows words) (a / 2048)) (a % 2048) h in
+    let i = a % 2048 / size_of f.page.class in
+    let flag : slice_get f.page.held i ≡ Some true = slice_get-get_or f.page.held i false (flag_within f.page.held i f.flag) ∙ ap Some f.flag in
+    let p = held_place rows words (a / 2048) f.page i f.is flag in
+    let e : size_of f.page.class ≡ size_of p.row.class = ap size_of p.class_is in
+    record {
+      row = p.row;
+      row_is = p.row_is;
+      below = p.below;
+      index = i;
+      flag = p.flag;
+      place = ap (λ n. 2048 * (a / 2048) + i * n) (sym e) ∙ sym (placed a (a / 2048) (a % 2048) (size_of f.page.class) refl refl f.whole);
+      size = ap size_in f.is ∙ e;
+    }
+
+-- a held block's first word isn't the mark
+pub first_held : (rows : List (Option PageRecord)) (words : List ℕ) (a : ℕ) → HeldBlock rows words a → not (eqb (get_or words a 0) free_mark) ≡ true
+first_held rows words a h =
+    let at = 2048 * (a / 2048) in
+    let flags = flags_of words at h.row.class in
+    let w = slice_get_within flags h.index true h.flag in
+    let below : h.index < blocks_in h.row.class = omega (arith, w, length-flags words at (size_of h.row.class) (blocks_in h.row.class)) in
+    ap (λ n. not (eqb (get_or words n 0) free_mark)) (sym h.place) ∙ sym (get_flag words at (size_of h.row.class) (blocks_in h.row.class) h.index true below) ∙ get_or_from_slice_get flags h.index true true h.flag
+
+-- an address isn't the mark
+pub no_mark : (v : ℕ) → v ≤ 8388608 → not (eqb v free_mark) ≡ true
+unfolding free_mark
+no_mark v h = ap not (ne_eqb v 18446744073709551615 (λ e. absurd (omega (arith, h, e))))
+
+-- writes of a block
+pub writes_later : (words new : List ℕ) (a size k v : ℕ) → not (eqb (get_or words a 0) free_mark) ≡ true → 0 < k → k < size → new ≡ set words (a + k) v → WritesBlock words new a size
+writes_later words new a size k v held some within is = record {
+  len = ap (λ w. length w) is ∙ length-set words (a + k) v;
+  below = λ n h. ap (λ w. get_or w n 0) is ∙ get_or-set_other words (a + k) n v 0 (omega (arith, h));
+  above = λ n h. ap (λ w. get_or w n 0) is ∙ get_or-set_other words (a + k) n v 0 (omega (arith, h, within));
+  held = ap (λ w. not (eqb (get_or w a 0) free_mark)) is ∙ ap (λ n. not (eqb n free_mark)) (get_or-set_other words (a + k) a v 0 (omega (arith, some))) ∙ held;
+}
+
+pub writes_first : (words new : List ℕ) (a size v : ℕ) → v ≤ 8388608 → 0 < size → a < length words → new ≡ set words a v → WritesBlock words new a size
+writes_first words new a size v small some within is = record {
+  len = ap (λ w. length w) is ∙ length-set words a v;
+  below = λ n h. ap (λ w. get_or w n 0) is ∙ get_or-set_other words a n v 0 (omega (arith, h));
+  above = λ n h. ap (λ w. get_or w n 0) is ∙ get_or-set_other words a n v 0 (omega (arith, h, some));
+  held = ap (λ w. not (eqb (get_or w a 0) free_mark)) is ∙ ap (λ n. not (eqb n free_mark)) (get_or-set_same words a v 0 within) ∙ no_mark v small;
+}
+
+first_spliced : (words others : List ℕ) (a : ℕ) → a + length others ≤ length words → 0 < length others → get_or (spliced words a others) a 0 ≡ get_or others 0 0
+first_spliced words others a h some = grind (arith, common_steps)
+
+pub writes_spliced : (words new others : List ℕ) (a size : ℕ) → a + length others ≤ length words → 0 < length others → length others ≤ size → get_or others 0 0 ≤ 8388608 → new ≡ spliced words a others → WritesBlock words new a size
+writes_spliced words new others a size fit some within small is = record {
+  len = ap (λ w. length w) is ∙ length-spliced words others a fit;
+  below = λ n h. ap (λ w. get_or w n 0) is ∙ spliced_other words others a n fit (inl h);
+  above = λ n h. ap (λ w. get_or w n 0) is ∙ spliced_other words others a n fit (inr (omega (arith, h, within)));
+  held = ap (λ w. not (eqb (get_or w a 0) free_mark)) is ∙ ap (λ n. not (eqb n free_mark)) (first_spliced words others a fit some) ∙ no_mark (get_or others 0 0) small;
+}
+
+-- a write of a held block keeps the records and the words together
+module _ (rows : List (Option PageRecord)) (words new : List ℕ) (t : Together rows words) (a : ℕ) (h : HeldBlock rows words a) (w : WritesBlock words new a (size_of h.row.class)) where
+  there : WritesBlock words new (2048 * (a / 2048) + h.index * size_of h.row.class) (size_of h.row.class)
+  there = subst (λ n. WritesBlock words new n (size_of h.row.class)) (sym h.place) w
+
+  pub still_together : Together rows new
+  still_together = write_keeps rows words new t (a / 2048) h.below h.row h.row_is h.index h.flag there
+
+  pub same_pages : pages_in rows new ≡ pages_in rows words
+  same_pages = write_same rows words new t (a / 2048) h.below h.row h.row_is h.index h.flag there
+
+  pub through : (P : Store → Type 0) → P (record { pages = pages_in rows words; words = new }) → P (joined rows new)
+  through P p = subst (λ g. P (record { pages = g; words = new })) (sym same_pages) p
+
+  pub still_nodes : IsStore (joined rows words) → AreNodes rows new
+  still_nodes s = record { whole = through IsStore (record { pages = s.pages; words = w.len ∙ s.words; few = s.few }); together = still_together }

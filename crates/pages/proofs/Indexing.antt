@@ -1,0 +1,221 @@
+-- Bits and numbers, kept along with the records.
+use Rattle.std.proofs.Common.{◌≡◌, ◌≢◌, ℕ, zero, suc, ◌+◌, ◌-◌, ◌*◌, ◌<◌, ◌≤◌, Bool, true, false, not, cond, eqb, ltb, ◌&&◌, List, [], ◌∷◌, ◌++◌, replicate, length, get_or, set, map, Option, Some, None, ap, ◌∙◌, sym, refl, subst, inl, inr, arith}
+use Rattle.std.specs.Prelude.{position, count_by, sum_by, IfSome, IsNone, is_some}
+use Rattle.std.proofs.lemmas.Bool.{cases_eq, cases_lt, ne_eqb, lt-ltb, le-ltb}
+use Rattle.std.proofs.lemmas.List.{length-set, get_or-set_same, get_or-set_other, map-set, get_or-map, get_or_read, get_or_past, length-map, length-replicate, get_or-replicate, length_push, get_or_push, get_or_append_left}
+use Rattle.std.proofs.lemmas.List.Sums.{sum_by-set, sum_by-cons, get_or-le-sum_by, prefix_len_is}
+use Rattle.size_classes.specs.Sizes.{blocks_in}
+use Rattle.pages.specs.declared.bits.BitRow.{BitRow}
+use Rattle.pages.specs.declared.page.PageRecord.{PageRecord}
+use Rattle.pages.specs.BitRow.{has_bit}
+use Rattle.pages.specs.Index.{row_at, OfClass, row_usable, row_free, row_free_on, bit, class_bit, IsIndex}
+use Rattle.pages.proofs.Threading.{blocks_most}
+
+-- a page of a class counts for no other
+not_usable : (class other : ℕ) (o : Option PageRecord) → OfClass class o → other ≢ class → row_usable other o ≡ false
+not_usable class other None is ne = refl
+not_usable class other (Some r) is ne = ap (λ b. b && (not r.leaving && ltb r.held (blocks_in r.class))) (ne_eqb r.class other (λ e. ne (sym e ∙ is)))
+
+not_counted : (class other : ℕ) (o : Option PageRecord) → OfClass class o → other ≢ class → row_free_on other o ≡ 0
+not_counted class other None is ne = refl
+not_counted class other (Some r) is ne = ap (λ b. cond (b && not r.leaving) (blocks_in r.class - r.held) 0) (ne_eqb r.class other (λ e. ne (sym e ∙ is)))
+
+cond_few : (b : Bool) (n m : ℕ) → n ≤ m → cond b n 0 ≤ m
+cond_few true n m h = h
+cond_few false n m h = omega arith
+
+row_few : (class : ℕ) → class < 38 → (o : Option PageRecord) → row_free_on class o ≤ 512
+row_few class known None = omega arith
+row_few class known (Some r) = elim (cases_eq r.class class) [
+  | inl e ↦ cond_few (eqb r.class class && not r.leaving) (blocks_in r.class - r.held) 512 (let f = blocks_most class known in let g = ap blocks_in e in omega (arith, f, g))
+  | inr ne ↦ (let f = ap (λ b. cond (b && not r.leaving) (blocks_in r.class - r.held) 0) (ne_eqb r.class class ne) in omega (arith, f))
+]
+
+pub rows_few : (class : ℕ) → class < 38 → (rows : List (Option PageRecord)) → sum_by (row_free_on class) rows ≤ 512 * length rows
+rows_few class known [] = omega arith
+rows_few class known (o ∷ rows) = omega (arith, sum_by-cons (row_free_on class) o rows, row_few class known o, rows_few class known rows)
+
+-- one record is put in the place of another
+module _ (rows : List (Option PageRecord)) (usable : List BitRow) (free : BitRow) (free_blocks : List ℕ) (free_pages : ℕ) (b : IsIndex rows usable free free_blocks free_pages)
+    (page class : ℕ) (row : Option PageRecord) (below : page < length rows) (was : OfClass class (row_at rows page)) (is : OfClass class row) (known : class < 38) where
+  here : row_at (set rows page row) page ≡ row
+  here = get_or-set_same rows page row None below
+
+  there : (k : ℕ) → k ≢ page → row_at (set rows page row) k ≡ row_at rows k
+  there k ne = get_or-set_other rows page k row None ne
+
+  small : page < 4096
+  small = omega (arith, below, b.few)
+
+  pub block_some : row_free_on class (row_at rows page) ≤ get_or free_blocks class 0
+  block_some = let w = get_or-le-sum_by (row_free_on class) rows page None below in omega (arith, w, b.blocks_are class known)
+
+  pub block_room : get_or free_blocks class 0 ≤ 2097152
+  block_room = let w = rows_few class known rows in omega (arith, w, b.blocks_are class known, b.few)
+
+  pub page_some : bit (row_free (row_at rows page)) ≤ free_pages
+  page_some = let w = get_or-le-sum_by (λ o. bit (row_free o)) rows page None below in omega (arith, w, b.pages_are)
+
+  blocks_after : (n : ℕ) → n ≡ get_or free_blocks class 0 - row_free_on class (row_at rows page) + row_free_on class row
+      → (c : ℕ) → c < 38 → get_or (set free_blocks class n) c 0 ≡ sum_by (row_free_on c) (set rows page row)
+  blocks_after n e c h = elim (cases_eq c class) [
+    | inl same ↦
+        (let s = sum_by-set (row_free_on class) rows page row None below in
+        let a : get_or (set free_blocks class n) class 0 ≡ n = get_or-set_same free_blocks class n 0 (omega (arith, b.counts, known)) in
+        let m : n ≡ sum_by (row_free_on class) (set rows page row) = omega (arith, e, s, b.blocks_are class known, block_some) in
+        subst (λ c. get_or (set free_blocks class n) c 0 ≡ sum_by (row_free_on c) (set rows page row)) (sym same) (a ∙ m))
+    | inr ne ↦
+        (let s = sum_by-set (row_free_on c) rows page row None below in
+        let x = not_counted class c (row_at rows page) was ne in
+        let y = not_counted class c row is ne in
+        let m : sum_by (row_free_on c) rows ≡ sum_by (row_free_on c) (set rows page row) = omega (arith, s, x, y) in
+        get_or-set_other free_blocks class c n 0 ne ∙ b.blocks_are c h ∙ m)
+  ]
+
+  pages_after : (n : ℕ) → n + bit (row_free (row_at rows page)) ≡ free_pages + bit (row_free row) → n ≡ count_by row_free (set rows page row)
+  pages_after n e = let s = sum_by-set (λ o. bit (row_free o)) rows page row None below in omega (arith, s, e, b.pages_are)
+
+  module _ (one new : BitRow) (read : one ≡ get_or usable class one) (set_here : has_bit new page ≡ bit (row_usable class row)) (set_others : (i : ℕ) → i < 4096 → i ≢ page → has_bit new i ≡ has_bit one i) where
+    usable_after : (c k : ℕ) → c < 38 → k < 4096 → class_bit (set usable class new) c k ≡ bit (row_usable c (row_at (set rows page row) k))
+    usable_after c k hc hk =
+        let f : BitRow → ℕ = λ r. has_bit r k in
+        ap (λ (l : List ℕ). get_or l c 0) (map-set f usable class new) ∙ elim (cases_eq c class) [
+          | inl same ↦
+              (let a : get_or (set (map f usable) class (f new)) class 0 ≡ f new = get_or-set_same (map f usable) class (f new) 0 (omega (arith, length-map usable f, b.classes, known)) in
+              let old : class_bit usable class k ≡ f one = get_or-map f usable class one 0 (omega (arith, b.classes, known)) ∙ ap f (sym read) in
+              subst (λ c. get_or (set (map f usable) class (f new)) c 0 ≡ bit (row_usable c (row_at (set rows page row) k))) (sym same) (a ∙ elim (cases_eq k page) as (λ _. f new ≡ bit (row_usable class (row_at (set rows page row) k))) [
+                | inl e ↦ ap (has_bit new) e ∙ set_here ∙ ap (λ o. bit (row_usable class o)) (sym (ap (row_at (set rows page row)) e ∙ here))
+                | inr ne ↦ set_others k hk ne ∙ sym old ∙ b.usable_bits class k known hk ∙ ap (λ o. bit (row_usable class o)) (sym (there k ne))
+              ]))
+          | inr other ↦ get_or-set_other (map f usable) class c (f new) 0 other ∙ b.usable_bits c k hc hk ∙ elim (cases_eq k page) as (λ _. bit (row_usable c (row_at rows k)) ≡ bit (row_usable c (row_at (set rows page row) k))) [
+            | inl e ↦ ap (λ n. bit (row_usable c (row_at rows n))) e ∙ ap bit (not_usable class c (row_at rows page) was other ∙ sym (not_usable class c row is other)) ∙ ap (λ o. bit (row_usable c o)) (sym (ap (row_at (set rows page row)) e ∙ here))
+            | inr ne ↦ ap (λ o. bit (row_usable c o)) (sym (there k ne))
+          ]
+        ]
+
+    pub put_keeps : (free_new : BitRow) → has_bit free_new page ≡ bit (row_free row) → ((i : ℕ) → i < 4096 → i ≢ page → has_bit free_new i ≡ has_bit free i)
+        → (n : ℕ) → n ≡ get_or free_blocks class 0 - row_free_on class (row_at rows page) + row_free_on class row → (m : ℕ) → m + bit (row_free (row_at rows page)) ≡ free_pages + bit (row_free row)
+        → IsIndex (set rows page row) (set usable class new) free_new (set free_blocks class n) m
+    put_keeps free_new free_here free_others n blocks m pages = record {
+      few = omega (arith, length-set rows page row, b.few);
+      classes = length-set usable class new ∙ b.classes;
+      counts = length-set free_blocks class n ∙ b.counts;
+      usable_bits = usable_after;
+      free_bits = λ k h. elim (cases_eq k page) [
+        | inl e ↦ ap (has_bit free_new) e ∙ free_here ∙ ap (λ o. bit (row_free o)) (sym (ap (row_at (set rows page row)) e ∙ here))
+        | inr ne ↦ free_others k (omega (arith, h, length-set rows page row, b.few)) ne ∙ b.free_bits k (omega (arith, h, length-set rows page row)) ∙ ap (λ o. bit (row_free o)) (sym (there k ne))
+      ];
+      free_past = λ k h past. free_others k h (omega (arith, past, length-set rows page row, below)) ∙ b.free_past k h (omega (arith, past, length-set rows page row));
+      blocks_are = blocks_after n blocks;
+      pages_are = pages_after m pages;
+    }
+
+-- the lowest bit is at the first place that passes
+bit_one : (x : Bool) → bit x ≡ 1 → x ≡ true
+bit_one true e = refl
+bit_one false e = absurd (omega (arith, e))
+
+bit_zero : (x : Bool) → bit x ≡ 0 → x ≡ false
+bit_zero true e = absurd (omega (arith, e))
+bit_zero false e = refl
+
+pub lowest_is : {X : Type 0} (p : X → Bool) (xs : List X) (d : X) (bits : ℕ → ℕ) → length xs ≤ 4096 → ((k : ℕ) → k < length xs → bits k ≡ bit (p (get_or xs k d))) → ((k : ℕ) → k < 4096 → length xs ≤ k → bits k ≡ 0)
+    → (r : Option ℕ) → IfSome r (λ k. k < 4096) → IfSome r (λ k. bits k ≡ 1) → IfSome r (λ k. (i : ℕ) → i < k → bits i ≡ 0) → (IsNone r → (i : ℕ) → i < 4096 → bits i ≡ 0) → r ≡ position p xs
+lowest_is p xs d bits few inside past None w h f none =
+    let len = prefix_len_is (λ x. not (p x)) xs (length xs) d (omega arith) (λ k l. ap not (bit_zero (p (get_or xs k d)) (sym (inside k l) ∙ none refl k (omega (arith, l, few))))) (λ l. absurd (omega (arith, l))) in
+    sym (ap (λ n. cond (ltb n (length xs)) (Some n) None) len ∙ ap (λ b. cond b (Some (length xs)) None) (le-ltb (length xs) (length xs) (omega arith)))
+lowest_is p xs d bits few inside past (Some i) w h f none =
+    let below : i < length xs = elim (cases_lt i (length xs)) [ inl l ↦ l | inr l ↦ absurd (let z = past i w l in omega (arith, z, h)) ] in
+    let len = prefix_len_is (λ x. not (p x)) xs i d (omega arith) (λ k l. ap not (bit_zero (p (get_or xs k d)) (sym (inside k (omega (arith, l, below))) ∙ f k l))) (λ l. ap not (bit_one (p (get_or xs i d)) (sym (inside i below) ∙ h))) in
+    sym (ap (λ n. cond (ltb n (length xs)) (Some n) None) len ∙ ap (λ b. cond b (Some i) None) (lt-ltb i (length xs) below))
+
+none_free : (o : Option PageRecord) (b : Bool) → is_some o ≡ not b → b ≡ row_free o
+none_free None true e = refl
+none_free None false e = absurd (cc)
+none_free (Some r) true e = absurd (cc)
+none_free (Some r) false e = refl
+
+-- as the code computes it
+module _ (rows : List (Option PageRecord)) (pages : List (Option PageRecord)) (seen : rows ≡ pages) (usable : List BitRow) (free : BitRow) (free_blocks : List ℕ) (free_pages : ℕ) (b : IsIndex rows usable free free_blocks free_pages)
+    (page class : ℕ) (row : Option PageRecord) (below : page < length pages) (was : OfClass class (row_at pages page)) (is : OfClass class row) (known : class < 38)
+    (number : ℕ) (number_is : number ≡ class) (old : Option PageRecord) (read : old ≡ get_or rows page old) (less more : ℕ) (less_is : less ≡ row_free_on class old) (more_is : more ≡ row_free_on class row)
+    (had : ℕ) (had_is : had ≡ get_or free_blocks number had) where
+  within : page < length rows
+  within = subst (λ l. page < length l) (sym seen) below
+
+  old_is : old ≡ row_at rows page
+  old_is = get_or_read rows page old within read None
+
+  was_in : OfClass class (row_at rows page)
+  was_in = subst (λ l. OfClass class (row_at l page)) (sym seen) was
+
+  had_there : had ≡ get_or free_blocks class 0
+  had_there = get_or_read free_blocks number had (omega (arith, number_is, known, b.counts)) had_is 0 ∙ ap (λ n. get_or free_blocks n 0) number_is
+
+  pub less_small : less ≤ had
+  less_small = let w = block_some rows usable free free_blocks free_pages b page class row within was_in is known in
+      let e : row_free_on class old ≡ row_free_on class (row_at rows page) = ap (row_free_on class) old_is in
+      omega (arith, w, e, less_is, had_there)
+
+  pub had_small : had ≤ 2097152
+  had_small = let w = block_room rows usable free free_blocks free_pages b page class row within was_in is known in omega (arith, w, had_there)
+
+  pub put_by : (one new free_new : BitRow) (on off gone : Bool) (m : ℕ) → one ≡ get_or usable number one → has_bit new page ≡ bit on → on ≡ row_usable class row → ((i : ℕ) → i < 4096 → i ≢ page → has_bit new i ≡ has_bit one i)
+      → has_bit free_new page ≡ bit off → is_some row ≡ not off → ((i : ℕ) → i < 4096 → i ≢ page → has_bit free_new i ≡ has_bit free i)
+      → is_some old ≡ not gone → m + bit gone ≡ free_pages + bit off
+      → IsIndex (set rows page row) (set usable number new) free_new (set free_blocks number (had - less + more)) m
+  put_by one new free_new on off gone m one_is here on_is others free_here off_is free_others gone_is counted =
+      subst (λ n. IsIndex (set rows page row) (set usable n new) free_new (set free_blocks n (had - less + more)) m) (sym number_is)
+      (put_keeps rows usable free free_blocks free_pages b page class row within was_in is known one new (one_is ∙ ap (λ n. get_or usable n one) number_is)
+      (here ∙ ap bit on_is) others free_new (free_here ∙ ap bit (none_free row off off_is)) free_others (had - less + more)
+      (ap (λ n. n - less + more) had_there ∙ ap (λ n. get_or free_blocks class 0 - n + more) (less_is ∙ ap (row_free_on class) old_is) ∙ ap (λ n. get_or free_blocks class 0 - row_free_on class (row_at rows page) + n) more_is)
+      m (ap (λ c. m + bit c) (sym (none_free old gone gone_is ∙ ap row_free old_is)) ∙ counted ∙ ap (λ c. free_pages + bit c) (none_free row off off_is)))
+
+pub usable_is : (rows : List (Option PageRecord)) (usable : List BitRow) (free : BitRow) (free_blocks : List ℕ) (free_pages : ℕ) (b : IsIndex rows usable free free_blocks free_pages) (class number : ℕ) → class < 38 → number ≡ class
+    → (one : BitRow) → one ≡ get_or usable number one → (r : Option ℕ) → IfSome r (λ k. k < 4096) → IfSome r (λ k. has_bit one k ≡ 1) → IfSome r (λ k. (i : ℕ) → i < k → has_bit one i ≡ 0) → (IsNone r → (i : ℕ) → i < 4096 → has_bit one i ≡ 0)
+    → r ≡ position (row_usable class) rows
+usable_is rows usable free free_blocks free_pages b class number known is one read r =
+    let there : (k : ℕ) → class_bit usable class k ≡ has_bit one k =
+    λ k. get_or-map (λ r. has_bit r k) usable class one 0 (omega (arith, b.classes, known)) ∙ ap (λ (x : BitRow). has_bit x k) (sym (read ∙ ap (λ n. get_or usable n one) is)) in
+    lowest_is (row_usable class) rows None (has_bit one) b.few (λ k l. sym (there k) ∙ b.usable_bits class k known (omega (arith, l, b.few)))
+    (λ k l past. sym (there k) ∙ b.usable_bits class k known l ∙ ap (λ o. bit (row_usable class o)) (get_or_past rows k None past)) r
+
+-- ---- free pages alone
+pub row_none : (n k : ℕ) → row_at (replicate n None) k ≡ None
+row_none n k = elim (cases_lt k n) [
+  | inl h ↦ get_or-replicate {A = Option PageRecord} n k None None h
+  | inr h ↦ get_or_past {X = Option PageRecord} (replicate n None) k None (omega (arith, h, length-replicate {A = Option PageRecord} n None))
+]
+
+none_summed : (class n : ℕ) → sum_by (row_free_on class) (replicate n None) ≡ 0
+none_summed class zero = refl
+none_summed class (suc n) = none_summed class n
+
+none_counted : (n : ℕ) → count_by row_free (replicate n None) ≡ n
+none_counted zero = refl
+none_counted (suc n) = let s = sum_by-cons (λ o. bit (row_free o)) None (replicate n None) in omega (arith, s, none_counted n)
+
+pub fresh_book : (n : ℕ) (usable : List BitRow) (free : BitRow) → n ≤ 4096 → length usable ≡ 38 → ((c k : ℕ) → c < 38 → k < 4096 → class_bit usable c k ≡ 0) → ((k : ℕ) → k < n → has_bit free k ≡ 1) → ((k : ℕ) → n ≤ k → k < 4096 → has_bit free k ≡ 0)
+    → IsIndex (replicate n None) usable free (replicate 38 0) n
+fresh_book n usable free few long none some past =
+    let size : length (replicate {A = Option PageRecord} n None) ≡ n = length-replicate n None in
+    record {
+      few = omega (arith, size, few);
+      classes = long;
+      counts = length-replicate {A = ℕ} 38 0;
+      usable_bits = λ c k hc hk. none c k hc hk ∙ ap (λ o. bit (row_usable c o)) (sym (row_none n k));
+      free_bits = λ k h. some k (omega (arith, h, size)) ∙ ap (λ o. bit (row_free o)) (sym (row_none n k));
+      free_past = λ k h p. past k (omega (arith, p, size)) h;
+      blocks_are = λ c h. get_or-replicate {A = ℕ} 38 c 0 0 h ∙ sym (none_summed c n);
+      pages_are = sym (none_counted n);
+    }
+
+-- one more row with no bit
+pub none_more : (usable : List BitRow) (m : ℕ) (one : BitRow) → length usable ≡ m → ((c k : ℕ) → c < m → k < 4096 → class_bit usable c k ≡ 0) → ((k : ℕ) → k < 4096 → has_bit one k ≡ 0) → (c k : ℕ) → c < m + 1 → k < 4096 → class_bit (usable ++ one ∷ []) c k ≡ 0
+none_more usable m one long none new c k h hk =
+    let f : BitRow → ℕ = λ r. has_bit r k in
+    let pushed : length (usable ++ one ∷ []) ≡ m + 1 = length_push usable one ∙ ap (λ n. n + 1) long in
+    get_or-map f (usable ++ one ∷ []) c one 0 (omega (arith, h, pushed)) ∙ elim (cases_lt c m) [
+      | inl l ↦ ap f (get_or_append_left usable (one ∷ []) one c (omega (arith, l, long))) ∙ sym (get_or-map f usable c one 0 (omega (arith, l, long))) ∙ none c k l hk
+      | inr l ↦ ap f (get_or_push usable one one c (omega (arith, l, h, long))) ∙ new k hk
+    ]

@@ -1,0 +1,36 @@
+-- Free blocks, threaded through their headers.
+use Rattle.std.specs.Prelude.{◌≡◌, ℕ, zero, suc, ◌+◌, ◌*◌, ◌<◌, ◌≤◌, Bool, true, false, not, ◌==◌, List, map, length, slice_get, slice_set, slice_index, count_by, Some}
+use Rattle.std.specs.List.{range_with_len}
+use Rattle.size_classes.specs.Sizes.{size_of, blocks_in}
+
+-- what word 0 of a free block of a page in use holds, which is no address
+unfoldable pub free_mark : ℕ
+free_mark = 18446744073709551615
+
+-- which blocks are held, of so many of a size from a place on
+unfoldable pub flags_at : List ℕ → ℕ → ℕ → ℕ → List Bool
+flags_at words at size blocks = map (λ i. not (slice_index words (at + i * size) == free_mark)) (range_with_len 0 blocks)
+
+-- The list from a link on runs through just the blocks with the flag false, each once: it ends where
+-- there is none, and else the link is the address plus one of such a block, and the list from the
+-- link in that block on runs through the others.
+abbrev pub RunsFree : List ℕ → ℕ → ℕ → ℕ → List Bool → ℕ → Type 0
+RunsFree words at size zero flags link = (link ≡ 0) × (count_by not flags ≡ 0)
+RunsFree words at size (suc n) flags link =
+    (i : ℕ) × (slice_get flags i ≡ Some false) × (link ≡ at + i * size + 1) × RunsFree words at size n (slice_set flags i true) (slice_index words (at + i * size + 3))
+
+-- which blocks of a page of a class are held, by the words from its first on
+abbrev pub flags_of : List ℕ → ℕ → ℕ → List Bool
+flags_of words at class = flags_at words at (size_of class) (blocks_in class)
+
+-- A page's list: so many blocks are held, and the list from the first runs through just the others.
+pub record IsFreeList (words : List ℕ) (at class first held : ℕ) : Type 0 where
+  pub free : ℕ
+  pub counted : held + free ≡ blocks_in class
+  pub runs : RunsFree words at (size_of class) free (flags_of words at class) first
+
+-- the words outside a page are as they were
+pub record SameOutside (old new : List ℕ) (at : ℕ) : Type 0 where
+  pub len : length new ≡ length old
+  pub below : (k : ℕ) → k < at → slice_index new k ≡ slice_index old k
+  pub above : (k : ℕ) → at + 2048 ≤ k → slice_index new k ≡ slice_index old k

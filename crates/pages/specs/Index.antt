@@ -1,0 +1,60 @@
+-- What the table itself keeps: a record for each page, bits and numbers.
+use Rattle.std.specs.Prelude.{◌≡◌, ℕ, ◌-◌, ◌<◌, ◌≤◌, Bool, true, false, ◌&&◌, not, ◌==◌, nat_lt, if◌then◌else◌, List, map, length, slice_index, slice_index_or, Option, Some, None, IsSomeAnd, count_by, sum_by}
+use Rattle.size_classes.specs.Sizes.{blocks_in}
+use Rattle.pages.specs.declared.bits.BitRow.{BitRow}
+use Rattle.pages.specs.declared.page.PageRecord.{PageRecord}
+use Rattle.pages.specs.BitRow.{has_bit}
+
+abbrev pub row_at : List (Option PageRecord) → ℕ → Option PageRecord
+row_at rows k = slice_index_or rows k None
+
+-- free, or of the class
+abbrev pub OfClass : ℕ → Option PageRecord → Type 0
+OfClass class None = Unit {0}
+OfClass class (Some r) = r.class ≡ class
+
+-- of the class, not leaving, with a free block
+abbrev pub row_usable : ℕ → Option PageRecord → Bool
+row_usable class None = false
+row_usable class (Some r) = (r.class == class) && (not r.leaving && nat_lt r.held (blocks_in r.class))
+
+abbrev pub row_free : Option PageRecord → Bool
+row_free None = true
+row_free (Some r) = false
+
+-- how many free blocks of the class, none if it is leaving
+abbrev pub row_free_on : ℕ → Option PageRecord → ℕ
+row_free_on class None = 0
+row_free_on class (Some r) = if (r.class == class) && not r.leaving then blocks_in r.class - r.held else 0
+
+-- of the class, and neither leaving nor receiving
+abbrev pub row_choosable : ℕ → Option PageRecord → Bool
+row_choosable class None = false
+row_choosable class (Some r) = (r.class == class) && (not r.leaving && not r.receiving)
+
+-- in use by the class, with a free block
+abbrev pub HasFree : ℕ → Option PageRecord → Type 0
+HasFree class o = IsSomeAnd o (λ r. (r.class ≡ class) × (r.held < blocks_in r.class))
+
+abbrev pub bit : Bool → ℕ
+bit b = if b then 1 else 0
+
+-- bit k of the row of a class
+abbrev pub class_bit : List BitRow → ℕ → ℕ → ℕ
+class_bit usable class k = slice_index (map (λ r. has_bit r k) usable) class
+
+-- the bits and the numbers are those of the rows
+pub record IsIndex (rows : List (Option PageRecord)) (usable : List BitRow) (free : BitRow) (free_blocks : List ℕ) (free_pages : ℕ) : Type 0 where
+  pub few : length rows ≤ 4096
+  pub classes : length usable ≡ 38
+  pub counts : length free_blocks ≡ 38
+  pub usable_bits : (class k : ℕ) → class < 38 → k < 4096 → class_bit usable class k ≡ bit (row_usable class (row_at rows k))
+  pub free_bits : (k : ℕ) → k < length rows → has_bit free k ≡ bit (row_free (row_at rows k))
+  pub free_past : (k : ℕ) → k < 4096 → length rows ≤ k → has_bit free k ≡ 0
+  pub blocks_are : (class : ℕ) → class < 38 → slice_index free_blocks class ≡ sum_by (row_free_on class) rows
+  pub pages_are : free_pages ≡ count_by row_free rows
+
+-- the page closed: its marks go, and if no block is held it becomes free
+abbrev pub row_closed : Option PageRecord → Option PageRecord
+row_closed None = None
+row_closed (Some r) = if r.held == 0 then None else Some (record r { leaving = false; receiving = false })

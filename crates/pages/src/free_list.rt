@@ -1,0 +1,110 @@
+//! One page's list of free blocks: word 0 of a free block says that it is one, and word 3 names the next.
+ghost use Rattle.std.specs.Prelude.{◌≡◌, ℕ, ◌+◌, ◌-◌, ◌<◌, ◌≤◌, ◌*◌, length, slice_get, slice_set, slice_index, replicate, true, false, Some, IfSome, IsNone};
+ghost use Rattle.size_classes.specs.Sizes.{size_of, blocks_in};
+ghost use Rattle.pages.specs.FreeList.{flags_of, IsFreeList, SameOutside, free_mark};
+
+use crate::page::PageRecord;
+use headers::Arena;
+use size_classes::Class;
+
+/// Takes the first free block off a page's list: it is held, and forwards to itself.
+pub fn pop(arena: &mut Arena, page: usize, row: &mut PageRecord) -> usize
+    requires page { page < 4096 }
+    requires within { 2048 * page + 2048 ≤ length arena.old }
+    requires chain { IsFreeList arena.old (2048 * page) row.old.class row.old.first row.old.held }
+    requires some { row.old.held < blocks_in row.old.class }
+    ensures free { slice_get (flags_of arena.old (2048 * page) row.old.class) result ≡ Some false }
+    ensures flags { flags_of arena.new (2048 * page) row.old.class ≡ slice_set (flags_of arena.old (2048 * page) row.old.class) result true }
+    ensures chain { IsFreeList arena.new (2048 * page) row.old.class row.new.first (row.old.held + 1) }
+    ensures row { row.new ≡ record row.old { first = row.new.first; held = row.old.held + 1 } }
+    ensures words { arena.new ≡ slice_set arena.old (2048 * page + result * size_of row.old.class) (2048 * page + result * size_of row.old.class) }
+{
+    let block = row.first as usize - 1;
+    let index = (block - 2048 * page) / row.class.size() as usize;
+    row.first = arena.link(block);
+    row.held += 1;
+    arena.set_forward(block, block as u64);
+    index
+}
+
+/// Says of a block that it is free, and names the next free one.
+fn link_free(arena: &mut Arena, block: usize, next: u64)
+    requires { block + 3 < length arena.old }
+    ensures { arena.new ≡ slice_set (slice_set arena.old block free_mark) (block + 3) next }
+{
+    arena.set_forward(block, u64::MAX);
+    arena.set_link(block, next);
+}
+
+/// Puts a held block on a page's list: it is free.
+pub fn push(arena: &mut Arena, page: usize, row: &mut PageRecord, index: usize)
+    requires page { page < 4096 }
+    requires within { 2048 * page + 2048 ≤ length arena.old }
+    requires chain { IsFreeList arena.old (2048 * page) row.old.class row.old.first row.old.held }
+    requires held { slice_get (flags_of arena.old (2048 * page) row.old.class) index ≡ Some true }
+    ensures flags { flags_of arena.new (2048 * page) row.old.class ≡ slice_set (flags_of arena.old (2048 * page) row.old.class) index false }
+    ensures chain { IsFreeList arena.new (2048 * page) row.old.class row.new.first (row.old.held - 1) }
+    ensures some { 0 < row.old.held }
+    ensures row { row.new ≡ record row.old { first = row.new.first; held = row.old.held - 1 } }
+    ensures words { arena.new ≡ slice_set (slice_set arena.old (2048 * page + index * size_of row.old.class) free_mark) (2048 * page + index * size_of row.old.class + 3) row.old.first }
+{
+    let block = 2048 * page + index * row.class.size() as usize;
+    link_free(arena, block, row.first);
+    row.first = block as u64 + 1;
+    row.held -= 1;
+}
+
+/// Puts all blocks of a page that gets a class on its list.
+pub fn thread(arena: &mut Arena, page: usize, class: Class) -> PageRecord
+    requires page { page < 4096 }
+    requires within { 2048 * page + 2048 ≤ length arena.old }
+    ensures flags { flags_of arena.new (2048 * page) class ≡ replicate (blocks_in class) false }
+    ensures chain { IsFreeList arena.new (2048 * page) class result.first 0 }
+    ensures row { result ≡ record { class = class; first = result.first; held = 0; leaving = false; receiving = false } }
+    ensures words { SameOutside arena.old arena.new (2048 * page) }
+    ensures known { class < 38 }
+{
+    let size = class.size() as usize;
+    let mut first = 0;
+    let mut i = class.blocks_per_page() as usize;
+    while i > 0 {
+        i -= 1;
+        let block = 2048 * page + i * size;
+        link_free(arena, block, first);
+        first = block as u64 + 1;
+    }
+    PageRecord {
+        class,
+        first,
+        held: 0,
+        leaving: false,
+        receiving: false,
+    }
+}
+
+/// Whether a block of a page of a class is held.
+pub fn is_taken(arena: &Arena, page: usize, class: Class, index: usize) -> bool
+    requires page { page < 4096 }
+    requires within { 2048 * page + 2048 ≤ length arena.now }
+    requires block { index < blocks_in class }
+    ensures { slice_get (flags_of arena.now (2048 * page) class) index ≡ Some result }
+{
+    let block = 2048 * page + index * class.size() as usize;
+    arena.forward_of(block) != u64::MAX
+}
+
+/// The first held block of a page of a class from a place on.
+pub fn next_held(arena: &Arena, page: usize, class: Class, from: usize) -> Option<usize>
+    requires page { page < 4096 }
+    requires within { 2048 * page + 2048 ≤ length arena.now }
+    ensures some { IfSome result (λ i. (from ≤ i) × (slice_get (flags_of arena.now (2048 * page) class) i ≡ Some true) × ((k : ℕ) → from ≤ k → k < i → slice_get (flags_of arena.now (2048 * page) class) k ≡ Some false)) }
+    ensures none { IsNone result → (k : ℕ) → from ≤ k → k < blocks_in class → slice_get (flags_of arena.now (2048 * page) class) k ≡ Some false }
+{
+    let blocks = class.blocks_per_page() as usize;
+    for i in from..blocks {
+        if is_taken(arena, page, class, i) {
+            return Some(i);
+        }
+    }
+    None
+}

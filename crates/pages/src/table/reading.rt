@@ -1,0 +1,152 @@
+//! What is read of the pages: by the records alone where they tell it, else with the words.
+ghost use Rattle.std.specs.Prelude.{◌≡◌, ◌-◌, ◌^◌, ◌<◌, ◌≤◌, ◌↔◌, IsTrue, slice_get, slice_index, position, length, IfSome, IsSomeAnd, Some, true, option_map, count_by, sum_by};
+ghost use Rattle.heap_model.specs.Pages.{page_at, is_usable, free_on, free_blocks, has_room, whole_pages};
+ghost use Rattle.heap_model.specs.Pages as page_list;
+ghost use Rattle.heap_model.specs.Action.{held_on, is_choosable};
+ghost use Rattle.pages.specs.Index.{row_free, row_free_on};
+ghost use Rattle.pages.specs.Places.{FindsHeld};
+ghost use Rattle.pages.specs.Together.{pages_in, Together, Tells};
+ghost use Rattle.pages.specs.View.{view_of};
+
+use super::{Block, PageTable};
+use crate::free_list::{is_taken, next_held};
+use crate::page;
+use crate::view::PageView;
+use headers::Arena;
+use size_classes::{Class, Need};
+
+impl PageTable {
+    /// How many pages there are.
+    pub fn len(&self) -> usize
+        ensures pages { result ≡ length self.now }
+        ensures within { result ≤ 4096 }
+    {
+        self.rows.len()
+    }
+
+    /// How many pages are free.
+    pub fn free_pages(&self) -> usize
+        ensures free { Tells self.now (λ pages. result ≡ page_list.free_pages pages) }
+        ensures within { result ≤ 4096 }
+    {
+        self.free_pages
+    }
+
+    /// How many blocks of a class are free, on pages that aren't leaving.
+    pub fn free_blocks(&self, class: Class) -> usize
+        ensures free { Tells self.now (λ pages. result ≡ free_blocks pages class) }
+        ensures within { result ≤ 2097152 }
+    {
+        self.free_blocks[class.number()]
+    }
+
+    /// Whether there is room for so many blocks of each class: the blocks that are needed beside the
+    /// free ones are taken in whole pages, and these together are at most the free pages.
+    pub fn room(&self, need: &Need) -> bool
+        ensures { Tells self.now (λ pages. result ≡ has_room pages (λ class. slice_index need.now class)) }
+    {
+        let mut pages = 0u64;
+        for number in 0..38u8 {
+            let class = Class::new(number);
+            pages += self.pages_for(class, need.blocks(class));
+        }
+        pages <= self.free_pages() as u64
+    }
+
+    /// How many free pages so many blocks of a class need.
+    fn pages_for(&self, class: Class, blocks: u32) -> u64
+        ensures pages { Tells self.now (λ pages. result ≡ whole_pages class (blocks - free_blocks pages class)) }
+        ensures within { result ≤ 2 ^ 32 }
+    {
+        if blocks == 0 {
+            return 0;
+        }
+        let missing = u64::from(blocks).saturating_sub(self.free_blocks(class) as u64);
+        missing.div_ceil(u64::from(class.blocks_per_page()))
+    }
+
+    /// The first page of the class that isn't leaving and has a free block.
+    pub fn usable(&self, class: Class) -> Option<usize>
+        ensures { Tells self.now (λ pages. result ≡ position (is_usable class) pages) }
+    {
+        self.first_usable(class)
+    }
+
+    /// The class of a page that is in use; None for a free page.
+    pub fn class(&self, page: usize) -> Option<Class>
+        requires { page < length self.now }
+        ensures { Tells self.now (λ pages. result ≡ option_map (λ p. p.class) (page_at pages page)) }
+    {
+        Some(self.row(page)?.class)
+    }
+
+    /// How many blocks of a page are held.
+    pub fn held(&self, page: usize) -> usize
+        requires { page < length self.now }
+        ensures held { Tells self.now (λ pages. result ≡ held_on (page_at pages page)) }
+        ensures within { Tells self.now (λ pages. result ≤ 512) }
+    {
+        match self.row(page) {
+            Some(row) => row.held,
+            None => 0,
+        }
+    }
+
+    /// What is told of a page: None where it is free, or where there is no such page.
+    pub fn page(&self, page: usize) -> Option<PageView>
+        ensures view { Tells self.now (λ pages. result ≡ view_of (page_at pages page)) }
+        ensures within { Tells self.now (λ pages. IfSome result (λ v. v.held ≤ 512)) }
+    {
+        if page >= self.rows.len() {
+            return None;
+        }
+        let row = self.row(page)?;
+        Some(PageView {
+            class: row.class,
+            held: row.held,
+            leaving: row.leaving,
+        })
+    }
+
+    /// Whether a page is of the class, and neither leaving nor receiving.
+    pub fn is_choosable(&self, class: Class, page: usize) -> bool
+        requires { page < length self.now }
+        ensures { Tells self.now (λ pages. result ≡ is_choosable class (page_at pages page)) }
+    {
+        page::is_choosable(class, self.row(page))
+    }
+
+    /// How many free blocks of a class a page has, none if it is leaving.
+    pub fn free_on(&self, class: Class, page: usize) -> usize
+        requires { page < length self.now }
+        ensures free { Tells self.now (λ pages. result ≡ free_on class (page_at pages page)) }
+        ensures within { result ≤ 512 }
+    {
+        page::free_on(class, self.row(page))
+    }
+
+    /// Whether a block is held. On a free page none is.
+    pub fn is_held(&self, arena: &Arena, block: Block) -> bool
+        requires together { Together self.now arena.now }
+        requires page { block.page < length self.now }
+        ensures { IsTrue result ↔ IsSomeAnd (page_at (pages_in self.now arena.now) block.page) (λ p. slice_get p.held block.index ≡ Some true) }
+    {
+        match self.row(block.page) {
+            Some(row) => {
+                block.index < row.class.blocks_per_page() as usize
+                    && is_taken(arena, block.page, row.class, block.index)
+            }
+            None => false,
+        }
+    }
+
+    /// The first held block of a page from a place on. On a free page none is.
+    pub fn next_held(&self, arena: &Arena, page: usize, from: usize) -> Option<usize>
+        requires together { Together self.now arena.now }
+        requires page { page < length self.now }
+        ensures finds { FindsHeld (page_at (pages_in self.now arena.now) page) from result }
+        ensures within { IfSome result (λ i. i < 512) }
+    {
+        next_held(arena, page, self.row(page)?.class, from)
+    }
+}

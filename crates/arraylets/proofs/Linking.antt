@@ -10,7 +10,7 @@ use Rattle.heap_model.specs.Store.{Store, is_held, node_of, Writes, Adds}
 use Rattle.size_classes.specs.Sizes.{class_for}
 use Rattle.heap_model.specs.Pages.{Page, TakesBlock}
 use Rattle.heap_model.specs.Taking.{Takes, Nothing_taken, Part_taken}
-use Rattle.heap_model.specs.Making.{Making, Nothing_made, Part_made, Piece_linked}
+use Rattle.heap_model.specs.Making.{Making, MakesObject, Nothing_made, Part_made, Piece_linked}
 
 -- blocks are held as the pages say
 pub held_same : (s t : Store) (b : ℕ) → t.pages ≡ s.pages → is_held s b ≡ true → is_held t b ≡ true
@@ -112,6 +112,20 @@ pieces_are n = by_size (leb n 252) refl
     by_size : (b : Bool) → leb n 252 ≡ b → parts_in n - 1 ≡ pieces_in n
     by_size true e = rw e refl
     by_size false e = rw e (omega arith)
+
+-- an object of one part is made by making that part: no piece is linked
+pub one_made : (s t : Store) (address : ℕ) (shape : Shape) (colour : Bool) (id : ℕ) → parts_in (cells_of shape) ≡ 1
+    → Adds s t address (new_node address (record { shape = shape; part = 0; colour = colour }) id)
+    → (class : ℕ) × (index : ℕ) × (class_for (part_words (cells_of shape) 0) ≡ Some class) × TakesBlock s.pages class (address / 2048) index t.pages
+    → (at : ℕ → ℕ) × (at 0 ≡ address) × MakesObject s shape colour id at t × Takes (cells_of shape) at s.pages (parts_in (cells_of shape)) t.pages
+one_made s t address shape colour id one added taken =
+    let none : 0 ≡ pieces_in (cells_of shape) = ap (λ n. n - 1) (sym one) ∙ pieces_are (cells_of shape) in (
+      λ p. address,
+      refl,
+      subst (λ n. Making s shape colour id (λ p. address) (parts_in (cells_of shape)) n t) none
+          (subst (λ n. Making s shape colour id (λ p. address) n 0 t) (sym one) (Part_made 0 s t Nothing_made added)),
+      subst (λ n. Takes (cells_of shape) (λ p. address) s.pages n t.pages) (sym one) (Part_taken 0 taken.0 taken.1 s.pages t.pages Nothing_taken taken.2 taken.3),
+    )
 
 -- no address yet
 zeros : (n p : ℕ) → get_or (replicate {A = ℕ} n 0) p 0 ≡ 0

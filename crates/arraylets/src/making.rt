@@ -82,6 +82,20 @@ fn link_pieces(nodes: &mut Nodes, at: &Addresses, pieces: usize)
     }
 }
 
+/// Makes an object that is cut: a spine and its pieces, which the spine names. Answers the address of
+/// the spine.
+fn new_array(nodes: &mut Nodes, shape: Shape, parts: &Parts, colour: bool, identity: u64) -> usize
+    requires fits { fits shape ≡ true }
+    requires parts { parts.now ≡ cells_of shape }
+    requires room { has_room nodes.old.pages (needed_from (cells_of shape) 0 (parts_in (cells_of shape))) ≡ true }
+    ensures made { (at : ℕ → ℕ) × (at 0 ≡ result) × MakesObject nodes.old shape colour identity at nodes.new × Takes (cells_of shape) at nodes.old.pages (parts_in (cells_of shape)) nodes.new.pages }
+    ensures within { result ≤ 8388608 }
+{
+    let at = make_parts(nodes, shape, parts, colour, identity);
+    link_pieces(nodes, &at, parts.count() as usize - 1);
+    at[0]
+}
+
 /// Makes an object, for whose parts there is room: all cells are null or 0. Answers the address of its
 /// part 0.
 pub fn new_object(nodes: &mut Nodes, shape: Shape, colour: bool, identity: u64) -> usize
@@ -91,7 +105,8 @@ pub fn new_object(nodes: &mut Nodes, shape: Shape, colour: bool, identity: u64) 
     ensures within { result ≤ 8388608 }
 {
     let parts = parts_of(&shape).unwrap();
-    let at = make_parts(nodes, shape, &parts, colour, identity);
-    link_pieces(nodes, &at, parts.count() as usize - 1);
-    at[0]
+    if parts.count() == 1 {
+        return make_part(nodes, shape, &parts, 0, colour, identity);
+    }
+    new_array(nodes, shape, &parts, colour, identity)
 }

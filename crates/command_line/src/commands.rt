@@ -27,16 +27,29 @@ fn trace<'a>(alloc: Global) -> Arg<'a> {
     file(alloc, "TRACE", "The trace, or - for standard input")
 }
 
+/// A number that may be given behind a name.
+fn number<'a>(alloc: Global, name: &'a str, value: &'a str, help: &'a str) -> Arg<'a> {
+    Arg::new(alloc, name)
+        .long(name)
+        .value_name(value)
+        .value_parser(value_parser!(u32))
+        .help(help)
+}
+
+/// A subcommand that plays a trace.
+fn playing<'a>(alloc: Global, name: &'a str, about: &'a str) -> Result<Command<'a>, AllocError> {
+    Command::new(alloc, name)
+        .about(about)
+        .arg(config(alloc))?
+        .arg(trace(alloc))
+}
+
 fn play<'a>(alloc: Global) -> Result<Command<'a>, AllocError> {
     let history = Arg::new(alloc, "history")
         .long("history")
         .action(ArgAction::SetTrue)
         .help("Write the entry of each command, and not its reply alone");
-    Command::new(alloc, "play")
-        .about("Play a trace and write its replies")
-        .arg(config(alloc))?
-        .arg(trace(alloc))?
-        .arg(history)
+    playing(alloc, "play", "Play a trace and write its replies")?.arg(history)
 }
 
 fn check<'a>(alloc: Global) -> Result<Command<'a>, AllocError> {
@@ -49,35 +62,19 @@ fn check<'a>(alloc: Global) -> Result<Command<'a>, AllocError> {
 
 fn threads<'a>(alloc: Global) -> Result<Command<'a>, AllocError> {
     let scripts = file(alloc, "SCRIPTS", "The scripts, or - for standard input");
-    let turns = Arg::new(alloc, "turns")
-        .long("turns")
-        .value_name("N")
-        .value_parser(value_parser!(u32))
-        .help("Quanta of the collector, 0 to 10000 [default: 100]");
-    let budget = Arg::new(alloc, "budget")
-        .long("budget")
-        .value_name("B")
-        .value_parser(value_parser!(u32))
-        .help("Units of each quantum, 256 to 1000000 [default: 256]");
+    let turns = "Quanta of the collector, 0 to 10000 [default: 100]";
+    let budget = "Units of each quantum, 256 to 1000000 [default: 256]";
     Command::new(alloc, "threads")
         .about("Run scripts on threads and write their history")
         .arg(config(alloc))?
         .arg(scripts)?
-        .arg(turns)?
-        .arg(budget)
+        .arg(number(alloc, "turns", "N", turns))?
+        .arg(number(alloc, "budget", "B", budget))
 }
 
 fn inspect<'a>(alloc: Global) -> Result<Command<'a>, AllocError> {
-    let after = Arg::new(alloc, "after")
-        .long("after")
-        .value_name("N")
-        .value_parser(value_parser!(u32))
-        .help("Play the first N event lines only");
-    Command::new(alloc, "inspect")
-        .about("Play a trace and report the heap")
-        .arg(config(alloc))?
-        .arg(trace(alloc))?
-        .arg(after)
+    let after = number(alloc, "after", "N", "Play the first N event lines only");
+    playing(alloc, "inspect", "Play a trace and report the heap")?.arg(after)
 }
 
 fn mmu<'a>(alloc: Global) -> Result<Command<'a>, AllocError> {
@@ -86,9 +83,6 @@ fn mmu<'a>(alloc: Global) -> Result<Command<'a>, AllocError> {
         .num_args(1..)
         .value_parser(value_parser!(u64))
         .help("Windows, each of 1 to 1099511627776 ticks");
-    Command::new(alloc, "mmu")
-        .about("Play a trace and write the least that mutators have of windows")
-        .arg(config(alloc))?
-        .arg(trace(alloc))?
-        .arg(windows)
+    let about = "Play a trace and write the least that mutators have of windows";
+    playing(alloc, "mmu", about)?.arg(windows)
 }

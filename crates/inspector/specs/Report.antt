@@ -26,9 +26,13 @@ phase_line h = codes "phase " ++ phase_name h.phase
 abbrev pub units_line : HeapState → List ℕ
 units_line h = codes "units " ++ decimal h.units
 
+-- two numbers, each behind its name
+abbrev pub two_named : List ℕ → ℕ → List ℕ → ℕ → List ℕ
+two_named first n second m = first ++ decimal n ++ second ++ decimal m
+
 -- all pages, and the free ones
 abbrev pub pages_line : HeapState → List ℕ
-pages_line h = codes "pages " ++ decimal (length h.store.pages) ++ codes " free " ++ decimal (free_pages h.store.pages)
+pages_line h = two_named (codes "pages ") (length h.store.pages) (codes " free ") (free_pages h.store.pages)
 
 -- a page in use: its number, the words of a block, the held blocks, and all its blocks
 abbrev pub page_line : ℕ → PageView → List ℕ
@@ -48,7 +52,7 @@ page_lines number (page ∷ pages) = lines_on number (view_of page) ++ page_line
 
 -- all root cells, and those that aren't null
 abbrev pub roots_line : HeapState → List ℕ
-roots_line h = codes "roots " ++ decimal (length h.roots) ++ codes " used " ++ decimal (used_in h.roots)
+roots_line h = two_named (codes "roots ") (length h.roots) (codes " used ") (used_in h.roots)
 
 -- main copies with part number 0, all main copies, and old copies
 abbrev pub copies_line : Copies → List ℕ

@@ -4,7 +4,7 @@ ghost use Rattle.heap_model.specs.Pages.{page_at};
 ghost use Rattle.pages.specs.View.{view_of};
 ghost use Rattle.nodes.specs.Copies.{copies_in};
 ghost use Rattle.trace.specs.Streams.{GrowsByPart, failed, text_of};
-ghost use Rattle.inspector.specs.Report.{phase_name, phase_line, units_line, pages_line, page_line, lines_on, roots_line, copies_line};
+ghost use Rattle.inspector.specs.Report.{phase_name, phase_line, units_line, two_named, pages_line, page_line, lines_on, roots_line, copies_line};
 
 use heap_model::phase::Phase;
 use machine::Heap;
@@ -49,15 +49,23 @@ pub(crate) fn write_units<K: Sink>(heap: &Heap, sink: &mut K) -> Result<(), Writ
     end_line(sink, &mut out, end)
 }
 
-/// Puts how many pages there are, and how many are free, at the front of an array, and answers the place
-/// behind it.
-fn put_pages(out: &mut [u8; 256], heap: &Heap) -> usize
-    ensures text { take result out.new ≡ pages_line heap.now }
-    ensures place { result ≤ 60 }
+/// Writes two named numbers as a line.
+fn write_two<K: Sink>(
+    sink: &mut K,
+    first: &[u8],
+    n: usize,
+    second: &[u8],
+    m: usize,
+) -> Result<(), WriteFailed>
+    requires { length first.now + length second.now ≤ 20 }
+    ensures ok { OnOk result (K.taken sink.new ≡ K.taken sink.old ++ (two_named first.now n second.now m ++ 10 ∷ [])) }
+    ensures err { OnErr result (GrowsByPart (K.taken sink.old) (K.taken sink.new) (two_named first.now n second.now m ++ 10 ∷ [])) }
+    ensures cause { K.failures sink.new ≡ K.failures sink.old + failed result }
 {
-    let out = out.as_mut_slice();
-    let end = put_named(out, 0, b"pages ", heap.pages() as u64);
-    put_named(out, end, b" free ", heap.free_pages() as u64)
+    let mut out = [0; 256];
+    let end = put_named(&mut out, 0, first, n as u64);
+    let end = put_named(&mut out, end, second, m as u64);
+    end_line(sink, &mut out, end)
 }
 
 /// Writes how many pages there are, and how many are free.
@@ -66,9 +74,17 @@ pub(crate) fn write_pages<K: Sink>(heap: &Heap, sink: &mut K) -> Result<(), Writ
     ensures err { OnErr result (GrowsByPart (K.taken sink.old) (K.taken sink.new) (pages_line heap.now ++ 10 ∷ [])) }
     ensures cause { K.failures sink.new ≡ K.failures sink.old + failed result }
 {
-    let mut out = [0; 256];
-    let end = put_pages(&mut out, heap);
-    end_line(sink, &mut out, end)
+    write_two(sink, b"pages ", heap.pages(), b" free ", heap.free_pages())
+}
+
+/// Writes how many root cells there are, and how many aren't null.
+pub(crate) fn write_roots<K: Sink>(heap: &Heap, sink: &mut K) -> Result<(), WriteFailed>
+    ensures ok { OnOk result (K.taken sink.new ≡ K.taken sink.old ++ (roots_line heap.now ++ 10 ∷ [])) }
+    ensures err { OnErr result (GrowsByPart (K.taken sink.old) (K.taken sink.new) (roots_line heap.now ++ 10 ∷ [])) }
+    ensures cause { K.failures sink.new ≡ K.failures sink.old + failed result }
+{
+    let (all, used) = (heap.root_cells(), heap.roots_used());
+    write_two(sink, b"roots ", all, b" used ", used)
 }
 
 /// Puts what is told of a page in use at the front of an array, and answers the place behind it.
@@ -104,28 +120,6 @@ pub(crate) fn write_page<K: Sink>(
     };
     let mut out = [0; 256];
     let end = put_page(&mut out, number, page);
-    end_line(sink, &mut out, end)
-}
-
-/// Puts how many root cells there are, and how many aren't null, at the front of an array, and answers
-/// the place behind it.
-fn put_roots(out: &mut [u8; 256], heap: &Heap) -> usize
-    ensures text { take result out.new ≡ roots_line heap.now }
-    ensures place { result ≤ 60 }
-{
-    let out = out.as_mut_slice();
-    let end = put_named(out, 0, b"roots ", heap.root_cells() as u64);
-    put_named(out, end, b" used ", heap.roots_used() as u64)
-}
-
-/// Writes how many root cells there are, and how many aren't null.
-pub(crate) fn write_roots<K: Sink>(heap: &Heap, sink: &mut K) -> Result<(), WriteFailed>
-    ensures ok { OnOk result (K.taken sink.new ≡ K.taken sink.old ++ (roots_line heap.now ++ 10 ∷ [])) }
-    ensures err { OnErr result (GrowsByPart (K.taken sink.old) (K.taken sink.new) (roots_line heap.now ++ 10 ∷ [])) }
-    ensures cause { K.failures sink.new ≡ K.failures sink.old + failed result }
-{
-    let mut out = [0; 256];
-    let end = put_roots(&mut out, heap);
     end_line(sink, &mut out, end)
 }
 

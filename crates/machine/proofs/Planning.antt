@@ -34,9 +34,8 @@ pub cells_by : (o : Option ℕ) (cells p : ℕ) → o ≡ Some p → IfSome o (�
 cells_by o cells p e w = subst (λ x. IfSome x (λ y. y ≡ cells)) e w
 
 -- the room that was tested is that of the shape
-pub room_by : (pages : List (Option Page)) (shape : Shape) (parts : ℕ) (need : List ℕ) → parts ≡ cells_of shape → ((class : ℕ) → class < 38 → slice_index need class ≡ blocks_needed parts (parts_in parts) class)
-    → has_room pages (λ class. slice_index need class) ≡ has_room pages (needed shape)
-room_by pages shape parts need e w = room_same pages (λ class. slice_index need class) (needed shape) (λ k l. w k l ∙ ap (λ n. blocks_needed n (parts_in n) k) e)
+pub room_by : (pages : List (Option Page)) (shape : Shape) (parts : ℕ) → parts ≡ cells_of shape → has_room pages (blocks_needed parts (parts_in parts)) ≡ has_room pages (needed shape)
+room_by pages shape parts e = ap (λ n. has_room pages (blocks_needed n (parts_in n))) e
 
 abbrev chain : Shape → Result ℕ Refusal → Result Shape Refusal → Result ℕ Refusal → Result Bool Refusal → Result (Reply × Change) Refusal
 chain shape a b i r = a >>= λ d. b >>= λ ok. i >>= λ id. r >>= λ has. Ok (replies.Made id, changes.New d id shape)

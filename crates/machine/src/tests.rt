@@ -5,8 +5,11 @@ use heap_model::phase::Phase;
 use size_classes::{Config, Settings};
 use std::process::Abort;
 
+mod between;
 mod collecting;
+mod drawing;
 mod many_pages;
+mod memory;
 mod mixing;
 mod moving;
 mod refusing;

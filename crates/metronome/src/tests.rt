@@ -8,25 +8,30 @@ use std::sync::Wait;
 use std::thread::Threads;
 
 mod checking;
+mod cutting;
+mod edges;
+mod failing;
 mod faults;
+mod many;
 mod memory;
 mod playing;
 mod racing;
 mod reporting;
 mod streams;
 mod windows;
+mod words;
 
 /// The files of a test: the configuration, called `config`, and a text, called `text`.
 #[derive(Clone, Copy, Debug, PartialEq, Eq)]
-struct Texts {
-    config: &'static str,
-    text: &'static str,
+struct Texts<'a> {
+    config: &'a str,
+    text: &'a str,
 }
 
-impl Opener for Texts {
-    type File = &'static [u8];
+impl<'a> Opener for Texts<'a> {
+    type File = &'a [u8];
 
-    fn open(&self, name: &str) -> io::Result<&'static [u8]> {
+    fn open(&self, name: &str) -> io::Result<&'a [u8]> {
         match name {
             "config" => Ok(self.config.as_bytes()),
             "text" => Ok(self.text.as_bytes()),
@@ -60,6 +65,43 @@ struct Run {
     output: &'static str,
     errors: &'static str,
     status: u8,
+}
+
+/// What a run wrote, and its exit status.
+#[derive(Drop)]
+struct Ran {
+    output: Vec<u8>,
+    errors: Vec<u8>,
+    status: u8,
+}
+
+/// Makes a run with a configuration and an input. The words don't begin with the program's name.
+fn made_run<T: Threads + Wait + Sync + Abort + AllocGlobal>(
+    rt: &T,
+    words: &[&str],
+    config: &str,
+    input: &[u8],
+) -> Result<Ran, NoMemory> {
+    let alloc = rt.alloc();
+    let mut all = vec![in alloc; "metronome"]?;
+    all.extend_from_slice(words)?;
+    let texts = Texts { config, text: "" };
+    let mut output = Vec::new(alloc);
+    let mut errors = Vec::new(alloc);
+    let status = run(
+        rt,
+        alloc,
+        all.as_slice(),
+        &texts,
+        input,
+        &mut output,
+        &mut errors,
+    );
+    Ok(Ran {
+        output,
+        errors,
+        status,
+    })
 }
 
 /// Makes a run, and compares the exit status and what was written to the output and to the error stream.

@@ -1,14 +1,11 @@
 -- A change of blocks, with words that stayed in held blocks before it or after it.
-use Rattle.std.proofs.Common.{◌≡◌, ℕ, true, List, Option, length, ap, ◌∙◌}
+use Rattle.std.proofs.Common.{◌≡◌, ℕ, true, List, Option, ap, ◌∙◌}
 use Rattle.heap_model.specs.Action.{Frees, MovesBlock}
 use Rattle.heap_model.specs.Block.{Node, with_forward}
 use Rattle.heap_model.specs.Pages.{Page}
-use Rattle.heap_model.specs.Store.{Store, IsStore, Adds, is_held}
+use Rattle.heap_model.specs.Store.{Store, Adds, is_held}
 use Rattle.pages.specs.Together.{KeepsHeld}
 use Rattle.nodes.proofs.Joining.{node_kept}
-
-pub still_store : (pages : List (Option Page)) (words new : List ℕ) → length new ≡ length words → IsStore (record { pages = pages; words = words }) → IsStore (record { pages = pages; words = new })
-still_store pages words new e s = record { pages = s.pages; words = e ∙ s.words; few = s.few }
 
 -- words stayed, and then a block was added or moved
 module _ (pages : List (Option Page)) (words mid : List ℕ) (kept : KeepsHeld pages words mid) (new : Store) where

@@ -12,8 +12,10 @@ use Rattle.heap_model.specs.Pages.{Page, IsPage, page_at, with_held}
 use Rattle.heap_model.specs.Store.{Store, IsStore, size_in, held_in, size_at, is_held, node_of, address_of}
 use Rattle.heap_model.specs.Action.{KeepsBlocks, Frees, held_on, closed}
 use Rattle.pages.specs.Together.{KeepsHeld}
-use Rattle.nodes.proofs.Carried.{frees_then, still_store}
-use Rattle.nodes.proofs.Places.{count_in}
+use Rattle.nodes.proofs.Carried.{frees_then}
+use Rattle.nodes.specs.Joined.{IsHeader}
+use Rattle.nodes.proofs.Joining.{still_store, word_kept}
+use Rattle.nodes.proofs.Places.{count_in, held_place}
 
 and_false : (b : Bool) → (b && false) ≡ false
 and_false true = refl
@@ -246,6 +248,16 @@ module _ (s t : Store) (is : s ≡ t) (whole : IsStore s) (k i : ℕ) (new : Lis
       still_store new s.words words kept.len (subst (λ g. IsStore (record { pages = g; words = s.words })) (sym is) (freed_store s whole k i p e h)),
     )
 
+    held_at_first : (o : Option Page) → page_at s.pages k ≡ o → IsSomeAnd o (λ p. slice_get p.held i ≡ Some true) → IfSome o (λ p. new ≡ set s.pages k (Some (with_held p i false)))
+        → (b : ℕ) → is_held (record { pages = new; words = words }) b ≡ true → is_held s b ≡ true
+    held_at_first None e h is b now = absurd h
+    held_at_first (Some p) e h is b now =
+        let f : Frees s (record { pages = new; words = words }) (address_of p.class k i) = (freed_at (Some p) e h is).0 in
+        elim (same_or b (address_of p.class k i)) [
+          | inl same ↦ absurd (let gone : is_held (record { pages = new; words = words }) b ≡ false = ap (is_held (record { pages = new; words = words })) same ∙ f.gone in cc)
+          | inr ne ↦ sym (f.same b ne) ∙ now
+        ]
+
     module _ (held : IsSomeAnd (page_at t.pages k) (λ p. slice_get p.held i ≡ Some true)) (given : IfSome (page_at s.pages k) (λ p. new ≡ set s.pages k (Some (with_held p i false)))) where
       held_here : IsSomeAnd (page_at s.pages k) (λ p. slice_get p.held i ≡ Some true)
       held_here = subst (λ (x : Store). IsSomeAnd (page_at x.pages k) (λ p. slice_get p.held i ≡ Some true)) (sym is) held
@@ -257,6 +269,14 @@ module _ (s t : Store) (is : s ≡ t) (whole : IsStore s) (k i : ℕ) (new : Lis
 
       pub freed_store_by : IsStore (record { pages = new; words = words })
       freed_store_by = (freed_at (page_at s.pages k) refl held_here given).1
+
+      -- word 1 of each block that is held still
+      pub freed_headers : ((b : ℕ) → is_held s b ≡ true → IsHeader (get_or s.words (b + 1) 0)) → (b : ℕ) → is_held (record { pages = new; words = words }) b ≡ true → IsHeader (get_or words (b + 1) 0)
+      unfolding is_held
+      freed_headers headers b now =
+          let before : is_held (record { pages = new; words = s.words }) b ≡ true = now in
+          let low = (held_place (record { pages = new; words = s.words }) b (still_store new words s.words (sym kept.len) freed_store_by) before).size in
+          subst IsHeader (sym (word_kept new s.words words kept b before 1 (omega (arith, low)))) (headers b (held_at_first (page_at s.pages k) refl held_here given b now))
 
   module _ (below : k < length t.pages) (given : new ≡ set s.pages k (closed (page_at s.pages k))) where
     below_here : k < length s.pages

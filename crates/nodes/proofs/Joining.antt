@@ -7,6 +7,7 @@ use Rattle.std.proofs.lemmas.List.{get_or-set_same, get_or-set_other}
 use Rattle.std.proofs.lemmas.Option.{slice_get_within, slice_get-get_or, get_or_from_slice_get}
 use Rattle.size_classes.specs.Sizes.{size_of, blocks_in}
 use Rattle.heap_model.specs.Block.{node_in, spliced}
+use Rattle.heap_model.specs.Action.{KeepsBlocks}
 use Rattle.heap_model.specs.Pages.{Page, page_at}
 use Rattle.heap_model.specs.Store.{Store, IsStore, size_in, size_at, is_held, node_of}
 use Rattle.headers.proofs.Fresh.{words_at-same, length-spliced, spliced_other}
@@ -16,8 +17,13 @@ use Rattle.pages.specs.Index.{row_at}
 use Rattle.pages.specs.Together.{pages_in, Together, KeepsHeld, Tells}
 use Rattle.pages.proofs.Telling.{WritesBlock, held_place, write_keeps, write_same, length-pages}
 use Rattle.pages.proofs.Threading.{get_flag, length-flags}
-use Rattle.nodes.specs.Joined.{joined, AreNodes}
+use Rattle.nodes.specs.Joined.{joined, IsHeader, AreNodes}
+use Rattle.nodes.proofs.Headers.{header_after}
 use Rattle.nodes.proofs.Places.{held_in-page, flag_within, placed}
+
+-- words of the same number
+pub still_store : (pages : List (Option Page)) (words new : List ℕ) → length new ≡ length words → IsStore (record { pages = pages; words = words }) → IsStore (record { pages = pages; words = new })
+still_store pages words new e s = record { pages = s.pages; words = e ∙ s.words; few = s.few }
 
 -- what the records tell, of the value t as which the fields are seen
 pub told : (rows : List (Option PageRecord)) (words : List ℕ) (t : Store) → joined rows words ≡ t → AreNodes rows words → {X : Type 0} (f : List (Option Page) → X) (v : X) → Tells rows (λ pages. v ≡ f pages) → v ≡ f t.pages
@@ -26,20 +32,29 @@ told rows words t is are f v tells = tells words are.together ∙ ap (λ (x : St
 pub below_by : (rows : List (Option PageRecord)) (words : List ℕ) (t : Store) → joined rows words ≡ t → (page : ℕ) → page < length t.pages → page < length rows
 below_by rows words t is page h = let e : length rows ≡ length t.pages = sym (length-pages rows words) ∙ ap (λ (x : Store). length x.pages) is in omega (arith, h, e)
 
--- a held block says what it said where its words stayed
-pub node_kept : (pages : List (Option Page)) (words new : List ℕ) → KeepsHeld pages words new → (b : ℕ) → is_held (record { pages = pages; words = words }) b ≡ true
-    → node_of (record { pages = pages; words = new }) b ≡ node_of (record { pages = pages; words = words }) b
-unfolding node_of size_at is_held
-node_kept pages words new kept b h =
-    let f = held_in-page (page_at pages (b / 2048)) (b % 2048) h in
-    let size = size_of f.page.class in
-    let i = b % 2048 / size in
-    let flag : slice_get f.page.held i ≡ Some true = slice_get-get_or f.page.held i false (flag_within f.page.held i f.flag) ∙ ap Some f.flag in
-    let place : b ≡ 2048 * (b / 2048) + i * size = placed b (b / 2048) (b % 2048) size refl refl f.whole in
-    ap node_in (words_at-same new words b (size_in (page_at pages (b / 2048))) kept.len
-    (λ n low high. let small : n - b < size = omega (arith, low, high, ap size_in f.is) in
-    let at : n ≡ 2048 * (b / 2048) + i * size + (n - b) = omega (arith, low, place) in
-    ap (λ m. get_or new m 0) at ∙ kept.each (b / 2048) f.page i (n - b) f.is flag small ∙ ap (λ m. get_or words m 0) (sym at)))
+-- where the words of held blocks stayed
+module _ (pages : List (Option Page)) (words new : List ℕ) (kept : KeepsHeld pages words new) (b : ℕ) (held : is_held (record { pages = pages; words = words }) b ≡ true) where
+  pub word_kept : (j : ℕ) → j < size_at (record { pages = pages; words = words }) b → get_or new (b + j) 0 ≡ get_or words (b + j) 0
+  unfolding size_at is_held
+  word_kept j within =
+      let f = held_in-page (page_at pages (b / 2048)) (b % 2048) held in
+      let size = size_of f.page.class in
+      let i = b % 2048 / size in
+      let flag : slice_get f.page.held i ≡ Some true = slice_get-get_or f.page.held i false (flag_within f.page.held i f.flag) ∙ ap Some f.flag in
+      let place : b ≡ 2048 * (b / 2048) + i * size = placed b (b / 2048) (b % 2048) size refl refl f.whole in
+      let small : j < size = omega (arith, within, ap size_in f.is) in
+      ap (λ n. get_or new (n + j) 0) place ∙ kept.each (b / 2048) f.page i j f.is flag small ∙ ap (λ n. get_or words (n + j) 0) (sym place)
+
+  -- a held block says what it said
+  pub node_kept : node_of (record { pages = pages; words = new }) b ≡ node_of (record { pages = pages; words = words }) b
+  unfolding node_of size_at
+  node_kept =
+      ap node_in (words_at-same new words b (size_at (record { pages = pages; words = words }) b) kept.len
+      (λ n low high. let at : n ≡ b + (n - b) = omega (arith, low) in ap (λ m. get_or new m 0) at ∙ word_kept (n - b) (omega (arith, low, high)) ∙ ap (λ m. get_or words m 0) (sym at)))
+
+-- where the same blocks are held, with the same words
+pub same_headers : (rows : List (Option PageRecord)) (words : List ℕ) (t : Store) → joined rows words ≡ t → AreNodes rows words → (new : Store) → KeepsBlocks t new → (b : ℕ) → is_held new b ≡ true → IsHeader (get_or words (b + 1) 0)
+same_headers rows words t is are new kept b held = are.headers b (ap (λ (x : Store). is_held x b) is ∙ sym (kept.held b) ∙ held)
 
 -- a held block, by the record of its page
 pub record HeldBlock (rows : List (Option PageRecord)) (words : List ℕ) (a : ℕ) : Type 0 where
@@ -100,15 +115,15 @@ writes_first words new a size v small some within is = record {
   held = ap (λ w. not (eqb (get_or w a 0) free_mark)) is ∙ ap (λ n. not (eqb n free_mark)) (get_or-set_same words a v 0 within) ∙ no_mark v small;
 }
 
-first_spliced : (words others : List ℕ) (a : ℕ) → a + length others ≤ length words → 0 < length others → get_or (spliced words a others) a 0 ≡ get_or others 0 0
-first_spliced words others a h some = grind (arith, common_steps)
+pub word_spliced : (words others : List ℕ) (a k : ℕ) → a + length others ≤ length words → k < length others → get_or (spliced words a others) (a + k) 0 ≡ get_or others k 0
+word_spliced words others a k h within = grind (arith, common_steps)
 
 pub writes_spliced : (words new others : List ℕ) (a size : ℕ) → a + length others ≤ length words → 0 < length others → length others ≤ size → get_or others 0 0 ≤ 8388608 → new ≡ spliced words a others → WritesBlock words new a size
 writes_spliced words new others a size fit some within small is = record {
   len = ap (λ w. length w) is ∙ length-spliced words others a fit;
   below = λ n h. ap (λ w. get_or w n 0) is ∙ spliced_other words others a n fit (inl h);
   above = λ n h. ap (λ w. get_or w n 0) is ∙ spliced_other words others a n fit (inr (omega (arith, h, within)));
-  held = ap (λ w. not (eqb (get_or w a 0) free_mark)) is ∙ ap (λ n. not (eqb n free_mark)) (first_spliced words others a fit some) ∙ no_mark (get_or others 0 0) small;
+  held = ap (λ w. not (eqb (get_or w a 0) free_mark)) is ∙ ap (λ n. not (eqb n free_mark)) (ap (λ n. get_or (spliced words a others) n 0) (let e : a ≡ a + 0 = omega arith in e) ∙ word_spliced words others a 0 fit some) ∙ no_mark (get_or others 0 0) small;
 }
 
 -- a write of a held block keeps the records and the words together
@@ -125,5 +140,11 @@ module _ (rows : List (Option PageRecord)) (words new : List ℕ) (t : Together 
   pub through : (P : Store → Type 0) → P (record { pages = pages_in rows words; words = new }) → P (joined rows new)
   through P p = subst (λ g. P (record { pages = g; words = new })) (sym same_pages) p
 
-  pub still_nodes : IsStore (joined rows words) → AreNodes rows new
-  still_nodes s = record { whole = through IsStore (record { pages = s.pages; words = w.len ∙ s.words; few = s.few }); together = still_together }
+  pub still_nodes : AreNodes rows words → is_held (joined rows words) a ≡ true → IsHeader (get_or new (a + 1) 0) → AreNodes rows new
+  unfolding is_held
+  still_nodes are held header = record {
+    whole = through IsStore (still_store (pages_in rows words) words new w.len are.whole);
+    together = still_together;
+    headers = through (λ s. (b : ℕ) → is_held s b ≡ true → IsHeader (get_or new (b + 1) 0))
+        (λ b other. header_after (pages_in rows words) words new are.whole a (size_of h.row.class) h.size held w header b other (λ ne. are.headers b other));
+  }

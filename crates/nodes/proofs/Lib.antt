@@ -4,10 +4,12 @@ pub mod Counting
 pub mod Following
 pub mod Freeing
 pub mod Fresh
+pub mod Headers
 pub mod Joining
 pub mod Leaving
 pub mod Made
 pub mod Making
+pub mod Moved
 pub mod Moving
 pub mod Places
 pub mod Writing

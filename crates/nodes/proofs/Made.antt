@@ -1,5 +1,5 @@
 -- A part made, as the code knows it: of the value t as which the fields s are seen.
-use Rattle.std.proofs.Common.{◌≡◌, ℕ, ◌+◌, ◌*◌, ◌/◌, ◌<◌, ◌≤◌, true, List, ◌∷◌, Option, Some, length, set, replicate, ap, ◌∙◌, sym, subst, arith}
+use Rattle.std.proofs.Common.{◌≡◌, ◌≢◌, ℕ, ◌+◌, ◌*◌, ◌/◌, ◌<◌, ◌≤◌, true, List, ◌∷◌, Option, Some, length, get_or, set, replicate, ap, ◌∙◌, sym, subst, arith}
 use Rattle.std.proofs.lemmas.List.{length-replicate}
 use Rattle.heap_model.specs.Header.{Header, HeaderFits, header_word}
 use Rattle.heap_model.specs.Block.{cell_count, new_node, new_words, spliced}
@@ -9,10 +9,12 @@ use Rattle.size_classes.specs.Sizes.{size_of}
 use Rattle.pages.specs.declared.page.PageRecord.{PageRecord}
 use Rattle.pages.specs.Together.{pages_in, Together, KeepsHeld}
 use Rattle.pages.proofs.Telling.{WritesBlock}
-use Rattle.nodes.specs.Joined.{joined, AreNodes}
-use Rattle.nodes.proofs.Carried.{still_store, adds_then}
-use Rattle.nodes.proofs.Joining.{HeldBlock, held_block, writes_spliced, same_pages, still_together}
-use Rattle.nodes.proofs.Making.{fit, within, few_words, page_place, held_after, size_here, made_store, adds}
+use Rattle.nodes.specs.Joined.{joined, IsHeader, AreNodes}
+use Rattle.nodes.proofs.Headers.{packed_header, header_after}
+use Rattle.nodes.proofs.Places.{held_place}
+use Rattle.nodes.proofs.Carried.{adds_then}
+use Rattle.nodes.proofs.Joining.{HeldBlock, held_block, writes_spliced, same_pages, still_store, still_together, through, word_kept, word_spliced}
+use Rattle.nodes.proofs.Making.{fit, within, few_words, page_place, held_after, same_after, whole_after, size_here, made_store, adds}
 
 module _ (s t : Store) (is : s ≡ t) (whole : IsStore s) (class k i size : ℕ) (small : class < 38) (size_is : size ≡ size_of class) (found : page_for s.pages class ≡ Some k) (was_free : IsOpen (page_of_class class (page_at s.pages k)) i) where
   pub block_small : i * size + size ≤ 2048
@@ -95,20 +97,43 @@ module _ (rows : List (Option PageRecord)) (words : List ℕ) (t : Store) (is : 
   others_length : length (address ∷ header_word h ∷ identity ∷ 0 ∷ replicate cells 0) ≡ cells + 4
   others_length = omega (arith, length-replicate {A = ℕ} cells 0)
 
+  words_fit : address + (4 + cells) ≤ length words
+  words_fit = words_there (joined rows words) t is are.whole class k i size small size_is found was_free address at cells room
+
   write : WritesBlock mid new address (size_of block.row.class)
   write =
       writes_spliced mid new (address ∷ header_word h ∷ identity ∷ 0 ∷ replicate cells 0) address (size_of block.row.class)
-      (let f = words_there (joined rows words) t is are.whole class k i size small size_is found was_free address at cells room in omega (arith, f, kept.len, others_length))
+      (omega (arith, words_fit, kept.len, others_length))
       (omega (arith, others_length)) (omega (arith, others_length, room, size_there))
       (address_within (joined rows words) t is are.whole class k i size small size_is found was_free address at) begun
 
   pub pages_made : pages_in after new ≡ set (pages_in rows words) k (Some (with_held (page_of_class class (page_at (pages_in rows words) k)) i true))
   pages_made = same_pages after mid new together address block write ∙ taken
 
+  -- word 1 of the block, and of those that were held before
+  header_here : IsHeader (get_or new (address + 1) 0)
+  header_here =
+      subst IsHeader (sym (ap (λ w. get_or w (address + 1) 0) begun ∙ word_spliced mid (address ∷ header_word h ∷ identity ∷ 0 ∷ replicate cells 0) address 1 (omega (arith, words_fit, kept.len, others_length)) (omega (arith, others_length)))) (packed_header h fits)
+
+  header_before : (b : ℕ) → is_held (joined after mid) b ≡ true → b ≢ address → IsHeader (get_or mid (b + 1) 0)
+  header_before b held ne =
+      let was : is_held (joined rows words) b ≡ true =
+      sym (ap (λ (g : List (Option Page)). is_held (record { pages = g; words = mid }) b) taken ∙ same_after (joined rows words) are.whole class k i small found was_free mid b (λ e. ne (e ∙ sym there))) ∙ held in
+      let low = (held_place (joined rows words) b are.whole was).size in
+      subst IsHeader (sym (word_kept (pages_in rows words) words mid kept b was 1 (omega (arith, low)))) (are.headers b was)
+
+  whole_mid : IsStore (joined after mid)
+  whole_mid = subst (λ (g : List (Option Page)). IsStore (record { pages = g; words = mid })) (sym taken) (whole_after (joined rows words) are.whole class k i small found was_free mid kept.len)
+
+  header_after_mid : (b : ℕ) → is_held (record { pages = pages_in after mid; words = new }) b ≡ true → IsHeader (get_or new (b + 1) 0)
+  unfolding is_held
+  header_after_mid b held = header_after (pages_in after mid) mid new whole_mid address (size_of block.row.class) block.size now_held write header_here b held (header_before b held)
+
   pub nodes_made : AreNodes after new
   nodes_made = record {
     whole = store_by (joined rows words) t is are.whole class k i size small size_is found was_free address at h fits identity cells count room (pages_in after new) pages_made mid kept new begun;
     together = still_together after mid new together address block write;
+    headers = through after mid new together address block write (λ x. (b : ℕ) → is_held x b ≡ true → IsHeader (get_or new (b + 1) 0)) header_after_mid;
   }
 
   pub adds_made : Adds t (joined after new) address (new_node address h identity)

@@ -1,6 +1,6 @@
 -- Reads and writes of one held block.
 use Rattle.std.proofs.Common.{◌≡◌, ℕ, ◌+◌, ◌<◌, ◌≤◌, ◌≢◌, ◌⊎◌, Bool, true, List, Option, length, drop, set, get_or, ap, ◌∙◌, sym, arith, refl, inl, inr, subst}
-use Rattle.std.proofs.lemmas.List.{get_or-take, get_or-drop, length-take, length-drop}
+use Rattle.std.proofs.lemmas.List.{get_or-set_same, get_or-set_other, get_or-take, get_or-drop, length-take, length-drop}
 use Rattle.graph_heap.specs.declared.command.Shape.{Shape}
 use Rattle.graph_heap.specs.Shape.{ref_cells, word_cells}
 use Rattle.heap_model.specs.Header.{header_in, shape_in, recoloured}
@@ -13,7 +13,8 @@ use Rattle.headers.proofs.Frames.{node_at-other}
 use Rattle.headers.proofs.Written.{cell_written, colour_written}
 use Rattle.pages.specs.declared.page.PageRecord.{PageRecord}
 use Rattle.pages.proofs.Telling.{WritesBlock}
-use Rattle.nodes.specs.Joined.{joined, AreNodes}
+use Rattle.nodes.specs.Joined.{joined, IsHeader, AreNodes}
+use Rattle.nodes.proofs.Headers.{recoloured_header}
 use Rattle.nodes.proofs.Joining.{HeldBlock, held_block, first_held, writes_later, still_nodes, through}
 use Rattle.nodes.proofs.Places.{held_place, inside, apart}
 
@@ -146,6 +147,9 @@ module _ (rows : List (Option PageRecord)) (words : List ℕ) (t : Store) (is : 
   block : HeldBlock rows words a
   block = held_block rows words a held_here
 
+  header_there : a + 1 < length words
+  header_there = omega (arith, in_words (joined rows words) are.whole a held_here, four (joined rows words) are.whole a held_here)
+
   later : (k v : ℕ) → 0 < k → k < size_at (joined rows words) a → new ≡ set words (a + k) v → WritesBlock words new a (size_of block.row.class)
   later k v some within e = writes_later words new a (size_of block.row.class) k v (first_held rows words a block) some (subst (λ n. k < n) block.size within) e
 
@@ -154,7 +158,7 @@ module _ (rows : List (Option PageRecord)) (words : List ℕ) (t : Store) (is : 
     colour_write = later 1 (recoloured (get_or words (a + 1) 0) c) (omega arith) (omega (arith, four (joined rows words) are.whole a held_here)) e
 
     pub recoloured_nodes : AreNodes rows new
-    recoloured_nodes = still_nodes rows words new are.together a block colour_write are.whole
+    recoloured_nodes = still_nodes rows words new are.together a block colour_write are held_here (subst IsHeader (sym (ap (λ w. get_or w (a + 1) 0) e ∙ get_or-set_same words (a + 1) (recoloured (get_or words (a + 1) 0) c) 0 header_there)) (recoloured_header (get_or words (a + 1) 0) c (are.headers a held_here)))
 
     pub recolours : Writes t (joined rows new) a (with_colour (node_of t a) c)
     recolours =
@@ -166,7 +170,7 @@ module _ (rows : List (Option PageRecord)) (words : List ℕ) (t : Store) (is : 
     cell_write = later (4 + i) v (omega arith) (cell_within (joined rows words) are.whole a held_here i (subst (λ (x : Store). i < length (node_of x a).cells) (sym is) within)) e
 
     pub rewritten_nodes : AreNodes rows new
-    rewritten_nodes = still_nodes rows words new are.together a block cell_write are.whole
+    rewritten_nodes = still_nodes rows words new are.together a block cell_write are held_here (subst IsHeader (sym (ap (λ w. get_or w (a + 1) 0) e ∙ get_or-set_other words (a + (4 + i)) (a + 1) v 0 (omega arith))) (are.headers a held_here))
 
     pub rewrites : Writes t (joined rows new) a (with_cell (node_of t a) i v)
     rewrites =

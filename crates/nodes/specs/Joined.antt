@@ -1,13 +1,19 @@
 -- The table and the words together, as a store.
-use Rattle.std.specs.Prelude.{ℕ, List, Option}
-use Rattle.heap_model.specs.Store.{Store, IsStore}
+use Rattle.std.specs.Prelude.{◌≡◌, ℕ, ◌+◌, true, List, Option, slice_index}
+use Rattle.heap_model.specs.Header.{header_in, header_word}
+use Rattle.heap_model.specs.Store.{Store, IsStore, is_held}
 use Rattle.pages.specs.declared.page.PageRecord.{PageRecord}
 use Rattle.pages.specs.Together.{pages_in, Together}
 
 abbrev pub joined : List (Option PageRecord) → List ℕ → Store
 joined rows words = record { pages = pages_in rows words; words = words }
 
--- they are a store, and go together
+-- no bit is set that no field of a header has
+abbrev pub IsHeader : ℕ → Type 0
+IsHeader word = header_word (header_in word) ≡ word
+
+-- they are a store, and go together, and word 1 of each held block is a header
 pub record AreNodes (rows : List (Option PageRecord)) (words : List ℕ) : Type 0 where
   pub whole : IsStore (joined rows words)
   pub together : Together rows words
+  pub headers : (b : ℕ) → is_held (joined rows words) b ≡ true → IsHeader (slice_index words (b + 1))

@@ -1,7 +1,8 @@
 //! Pages and words together.
 ghost use Rattle.std.specs.Prelude.{IsSome, IsSomeAnd, slice_get, option_map, position, ◌≡◌, ◌≢◌, ℕ, ◌+◌, ◌-◌, ◌*◌, ◌/◌, ◌<◌, ◌≤◌, ◌↔◌, length, replicate, slice_index, slice_set, true, false, None, Some, IfOk, IfSome, IsNone};
 ghost use Rattle.size_classes.specs.Sizes.{size_of};
-ghost use Rattle.size_classes.specs.Parts.{part_cells, cells_of};
+ghost use Rattle.size_classes.specs.Need.{blocks_needed};
+ghost use Rattle.size_classes.specs.Parts.{part_cells, cells_of, parts_in};
 ghost use Rattle.heap_model.specs.Header.{ShapeFits};
 ghost use Rattle.heap_model.specs.Block.{cell_count, with_forward, with_colour, with_cell, new_node};
 ghost use Rattle.heap_model.specs.Pages.{has_room, page_for, page_at, is_usable, free_on, free_blocks, with_held, IsOpen, TakesBlock};
@@ -18,7 +19,7 @@ ghost use Rattle.nodes.specs.Referent.{referent_of};
 use graph_heap::{NoMemory, Shape};
 use headers::Arena;
 use pages::{Block, PageTable};
-use size_classes::{Class, Need};
+use size_classes::{Class, Parts};
 use std::alloc::Global;
 use std::marker::Model;
 
@@ -59,8 +60,8 @@ fn address(page: usize, index: usize, size: usize) -> usize
 
 /// The blocks of a heap. Contracts see the pages and the words; a method that writes says what the
 /// record of its one block becomes, and that every other held block keeps its own. The table and the
-/// arena go together throughout: no write marks a held block as free, and none touches the list of a
-/// page's free blocks.
+/// arena go together throughout: the list of each page runs through just its free blocks, and in a held
+/// block word 0 is an address and word 1 a header with no other bit set.
 #[derive(Drop)]
 pub struct Nodes {
     table: PageTable,
@@ -89,11 +90,11 @@ impl Nodes {
         Ok(Nodes { table, arena })
     }
 
-    /// Whether there is room for so many blocks of each class.
-    pub fn room(&self, need: &Need) -> bool
-        ensures { result ≡ has_room self.now.pages (λ class. slice_index need.now class) }
+    /// Whether there is room for the parts of an object.
+    pub fn room(&self, parts: &Parts) -> bool
+        ensures { result ≡ has_room self.now.pages (blocks_needed parts.now (parts_in parts.now)) }
     {
-        self.table.room(need)
+        self.table.room(parts)
     }
 
     /// The address to which a held block forwards.

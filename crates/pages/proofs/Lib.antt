@@ -5,3 +5,4 @@ pub mod Telling
 pub mod Reading
 pub mod Needing
 pub mod Taken
+pub mod Single

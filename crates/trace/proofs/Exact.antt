@@ -10,7 +10,7 @@ use Rattle.std.proofs.lemmas.List.Sums.{position_or_len_is, split_at_first, pass
 use Rattle.std.proofs.lemmas.Fmt.{digits_decimal}
 use Rattle.std.proofs.lemmas.Str.Parse.{numerals_by_value, tells_digits, not_in_digits, IsNumeralModel}
 use Rattle.trace.specs.Spelling.{two, three, four}
-use Rattle.trace.specs.Reading.{◌>>=◌, number_in, cut_at, field_in, two_in, three_in, four_in, number_and_word_in, numbers_and_word_in, two_words_in, number_and_words_in, numbers_and_words_in}
+use Rattle.trace.specs.Reading.{◌>>=◌, number_in, cut_at, field_in, two_in, three_in, four_in, number_then}
 use Rattle.trace.proofs.Numbers.{number_in-spelled, number_in-Some}
 
 -- the parts of what was read in steps
@@ -141,59 +141,36 @@ field_in-spelled bits n rest to h =
 
 -- a number and a blank in front of what another reader reads
 module _ {A : Type 0} (bits : ℕ) (to : Narrow bits) (read : List ℕ → Option A) (text : A → List ℕ) (Fits : A → Type 0) (behind : Exact read text Fits) where
-  abbrev pub FrontRead : List ℕ → Option (ℕ × A)
-  FrontRead bytes = field_in bits bytes >>= λ a. read a.1 >>= λ b. Some (a.0, b)
-
   abbrev pub front_text : ℕ × A → List ℕ
   front_text p = decimal p.0 ++ 32 ∷ text p.1
 
   abbrev pub FrontFits : ℕ × A → Type 0
   FrontFits p = (p.0 < 2 ^ bits) × Fits p.1
 
-  front_found : (bytes : List ℕ) (p : ℕ × A) → FrontRead bytes ≡ Some p → (bytes ≡ front_text p) × FrontFits p
+  front_found : (bytes : List ℕ) (p : ℕ × A) → number_then bits read bytes ≡ Some p → (bytes ≡ front_text p) × FrontFits p
   front_found bytes p e =
       bind_parts (field_in bits bytes) _ p e (λ a ea e1. bind_parts (read a.1) _ p e1 (λ b eb e2.
       let f = field_in-Some bits bytes a ea in
       let r = behind.found a.1 b eb in
       told (λ (q : ℕ × A). (bytes ≡ front_text q) × FrontFits q) (a.0, b) p (f.0 ∙ ap (λ l. decimal a.0 ++ 32 ∷ l) r.0, (f.1, r.1)) e2))
 
-  front_only : (p : ℕ × A) → FrontFits p → FrontRead (front_text p) ≡ Some p
+  front_only : (p : ℕ × A) → FrontFits p → number_then bits read (front_text p) ≡ Some p
   front_only p f = rw (field_in-spelled bits p.0 (text p.1) to f.0, behind.only p.1 f.1) refl
 
-  pub exact_front : Exact FrontRead front_text FrontFits
+  pub exact_front : Exact (number_then bits read) front_text FrontFits
   exact_front = record { found = front_found; only = front_only }
 
 abbrev Below : ℕ → ℕ → Type 0
 Below bits n = n < 2 ^ bits
 
-pub exact_two : Exact two_in (λ p. two p.0 p.1) (λ p. (p.0 < 2 ^ 32) × (p.1 < 2 ^ 32))
+pub exact_two : (a b : ℕ) → Narrow a → Narrow b → Exact (two_in a b) (λ p. two p.0 p.1) (λ p. (p.0 < 2 ^ a) × (p.1 < 2 ^ b))
 unfolding two_in
-exact_two = exact_front 32 narrow (number_in 32) decimal (Below 32) (exact_number 32 narrow)
+exact_two a b to_a to_b = exact_front a to_a (number_in b) decimal (Below b) (exact_number b to_b)
 
-pub exact_three : Exact three_in (λ p. three p.0 p.1.0 p.1.1) (λ p. (p.0 < 2 ^ 32) × ((p.1.0 < 2 ^ 32) × (p.1.1 < 2 ^ 32)))
+pub exact_three : (a b c : ℕ) → Narrow a → Narrow b → Narrow c → Exact (three_in a b c) (λ p. three p.0 p.1.0 p.1.1) (λ p. (p.0 < 2 ^ a) × ((p.1.0 < 2 ^ b) × (p.1.1 < 2 ^ c)))
 unfolding three_in
-exact_three = exact_front 32 narrow two_in _ _ exact_two
+exact_three a b c to_a to_b to_c = exact_front a to_a (two_in b c) _ _ (exact_two b c to_b to_c)
 
-pub exact_four : Exact four_in (λ p. four p.0 p.1.0 p.1.1.0 p.1.1.1) (λ p. (p.0 < 2 ^ 32) × ((p.1.0 < 2 ^ 32) × ((p.1.1.0 < 2 ^ 32) × (p.1.1.1 < 2 ^ 32))))
+pub exact_four : (a b c d : ℕ) → Narrow a → Narrow b → Narrow c → Narrow d → Exact (four_in a b c d) (λ p. four p.0 p.1.0 p.1.1.0 p.1.1.1) (λ p. (p.0 < 2 ^ a) × ((p.1.0 < 2 ^ b) × ((p.1.1.0 < 2 ^ c) × (p.1.1.1 < 2 ^ d))))
 unfolding four_in
-exact_four = exact_front 32 narrow three_in _ _ exact_three
-
-pub exact_number_and_word : Exact number_and_word_in (λ p. two p.0 p.1) (λ p. (p.0 < 2 ^ 32) × (p.1 < 2 ^ 64))
-unfolding number_and_word_in
-exact_number_and_word = exact_front 32 narrow (number_in 64) decimal (Below 64) (exact_number 64 wide)
-
-pub exact_numbers_and_word : Exact numbers_and_word_in (λ p. three p.0 p.1.0 p.1.1) (λ p. (p.0 < 2 ^ 32) × ((p.1.0 < 2 ^ 32) × (p.1.1 < 2 ^ 64)))
-unfolding numbers_and_word_in
-exact_numbers_and_word = exact_front 32 narrow number_and_word_in _ _ exact_number_and_word
-
-pub exact_two_words : Exact two_words_in (λ p. two p.0 p.1) (λ p. (p.0 < 2 ^ 64) × (p.1 < 2 ^ 64))
-unfolding two_words_in
-exact_two_words = exact_front 64 wide (number_in 64) decimal (Below 64) (exact_number 64 wide)
-
-pub exact_number_and_words : Exact number_and_words_in (λ p. three p.0 p.1.0 p.1.1) (λ p. (p.0 < 2 ^ 32) × ((p.1.0 < 2 ^ 64) × (p.1.1 < 2 ^ 64)))
-unfolding number_and_words_in
-exact_number_and_words = exact_front 32 narrow two_words_in _ _ exact_two_words
-
-pub exact_numbers_and_words : Exact numbers_and_words_in (λ p. four p.0 p.1.0 p.1.1.0 p.1.1.1) (λ p. (p.0 < 2 ^ 32) × ((p.1.0 < 2 ^ 32) × ((p.1.1.0 < 2 ^ 64) × (p.1.1.1 < 2 ^ 64))))
-unfolding numbers_and_words_in
-exact_numbers_and_words = exact_front 32 narrow number_and_words_in _ _ exact_number_and_words
+exact_four a b c d to_a to_b to_c to_d = exact_front a to_a (three_in b c d) _ _ (exact_three b c d to_b to_c to_d)

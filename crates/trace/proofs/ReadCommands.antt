@@ -11,7 +11,7 @@ use Rattle.trace.specs.declared.keyword.Keyword.{Keyword}
 use Rattle.trace.specs.declared.keyword.Keyword.TheVariants as keywords
 use Rattle.trace.specs.Spelling.{two, shape_text, keyword_text, command_text, command_line, ShapeFits, CommandFits}
 use Rattle.trace.specs.Reading.{◌>>=◌, number_in, cut_at, two_in, all_keywords, keyword_in, shape_in, slot_and_shape_in, arguments_in, command_in, mutator_and_command_in}
-use Rattle.trace.proofs.Exact.{bind_parts, told, chosen, found_passes, Lacks, lacks, cut_at-Some, cut_at-spelled, Exact, narrow, exact_number, exact_front, exact_two, exact_three, exact_four, exact_numbers_and_word, exact_numbers_and_words}
+use Rattle.trace.proofs.Exact.{bind_parts, told, chosen, found_passes, Lacks, lacks, cut_at-Some, cut_at-spelled, Exact, narrow, wide, exact_number, exact_front, exact_two, exact_three, exact_four}
 
 -- a word that was recognised, and what follows it
 glued : (word rest p q : List ℕ) → bytes_eq word p ≡ true → rest ≡ q → word ++ 32 ∷ rest ≡ p ++ 32 ∷ q
@@ -21,10 +21,10 @@ abbrev SpellsShape : List ℕ → Shape → Type 0
 SpellsShape bytes s = (bytes ≡ shape_text s) × ShapeFits s
 
 -- the word and what follows it are a shape
-shape_of_word : (word rest : List ℕ) (s : Shape) → (cond (bytes_eq word (codes "plain")) (two_in rest >>= (λ n. Some (Plain n.0 n.1)))
+shape_of_word : (word rest : List ℕ) (s : Shape) → (cond (bytes_eq word (codes "plain")) (two_in 32 32 rest >>= (λ n. Some (Plain n.0 n.1)))
     (cond (bytes_eq word (codes "refs")) (number_in 32 rest >>= (λ n. Some (RefArray n))) (cond (bytes_eq word (codes "words")) (number_in 32 rest >>= (λ n. Some (WordArray n))) None))) ≡ Some s → SpellsShape (word ++ 32 ∷ rest) s
 shape_of_word word rest s e = elim (chosen (bytes_eq word (codes "plain")) _ _ s e) [
-  | inl h ↦ bind_parts (two_in rest) _ s h.1 (λ n en e1. let t = exact_two.found rest n en in told (SpellsShape (word ++ 32 ∷ rest)) (Plain n.0 n.1) s (glued word rest (codes "plain") (two n.0 n.1) h.0 t.0, t.1) e1)
+  | inl h ↦ bind_parts (two_in 32 32 rest) _ s h.1 (λ n en e1. let t = (exact_two 32 32 narrow narrow).found rest n en in told (SpellsShape (word ++ 32 ∷ rest)) (Plain n.0 n.1) s (glued word rest (codes "plain") (two n.0 n.1) h.0 t.0, t.1) e1)
   | inr r ↦ elim (chosen (bytes_eq word (codes "refs")) _ _ s r.1) [
     | inl h ↦ bind_parts (number_in 32 rest) _ s h.1 (λ n en e1. let t = (exact_number 32 narrow).found rest n en in told (SpellsShape (word ++ 32 ∷ rest)) (RefArray n) s (glued word rest (codes "refs") (decimal n) h.0 t.0, t.1) e1)
     | inr r ↦ elim (chosen (bytes_eq word (codes "words")) _ _ s r.1) [
@@ -40,7 +40,7 @@ shape_found bytes s e = bind_parts (cut_at 32 bytes) _ s e (λ c ec e1. subst (�
 
 shape_only : (s : Shape) → ShapeFits s → shape_in (shape_text s) ≡ Some s
 unfolding shape_in
-shape_only (Plain refs words) f = rw (cut_at-spelled 32 (codes "plain") (two refs words) (lacks 32 (codes "plain") refl), exact_two.only (refs, words) f) refl
+shape_only (Plain refs words) f = rw (cut_at-spelled 32 (codes "plain") (two refs words) (lacks 32 (codes "plain") refl), (exact_two 32 32 narrow narrow).only (refs, words) f) refl
 shape_only (RefArray n) f = rw (cut_at-spelled 32 (codes "refs") (decimal n) (lacks 32 (codes "refs") refl), (exact_number 32 narrow).only n f) refl
 shape_only (WordArray n) f = rw (cut_at-spelled 32 (codes "words") (decimal n) (lacks 32 (codes "words") refl), (exact_number 32 narrow).only n f) refl
 
@@ -55,22 +55,23 @@ keyword_found : (word : List ℕ) (k : Keyword) → keyword_in word ≡ Some k �
 unfolding keyword_in
 keyword_found word k e = (bytes_eq-Decides word (keyword_text k)).0 (found_passes (λ j. bytes_eq word (keyword_text j)) all_keywords k e)
 
-keyword_only : (k : Keyword) → keyword_in (keyword_text k) ≡ Some k
+-- a keyword is found by its text, in which no blank stands
+keyword_only : (k : Keyword) → (keyword_in (keyword_text k) ≡ Some k) × Lacks 32 (keyword_text k)
 unfolding keyword_in
-keyword_only keywords.New = refl
-keyword_only keywords.Load = refl
-keyword_only keywords.Store = refl
-keyword_only keywords.CompareStore = refl
-keyword_only keywords.Get = refl
-keyword_only keywords.Put = refl
-keyword_only keywords.ComparePut = refl
-keyword_only keywords.Copy = refl
-keyword_only keywords.Clear = refl
-keyword_only keywords.LoadStatic = refl
-keyword_only keywords.StoreStatic = refl
-keyword_only keywords.CompareStatic = refl
-keyword_only keywords.Same = refl
-keyword_only keywords.Describe = refl
+keyword_only keywords.New = (refl, lacks 32 (codes "new") refl)
+keyword_only keywords.Load = (refl, lacks 32 (codes "load") refl)
+keyword_only keywords.Store = (refl, lacks 32 (codes "store") refl)
+keyword_only keywords.CompareStore = (refl, lacks 32 (codes "cas") refl)
+keyword_only keywords.Get = (refl, lacks 32 (codes "get") refl)
+keyword_only keywords.Put = (refl, lacks 32 (codes "put") refl)
+keyword_only keywords.ComparePut = (refl, lacks 32 (codes "casput") refl)
+keyword_only keywords.Copy = (refl, lacks 32 (codes "copy") refl)
+keyword_only keywords.Clear = (refl, lacks 32 (codes "clear") refl)
+keyword_only keywords.LoadStatic = (refl, lacks 32 (codes "loadstatic") refl)
+keyword_only keywords.StoreStatic = (refl, lacks 32 (codes "storestatic") refl)
+keyword_only keywords.CompareStatic = (refl, lacks 32 (codes "casstatic") refl)
+keyword_only keywords.Same = (refl, lacks 32 (codes "same") refl)
+keyword_only keywords.Describe = (refl, lacks 32 (codes "describe") refl)
 
 -- what a reader gives, made into a command
 made : {A : Type 0} (read : List ℕ → Option A) (text : A → List ℕ) (Fits : A → Type 0) → Exact read text Fits → (k : Keyword) (f : A → Command) → ((x : A) → Fits x → (keyword_text k ++ 32 ∷ text x ≡ command_text (f x)) × CommandFits (f x))
@@ -83,43 +84,26 @@ made read text Fits exact k f is rest c e = bind_parts (read rest) _ c e (λ x e
 arguments_found : (k : Keyword) (rest : List ℕ) (c : Command) → arguments_in k rest ≡ Some c → (keyword_text k ++ 32 ∷ rest ≡ command_text c) × CommandFits c
 unfolding arguments_in
 arguments_found keywords.New = made _ _ _ exact_slot_and_shape keywords.New (λ n. commands.New n.0 n.1) (λ n f. (refl, f))
-arguments_found keywords.Load = made _ _ _ exact_three keywords.Load (λ n. commands.Load n.0 n.1.0 n.1.1) (λ n f. (refl, (f.0, f.1.0, f.1.1)))
-arguments_found keywords.Store = made _ _ _ exact_three keywords.Store (λ n. commands.Store n.0 n.1.0 n.1.1) (λ n f. (refl, (f.0, f.1.0, f.1.1)))
-arguments_found keywords.CompareStore = made _ _ _ exact_four keywords.CompareStore (λ n. commands.CompareStore n.0 n.1.0 n.1.1.0 n.1.1.1) (λ n f. (refl, (f.0, f.1.0, f.1.1.0, f.1.1.1)))
-arguments_found keywords.Get = made _ _ _ exact_two keywords.Get (λ n. commands.Get n.0 n.1) (λ n f. (refl, f))
-arguments_found keywords.Put = made _ _ _ exact_numbers_and_word keywords.Put (λ n. commands.Put n.0 n.1.0 n.1.1) (λ n f. (refl, (f.0, f.1.0, f.1.1)))
-arguments_found keywords.ComparePut = made _ _ _ exact_numbers_and_words keywords.ComparePut (λ n. commands.ComparePut n.0 n.1.0 n.1.1.0 n.1.1.1) (λ n f. (refl, (f.0, f.1.0, f.1.1.0, f.1.1.1)))
-arguments_found keywords.Copy = made _ _ _ exact_two keywords.Copy (λ n. commands.Copy n.0 n.1) (λ n f. (refl, f))
+arguments_found keywords.Load = made _ _ _ (exact_three 32 32 32 narrow narrow narrow) keywords.Load (λ n. commands.Load n.0 n.1.0 n.1.1) (λ n f. (refl, (f.0, f.1.0, f.1.1)))
+arguments_found keywords.Store = made _ _ _ (exact_three 32 32 32 narrow narrow narrow) keywords.Store (λ n. commands.Store n.0 n.1.0 n.1.1) (λ n f. (refl, (f.0, f.1.0, f.1.1)))
+arguments_found keywords.CompareStore = made _ _ _ (exact_four 32 32 32 32 narrow narrow narrow narrow) keywords.CompareStore (λ n. commands.CompareStore n.0 n.1.0 n.1.1.0 n.1.1.1) (λ n f. (refl, (f.0, f.1.0, f.1.1.0, f.1.1.1)))
+arguments_found keywords.Get = made _ _ _ (exact_two 32 32 narrow narrow) keywords.Get (λ n. commands.Get n.0 n.1) (λ n f. (refl, f))
+arguments_found keywords.Put = made _ _ _ (exact_three 32 32 64 narrow narrow wide) keywords.Put (λ n. commands.Put n.0 n.1.0 n.1.1) (λ n f. (refl, (f.0, f.1.0, f.1.1)))
+arguments_found keywords.ComparePut = made _ _ _ (exact_four 32 32 64 64 narrow narrow wide wide) keywords.ComparePut (λ n. commands.ComparePut n.0 n.1.0 n.1.1.0 n.1.1.1) (λ n f. (refl, (f.0, f.1.0, f.1.1.0, f.1.1.1)))
+arguments_found keywords.Copy = made _ _ _ (exact_two 32 32 narrow narrow) keywords.Copy (λ n. commands.Copy n.0 n.1) (λ n f. (refl, f))
 arguments_found keywords.Clear = made _ _ _ (exact_number 32 narrow) keywords.Clear (λ n. commands.Clear n) (λ n f. (refl, f))
-arguments_found keywords.LoadStatic = made _ _ _ exact_two keywords.LoadStatic (λ n. commands.LoadStatic n.0 n.1) (λ n f. (refl, f))
-arguments_found keywords.StoreStatic = made _ _ _ exact_two keywords.StoreStatic (λ n. commands.StoreStatic n.0 n.1) (λ n f. (refl, f))
-arguments_found keywords.CompareStatic = made _ _ _ exact_three keywords.CompareStatic (λ n. commands.CompareStatic n.0 n.1.0 n.1.1) (λ n f. (refl, (f.0, f.1.0, f.1.1)))
-arguments_found keywords.Same = made _ _ _ exact_two keywords.Same (λ n. commands.Same n.0 n.1) (λ n f. (refl, f))
+arguments_found keywords.LoadStatic = made _ _ _ (exact_two 32 32 narrow narrow) keywords.LoadStatic (λ n. commands.LoadStatic n.0 n.1) (λ n f. (refl, f))
+arguments_found keywords.StoreStatic = made _ _ _ (exact_two 32 32 narrow narrow) keywords.StoreStatic (λ n. commands.StoreStatic n.0 n.1) (λ n f. (refl, f))
+arguments_found keywords.CompareStatic = made _ _ _ (exact_three 32 32 32 narrow narrow narrow) keywords.CompareStatic (λ n. commands.CompareStatic n.0 n.1.0 n.1.1) (λ n f. (refl, (f.0, f.1.0, f.1.1)))
+arguments_found keywords.Same = made _ _ _ (exact_two 32 32 narrow narrow) keywords.Same (λ n. commands.Same n.0 n.1) (λ n f. (refl, f))
 arguments_found keywords.Describe = made _ _ _ (exact_number 32 narrow) keywords.Describe (λ n. commands.Describe n) (λ n f. (refl, f))
-
--- no blank stands in a keyword
-keyword_free : (k : Keyword) → Lacks 32 (keyword_text k)
-keyword_free keywords.New = lacks 32 (codes "new") refl
-keyword_free keywords.Load = lacks 32 (codes "load") refl
-keyword_free keywords.Store = lacks 32 (codes "store") refl
-keyword_free keywords.CompareStore = lacks 32 (codes "cas") refl
-keyword_free keywords.Get = lacks 32 (codes "get") refl
-keyword_free keywords.Put = lacks 32 (codes "put") refl
-keyword_free keywords.ComparePut = lacks 32 (codes "casput") refl
-keyword_free keywords.Copy = lacks 32 (codes "copy") refl
-keyword_free keywords.Clear = lacks 32 (codes "clear") refl
-keyword_free keywords.LoadStatic = lacks 32 (codes "loadstatic") refl
-keyword_free keywords.StoreStatic = lacks 32 (codes "storestatic") refl
-keyword_free keywords.CompareStatic = lacks 32 (codes "casstatic") refl
-keyword_free keywords.Same = lacks 32 (codes "same") refl
-keyword_free keywords.Describe = lacks 32 (codes "describe") refl
 
 -- a command is read again, given what reads its arguments
 again : {A : Type 0} (read : List ℕ → Option A) (text : A → List ℕ) (Fits : A → Type 0) → Exact read text Fits → (k : Keyword) (f : A → Command) → ((bytes : List ℕ) → arguments_in k bytes ≡ (read bytes >>= λ y. Some (f y)))
     → (x : A) → Fits x → command_in (keyword_text k ++ 32 ∷ text x) ≡ Some (f x)
 unfolding command_in
 again read text Fits exact k f is x h =
-    rw (cut_at-spelled 32 (keyword_text k) (text x) (keyword_free k), keyword_only k) (is (text x) ∙ ap (λ o. o >>= λ y. Some (f y)) (exact.only x h))
+    rw (cut_at-spelled 32 (keyword_text k) (text x) (keyword_only k).1, (keyword_only k).0) (is (text x) ∙ ap (λ o. o >>= λ y. Some (f y)) (exact.only x h))
 
 command_found : (bytes : List ℕ) (c : Command) → command_in bytes ≡ Some c → (bytes ≡ command_text c) × CommandFits c
 unfolding command_in
@@ -131,18 +115,18 @@ command_found bytes c e =
 command_only : (c : Command) → CommandFits c → command_in (command_text c) ≡ Some c
 unfolding arguments_in
 command_only (commands.New dst shape) f = again _ _ _ exact_slot_and_shape keywords.New (λ n. commands.New n.0 n.1) (λ bytes. refl) (dst, shape) f
-command_only (commands.Load dst obj i) f = again _ _ _ exact_three keywords.Load (λ n. commands.Load n.0 n.1.0 n.1.1) (λ bytes. refl) (dst, (obj, i)) (f.0, (f.1, f.2))
-command_only (commands.Store obj i src) f = again _ _ _ exact_three keywords.Store (λ n. commands.Store n.0 n.1.0 n.1.1) (λ bytes. refl) (obj, (i, src)) (f.0, (f.1, f.2))
-command_only (commands.CompareStore obj i expect new) f = again _ _ _ exact_four keywords.CompareStore (λ n. commands.CompareStore n.0 n.1.0 n.1.1.0 n.1.1.1) (λ bytes. refl) (obj, (i, (expect, new))) (f.0, (f.1, (f.2, f.3)))
-command_only (commands.Get obj i) f = again _ _ _ exact_two keywords.Get (λ n. commands.Get n.0 n.1) (λ bytes. refl) (obj, i) f
-command_only (commands.Put obj i word) f = again _ _ _ exact_numbers_and_word keywords.Put (λ n. commands.Put n.0 n.1.0 n.1.1) (λ bytes. refl) (obj, (i, word)) (f.0, (f.1, f.2))
-command_only (commands.ComparePut obj i old new) f = again _ _ _ exact_numbers_and_words keywords.ComparePut (λ n. commands.ComparePut n.0 n.1.0 n.1.1.0 n.1.1.1) (λ bytes. refl) (obj, (i, (old, new))) (f.0, (f.1, (f.2, f.3)))
-command_only (commands.Copy dst src) f = again _ _ _ exact_two keywords.Copy (λ n. commands.Copy n.0 n.1) (λ bytes. refl) (dst, src) f
+command_only (commands.Load dst obj i) f = again _ _ _ (exact_three 32 32 32 narrow narrow narrow) keywords.Load (λ n. commands.Load n.0 n.1.0 n.1.1) (λ bytes. refl) (dst, (obj, i)) (f.0, (f.1, f.2))
+command_only (commands.Store obj i src) f = again _ _ _ (exact_three 32 32 32 narrow narrow narrow) keywords.Store (λ n. commands.Store n.0 n.1.0 n.1.1) (λ bytes. refl) (obj, (i, src)) (f.0, (f.1, f.2))
+command_only (commands.CompareStore obj i expect new) f = again _ _ _ (exact_four 32 32 32 32 narrow narrow narrow narrow) keywords.CompareStore (λ n. commands.CompareStore n.0 n.1.0 n.1.1.0 n.1.1.1) (λ bytes. refl) (obj, (i, (expect, new))) (f.0, (f.1, (f.2, f.3)))
+command_only (commands.Get obj i) f = again _ _ _ (exact_two 32 32 narrow narrow) keywords.Get (λ n. commands.Get n.0 n.1) (λ bytes. refl) (obj, i) f
+command_only (commands.Put obj i word) f = again _ _ _ (exact_three 32 32 64 narrow narrow wide) keywords.Put (λ n. commands.Put n.0 n.1.0 n.1.1) (λ bytes. refl) (obj, (i, word)) (f.0, (f.1, f.2))
+command_only (commands.ComparePut obj i old new) f = again _ _ _ (exact_four 32 32 64 64 narrow narrow wide wide) keywords.ComparePut (λ n. commands.ComparePut n.0 n.1.0 n.1.1.0 n.1.1.1) (λ bytes. refl) (obj, (i, (old, new))) (f.0, (f.1, (f.2, f.3)))
+command_only (commands.Copy dst src) f = again _ _ _ (exact_two 32 32 narrow narrow) keywords.Copy (λ n. commands.Copy n.0 n.1) (λ bytes. refl) (dst, src) f
 command_only (commands.Clear dst) f = again _ _ _ (exact_number 32 narrow) keywords.Clear (λ n. commands.Clear n) (λ bytes. refl) dst f
-command_only (commands.LoadStatic dst k) f = again _ _ _ exact_two keywords.LoadStatic (λ n. commands.LoadStatic n.0 n.1) (λ bytes. refl) (dst, k) f
-command_only (commands.StoreStatic k src) f = again _ _ _ exact_two keywords.StoreStatic (λ n. commands.StoreStatic n.0 n.1) (λ bytes. refl) (k, src) f
-command_only (commands.CompareStatic k expect new) f = again _ _ _ exact_three keywords.CompareStatic (λ n. commands.CompareStatic n.0 n.1.0 n.1.1) (λ bytes. refl) (k, (expect, new)) (f.0, (f.1, f.2))
-command_only (commands.Same a b) f = again _ _ _ exact_two keywords.Same (λ n. commands.Same n.0 n.1) (λ bytes. refl) (a, b) f
+command_only (commands.LoadStatic dst k) f = again _ _ _ (exact_two 32 32 narrow narrow) keywords.LoadStatic (λ n. commands.LoadStatic n.0 n.1) (λ bytes. refl) (dst, k) f
+command_only (commands.StoreStatic k src) f = again _ _ _ (exact_two 32 32 narrow narrow) keywords.StoreStatic (λ n. commands.StoreStatic n.0 n.1) (λ bytes. refl) (k, src) f
+command_only (commands.CompareStatic k expect new) f = again _ _ _ (exact_three 32 32 32 narrow narrow narrow) keywords.CompareStatic (λ n. commands.CompareStatic n.0 n.1.0 n.1.1) (λ bytes. refl) (k, (expect, new)) (f.0, (f.1, f.2))
+command_only (commands.Same a b) f = again _ _ _ (exact_two 32 32 narrow narrow) keywords.Same (λ n. commands.Same n.0 n.1) (λ bytes. refl) (a, b) f
 command_only (commands.Describe a) f = again _ _ _ (exact_number 32 narrow) keywords.Describe (λ n. commands.Describe n) (λ bytes. refl) a f
 
 pub exact_command : Exact command_in command_text CommandFits

@@ -21,51 +21,32 @@ refusal_found : (n : ℕ) (r : Refusal) → refusal_in n ≡ Some r → refusal_
 unfolding refusal_in
 refusal_found n r e = eqb-true (refusal_number r) n (found_passes (λ q. eqb (refusal_number q) n) all_refusals r e)
 
-refusal_only : (r : Refusal) → refusal_in (refusal_number r) ≡ Some r
+-- a refusal is found by its number, which is small
+refusal_only : (r : Refusal) → (refusal_in (refusal_number r) ≡ Some r) × (refusal_number r < 2 ^ 64)
 unfolding refusal_in
-refusal_only refusals.BadSlot = refl
-refusal_only refusals.NullSlot = refl
-refusal_only refusals.BadIndex = refl
-refusal_only refusals.WrongKind = refl
-refusal_only refusals.TooLarge = refl
-refusal_only refusals.IdentitiesSpent = refl
-refusal_only refusals.NoSpace = refl
-refusal_only refusals.BadStatic = refl
-
--- the numbers of refusals are small
-refusal_small : (r : Refusal) → refusal_number r < 2 ^ 64
-refusal_small refusals.BadSlot = omega arith
-refusal_small refusals.NullSlot = omega arith
-refusal_small refusals.BadIndex = omega arith
-refusal_small refusals.WrongKind = omega arith
-refusal_small refusals.TooLarge = omega arith
-refusal_small refusals.IdentitiesSpent = omega arith
-refusal_small refusals.NoSpace = omega arith
-refusal_small refusals.BadStatic = omega arith
+refusal_only refusals.BadSlot = (refl, omega arith)
+refusal_only refusals.NullSlot = (refl, omega arith)
+refusal_only refusals.BadIndex = (refl, omega arith)
+refusal_only refusals.WrongKind = (refl, omega arith)
+refusal_only refusals.TooLarge = (refl, omega arith)
+refusal_only refusals.IdentitiesSpent = (refl, omega arith)
+refusal_only refusals.NoSpace = (refl, omega arith)
+refusal_only refusals.BadStatic = (refl, omega arith)
 
 word_found : (bytes : List ℕ) (w : ReplyWord) → reply_word_in bytes ≡ Some w → bytes ≡ reply_word_text w
 unfolding reply_word_in
 word_found bytes w e = (bytes_eq-Decides bytes (reply_word_text w)).0 (found_passes (λ v. bytes_eq bytes (reply_word_text v)) all_reply_words w e)
 
-word_only : (w : ReplyWord) → reply_word_in (reply_word_text w) ≡ Some w
+-- such a word is found by its text, in which no blank stands
+word_only : (w : ReplyWord) → (reply_word_in (reply_word_text w) ≡ Some w) × Lacks 32 (reply_word_text w)
 unfolding reply_word_in
-word_only words.Made = refl
-word_only words.Ref = refl
-word_only words.Word = refl
-word_only words.Kept = refl
-word_only words.KeptWord = refl
-word_only words.Described = refl
-word_only words.Refused = refl
-
--- no blank stands in such a word
-word_free : (w : ReplyWord) → Lacks 32 (reply_word_text w)
-word_free words.Made = lacks 32 (codes "made") refl
-word_free words.Ref = lacks 32 (codes "ref") refl
-word_free words.Word = lacks 32 (codes "word") refl
-word_free words.Kept = lacks 32 (codes "kept") refl
-word_free words.KeptWord = lacks 32 (codes "keptword") refl
-word_free words.Described = lacks 32 (codes "described") refl
-word_free words.Refused = lacks 32 (codes "refused") refl
+word_only words.Made = (refl, lacks 32 (codes "made") refl)
+word_only words.Ref = (refl, lacks 32 (codes "ref") refl)
+word_only words.Word = (refl, lacks 32 (codes "word") refl)
+word_only words.Kept = (refl, lacks 32 (codes "kept") refl)
+word_only words.KeptWord = (refl, lacks 32 (codes "keptword") refl)
+word_only words.Described = (refl, lacks 32 (codes "described") refl)
+word_only words.Refused = (refl, lacks 32 (codes "refused") refl)
 
 abbrev SpellsReply : List ℕ → Reply → Type 0
 SpellsReply bytes r = (bytes ≡ reply_text r) × ReplyFits r
@@ -122,7 +103,7 @@ reply_found bytes r e = elim (chosen (bytes_eq bytes (codes "done")) _ _ r e) [
 -- a reply is read again, given that what follows its first word is
 again : (w : ReplyWord) (rest : List ℕ) (r : Reply) → reply_arguments_in w rest ≡ Some r → long_reply_in (reply_word_text w ++ 32 ∷ rest) ≡ Some r
 unfolding long_reply_in
-again w rest r e = rw (cut_at-spelled 32 (reply_word_text w) rest (word_free w), word_only w, e) refl
+again w rest r e = rw (cut_at-spelled 32 (reply_word_text w) rest (word_only w).1, (word_only w).0, e) refl
 
 number_only : (w : ReplyWord) (f : ℕ → Reply) (n : ℕ) → n < 2 ^ 64 → ((bytes : List ℕ) → reply_arguments_in w bytes ≡ (number_in 64 bytes >>= λ m. Some (f m))) → long_reply_in (reply_word_text w ++ 32 ∷ decimal n) ≡ Some (f n)
 number_only w f n h is = again w (decimal n) (f n) (is (decimal n) ∙ ap (λ o. o >>= λ m. Some (f m)) ((exact_number 64 wide).only n h))
@@ -139,7 +120,7 @@ reply_only (replies.KeptWord w) f = number_only words.KeptWord (λ n. replies.Ke
 reply_only (replies.Is true) f = refl
 reply_only (replies.Is false) f = refl
 reply_only (replies.Described id shape) f = again words.Described (decimal id ++ 32 ∷ shape_text shape) (replies.Described id shape) (rw (exact_identity_and_shape.only (id, shape) f) refl)
-reply_only (replies.Refused r) f = again words.Refused (decimal (refusal_number r)) (replies.Refused r) (rw ((exact_number 64 wide).only (refusal_number r) (refusal_small r), refusal_only r) refl)
+reply_only (replies.Refused r) f = again words.Refused (decimal (refusal_number r)) (replies.Refused r) (rw ((exact_number 64 wide).only (refusal_number r) (refusal_only r).1, (refusal_only r).0) refl)
 
 pub exact_reply : Exact reply_in reply_text ReplyFits
 exact_reply = record { found = reply_found; only = reply_only }

@@ -45,55 +45,19 @@ field_in bits bytes = do
   n ← number_in bits c.0
   Some (n, c.1)
 
--- numbers parted by blanks
-unfoldable pub two_in : List ℕ → Option (ℕ × ℕ)
-two_in bytes = do
-  a ← field_in 32 bytes
-  b ← number_in 32 a.1
-  Some (a.0, b)
+-- a number of so many bits, a blank, and behind it what another reader gives
+abbrev pub number_then : {A : Type 0} → ℕ → (List ℕ → Option A) → List ℕ → Option (ℕ × A)
+number_then bits read bytes = field_in bits bytes >>= λ a. read a.1 >>= λ b. Some (a.0, b)
 
-unfoldable pub three_in : List ℕ → Option (ℕ × (ℕ × ℕ))
-three_in bytes = do
-  a ← field_in 32 bytes
-  b ← two_in a.1
-  Some (a.0, b)
+-- numbers of so many bits each, parted by blanks
+unfoldable pub two_in : ℕ → ℕ → List ℕ → Option (ℕ × ℕ)
+two_in a b = number_then a (number_in b)
 
-unfoldable pub four_in : List ℕ → Option (ℕ × (ℕ × (ℕ × ℕ)))
-four_in bytes = do
-  a ← field_in 32 bytes
-  b ← three_in a.1
-  Some (a.0, b)
+unfoldable pub three_in : ℕ → ℕ → ℕ → List ℕ → Option (ℕ × (ℕ × ℕ))
+three_in a b c = number_then a (two_in b c)
 
--- numbers, and behind them words
-unfoldable pub number_and_word_in : List ℕ → Option (ℕ × ℕ)
-number_and_word_in bytes = do
-  a ← field_in 32 bytes
-  b ← number_in 64 a.1
-  Some (a.0, b)
-
-unfoldable pub numbers_and_word_in : List ℕ → Option (ℕ × (ℕ × ℕ))
-numbers_and_word_in bytes = do
-  a ← field_in 32 bytes
-  b ← number_and_word_in a.1
-  Some (a.0, b)
-
-unfoldable pub two_words_in : List ℕ → Option (ℕ × ℕ)
-two_words_in bytes = do
-  a ← field_in 64 bytes
-  b ← number_in 64 a.1
-  Some (a.0, b)
-
-unfoldable pub number_and_words_in : List ℕ → Option (ℕ × (ℕ × ℕ))
-number_and_words_in bytes = do
-  a ← field_in 32 bytes
-  b ← two_words_in a.1
-  Some (a.0, b)
-
-unfoldable pub numbers_and_words_in : List ℕ → Option (ℕ × (ℕ × (ℕ × ℕ)))
-numbers_and_words_in bytes = do
-  a ← field_in 32 bytes
-  b ← number_and_words_in a.1
-  Some (a.0, b)
+unfoldable pub four_in : ℕ → ℕ → ℕ → ℕ → List ℕ → Option (ℕ × (ℕ × (ℕ × ℕ)))
+four_in a b c d = number_then a (three_in b c d)
 
 -- the words with which commands begin
 abbrev pub all_keywords : List Keyword
@@ -106,32 +70,29 @@ keyword_in word = find (λ k. bytes_eq word (keyword_text k)) all_keywords
 -- a shape
 unfoldable pub shape_in : List ℕ → Option Shape
 shape_in bytes = cut_at 32 bytes >>= λ c.
-    if bytes_eq c.0 (codes "plain") then two_in c.1 >>= (λ n. Some (Plain n.0 n.1)) else
+    if bytes_eq c.0 (codes "plain") then two_in 32 32 c.1 >>= (λ n. Some (Plain n.0 n.1)) else
     if bytes_eq c.0 (codes "refs") then number_in 32 c.1 >>= (λ n. Some (RefArray n)) else
     if bytes_eq c.0 (codes "words") then number_in 32 c.1 >>= (λ n. Some (WordArray n)) else None
 
 -- a slot and a shape
 unfoldable pub slot_and_shape_in : List ℕ → Option (ℕ × Shape)
-slot_and_shape_in bytes = do
-  a ← field_in 32 bytes
-  b ← shape_in a.1
-  Some (a.0, b)
+slot_and_shape_in = number_then 32 shape_in
 
 -- what stands behind the keyword of a command
 unfoldable pub arguments_in : Keyword → List ℕ → Option Command
 arguments_in keywords.New bytes = slot_and_shape_in bytes >>= λ n. Some (commands.New n.0 n.1)
-arguments_in keywords.Load bytes = three_in bytes >>= λ n. Some (commands.Load n.0 n.1.0 n.1.1)
-arguments_in keywords.Store bytes = three_in bytes >>= λ n. Some (commands.Store n.0 n.1.0 n.1.1)
-arguments_in keywords.CompareStore bytes = four_in bytes >>= λ n. Some (commands.CompareStore n.0 n.1.0 n.1.1.0 n.1.1.1)
-arguments_in keywords.Get bytes = two_in bytes >>= λ n. Some (commands.Get n.0 n.1)
-arguments_in keywords.Put bytes = numbers_and_word_in bytes >>= λ n. Some (commands.Put n.0 n.1.0 n.1.1)
-arguments_in keywords.ComparePut bytes = numbers_and_words_in bytes >>= λ n. Some (commands.ComparePut n.0 n.1.0 n.1.1.0 n.1.1.1)
-arguments_in keywords.Copy bytes = two_in bytes >>= λ n. Some (commands.Copy n.0 n.1)
+arguments_in keywords.Load bytes = three_in 32 32 32 bytes >>= λ n. Some (commands.Load n.0 n.1.0 n.1.1)
+arguments_in keywords.Store bytes = three_in 32 32 32 bytes >>= λ n. Some (commands.Store n.0 n.1.0 n.1.1)
+arguments_in keywords.CompareStore bytes = four_in 32 32 32 32 bytes >>= λ n. Some (commands.CompareStore n.0 n.1.0 n.1.1.0 n.1.1.1)
+arguments_in keywords.Get bytes = two_in 32 32 bytes >>= λ n. Some (commands.Get n.0 n.1)
+arguments_in keywords.Put bytes = three_in 32 32 64 bytes >>= λ n. Some (commands.Put n.0 n.1.0 n.1.1)
+arguments_in keywords.ComparePut bytes = four_in 32 32 64 64 bytes >>= λ n. Some (commands.ComparePut n.0 n.1.0 n.1.1.0 n.1.1.1)
+arguments_in keywords.Copy bytes = two_in 32 32 bytes >>= λ n. Some (commands.Copy n.0 n.1)
 arguments_in keywords.Clear bytes = number_in 32 bytes >>= λ n. Some (commands.Clear n)
-arguments_in keywords.LoadStatic bytes = two_in bytes >>= λ n. Some (commands.LoadStatic n.0 n.1)
-arguments_in keywords.StoreStatic bytes = two_in bytes >>= λ n. Some (commands.StoreStatic n.0 n.1)
-arguments_in keywords.CompareStatic bytes = three_in bytes >>= λ n. Some (commands.CompareStatic n.0 n.1.0 n.1.1)
-arguments_in keywords.Same bytes = two_in bytes >>= λ n. Some (commands.Same n.0 n.1)
+arguments_in keywords.LoadStatic bytes = two_in 32 32 bytes >>= λ n. Some (commands.LoadStatic n.0 n.1)
+arguments_in keywords.StoreStatic bytes = two_in 32 32 bytes >>= λ n. Some (commands.StoreStatic n.0 n.1)
+arguments_in keywords.CompareStatic bytes = three_in 32 32 32 bytes >>= λ n. Some (commands.CompareStatic n.0 n.1.0 n.1.1)
+arguments_in keywords.Same bytes = two_in 32 32 bytes >>= λ n. Some (commands.Same n.0 n.1)
 arguments_in keywords.Describe bytes = number_in 32 bytes >>= λ n. Some (commands.Describe n)
 
 -- a command
@@ -143,10 +104,7 @@ command_in bytes = do
 
 -- a command of a mutator
 unfoldable pub mutator_and_command_in : List ℕ → Option (ℕ × Command)
-mutator_and_command_in bytes = do
-  a ← field_in 32 bytes
-  b ← command_in a.1
-  Some (a.0, b)
+mutator_and_command_in = number_then 32 command_in
 
 -- a line for the collector
 unfoldable pub collector_in : List ℕ → Option Line
@@ -180,10 +138,7 @@ reply_word_in word = find (λ w. bytes_eq word (reply_word_text w)) all_reply_wo
 
 -- an identity and a shape
 unfoldable pub identity_and_shape_in : List ℕ → Option (ℕ × Shape)
-identity_and_shape_in bytes = do
-  a ← field_in 64 bytes
-  b ← shape_in a.1
-  Some (a.0, b)
+identity_and_shape_in = number_then 64 shape_in
 
 -- what stands behind the first word of a reply
 unfoldable pub reply_arguments_in : ReplyWord → List ℕ → Option Reply

@@ -1,6 +1,6 @@
 //! Numbers in decimal, parted by blanks.
 ghost use Rattle.std.specs.Prelude.{◌≡◌, ◌==◌, option_map, position};
-ghost use Rattle.trace.specs.Reading.{number_in, cut_at, field_in, two_in, three_in, four_in, number_and_word_in, numbers_and_word_in, two_words_in, number_and_words_in, numbers_and_words_in};
+ghost use Rattle.trace.specs.Reading.{number_in, cut_at, field_in, two_in, three_in, four_in};
 
 use itoa::Buffer;
 use std::str;
@@ -66,7 +66,7 @@ pub(crate) fn word_field(bytes: &[u8]) -> Option<(u64, &[u8])>
 /// Two numbers.
 #[tactic(auto, unfolding(crate::specs::Reading::two_in))]
 pub(crate) fn two(bytes: &[u8]) -> Option<(u32, u32)>
-    ensures { result ≡ two_in bytes.now }
+    ensures { result ≡ two_in 32 32 bytes.now }
 {
     let (a, rest) = field(bytes)?;
     let b = number(rest)?;
@@ -76,7 +76,7 @@ pub(crate) fn two(bytes: &[u8]) -> Option<(u32, u32)>
 /// Three numbers.
 #[tactic(auto, unfolding(crate::specs::Reading::three_in))]
 pub(crate) fn three(bytes: &[u8]) -> Option<(u32, (u32, u32))>
-    ensures { result ≡ three_in bytes.now }
+    ensures { result ≡ three_in 32 32 32 bytes.now }
 {
     let (a, rest) = field(bytes)?;
     let b = two(rest)?;
@@ -86,7 +86,7 @@ pub(crate) fn three(bytes: &[u8]) -> Option<(u32, (u32, u32))>
 /// Four numbers.
 #[tactic(auto, unfolding(crate::specs::Reading::four_in))]
 pub(crate) fn four(bytes: &[u8]) -> Option<(u32, (u32, (u32, u32)))>
-    ensures { result ≡ four_in bytes.now }
+    ensures { result ≡ four_in 32 32 32 32 bytes.now }
 {
     let (a, rest) = field(bytes)?;
     let b = three(rest)?;
@@ -94,9 +94,9 @@ pub(crate) fn four(bytes: &[u8]) -> Option<(u32, (u32, (u32, u32)))>
 }
 
 /// A number and a word.
-#[tactic(auto, unfolding(crate::specs::Reading::number_and_word_in))]
+#[tactic(auto, unfolding(crate::specs::Reading::two_in))]
 fn number_and_word(bytes: &[u8]) -> Option<(u32, u64)>
-    ensures { result ≡ number_and_word_in bytes.now }
+    ensures { result ≡ two_in 32 64 bytes.now }
 {
     let (a, rest) = field(bytes)?;
     let b = word(rest)?;
@@ -104,9 +104,9 @@ fn number_and_word(bytes: &[u8]) -> Option<(u32, u64)>
 }
 
 /// Two numbers and a word.
-#[tactic(auto, unfolding(crate::specs::Reading::numbers_and_word_in))]
+#[tactic(auto, unfolding(crate::specs::Reading::three_in))]
 pub(crate) fn numbers_and_word(bytes: &[u8]) -> Option<(u32, (u32, u64))>
-    ensures { result ≡ numbers_and_word_in bytes.now }
+    ensures { result ≡ three_in 32 32 64 bytes.now }
 {
     let (a, rest) = field(bytes)?;
     let b = number_and_word(rest)?;
@@ -114,9 +114,9 @@ pub(crate) fn numbers_and_word(bytes: &[u8]) -> Option<(u32, (u32, u64))>
 }
 
 /// Two words.
-#[tactic(auto, unfolding(crate::specs::Reading::two_words_in))]
+#[tactic(auto, unfolding(crate::specs::Reading::two_in))]
 fn two_words(bytes: &[u8]) -> Option<(u64, u64)>
-    ensures { result ≡ two_words_in bytes.now }
+    ensures { result ≡ two_in 64 64 bytes.now }
 {
     let (a, rest) = word_field(bytes)?;
     let b = word(rest)?;
@@ -124,9 +124,9 @@ fn two_words(bytes: &[u8]) -> Option<(u64, u64)>
 }
 
 /// A number and two words.
-#[tactic(auto, unfolding(crate::specs::Reading::number_and_words_in))]
+#[tactic(auto, unfolding(crate::specs::Reading::three_in))]
 fn number_and_words(bytes: &[u8]) -> Option<(u32, (u64, u64))>
-    ensures { result ≡ number_and_words_in bytes.now }
+    ensures { result ≡ three_in 32 64 64 bytes.now }
 {
     let (a, rest) = field(bytes)?;
     let b = two_words(rest)?;
@@ -134,9 +134,9 @@ fn number_and_words(bytes: &[u8]) -> Option<(u32, (u64, u64))>
 }
 
 /// Two numbers and two words.
-#[tactic(auto, unfolding(crate::specs::Reading::numbers_and_words_in))]
+#[tactic(auto, unfolding(crate::specs::Reading::four_in))]
 pub(crate) fn numbers_and_words(bytes: &[u8]) -> Option<(u32, (u32, (u64, u64)))>
-    ensures { result ≡ numbers_and_words_in bytes.now }
+    ensures { result ≡ four_in 32 32 64 64 bytes.now }
 {
     let (a, rest) = field(bytes)?;
     let b = number_and_words(rest)?;

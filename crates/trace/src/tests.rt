@@ -5,167 +5,10 @@ use std::io::{self, Read, Write};
 use std::process::Abort;
 use std::test::Fail;
 
-/// Each form of a line, and the ends of the ranges of numbers.
-const LINES: [(&str, Line); 24] = [
+/// Lines that are no commands, and the ends of the ranges of numbers.
+const LINES: [(&str, Line); 7] = [
     ("", Line::Skip),
     ("# 0 clear 0", Line::Skip),
-    (
-        "0 new 0 plain 0 0",
-        Line::Command {
-            mutator: 0,
-            command: Command::New {
-                dst: 0,
-                shape: Shape::Plain { refs: 0, words: 0 },
-            },
-        },
-    ),
-    (
-        "1 new 2 plain 3 4",
-        Line::Command {
-            mutator: 1,
-            command: Command::New {
-                dst: 2,
-                shape: Shape::Plain { refs: 3, words: 4 },
-            },
-        },
-    ),
-    (
-        "0 new 1 refs 253",
-        Line::Command {
-            mutator: 0,
-            command: Command::New {
-                dst: 1,
-                shape: Shape::RefArray(253),
-            },
-        },
-    ),
-    (
-        "0 new 2 words 505",
-        Line::Command {
-            mutator: 0,
-            command: Command::New {
-                dst: 2,
-                shape: Shape::WordArray(505),
-            },
-        },
-    ),
-    (
-        "0 load 1 2 3",
-        Line::Command {
-            mutator: 0,
-            command: Command::Load {
-                dst: 1,
-                obj: 2,
-                i: 3,
-            },
-        },
-    ),
-    (
-        "0 store 1 2 3",
-        Line::Command {
-            mutator: 0,
-            command: Command::Store {
-                obj: 1,
-                i: 2,
-                src: 3,
-            },
-        },
-    ),
-    (
-        "0 cas 1 2 3 4",
-        Line::Command {
-            mutator: 0,
-            command: Command::CompareStore {
-                obj: 1,
-                i: 2,
-                expect: 3,
-                new: 4,
-            },
-        },
-    ),
-    (
-        "0 get 1 2",
-        Line::Command {
-            mutator: 0,
-            command: Command::Get { obj: 1, i: 2 },
-        },
-    ),
-    (
-        "0 put 0 0 18446744073709551615",
-        Line::Command {
-            mutator: 0,
-            command: Command::Put {
-                obj: 0,
-                i: 0,
-                word: 18446744073709551615,
-            },
-        },
-    ),
-    (
-        "0 casput 1 2 3 4",
-        Line::Command {
-            mutator: 0,
-            command: Command::ComparePut {
-                obj: 1,
-                i: 2,
-                old: 3,
-                new: 4,
-            },
-        },
-    ),
-    (
-        "0 copy 1 2",
-        Line::Command {
-            mutator: 0,
-            command: Command::Copy { dst: 1, src: 2 },
-        },
-    ),
-    (
-        "4294967295 clear 0",
-        Line::Command {
-            mutator: 4294967295,
-            command: Command::Clear { dst: 0 },
-        },
-    ),
-    (
-        "0 loadstatic 1 2",
-        Line::Command {
-            mutator: 0,
-            command: Command::LoadStatic { dst: 1, k: 2 },
-        },
-    ),
-    (
-        "0 storestatic 1 2",
-        Line::Command {
-            mutator: 0,
-            command: Command::StoreStatic { k: 1, src: 2 },
-        },
-    ),
-    (
-        "0 casstatic 1 2 3",
-        Line::Command {
-            mutator: 0,
-            command: Command::CompareStatic {
-                k: 1,
-                expect: 2,
-                new: 3,
-            },
-        },
-    ),
-    (
-        "0 same 1 2",
-        Line::Command {
-            mutator: 0,
-            command: Command::Same { a: 1, b: 2 },
-        },
-    ),
-    (
-        "0 describe 1",
-        Line::Command {
-            mutator: 0,
-            command: Command::Describe { a: 1 },
-        },
-    ),
     ("begin", Line::Begin),
     ("quantum 256", Line::Quantum(256)),
     ("quantum 1000000", Line::Quantum(1000000)),
@@ -173,9 +16,116 @@ const LINES: [(&str, Line); 24] = [
     ("tick 1099511627776", Line::Tick(1099511627776)),
 ];
 
+/// Each form of a command, and the ends of the ranges of numbers.
+const COMMANDS: [(&str, u32, Command); 17] = [
+    (
+        "0 new 0 plain 0 0",
+        0,
+        Command::New {
+            dst: 0,
+            shape: Shape::Plain { refs: 0, words: 0 },
+        },
+    ),
+    (
+        "1 new 2 plain 3 4",
+        1,
+        Command::New {
+            dst: 2,
+            shape: Shape::Plain { refs: 3, words: 4 },
+        },
+    ),
+    (
+        "0 new 1 refs 253",
+        0,
+        Command::New {
+            dst: 1,
+            shape: Shape::RefArray(253),
+        },
+    ),
+    (
+        "0 new 2 words 505",
+        0,
+        Command::New {
+            dst: 2,
+            shape: Shape::WordArray(505),
+        },
+    ),
+    (
+        "0 load 1 2 3",
+        0,
+        Command::Load {
+            dst: 1,
+            obj: 2,
+            i: 3,
+        },
+    ),
+    (
+        "0 store 1 2 3",
+        0,
+        Command::Store {
+            obj: 1,
+            i: 2,
+            src: 3,
+        },
+    ),
+    (
+        "0 cas 1 2 3 4",
+        0,
+        Command::CompareStore {
+            obj: 1,
+            i: 2,
+            expect: 3,
+            new: 4,
+        },
+    ),
+    ("0 get 1 2", 0, Command::Get { obj: 1, i: 2 }),
+    (
+        "0 put 0 0 18446744073709551615",
+        0,
+        Command::Put {
+            obj: 0,
+            i: 0,
+            word: 18446744073709551615,
+        },
+    ),
+    (
+        "0 casput 1 2 3 4",
+        0,
+        Command::ComparePut {
+            obj: 1,
+            i: 2,
+            old: 3,
+            new: 4,
+        },
+    ),
+    ("0 copy 1 2", 0, Command::Copy { dst: 1, src: 2 }),
+    ("4294967295 clear 0", 4294967295, Command::Clear { dst: 0 }),
+    ("0 loadstatic 1 2", 0, Command::LoadStatic { dst: 1, k: 2 }),
+    (
+        "0 storestatic 1 2",
+        0,
+        Command::StoreStatic { k: 1, src: 2 },
+    ),
+    (
+        "0 casstatic 1 2 3",
+        0,
+        Command::CompareStatic {
+            k: 1,
+            expect: 2,
+            new: 3,
+        },
+    ),
+    ("0 same 1 2", 0, Command::Same { a: 1, b: 2 }),
+    ("0 describe 1", 0, Command::Describe { a: 1 }),
+];
+
 #[test]
 fn each_line_is_read(rt: HostRuntime) {
     for (text, line) in LINES {
+        assert_eq!(rt; read_line(text.as_bytes()), Some(line), "{text}");
+    }
+    for (text, mutator, command) in COMMANDS {
+        let line = Line::Command { mutator, command };
         assert_eq!(rt; read_line(text.as_bytes()), Some(line), "{text}");
     }
 }
@@ -339,7 +289,7 @@ const OTHER_ENTRIES: [&str; 13] = [
 ];
 
 #[test]
-fn entries_are_written(rt: HostRuntime) {
+fn entries_are_written_and_read(rt: HostRuntime) {
     for (text, command, reply) in ENTRIES {
         let entry = Entry {
             mutator: 0,
@@ -349,23 +299,16 @@ fn entries_are_written(rt: HostRuntime) {
         let mut out = [0; 256];
         let end = write_entry(&entry, &mut out);
         assert_eq!(rt; &out[..end], text.as_bytes(), "{text}");
-    }
-}
-
-#[test]
-fn entries_are_read(rt: HostRuntime) {
-    for (text, command, reply) in ENTRIES {
-        let entry = Entry {
-            mutator: 0,
-            command,
-            reply,
-        };
         assert_eq!(rt;
             read_entry(text.as_bytes()),
             Some(EntryLine::Entry(entry)),
             "{text}"
         );
     }
+}
+
+#[test]
+fn other_entries_are_refused(rt: HostRuntime) {
     for text in OTHER_ENTRIES {
         assert_eq!(rt; read_entry(text.as_bytes()), None, "{text}");
     }
@@ -571,6 +514,25 @@ fn a_write_of_nothing_is_a_failure(rt: HostRuntime) {
     let mut sink = WriteSink::new(Shut);
     assert_eq!(rt; sink.write(b"done"), Err(WriteFailed));
     assert_eq!(rt; sink.write(b""), Ok(0));
+}
+
+#[test]
+fn faults_of_an_input_have_their_texts(rt: HostRuntime) -> Result<(), Fail> {
+    let last = TextFault::Line(18446744073709551615, LineFault::NotEnded);
+    let faults = [
+        (
+            TextFault::Line(2, LineFault::NotEnded),
+            "line 2: line not ended",
+        ),
+        (last, "line 18446744073709551615: line not ended"),
+        (TextFault::Read, "cannot read"),
+        (TextFault::Write, "cannot write"),
+        (TextFault::NoMemory, "no memory"),
+    ];
+    for (fault, text) in faults {
+        assert_eq!(rt; format!(in rt.alloc(); "{fault}")?.as_str(), text);
+    }
+    Ok(())
 }
 
 #[test]

@@ -1,4 +1,5 @@
-//! A gate that holds two workers and the collector until all three have come.
+//! A gate that holds two workers and the collector until all three have come: before each command and budget, and
+//! after the last.
 ghost use Rattle.std.specs.Prelude.{◌≡◌, ◌<◌, ◌≤◌};
 
 use super::playing::played;
@@ -13,7 +14,7 @@ const TURNS: u32 = 1000000;
 /// A flag for each worker and each count, and how many workers have given up.
 #[derive(Drop)]
 struct Meeting {
-    flags: [AtomicU64; 6],
+    flags: [AtomicU64; 9],
     late: AtomicU64,
 }
 
@@ -27,6 +28,9 @@ impl Meeting {
                 AtomicU64::new(0),
                 AtomicU64::new(0),
                 AtomicU64::new(0),
+                AtomicU64::new(0),
+                AtomicU64::new(0),
+                AtomicU64::new(0),
             ],
             late: AtomicU64::new(0),
         }
@@ -34,7 +38,7 @@ impl Meeting {
 
     /// Whether all three have come, having done as much.
     fn is_met(&self, made: usize) -> bool
-        requires { made < 2 }
+        requires { made < 3 }
     {
         let row = made * 3;
         self.flags[row].load(Ordering::SeqCst) == 1
@@ -44,7 +48,7 @@ impl Meeting {
 
     /// Waits for the others.
     fn wait(&self, made: usize)
-        requires { made < 2 }
+        requires { made < 3 }
     {
         for _ in 0..TURNS {
             if self.is_met(made) {
@@ -58,7 +62,7 @@ impl Meeting {
 
 impl Gate for Meeting {
     fn pass(&self, worker: u32, made: u64) {
-        if worker < 3 && made < 2 {
+        if worker < 3 && made < 3 {
             self.flags[made as usize * 3 + worker as usize].store(1, Ordering::SeqCst);
             self.wait(made as usize);
         }
@@ -70,10 +74,10 @@ fn all_three_meet(rt: HostRuntime) -> Result<(), NoMemory> {
     let alloc = rt.alloc();
     let meeting = Meeting::new();
     let scripts = [
-        vec![in alloc; Command::Clear { dst: 0 }]?,
-        vec![in alloc; Command::Clear { dst: 1 }]?,
+        vec![in alloc; Command::Clear { dst: 0 }, Command::Clear { dst: 2 }]?,
+        vec![in alloc; Command::Clear { dst: 1 }, Command::Clear { dst: 3 }]?,
     ];
-    played(&rt, &FOUR_PAGES, &scripts, &[256], &meeting)?;
+    played(&rt, &FOUR_PAGES, &scripts, &[256; 2], &meeting)?;
     for flag in &meeting.flags {
         assert!(&rt; flag.load(Ordering::SeqCst) == 1);
     }

@@ -6,7 +6,7 @@ ghost use Rattle.machine.specs.Plan.{Plans};
 use super::Heap;
 use crate::plan::{Planned, Write};
 use graph_heap::{Command, Refusal, Reply, Shape};
-use size_classes::{Need, parts_of};
+use size_classes::parts_of;
 
 impl Heap {
     /// A new object is planned.
@@ -18,7 +18,7 @@ impl Heap {
         if self.raw.next > self.raw.roots.limits().identities {
             return Err(Refusal::IdentitiesSpent);
         }
-        if !self.raw.nodes.room(&Need::of(&parts)) {
+        if !self.raw.nodes.room(&parts) {
             return Err(Refusal::NoSpace);
         }
         Ok(Planned {

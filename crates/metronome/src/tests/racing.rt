@@ -10,18 +10,15 @@ fn output_of<T: Threads + Wait + Sync + Abort + AllocGlobal>(
     rt: &T,
     words: &[&str],
     input: &[u8],
-) -> Vec<u8> {
-    let alloc = rt.alloc();
-    let texts = Texts {
-        config: FOUR_PAGES,
-        text: "",
-    };
-    let mut output = Vec::new(alloc);
-    let mut errors = Vec::new(alloc);
-    let status = run(rt, alloc, words, &texts, input, &mut output, &mut errors);
+) -> Result<Vec<u8>, NoMemory> {
+    let Ran {
+        output,
+        errors,
+        status,
+    } = made_run(rt, words, FOUR_PAGES, input)?;
     assert_eq!(rt; errors.as_slice(), b"".as_slice());
     assert_eq!(rt; status, 0);
-    output
+    Ok(output)
 }
 
 /// Whether the lines that begin with a mutator's number are entries of its three commands, in their order.
@@ -44,13 +41,12 @@ fn is_won_by(history: &str, identity: &str) -> bool {
     found.count() == 4
 }
 
-fn race<T: Threads + Wait + Sync + Abort + AllocGlobal>(rt: &T, words: &[&str]) {
-    let output = output_of(rt, words, RACE.as_bytes());
-    let checked = output_of(
-        rt,
-        &["metronome", "check", "config", "-"],
-        output.as_slice(),
-    );
+fn race<T: Threads + Wait + Sync + Abort + AllocGlobal>(
+    rt: &T,
+    words: &[&str],
+) -> Result<(), NoMemory> {
+    let output = output_of(rt, words, RACE.as_bytes())?;
+    let checked = output_of(rt, &["check", "config", "-"], output.as_slice())?;
     assert_eq!(rt; checked.as_slice(), b"ok 6\n".as_slice());
     let Ok(history) = str::from_utf8(output.as_slice()) else {
         panic!(rt; "a history is text");
@@ -71,27 +67,21 @@ fn race<T: Threads + Wait + Sync + Abort + AllocGlobal>(rt: &T, words: &[&str]) 
         is_won_by(history, " 1") != is_won_by(history, " 2"),
         "{history}"
     );
+    Ok(())
 }
 
 #[test]
-fn without_turns(rt: HostRuntime) {
-    let words = ["metronome", "threads", "config", "-", "--turns", "0"];
-    race(&rt, &words);
+fn without_turns(rt: HostRuntime) -> Result<(), NoMemory> {
+    let words = ["threads", "config", "-", "--turns", "0"];
+    race(&rt, &words)
 }
 
 #[test]
-fn beside_a_collector(rt: HostRuntime) {
+fn beside_a_collector(rt: HostRuntime) -> Result<(), NoMemory> {
     let words = [
-        "metronome",
-        "threads",
-        "config",
-        "-",
-        "--turns",
-        "100",
-        "--budget",
-        "256",
+        "threads", "config", "-", "--turns", "100", "--budget", "256",
     ];
-    race(&rt, &words);
+    race(&rt, &words)
 }
 
 #[test]

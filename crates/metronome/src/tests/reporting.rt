@@ -169,3 +169,33 @@ fn after_the_first_line(rt: HostRuntime) -> Result<(), NoMemory> {
     };
     expect(&rt, &wanted)
 }
+
+/// Three pages, of which one is emptied in a cycle, and sixteen slots.
+const SIXTEEN_SLOTS: &str =
+    "pages = 3\nmutators = 1\nslots = 16\ndefrag_below = 4\ndefrag_pages = 1\n";
+
+#[test]
+fn of_a_page_that_no_block_could_leave(rt: HostRuntime) -> Result<(), NoMemory> {
+    let wanted = Run {
+        words: &["inspect", "config", "text"],
+        config: SIXTEEN_SLOTS,
+        text: "0 new 0 words 252\n0 new 1 words 252\n0 new 2 words 252\n0 new 3 words 252\n0 new 4 words 252\n0 new 5 words 252\n0 new 6 words 252\n0 new 7 words 252\n0 new 8 words 252\n0 new 9 words 252\n0 clear 0\n0 clear 1\nbegin\nquantum 256\n0 new 0 words 252\n0 new 1 words 252\nquantum 256\n0 new 12 words 252\n",
+        output: "phase idle\nunits 161\npages 3 free 0\npage 0 size 256 held 8 of 8\npage 1 size 256 held 2 of 8 leaving\npage 2 size 256 held 1 of 8\nroots 16 used 11\nobjects 11 parts 11 old 0\n",
+        errors: "",
+        status: 0,
+    };
+    expect(&rt, &wanted)
+}
+
+#[test]
+fn of_a_page_that_one_block_left(rt: HostRuntime) -> Result<(), NoMemory> {
+    let wanted = Run {
+        words: &["inspect", "config", "text"],
+        config: SIXTEEN_SLOTS,
+        text: "0 new 0 words 252\n0 new 1 words 252\n0 new 2 words 252\n0 new 3 words 252\n0 new 4 words 252\n0 new 5 words 252\n0 new 6 words 252\n0 new 7 words 252\n0 new 8 words 252\n0 new 9 words 252\n0 clear 0\n0 clear 1\nbegin\nquantum 256\n0 new 0 words 252\nquantum 256\nquantum 256\n",
+        output: "phase idle\nunits 417\npages 3 free 1\npage 0 size 256 held 8 of 8\npage 1 size 256 held 2 of 8 leaving\nroots 16 used 9\nobjects 9 parts 9 old 1\n",
+        errors: "",
+        status: 0,
+    };
+    expect(&rt, &wanted)
+}

@@ -1,12 +1,27 @@
 //! Readers and writers that fail: the text and the status, and what was written before.
 use super::*;
+use std::alloc::Global;
 use std::io::{Read, Write};
 
 /// A writer with room for so many bytes. The write that finds no room fails, and those behind it find room.
 #[derive(Drop)]
-struct Narrow {
+pub struct Narrow {
     bytes: Vec<u8>,
     room: usize,
+}
+
+impl Narrow {
+    pub fn new(alloc: Global, room: usize) -> Narrow {
+        Narrow {
+            bytes: Vec::new(alloc),
+            room,
+        }
+    }
+
+    /// What was written.
+    pub fn bytes(&self) -> &[u8] {
+        self.bytes.as_slice()
+    }
 }
 
 impl Write for Narrow {
@@ -46,7 +61,7 @@ impl Read for Torn {
 /// Files, one of which is broken.
 #[derive(Clone, Copy)]
 struct TornTexts {
-    texts: Texts,
+    texts: Texts<'static>,
     broken: &'static str,
 }
 
@@ -119,10 +134,7 @@ fn expect_short<T: Threads + Wait + Sync + Abort + AllocGlobal>(rt: &T, short: &
         config: FOUR_PAGES,
         text: short.text,
     };
-    let mut output = Narrow {
-        bytes: Vec::new(alloc),
-        room: short.room,
-    };
+    let mut output = Narrow::new(alloc, short.room);
     let mut errors = Vec::new(alloc);
     let input = short.text.as_bytes();
     let status = run(
@@ -134,7 +146,7 @@ fn expect_short<T: Threads + Wait + Sync + Abort + AllocGlobal>(rt: &T, short: &
         &mut output,
         &mut errors,
     );
-    assert_eq!(rt; output.bytes.as_slice(), short.output.as_bytes());
+    assert_eq!(rt; output.bytes(), short.output.as_bytes());
     assert_eq!(rt; errors.as_slice(), b"metronome: cannot write\n".as_slice());
     assert_eq!(rt; status, 5);
 }
@@ -224,10 +236,7 @@ fn a_write_to_the_error_stream_fails(rt: HostRuntime) {
         text: "0 new 0 plain 0 0\nend\n",
     };
     let mut output = Vec::new(alloc);
-    let mut errors = Narrow {
-        bytes: Vec::new(alloc),
-        room: 9,
-    };
+    let mut errors = Narrow::new(alloc, 9);
     let status = run(
         &rt,
         alloc,

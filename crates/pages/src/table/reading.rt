@@ -1,5 +1,7 @@
 //! What is read of the pages: by the records alone where they tell it, else with the words.
 ghost use Rattle.std.specs.Prelude.{◌≡◌, ◌-◌, ◌^◌, ◌<◌, ◌≤◌, ◌↔◌, IsTrue, slice_get, slice_index, position, length, IfSome, IsSomeAnd, Some, true, option_map, count_by, sum_by};
+ghost use Rattle.size_classes.specs.Need.{blocks_needed};
+ghost use Rattle.size_classes.specs.Parts.{parts_in};
 ghost use Rattle.heap_model.specs.Pages.{page_at, is_usable, free_on, free_blocks, has_room, whole_pages};
 ghost use Rattle.heap_model.specs.Pages as page_list;
 ghost use Rattle.heap_model.specs.Action.{held_on, is_choosable};
@@ -13,7 +15,7 @@ use crate::free_list::{is_taken, next_held};
 use crate::page;
 use crate::view::PageView;
 use headers::Arena;
-use size_classes::{Class, Need};
+use size_classes::{Class, Need, Parts, class_of};
 
 impl PageTable {
     /// How many pages there are.
@@ -40,9 +42,21 @@ impl PageTable {
         self.free_blocks[class.number()]
     }
 
-    /// Whether there is room for so many blocks of each class: the blocks that are needed beside the
-    /// free ones are taken in whole pages, and these together are at most the free pages.
-    pub fn room(&self, need: &Need) -> bool
+    /// Whether there is room for the parts of an object: the blocks that are needed beside the free ones
+    /// are taken in whole pages, and these together are at most the free pages.
+    pub fn room(&self, parts: &Parts) -> bool
+        ensures { Tells self.now (λ pages. result ≡ has_room pages (blocks_needed parts.now (parts_in parts.now))) }
+    {
+        if parts.count() > 1 {
+            return self.room_for(&Need::of(parts));
+        }
+        // One part needs one block.
+        let class = class_of(parts.words(0)).unwrap();
+        self.free_blocks(class) > 0 || self.free_pages() > 0
+    }
+
+    /// Whether there is room for so many blocks of each class.
+    fn room_for(&self, need: &Need) -> bool
         ensures { Tells self.now (λ pages. result ≡ has_room pages (λ class. slice_index need.now class)) }
     {
         let mut pages = 0u64;

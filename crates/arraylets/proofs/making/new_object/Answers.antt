@@ -1,21 +1,17 @@
-use Rattle.std.proofs.Common.{◌≡◌, ◌-◌, ◌∙◌, ap, sym, subst, get_or, refl}
+use Rattle.std.proofs.Common.{◌≡◌, ◌∙◌, ap, sym, arith}
 use Rattle.size_classes.specs.Parts.{cells_of, parts_in}
-use Rattle.heap_model.specs.Making.{Making, pieces_in}
-use Rattle.heap_model.specs.Taking.{Takes}
 use Rattle.heap_model.proofs.Rooms.{first_same}
-use Rattle.arraylets.proofs.Linking.{at_some, pieces_are}
+use Rattle.arraylets.proofs.Linking.{at_some, one_made}
 use Rattle.arraylets.proofs.making.new_object.Goals as goal
 
-pub make_parts-at-requires-clause-room : goal.make_parts-at-requires-clause-room
-make_parts-at-requires-clause-room c = sym (first_same c.args.nodes.now.pages c.args.shape) ∙ c.requires.room
+pub make_part-requires-clause-room : goal.make_part-requires-clause-room
+make_part-requires-clause-room c = sym (first_same c.args.nodes.now.pages c.args.shape) ∙ c.requires.room
 
-pub returns-clause-made : goal.returns-clause-made
-returns-clause-made c =
+pub returns-then-count-eq1-clause-made : goal.returns-then-count-eq1-clause-made
+returns-then-count-eq1-clause-made c =
     let parts : c.unwrap-parts.result ≡ cells_of c.args.shape = at_some c.parts_of.result (λ p. p ≡ cells_of c.args.shape) c.unwrap-parts.result c.unwrap-parts.ensures c.parts_of.ensures.some in
-    let pieces : c.count.result - 1 ≡ pieces_in (cells_of c.args.shape) = ap (λ n. n - 1) (c.count.ensures.count ∙ ap parts_in parts) ∙ pieces_are (cells_of c.args.shape) in (
-      λ p. get_or c.make_parts-at.result p 0,
-      refl,
-      subst (λ n. Making c.args.nodes.now c.args.shape c.args.colour c.args.identity (λ p. get_or c.make_parts-at.result p 0) (parts_in (cells_of c.args.shape)) n c.link_pieces.new.nodes) pieces
-          (c.link_pieces.ensures.linked c.args.nodes.now c.args.shape c.args.colour c.args.identity (parts_in (cells_of c.args.shape)) c.make_parts-at.ensures.made),
-      subst (λ s. Takes (cells_of c.args.shape) (λ p. get_or c.make_parts-at.result p 0) c.args.nodes.now.pages (parts_in (cells_of c.args.shape)) s) (sym c.link_pieces.ensures.pages) c.make_parts-at.ensures.taken,
-    )
+    let count : c.count.result ≡ parts_in (cells_of c.args.shape) = c.count.ensures.count ∙ ap parts_in parts in
+    one_made _ _ _ c.args.shape c.args.colour c.args.identity (omega (arith, count, c.if-count-eq1.true)) c.make_part.ensures.made c.make_part.ensures.taken
+
+pub new_array-requires-clause-room : goal.new_array-requires-clause-room
+new_array-requires-clause-room c = sym (first_same c.args.nodes.now.pages c.args.shape) ∙ c.requires.room

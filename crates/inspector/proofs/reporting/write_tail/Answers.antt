@@ -12,11 +12,6 @@ returns-in_err-write_roots-clause-err g c =
 
 pub returns-clause-err : goal.returns-clause-err
 returns-clause-err g c =
-    let h = c.args.heap.now in
-    let t0 = g.K.Sink.taken c.args.sink.now in
-    let t1 = g.K.Sink.taken c.write_roots.new.sink in
-    let t2 = g.K.Sink.taken c.write_copies.new.sink in
     err_so c.write_copies.result _ _
-    (λ q. part_after t0 t1 t2 (roots_line h ++ 10 ∷ []) ((copies_line (copies_in h.store) ++ 10 ∷ []) ++ []) c.in_ok-write_roots.ensures.ok
-    (part_first t1 t2 (copies_line (copies_in h.store) ++ 10 ∷ []) [] q))
+    (λ q. part_after _ _ _ (roots_line c.args.heap.now ++ 10 ∷ []) _ c.in_ok-write_roots.ensures.ok (part_first _ _ (copies_line (copies_in c.args.heap.now.store) ++ 10 ∷ []) [] q))
     c.write_copies.ensures.err

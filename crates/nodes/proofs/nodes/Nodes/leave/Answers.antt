@@ -1,4 +1,5 @@
 use Rattle.nodes.proofs.Leaving.{receiving_by, keeps_by, left_store_by}
+use Rattle.nodes.proofs.Joining.{same_headers}
 use Rattle.nodes.proofs.nodes.Nodes.leave.Goals as goal
 
 pub leave-requires-clause-receiving : goal.leave-requires-clause-receiving
@@ -8,6 +9,7 @@ pub invariant_of-self : goal.invariant_of-self
 invariant_of-self c = record {
   whole = left_store_by _ _ c.self.view_is c.self.invariant.whole c.args.page c.requires.receiving _ (c.leave.ensures.mark _ c.self.invariant.together);
   together = c.leave.ensures.together _ c.self.invariant.together;
+  headers = same_headers _ _ _ c.self.view_is c.self.invariant _ (keeps_by _ _ c.self.view_is c.self.invariant.whole c.args.page c.requires.receiving _ (c.leave.ensures.mark _ c.self.invariant.together));
 }
 
 pub returns-clause-kept : goal.returns-clause-kept

@@ -1,4 +1,4 @@
-use Rattle.nodes.proofs.Moving.{source_fit, target_fit, open_by, from_there, both_fit, moved_nodes, moves_by, pages_by}
+use Rattle.nodes.proofs.Moved.{source_fit, target_fit, open_by, from_there, both_fit, moved_nodes, moves_by, pages_by}
 use Rattle.nodes.proofs.nodes.Nodes.move_block.Goals as goal
 
 pub address-from-requires-clause-block : goal.address-from-requires-clause-block

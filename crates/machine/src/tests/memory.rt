@@ -1,0 +1,67 @@
+//! Heaps where memory may be refused: it is said so, and nothing has changed then.
+
+use super::*;
+use graph_heap::{Entry, Reference};
+
+/// The slow heap does a command and accepts another, or says that memory was refused and does it when asked again.
+#[test]
+fn of_a_slow_heap(rt: HostRuntime) -> Result<(), NoMemory> {
+    let limits = config_of(&rt, &ONE_PAGE).limits();
+    let mut reference = Reference::new(rt.alloc(), &limits)?;
+    let replied = reference.reply(0, &plain(0, 1, 1));
+    let Ok(reply) = replied else {
+        assert_eq!(&rt; reference.reply(0, &plain(0, 1, 1))?, Reply::Made(1));
+        return Err(NoMemory);
+    };
+    assert_eq!(&rt; reply, Reply::Made(1));
+    let entry = Entry {
+        mutator: 0,
+        command: plain(1, 0, 0),
+        reply: Reply::Made(2),
+    };
+    let Ok(is_step) = reference.accepts(&entry) else {
+        assert!(&rt; reference.accepts(&entry)?);
+        return Err(NoMemory);
+    };
+    assert!(&rt; is_step);
+    Ok(())
+}
+
+/// A heap that was made takes no memory. The cycle: 9 roots, a header, 409 blocks and a page, and a unit for each of
+/// the three changes of phase.
+#[test]
+fn of_a_heap(rt: HostRuntime) -> Result<(), NoMemory> {
+    let mut heap = Heap::new(rt.alloc(), &config_of(&rt, &ONE_PAGE))?;
+    assert_eq!(&rt; heap.step(0, plain(0, 0, 1)), Reply::Made(1));
+    assert_eq!(&rt; heap.begin(), Ok(()));
+    let phase = Phase::Idle;
+    assert_eq!(&rt; heap.quantum(1000), Ok(Spent { units: 423, phase }));
+    Ok(())
+}
+
+/// Calls for which room was made are all done.
+#[test]
+fn of_reserved_calls(rt: HostRuntime) -> Result<(), NoMemory> {
+    let mut heap = recorded(&rt, &ONE_PAGE)?;
+    heap.reserve(40)?;
+    for k in 0..40usize {
+        assert!(&rt; told(&mut heap, Command::Clear { dst: 0 }).is_ok(), "{k}");
+    }
+    Ok(())
+}
+
+/// A call that is refused memory leaves history and heap, and is done when it is asked again.
+#[test]
+fn of_calls(rt: HostRuntime) -> Result<(), NoMemory> {
+    let mut heap = recorded(&rt, &ONE_PAGE)?;
+    for k in 0..40usize {
+        let made = Reply::Made(k as u64 + 1);
+        let Ok(reply) = told(&mut heap, plain(0, 0, 0)) else {
+            assert_eq!(&rt; heap.history().len(), k);
+            assert_eq!(&rt; told(&mut heap, plain(0, 0, 0))?, made);
+            return Err(NoMemory);
+        };
+        assert_eq!(&rt; reply, made);
+    }
+    Ok(())
+}

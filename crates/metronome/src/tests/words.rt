@@ -1,0 +1,52 @@
+//! Words that ask for help, and words that are refused.
+use super::*;
+
+const HELP: &str =
+    "A real-time garbage-collected heap: plays, checks and measures its traces\n\nUsage: metronome <COMMAND>\n\n\
+    Commands:\n\
+    \x20 play     Play a trace and write its replies\n\
+    \x20 check    Check the replies of a history\n\
+    \x20 threads  Run scripts on threads and write their history\n\
+    \x20 inspect  Play a trace and report the heap\n\
+    \x20 mmu      Play a trace and write the least that mutators have of windows\n\
+    \x20 help     Print this message or the help of the given subcommand(s)\n\n\
+    Options:\n\
+    \x20 -h, --help  Print help\n";
+
+/// Makes a run without files, and compares all that came of it.
+fn expect_words<T: Threads + Wait + Sync + Abort + AllocGlobal>(
+    rt: &T,
+    words: &'static [&'static str],
+    output: &'static str,
+    errors: &'static str,
+    status: u8,
+) -> Result<(), NoMemory> {
+    let wanted = Run {
+        words,
+        config: FOUR_PAGES,
+        text: "",
+        output,
+        errors,
+        status,
+    };
+    expect(rt, &wanted)
+}
+
+#[test]
+fn help_is_an_output(rt: HostRuntime) -> Result<(), NoMemory> {
+    expect_words(&rt, &["--help"], HELP, "", 0)?;
+    expect_words(&rt, &["help"], HELP, "", 0)
+}
+
+#[test]
+fn refused_words_have_a_text(rt: HostRuntime) -> Result<(), NoMemory> {
+    let none = "metronome: error: 'metronome' requires a subcommand but one was not provided\n  \
+        [subcommands: play, check, threads, inspect, mmu, help]\n\nUsage: metronome <COMMAND>\n\n\
+        For more information, try '--help'.\n";
+    expect_words(&rt, &[], "", none, 2)?;
+    let turns =
+        "metronome: error: invalid value '10001' for '--turns <N>': 10001 is not in 0..=10000\n\n\
+        For more information, try '--help'.\n";
+    let words = &["threads", "config", "text", "--turns", "10001"];
+    expect_words(&rt, words, "", turns, 2)
+}

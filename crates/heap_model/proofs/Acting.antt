@@ -23,7 +23,7 @@ use Rattle.heap_model.proofs.Same.{SameBlocks}
 use Rattle.heap_model.proofs.Edits.{shade, set_root, set_cell, free}
 use Rattle.heap_model.proofs.Acts.{root_scanned, cell_scanned}
 use Rattle.heap_model.proofs.Collector.{acts, same_stands, placed_stands}
-use Rattle.heap_model.proofs.Seen.{held_pages, field_kept, behind, root_seen, cell_seen}
+use Rattle.heap_model.proofs.Seen.{held_put, field_kept, behind, write_seen, root_seen, cell_seen}
 use Rattle.heap_model.proofs.Written.{whole_write, whole_cell, width_le}
 use Rattle.heap_model.proofs.Held.{set_page_here, page_within, is_page, held_block, block_within, size_some, page_of_place, index_same}
 
@@ -66,51 +66,17 @@ colour_after h new x some w z l = by_here (z == x) refl l
 pub colour_seen : (h : HeapState) (new : Store) (x : ℕ) → x ≢ 0 → Writes h.store new (x - 1) (with_colour (node_of h.store (x - 1)) h.sense) → SameBlocks (shade (seen h) x) (seen (record h { store = new }))
 colour_seen h new x some w =
     let n = with_colour (node_of h.store (x - 1)) h.sense in
-    let a = x - 1 in
-    record {
-      next = refl;
-      roots = refl;
-      root = λ j m. refl;
-      held = λ z. ap (λ b. if z == 0 then true else b) (held_pages h.store new (z - 1) w.pages);
-      forward = λ z m. field_kept 0 (λ y. y.forward + 1) h.store new a n w z m (λ e. refl);
-      name = λ z m. let f = λ (y : Node). let k : Name = record { identity = y.identity; part = y.part } in k in field_kept null f h.store new a n w z m (λ e. refl);
-      width = λ z m. field_kept 0 width_at h.store new a n w z m (λ e. refl);
-      words = λ z m. let f = λ (y : Node). drop (width_at y) y.cells in field_kept [] f h.store new a n w z m (λ e. refl);
-      shape = λ z m. let f = λ (y : Node). y.shape in field_kept _ f h.store new a n w z m (λ e. refl);
-      marked = λ z m. colour_after h new x some w z m;
-      cell = λ z i m b. field_kept 0 (λ y. get_or y.cells i 0) h.store new a n w z m (λ e. refl);
-    }
+    write_seen h new (x - 1) _ _ _ _ _ w
+    (λ z m. let f = λ (y : Node). drop (width_at y) y.cells in field_kept [] f h.store new (x - 1) n w z m (λ e. refl))
+    (λ z m. colour_after h new x some w z m)
+    (λ z i m b. field_kept 0 (λ y. get_or y.cells i 0) h.store new (x - 1) n w z m (λ e. refl))
 
 -- what is marked is shaded already
 pub shaded_already : (heap : Heap) (x : ℕ) → heap.marked x ≡ true → SameBlocks (shade heap x) heap
-shaded_already heap x e = record {
-  next = refl;
-  roots = refl;
-  root = λ j m. refl;
-  held = λ z. refl;
-  forward = λ z m. refl;
-  name = λ z m. refl;
-  width = λ z m. refl;
-  words = λ z m. refl;
-  shape = λ z m. refl;
-  marked = λ z m. grind arith;
-  cell = λ z i m b. refl;
-}
+shaded_already heap x e = grind arith
 
 pub same_shade : (a b : Heap) (x : ℕ) → SameBlocks a b → SameBlocks (shade a x) (shade b x)
-same_shade a b x e = record {
-  next = e.next;
-  roots = e.roots;
-  root = e.root;
-  held = e.held;
-  forward = e.forward;
-  name = e.name;
-  width = e.width;
-  words = e.words;
-  shape = e.shape;
-  marked = λ z m. let q = e.marked z m in grind arith;
-  cell = e.cell;
-}
+same_shade a b x e = grind arith
 
 pub shaded_state : (h k : HeapState) (x : ℕ) (p : Phase) (g s : PartGraph) → Shades h x k → Coherent (collector_by (shade (seen h) x) h.store.pages p (if (seen h).marked x then h.grey else x ∷ h.grey)) g s → Coherent (collector_by (seen k) k.store.pages p k.grey) g s
 shaded_state h k x p g s (Was_marked e) c =
@@ -193,11 +159,11 @@ scanned_cell_held m g s c st l =
     let i : m.column < g.width n = (let v = b.width n k in let u = ap m.heap.width e in omega arith) in
     ap (λ z. m.heap.held (m.heap.cell z m.column)) e ∙ b.cell_held n m.column k i
 
--- a reference cell is scanned
-pub cell_act : (h k : HeapState) (present snapshot : Graph) (part cell : ℕ) (new : Store) → Consistent h present snapshot → h.phase ≡ phases.Marking part cell → cell < (seen h).width part
-    → Writes h.store new (part - 1) (with_cell (node_of h.store (part - 1)) cell ((seen h).forward ((seen h).cell part cell))) → Shades (record h { store = new }) ((seen h).forward ((seen h).cell part cell)) k
-    → Consistent (goes_to k 1 (phases.Marking part (cell + 1))) present snapshot
-cell_act h k present snapshot part cell new c e l w sh =
+-- what a write to the part in scan shows
+pub cell_blocks : (h : HeapState) (present snapshot : Graph) (part cell : ℕ) (new : Store) → Consistent h present snapshot → h.phase ≡ phases.Marking part cell → cell < (seen h).width part
+    → Writes h.store new (part - 1) (with_cell (node_of h.store (part - 1)) cell ((seen h).forward ((seen h).cell part cell)))
+    → let x = (seen h).forward ((seen h).cell part cell) in SameBlocks (set_cell (seen h) part cell x) (seen (record h { store = new })) × ((seen (record h { store = new })).marked x ≡ (seen h).marked x)
+cell_blocks h present snapshot part cell new c e l w =
     let x = (seen h).forward ((seen h).cell part cell) in
     let h1 : HeapState = record h { store = new } in
     let m = collector_by (seen h) h.store.pages (phases.Marking part cell) h.grey in
@@ -209,11 +175,22 @@ cell_act h k present snapshot part cell new c e l w sh =
     let within : cell < width_at (node_of h.store (part - 1)) = subst (λ z. cell < z) wide l in
     let inside : cell < length (node_of h.store (part - 1)).cells = (let q = wide_within h (part - 1) c.whole held in omega arith) in
     let blocks : SameBlocks (set_cell (seen h) part cell x) (seen h1) = subst (λ z. SameBlocks (set_cell (seen h) z cell x) (seen h1)) is (cell_seen h new (part - 1) cell x w inside within) in
+    (blocks, blocks.marked x (scanned_held m (view present) (view snapshot) c0 c0.stage l))
+
+-- a reference cell is scanned
+pub cell_act : (h k : HeapState) (present snapshot : Graph) (part cell : ℕ) (new : Store) → Consistent h present snapshot → h.phase ≡ phases.Marking part cell → cell < (seen h).width part
+    → Writes h.store new (part - 1) (with_cell (node_of h.store (part - 1)) cell ((seen h).forward ((seen h).cell part cell))) → Shades (record h { store = new }) ((seen h).forward ((seen h).cell part cell)) k
+    → Consistent (goes_to k 1 (phases.Marking part (cell + 1))) present snapshot
+cell_act h k present snapshot part cell new c e l w sh =
+    let x = (seen h).forward ((seen h).cell part cell) in
+    let h1 : HeapState = record h { store = new } in
+    let m = collector_by (seen h) h.store.pages (phases.Marking part cell) h.grey in
+    let c0 = at_phase h (phases.Marking part cell) (view present) (view snapshot) e c.parts in
+    let blocks = cell_blocks h present snapshot part cell new c e l w in
     let c1 = acts m (cell_scanned m) (view present) (view snapshot) (collector.Scans_cell refl l) c0 in
-    let c2 = same_stands (cell_scanned m) (shade (seen h1) x) (view present) (view snapshot) (same_shade (set_cell (seen h) part cell x) (seen h1) x blocks) c1 in
+    let c2 = same_stands (cell_scanned m) (shade (seen h1) x) (view present) (view snapshot) (same_shade (set_cell (seen h) part cell x) (seen h1) x blocks.0) c1 in
     let c2' : Coherent (collector_by (shade (seen h1) x) h.store.pages (phases.Marking part (cell + 1)) (if (seen h).marked x then h.grey else x ∷ h.grey)) (view present) (view snapshot) = record { at = c2.at; base = c2.base; stage = (c2.stage.0, (let v = c2.stage.1 in record { held = v.held; marked = v.marked; scanning_held = v.scanning_held; scanning_marked = v.scanning_marked; scanning_apart = v.scanning_apart; column = v.column; once = v.once })) } in
-    let marked : (seen h1).marked x ≡ (seen h).marked x = blocks.marked x (scanned_held m (view present) (view snapshot) c0 c0.stage l) in
-    let c3 = subst (λ b. Coherent (collector_by (shade (seen h1) x) h.store.pages (phases.Marking part (cell + 1)) (if b then h.grey else x ∷ h.grey)) (view present) (view snapshot)) (sym marked) c2' in
+    let c3 = subst (λ b. Coherent (collector_by (shade (seen h1) x) h.store.pages (phases.Marking part (cell + 1)) (if b then h.grey else x ∷ h.grey)) (view present) (view snapshot)) (sym blocks.1) c2' in
     let c4 = subst (λ z. Coherent (collector_by (shade (seen h1) x) z (phases.Marking part (cell + 1)) (if (seen h1).marked x then h1.grey else x ∷ h1.grey)) (view present) (view snapshot)) (sym w.pages) c3 in
     let c5 = shaded_state h1 k x (phases.Marking part (cell + 1)) (view present) (view snapshot) sh c4 in
     again h (goes_to k 1 (phases.Marking part (cell + 1))) present snapshot c (shades_limits h1 k x sh) (ap length (shades_roots h1 k x sh)) (shades_whole h1 k x sh (whole_cell h.store new (part - 1) cell x w c.whole)) c5
@@ -270,30 +247,28 @@ pass_act h present snapshot page block p store c e f l marked =
     ap (seen h).marked q.1 ∙ marked q.0) in
     again h (goes_to h 1 (phases.Sweeping page (block + 1))) present snapshot c refl refl c.whole c1
 
--- a block that isn't marked is freed
-free_seen : (h : HeapState) (new : Store) (a : ℕ) → Frees h.store new a → SameBlocks (free (seen h) (a + 1)) (seen (record h { store = new }))
-free_seen h new a w = record {
+-- each block says the same, and the held ones are told
+all_kept : (h : HeapState) (new : Store) (held : ℕ → Bool) → ((x : ℕ) → (seen (record h { store = new })).held x ≡ held x)
+    → ((A : Type 0) (none : A) (f : Node → A) (x : ℕ) → held x ≡ true → (if x == 0 then none else f (node_of new (x - 1))) ≡ (if x == 0 then none else f (node_of h.store (x - 1))))
+    → SameBlocks (record (seen h) { held = held }) (seen (record h { store = new }))
+all_kept h new held e kept = record {
   next = refl;
   roots = refl;
   root = λ j m. refl;
-  held = λ z. gone z (z == a + 1) refl;
-  forward = λ z m. kept 0 (λ y. y.forward + 1) z m;
-  name = λ z m. let f = λ (y : Node). let k : Name = record { identity = y.identity; part = y.part } in k in kept null f z m;
-  width = λ z m. kept 0 width_at z m;
-  words = λ z m. let f = λ (y : Node). drop (width_at y) y.cells in kept [] f z m;
-  shape = λ z m. let f = λ (y : Node). y.shape in kept _ f z m;
-  marked = λ z m. kept true (λ y. same_colour h.sense y.colour) z m;
-  cell = λ z i m b. kept 0 (λ y. get_or y.cells i 0) z m;
+  held = e;
+  forward = λ z m. kept _ 0 (λ y. y.forward + 1) z m;
+  name = λ z m. let f = λ (y : Node). let k : Name = record { identity = y.identity; part = y.part } in k in kept _ null f z m;
+  width = λ z m. kept _ 0 width_at z m;
+  words = λ z m. let f = λ (y : Node). drop (width_at y) y.cells in kept _ [] f z m;
+  shape = λ z m. let f = λ (y : Node). y.shape in kept _ _ f z m;
+  marked = λ z m. kept _ true (λ y. same_colour h.sense y.colour) z m;
+  cell = λ z i m b. kept _ 0 (λ y. get_or y.cells i 0) z m;
 }
-  where
-    gone : (z : ℕ) (t : Bool) → (z == a + 1) ≡ t → (if z == 0 then true else is_held new (z - 1)) ≡ (if t then false else (if z == 0 then true else is_held h.store (z - 1)))
-    gone z true q = let e : z ≡ a + 1 = grind arith in ap (λ y. if y == 0 then true else is_held new (y - 1)) e ∙ behind true (λ y. is_held new y) a ∙ w.gone
-    gone z false q = by_null (z == 0) refl
-      where
-        by_null : (t : Bool) → (z == 0) ≡ t → (if t then true else is_held new (z - 1)) ≡ (if t then true else is_held h.store (z - 1))
-        by_null true e = refl
-        by_null false e = w.same (z - 1) (let p : z ≢ 0 = grind arith in let n : z ≢ a + 1 = grind arith in omega arith)
 
+-- a block that isn't marked is freed
+free_seen : (h : HeapState) (new : Store) (a : ℕ) → Frees h.store new a → SameBlocks (free (seen h) (a + 1)) (seen (record h { store = new }))
+free_seen h new a w = all_kept h new _ (held_put h.store new a false w.gone w.same) (λ A none f z m. kept none f z m)
+  where
     kept : {A : Type 0} (none : A) (f : Node → A) (z : ℕ) → (if z == a + 1 then false else (if z == 0 then true else is_held h.store (z - 1))) ≡ true → (if z == 0 then none else f (node_of new (z - 1))) ≡ (if z == 0 then none else f (node_of h.store (z - 1)))
     kept none f z m = by_here (z == a + 1) refl m
       where
@@ -335,19 +310,7 @@ free_act h present snapshot page block p new store c e f was unmarked w pages =
 
 -- blocks stay as they are, and pages change
 pub keeps_seen : (h : HeapState) (new : Store) → KeepsBlocks h.store new → SameBlocks (seen h) (seen (record h { store = new }))
-keeps_seen h new w = record {
-  next = refl;
-  roots = refl;
-  root = λ j m. refl;
-  held = λ z. ap (λ b. if z == 0 then true else b) (w.held (z - 1));
-  forward = λ z m. kept 0 (λ y. y.forward + 1) z m;
-  name = λ z m. let f = λ (y : Node). let k : Name = record { identity = y.identity; part = y.part } in k in kept null f z m;
-  width = λ z m. kept 0 width_at z m;
-  words = λ z m. let f = λ (y : Node). drop (width_at y) y.cells in kept [] f z m;
-  shape = λ z m. let f = λ (y : Node). y.shape in kept _ f z m;
-  marked = λ z m. kept true (λ y. same_colour h.sense y.colour) z m;
-  cell = λ z i m b. kept 0 (λ y. get_or y.cells i 0) z m;
-}
+keeps_seen h new w = all_kept h new _ (λ z. ap (λ b. if z == 0 then true else b) (w.held (z - 1))) (λ A none f z m. kept none f z m)
   where
     kept : {A : Type 0} (none : A) (f : Node → A) (z : ℕ) → (if z == 0 then true else is_held h.store (z - 1)) ≡ true → (if z == 0 then none else f (node_of new (z - 1))) ≡ (if z == 0 then none else f (node_of h.store (z - 1)))
     kept none f z m = by_null (z == 0) m

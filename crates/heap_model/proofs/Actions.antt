@@ -1,8 +1,9 @@
 -- Each action, and each beginning of a cycle, keeps the invariant.
-use Rattle.std.proofs.Common.{◌≡◌, ℕ, ◌+◌, ◌-◌, Bool, true, false, not, refl, ◌==◌, if◌then◌else◌}
+use Rattle.std.proofs.Common.{◌≡◌, ℕ, ◌+◌, ◌-◌, Bool, true, false, not, refl, arith, ◌==◌, if◌then◌else◌}
 use Rattle.graph_heap.specs.Graph.{Graph}
 use Rattle.heap_model.specs.declared.phase.Phase.TheVariants as phases
 use Rattle.heap_model.specs.Store.{node_of}
+use Rattle.heap_model.specs.Core.{Heap}
 use Rattle.heap_model.specs.Cut.{view}
 use Rattle.heap_model.specs.Pages.{ArePages}
 use Rattle.heap_model.specs.State.{HeapState, seen, same_colour, collector_by}
@@ -38,20 +39,11 @@ turned true false e = absurd (cc)
 turned false true e = absurd (cc)
 turned false false e = refl
 
+other_marks : (h : Heap) (marked marked' : ℕ → Bool) → ((x : ℕ) → h.held x ≡ true → marked' x ≡ marked x) → SameBlocks (record h { marked = marked }) (record h { marked = marked' })
+other_marks h marked marked' e = grind arith
+
 flip_seen : (h : HeapState) → ((x : ℕ) → (seen h).held x ≡ true → (seen h).marked x ≡ true) → SameBlocks (flip (seen h)) (seen (begun h))
-flip_seen h all = record {
-  next = refl;
-  roots = refl;
-  root = λ j m. refl;
-  held = λ z. refl;
-  forward = λ z m. refl;
-  name = λ z m. refl;
-  width = λ z m. refl;
-  words = λ z m. refl;
-  shape = λ z m. refl;
-  marked = λ z m. by_null z (z == 0) refl (all z m);
-  cell = λ z i m b. refl;
-}
+flip_seen h all = other_marks (seen h) _ _ (λ z m. by_null z (z == 0) refl (all z m))
   where
     by_null : (z : ℕ) (t : Bool) → (z == 0) ≡ t → (if t then true else same_colour h.sense (node_of h.store (z - 1)).colour) ≡ true → (if t then true else same_colour (not h.sense) (node_of h.store (z - 1)).colour) ≡ t
     by_null z true e m = refl

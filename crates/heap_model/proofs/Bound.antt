@@ -1,20 +1,17 @@
 -- How many quanta a cycle takes at most.
-use Rattle.std.proofs.Common.{◌≡◌, ℕ, zero, suc, ◌+◌, ◌-◌, ◌*◌, ◌/◌, ◌<◌, ◌≤◌, ◌⊎◌, inl, inr, length, refl, ap, sym, ◌∙◌, subst, arith, length-set}
+use Rattle.std.proofs.Common.{◌≡◌, ℕ, zero, suc, ◌+◌, ◌-◌, ◌*◌, ◌/◌, ◌<◌, ◌≤◌, ◌⊎◌, inl, inr, length, refl, ap, sym, ◌∙◌, subst, arith}
 use Rattle.std.proofs.Math.Nat.{lt-div-mul-add}
 use Rattle.heap_model.specs.declared.phase.Phase.TheVariants as phases
 use Rattle.heap_model.specs.State.{HeapState}
-use Rattle.heap_model.specs.Action.{Action, Scans_root, Ends_roots, Scans_header, Scans_cell, Ends_marking, Frees_block, Passes_block, Closes_page, Ends_sweep, Looks_at_page, Chooses_page, Chooses_none, Moves_block, Ends_moving, Shades, Was_marked, Is_marked, Chain, Nothing_done, Then}
+use Rattle.heap_model.specs.Action.{Chain, Nothing_done, Then}
 use Rattle.heap_model.specs.Spent.{cycle_limit}
+use Rattle.heap_model.specs.Settings.{HeapSettings}
 use Rattle.heap_model.specs.Bound.{AreQuanta, most_quanta, OneEnds}
-use Rattle.heap_model.proofs.Spent.{shades_units}
+use Rattle.heap_model.proofs.Settings.{action_rest}
 use Rattle.heap_model.proofs.Marks.{action_count}
 use Rattle.heap_model.proofs.Turns.{chain_units}
 use Rattle.heap_model.proofs.Costs.{turn_left}
 use Rattle.heap_model.proofs.Stood.{stands_chain, stands_limit}
-
-pub shades_defrag : (h k : HeapState) (x : ℕ) → Shades h x k → k.defrag_pages ≡ h.defrag_pages
-shades_defrag h k x (Was_marked e) = refl
-shades_defrag h k x (Is_marked new front back is e w) = refl
 
 pub same_limit : (h after : HeapState) → length after.roots ≡ length h.roots → length after.store.pages ≡ length h.store.pages → after.defrag_pages ≡ h.defrag_pages → cycle_limit after ≡ cycle_limit h
 same_limit h after r p d =
@@ -22,27 +19,11 @@ same_limit h after r p d =
     omega arith
 
 -- what a cycle may spend stays through actions
-pub action_defrag : (h after : HeapState) (cost : ℕ) → Action h cost after → (length after.roots ≡ length h.roots) × (after.defrag_pages ≡ h.defrag_pages)
-action_defrag h after cost (Scans_root next k e l sh) = (ap length (shades_units _ k _ sh).1 ∙ length-set h.roots next _, shades_defrag _ k _ sh)
-action_defrag h after cost (Ends_roots next e l) = (refl, refl)
-action_defrag h after cost (Scans_header part cell x front back e f n) = (refl, refl)
-action_defrag h after cost (Scans_cell part cell new k e l w0 sh) = (ap length (shades_units _ k _ sh).1, shades_defrag _ k _ sh)
-action_defrag h after cost (Ends_marking part cell e f n) = (refl, refl)
-action_defrag h after cost (Frees_block page block p new e f was unmarked w0 pages) = (refl, refl)
-action_defrag h after cost (Passes_block page block p e f l marked) = (refl, refl)
-action_defrag h after cost (Closes_page page block new e l f w0 pages) = (refl, refl)
-action_defrag h after cost (Ends_sweep page block e l) = (refl, refl)
-action_defrag h after cost (Looks_at_page class page best chosen at few more) = (refl, refl)
-action_defrag h after cost (Chooses_page class page best chosen c p new at few last is good there w0 pages) = (refl, refl)
-action_defrag h after cost (Chooses_none class page best chosen at few last is) = (refl, refl)
-action_defrag h after cost (Moves_block class page block chosen i to j p q new e at leaving next place there empty w0 pages) = (refl, refl)
-action_defrag h after cost (Ends_moving done) = (refl, refl)
-
 pub chain_limit : (h after : HeapState) (spent : ℕ) → Chain h spent after → cycle_limit after ≡ cycle_limit h
 chain_limit h after spent Nothing_done = refl
 chain_limit h after spent (Then u cost j k chain action) =
-    let d = action_defrag j k cost action in
-    same_limit j k d.0 (action_count j k cost action) d.1 ∙ chain_limit h j u chain
+    let d = action_rest j k cost action in
+    same_limit j k d.2 (action_count j k cost action) (ap (λ (s : HeapSettings). s.defrag_pages) d.0) ∙ chain_limit h j u chain
 
 -- what n quanta spend, each at least d
 pub spent_more : (n d before after spent : ℕ) → n * d ≤ before → after ≡ before + spent → d ≤ spent → (n + 1) * d ≤ after

@@ -62,17 +62,25 @@ stands_records h k p s x v w r known reads = stands_same h k p s p w (records_ke
 root_reads : (h : HeapState) (present snapshot : Graph) (j : ℕ) → Consistent h present snapshot → j < length h.roots → Reads (seen h) (get_or h.roots j 0) (name_of (get_or present.roots j 0))
 root_reads h p s j c l = (consistent_agrees h p s c).root j l
 
-stands_root : (h k : HeapState) (present snapshot : Graph) (cell id y : ℕ) → Stands h present snapshot → cell < length present.roots → IsKnown present id → Records h (get_or h.roots cell 0) k → IsMain (seen h) y (name_of id)
-    → Stands (record k { roots = set k.roots cell y }) (changed present (changes.Root cell id)) snapshot
-stands_root h k p s cell id y w l known r i =
+-- what a root held is recorded before it is overwritten
+root_recorded : (h k : HeapState) (present snapshot : Graph) (cell : ℕ) → Stands h present snapshot → cell < length present.roots → Records h (get_or h.roots cell 0) k
+    → Stands k present snapshot × (cell < length k.roots) × IsRecorded k (get_or k.roots cell 0)
+root_recorded h k p s cell w l r =
     let c = w.consistent in
     let low : cell < length h.roots = subst (λ z. cell < z) (sym c.present_row) l in
     let reads = root_reads h p s cell c low in
-    let v = stands_records h k p s (get_or h.roots cell 0) (get_or p.roots cell 0) w r (known_root p cell l) reads in
-    let stay = records_stay h k _ r in
-    let low' : cell < length k.roots = subst (λ z. cell < length z) (sym stay.roots) low in
-    let recorded = subst (λ z. IsRecorded k (get_or z cell 0)) (sym stay.roots) (records_recorded h k _ _ r reads) in
-    let c1 = root_written k p s cell y id v.consistent low' recorded known (records_main h k _ y (name_of id) r i) in
+    let stay = records_stay h k _ r in (
+      stands_records h k p s (get_or h.roots cell 0) (get_or p.roots cell 0) w r (known_root p cell l) reads,
+      subst (λ z. cell < length z) (sym stay.roots) low,
+      subst (λ z. IsRecorded k (get_or z cell 0)) (sym stay.roots) (records_recorded h k _ _ r reads),
+    )
+
+stands_root : (h k : HeapState) (present snapshot : Graph) (cell id y : ℕ) → Stands h present snapshot → cell < length present.roots → IsKnown present id → Records h (get_or h.roots cell 0) k → IsMain (seen h) y (name_of id)
+    → Stands (record k { roots = set k.roots cell y }) (changed present (changes.Root cell id)) snapshot
+stands_root h k p s cell id y w l known r i =
+    let before = root_recorded h k p s cell w l r in
+    let v = before.0 in
+    let c1 = root_written k p s cell y id v.consistent before.1 before.2 known (records_main h k _ y (name_of id) r i) in
     stands_same k (record k { roots = set k.roots cell y }) p s (changed p (changes.Root cell id)) v c1 refl (root_more k cell y)
 
 -- a reference cell
@@ -106,16 +114,11 @@ stands_new : (h k : HeapState) (present snapshot : Graph) (cell id : ℕ) (shape
     → Records h (get_or h.roots cell 0) k → MakesObject k.store shape k.sense k.next at new → Takes (cells_of shape) at k.store.pages (parts_in (cells_of shape)) new.pages
     → Stands (record k { store = new; next = k.next + 1; roots = set k.roots cell (at 0 + 1) }) (changed present (changes.New cell id shape)) snapshot
 stands_new h k p s cell id shape new at w l same f r makes takes =
-    let c = w.consistent in
-    let low : cell < length h.roots = subst (λ z. cell < z) (sym c.present_row) l in
-    let reads = root_reads h p s cell c low in
-    let v = stands_records h k p s (get_or h.roots cell 0) (get_or p.roots cell 0) w r (known_root p cell l) reads in
-    let stay = records_stay h k _ r in
-    let low' : cell < length k.roots = subst (λ z. cell < length z) (sym stay.roots) low in
-    let recorded = subst (λ z. IsRecorded k (get_or z cell 0)) (sym stay.roots) (records_recorded h k _ _ r reads) in
+    let before = root_recorded h k p s cell w l r in
+    let v = before.0 in
     let keeps = takes_keep (cells_of shape) at k.store.pages (parts_in (cells_of shape)) new.pages takes in
     let count = takes_count (cells_of shape) at k.store.pages (parts_in (cells_of shape)) new.pages takes in
-    let c1 = new_written k p s new at cell shape v.consistent f low' recorded makes (place_stays k.store.pages new.pages k.phase v.placed keeps) in
+    let c1 = new_written k p s new at cell shape v.consistent f before.1 before.2 makes (place_stays k.store.pages new.pages k.phase v.placed keeps) in
     let next : k.next ≡ id = (consistent_agrees k p s v.consistent).next ∙ sym same in
     let c2 = subst (λ z. Consistent (record k { store = new; next = k.next + 1; roots = set k.roots cell (at 0 + 1) }) (changed p (changes.New cell z shape)) s) next c1 in
     let more = new_more k new at cell shape f v.consistent.whole makes count (sizes_stay k.store new keeps) in

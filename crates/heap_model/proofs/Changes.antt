@@ -51,14 +51,15 @@ put_each f xs id o p l e k = go (k == id) refl
     go true t = let same : k ≡ id = grind arith in ap (λ z. f (object_of (put_object xs id o) z)) same ∙ ap f (object-put_same xs id o p l) ∙ e ∙ ap (λ z. f (object_of xs z)) (sym same)
     go false t = let ne : k ≢ id = grind arith in ap f (object-put_other xs id o k p ne)
 
--- an object with one reference written
-ref_count : (o : Object) (i v : ℕ) → count_of (with_ref o i v) ≡ count_of o
+-- an object with as many cells has as many parts, each as wide
+count_same : (o p : Object) → length p.refs ≡ length o.refs → length p.words ≡ length o.words → count_of p ≡ count_of o
 unfolding count_of
-ref_count o i v = rw length-set refl
+count_same o p refs words = rw (refs, words) refl
 
-ref_width : (o : Object) (i v p : ℕ) → width_of (with_ref o i v) p ≡ width_of o p
-ref_width o i v p = rw length-set refl
+width_same : (o p : Object) (k : ℕ) → length p.refs ≡ length o.refs → length p.words ≡ length o.words → width_of p k ≡ width_of o k
+width_same o p k refs words = rw (refs, words) refl
 
+-- an object with one reference written
 ref_words : (o : Object) (i v p : ℕ) → words_of (with_ref o i v) p ≡ words_of o p
 unfolding words_of
 ref_words o i v p = rw length-set refl
@@ -118,8 +119,8 @@ view-ref g id i v p l b =
     same_graph _ _
     (ap (λ z. z + 1) (length-put g.objects id (with_ref o i v)))
     refl
-    (fun_ext (λ k. put_each count_of g.objects id (with_ref o i v) p l (ref_count o i v) k))
-    (fun_ext (λ n. put_each (λ z. width_of z n.part) g.objects id (with_ref o i v) p l (ref_width o i v n.part) n.identity))
+    (fun_ext (λ k. put_each count_of g.objects id (with_ref o i v) p l (count_same o (with_ref o i v) (length-set o.refs i v) refl) k))
+    (fun_ext (λ n. put_each (λ z. width_of z n.part) g.objects id (with_ref o i v) p l (width_same o (with_ref o i v) n.part (length-set o.refs i v) refl) n.identity))
     (fun_ext (λ n. fun_ext (λ c. put_target g id i v p l b n c)))
     (fun_ext (λ n. put_each (λ z. words_of z n.part) g.objects id (with_ref o i v) p l (ref_words o i v n.part) n.identity))
     (fun_ext (λ n. put_each (λ z. z.shape) g.objects id (with_ref o i v) p l refl n.identity))
@@ -161,13 +162,6 @@ small_words : (ws : List ℕ) (i w p : ℕ) → (if p == 0 then set ws i w else 
 small_words ws i w p = grind arith
 
 -- an object with one word written
-word_count : (o : Object) (i w : ℕ) → count_of (with_word o i w) ≡ count_of o
-unfolding count_of
-word_count o i w = rw length-set refl
-
-word_width : (o : Object) (i w p : ℕ) → width_of (with_word o i w) p ≡ width_of o p
-word_width o i w p = rw length-set refl
-
 word_target : (identity : ℕ) (o : Object) (i w p c : ℕ) → target_of identity (with_word o i w) p c ≡ target_of identity o p c
 unfolding target_of
 word_target identity o i w p c = rw length-set refl
@@ -190,8 +184,8 @@ view-word g id i w p l =
     same_graph _ _
     (ap (λ z. z + 1) (length-put g.objects id o'))
     refl
-    (fun_ext (λ k. put_each count_of g.objects id o' p l (word_count o i w) k))
-    (fun_ext (λ n. put_each (λ z. width_of z n.part) g.objects id o' p l (word_width o i w n.part) n.identity))
+    (fun_ext (λ k. put_each count_of g.objects id o' p l (count_same o o' refl (length-set o.words i w)) k))
+    (fun_ext (λ n. put_each (λ z. width_of z n.part) g.objects id o' p l (width_same o o' n.part refl (length-set o.words i w)) n.identity))
     (fun_ext (λ n. fun_ext (λ c. put_each (λ z. target_of n.identity z n.part c) g.objects id o' p l (word_target n.identity o i w n.part c) n.identity)))
     (fun_ext (λ n. words_at n (n.identity == id) refl))
     (fun_ext (λ n. put_each (λ z. z.shape) g.objects id o' p l refl n.identity))

@@ -1,4 +1,5 @@
 pub mod Edits
+pub mod Stays
 pub mod Parts
 pub mod Acts
 pub mod Kept

@@ -37,7 +37,7 @@ made_grows h g s at ps b w = record {
 }
 
 pub made_base : (h : Heap) (g s : PartGraph) (at : Name → ℕ) (ps : Parts) (a : ℕ → ℕ) (h' : Heap) → Base h g s at → AreParts ps → Makes h ps a h' → Base h' (made g ps) s (made_at at h.next a)
-made_base h g s at ps a h' b w m = let grows = made_grows h g s at ps b w in record {
+made_base h g s at ps a h' b w m = let grows = made_grows h g s at ps b w in let stays = m.stays in let parts = m.parts in record {
   grows = rw m.roots grows;
   next = grind arith;
   null_held = grind arith;
@@ -82,7 +82,7 @@ pub old_root_kept : (roots : ℕ) (s g : PartGraph) (j : ℕ) → j < roots → 
 old_root_kept roots s g j l = kept_reach roots s g _ (reach_root roots s j l)
 
 pub made_tracing : (h : Heap) (g s : PartGraph) (at : Name → ℕ) (ps : Parts) (a : ℕ → ℕ) (h' : Heap) (done : ℕ → ℕ) (place : ℕ) → Base h g s at → AreParts ps → Makes h ps a h' → Tracing h g s at done place → Tracing h' (made g ps) s (made_at at h.next a) done place
-made_tracing h g s at ps a h' done place b w m t = record {
+made_tracing h g s at ps a h' done place b w m t = let stays = m.stays in let parts = m.parts in record {
   null_marked = grind arith;
   marked_kept = grind (arith, kept_more, kept_part);
   marked_main = grind arith;
@@ -97,7 +97,7 @@ made_tracing h g s at ps a h' done place b w m t = record {
 }
 
 pub made_sweeping : (h : Heap) (g s : PartGraph) (at : Name → ℕ) (ps : Parts) (a : ℕ → ℕ) (h' : Heap) (place : ℕ) → Base h g s at → AreParts ps → Makes h ps a h' → Sweeping h g s at place → Sweeping h' (made g ps) s (made_at at h.next a) place
-made_sweeping h g s at ps a h' place b w m t = record {
+made_sweeping h g s at ps a h' place b w m t = let stays = m.stays in let parts = m.parts in record {
   null_marked = grind arith;
   marked = λ n k. grind (arith, kept_old, kept_new, kept_below);
   cell = λ n i k l. grind (arith, kept_old, kept_new, kept_below);
@@ -108,14 +108,14 @@ made_sweeping h g s at ps a h' place b w m t = record {
 }
 
 pub made_resting : (h : Heap) (g s : PartGraph) (at : Name → ℕ) (ps : Parts) (a : ℕ → ℕ) (h' : Heap) → Base h g s at → AreParts ps → Makes h ps a h' → Resting h g s at → Resting h' (made g ps) s (made_at at h.next a)
-made_resting h g s at ps a h' b w m t = record {
+made_resting h g s at ps a h' b w m t = let stays = m.stays in let parts = m.parts in record {
   marked = grind arith;
   kept = grind (arith, kept_more, kept_part);
   forward = grind (arith, kept_below);
 }
 
 pub made_moving : (h : Heap) (ps : Parts) (a : ℕ → ℕ) (h' : Heap) (receiving : ℕ → Bool) → Makes h ps a h' → Moving h receiving → Moving h' receiving
-made_moving h ps a h' receiving m o = record { old = grind arith }
+made_moving h ps a h' receiving m o = let stays = m.stays in let parts = m.parts in record { old = grind arith }
 
 pub made_left : (h : Heap) (ps : Parts) (a : ℕ → ℕ) (h' : Heap) (left : ℕ → Bool) → Makes h ps a h' → Left h left → Left h' left
-made_left h ps a h' left m o = record { old = grind arith }
+made_left h ps a h' left m o = let stays = m.stays in let parts = m.parts in record { old = grind arith }

@@ -20,7 +20,7 @@ use Rattle.heap_model.proofs.Edits.{set_cell}
 use Rattle.heap_model.proofs.Changes.{no_refs, parts_are}
 use Rattle.heap_model.proofs.Steps.{MakesFirst, block_made, first_none, first_more, first_link, first_all}
 use Rattle.heap_model.proofs.Written.{whole_cell}
-use Rattle.heap_model.proofs.Seen.{behind, cell_seen}
+use Rattle.heap_model.proofs.Seen.{behind, held_put, cell_seen}
 
 -- a heap that shows the same blocks has the same parts made
 pub first_same : (h : Heap) (ps : Parts) (a : ℕ → ℕ) (k l : ℕ) (h1 h2 : Heap) → MakesFirst h ps a k l h1 → SameBlocks h1 h2 → MakesFirst h ps a k l h2
@@ -29,25 +29,12 @@ first_same h ps a k l h1 h2 m e = record {
   roots = e.roots ∙ m.roots;
   root = λ j b. grind arith;
   free = m.free;
-  still_held = λ x b. e.held x ∙ m.still_held x b;
-  still_forward = λ x b. let u = m.still_held x b in e.forward x u ∙ m.still_forward x b;
-  still_name = λ x b. let u = m.still_held x b in e.name x u ∙ m.still_name x b;
-  still_width = λ x b. let u = m.still_held x b in e.width x u ∙ m.still_width x b;
-  still_words = λ x b. let u = m.still_held x b in e.words x u ∙ m.still_words x b;
-  still_shape = λ x b. let u = m.still_held x b in e.shape x u ∙ m.still_shape x b;
-  still_marked = λ x b. let u = m.still_held x b in e.marked x u ∙ m.still_marked x b;
-  still_cell = λ x i b c. let u = m.still_held x b in let w = m.still_width x b in e.cell x i u (omega arith) ∙ m.still_cell x i b c;
-  held = λ p b. e.held (a p) ∙ m.held p b;
-  forward = λ p b. let u = m.held p b in e.forward (a p) u ∙ m.forward p b;
-  name = λ p b. let u = m.held p b in e.name (a p) u ∙ m.name p b;
-  width = λ p b. let u = m.held p b in e.width (a p) u ∙ m.width p b;
-  words = λ p b. let u = m.held p b in e.words (a p) u ∙ m.words p b;
-  shape = λ p b. let u = m.held p b in e.shape (a p) u ∙ m.shape p b;
-  marked = λ p b. let u = m.held p b in e.marked (a p) u ∙ m.marked p b;
+  stays = let s = m.stays in grind arith;
+  parts = let o = m.parts in grind arith;
   apart = m.apart;
-  spine = λ i b c d. let u = m.held 0 b in let w = m.width 0 b in e.cell (a 0) i u (omega arith) ∙ m.spine i b c d;
-  rest = λ i b c d. let u = m.held 0 b in let w = m.width 0 b in e.cell (a 0) i u (omega arith) ∙ m.rest i b c d;
-  leaf = λ p i b c d. let u = m.held p c in let w = m.width p c in e.cell (a p) i u (omega arith) ∙ m.leaf p i b c d;
+  spine = λ i b c d. let u = m.parts.held 0 b in let w = m.parts.width 0 b in e.cell (a 0) i u (omega arith) ∙ m.spine i b c d;
+  rest = λ i b c d. let u = m.parts.held 0 b in let w = m.parts.width 0 b in e.cell (a 0) i u (omega arith) ∙ m.rest i b c d;
+  leaf = λ p i b c d. let u = m.parts.held p c in let w = m.parts.width p c in e.cell (a p) i u (omega arith) ∙ m.leaf p i b c d;
   part = m.part;
   others = λ x b. m.others x (sym (e.held x) ∙ b);
 }
@@ -64,17 +51,6 @@ add_field none v f old new a n w e x l = by_here (x == a + 1) refl l
     by_here : (t : Bool) → (x == a + 1) ≡ t → (if t then true else (if x == 0 then true else is_held old (x - 1))) ≡ true → (if x == 0 then none else f (node_of new (x - 1))) ≡ (if t then v else (if x == 0 then none else f (node_of old (x - 1))))
     by_here true q l = let same : x ≡ a + 1 = grind arith in ap (λ z. if z == 0 then none else f (node_of new (z - 1))) same ∙ behind none (λ z. f (node_of new z)) a ∙ ap f w.here ∙ e
     by_here false q l = by_null (x == 0) refl l
-
-add_held : (old new : Store) (a : ℕ) (n : Node) → Adds old new a n → (x : ℕ) → (if x == 0 then true else is_held new (x - 1)) ≡ (if x == a + 1 then true else (if x == 0 then true else is_held old (x - 1)))
-add_held old new a n w x = by_here (x == a + 1) refl
-  where
-    by_null : (t : Bool) → (x == 0) ≡ t → x ≢ a + 1 → (if t then true else is_held new (x - 1)) ≡ (if t then true else is_held old (x - 1))
-    by_null true q ne = refl
-    by_null false q ne = w.same (x - 1) (let some : x ≢ 0 = grind arith in omega arith)
-
-    by_here : (t : Bool) → (x == a + 1) ≡ t → (if x == 0 then true else is_held new (x - 1)) ≡ (if t then true else (if x == 0 then true else is_held old (x - 1)))
-    by_here true q = let same : x ≡ a + 1 = grind arith in ap (λ z. if z == 0 then true else is_held new (z - 1)) same ∙ behind true (λ z. is_held new z) a ∙ w.held
-    by_here false q = by_null (x == 0) refl (grind arith)
 
 colour_same : (c : Bool) → same_colour c c ≡ true
 colour_same true = refl
@@ -131,7 +107,7 @@ add_seen h s t a p shape f l w =
       next = refl;
       roots = refl;
       root = λ j m. refl;
-      held = add_held s t a n w;
+      held = held_put s t a true w.held w.same;
       forward = λ x m. add_field 0 (a + 1) (λ z. z.forward + 1) s t a n w refl x m;
       name = λ x m. let g = λ (z : Node). let y : Name = record { identity = z.identity; part = z.part } in y in add_field null (record { identity = h.next; part = p }) g s t a n w refl x m;
       width = λ x m. add_field 0 (width_of (new_object shape) p) width_at s t a n w (part_width_new shape p) x m;
@@ -201,10 +177,10 @@ making_first h shape at k l new f whole bk bl some (Piece_linked parts linked s 
     let bound : linked < pieces_in (cells_of shape) = omega arith in
     let q = spine_width shape linked bound in
     let hs : HeapState = record h { store = s } in
-    let wide : width_at (node_of s (at 0)) ≡ pieces_of (cells_of shape) = sym (behind 0 (λ z. width_at (node_of s z)) (at 0)) ∙ before.width 0 more ∙ sym (part_width_new shape 0) ∙ q.1 in
-    let held : is_held s (at 0) ≡ true = sym (behind true (λ z. is_held s z) (at 0)) ∙ before.held 0 more in
-    let is_shape : (node_of s (at 0)).shape ≡ shape = sym (behind _ (λ z. (node_of s z).shape) (at 0)) ∙ before.shape 0 more in
-    let is_name : record { identity = (node_of s (at 0)).identity; part = (node_of s (at 0)).part } ≡ record { identity = h.next; part = 0 } = sym (behind null (λ z. (let y : Name = record { identity = (node_of s z).identity; part = (node_of s z).part } in y)) (at 0)) ∙ before.name 0 more in
+    let wide : width_at (node_of s (at 0)) ≡ pieces_of (cells_of shape) = sym (behind 0 (λ z. width_at (node_of s z)) (at 0)) ∙ before.parts.width 0 more ∙ sym (part_width_new shape 0) ∙ q.1 in
+    let held : is_held s (at 0) ≡ true = sym (behind true (λ z. is_held s z) (at 0)) ∙ before.parts.held 0 more in
+    let is_shape : (node_of s (at 0)).shape ≡ shape = sym (behind _ (λ z. (node_of s z).shape) (at 0)) ∙ before.parts.shape 0 more in
+    let is_name : record { identity = (node_of s (at 0)).identity; part = (node_of s (at 0)).part } ≡ record { identity = h.next; part = 0 } = sym (behind null (λ z. (let y : Name = record { identity = (node_of s z).identity; part = (node_of s z).part } in y)) (at 0)) ∙ before.parts.name 0 more in
     let is_part : (node_of s (at 0)).part ≡ 0 = ap (λ (z : Name). z.part) is_name in
     let cells : length (node_of s (at 0)).cells ≡ pieces_of (cells_of shape) = making_whole h.store shape h.sense h.next at parts linked s m whole (at 0) held ∙ ap (λ z. part_cells (cells_of z) (node_of s (at 0)).part) is_shape ∙ ap (λ z. part_cells (cells_of shape) z) is_part ∙ q.2 in
     let inside : linked < length (node_of s (at 0)).cells = subst (λ z. linked < z) (sym cells) q.3 in

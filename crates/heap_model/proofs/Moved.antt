@@ -24,7 +24,7 @@ use Rattle.heap_model.proofs.Acts as collector
 use Rattle.heap_model.proofs.Same.{SameBlocks}
 use Rattle.heap_model.proofs.Edits.{move}
 use Rattle.heap_model.proofs.Collector.{acts, same_stands}
-use Rattle.heap_model.proofs.Seen.{behind}
+use Rattle.heap_model.proofs.Seen.{behind, held_put}
 use Rattle.heap_model.proofs.Held.{set_page, page_within, is_page, held_at, block_within, size_some, page_of_place}
 use Rattle.heap_model.proofs.Acting.{at_phase, again, keeps_seen, keeps_whole}
 
@@ -165,23 +165,12 @@ move_forward_field old new a b w z l = by_copy (z == b + 1) refl l
     by_copy true t l = let e : z ≡ b + 1 = grind arith in ap (λ y. if y == 0 then 0 else (node_of new (y - 1)).forward + 1) e ∙ behind 0 (λ y. (node_of new y).forward + 1) b ∙ ap (λ (n : Node). n.forward + 1) w.copy
     by_copy false t l = by_from (z == a + 1) refl l
 
-move_held : (old new : Store) (a b : ℕ) → MovesBlock old new a b → (z : ℕ) → (if z == 0 then true else is_held new (z - 1)) ≡ (if z == b + 1 then true else (if z == 0 then true else is_held old (z - 1)))
-move_held old new a b w z = by_here (z == b + 1) refl
-  where
-    by_null : (t : Bool) → (z == 0) ≡ t → z ≢ b + 1 → (if t then true else is_held new (z - 1)) ≡ (if t then true else is_held old (z - 1))
-    by_null true q ne = refl
-    by_null false q ne = w.same (z - 1) (let some : z ≢ 0 = grind arith in omega arith)
-
-    by_here : (t : Bool) → (z == b + 1) ≡ t → (if z == 0 then true else is_held new (z - 1)) ≡ (if t then true else (if z == 0 then true else is_held old (z - 1)))
-    by_here true q = let same : z ≡ b + 1 = grind arith in ap (λ y. if y == 0 then true else is_held new (y - 1)) same ∙ behind true (λ y. is_held new y) b ∙ w.held
-    by_here false q = by_null (z == 0) refl (grind arith)
-
 pub move_seen : (h : HeapState) (new : Store) (a b : ℕ) → MovesBlock h.store new a b → SameBlocks (move (seen h) (a + 1) (b + 1)) (seen (record h { store = new }))
 move_seen h new a b w = record {
   next = refl;
   roots = refl;
   root = λ j m. refl;
-  held = move_held h.store new a b w;
+  held = held_put h.store new b true w.held w.same;
   forward = λ z m. move_forward_field h.store new a b w z m;
   name = λ z m. let f = λ (y : Node). let k : Name = record { identity = y.identity; part = y.part } in k in move_field null f h.store new a b w (λ n v. refl) z m;
   width = λ z m. move_field 0 width_at h.store new a b w (λ n v. refl) z m;

@@ -78,9 +78,9 @@ new_written h present snapshot new at j shape c f l rec making place =
     let same : (view present).next ≡ h.next = sym b.next in
     let kept0 : Kept (length h.roots) (view snapshot) (made (view present) ps) (name_of h.next) = subst (λ z. Kept (length h.roots) (view snapshot) (made (view present) ps) (name_of z)) same (new_kept (collector_of h) (view present) (view snapshot) ps c.parts (parts_are shape)) in
     let kept : Kept (length h.roots) (view snapshot) (view (appended present shape)) (name_of h.next) = subst (λ z. Kept (length h.roots) (view snapshot) z (name_of h.next)) (sym (view-appended present shape)) kept0 in
-    let main : IsMain (seen h1) (at 0 + 1) (name_of h.next) = record { held = mk.held 0 some; forward = mk.forward 0 some; name = mk.name 0 some } in
+    let main : IsMain (seen h1) (at 0 + 1) (name_of h.next) = record { held = mk.parts.held 0 some; forward = mk.parts.forward 0 some; name = mk.parts.name 0 some } in
     let x = get_or h.roots j 0 in
     let held : (seen h).held x ≡ true = b.root_held j l in
     let held_main : (seen h).held ((seen h).forward x) ≡ true = ap (seen h).held (b.root j l) ∙ b.held _ (b.grows.kept_root j l) in
-    let rec1 : IsRecorded h1 x = λ t. ap (seen h1).marked (mk.still_forward x held) ∙ mk.still_marked ((seen h).forward x) held_main ∙ rec t in
+    let rec1 : IsRecorded h1 x = λ t. ap (seen h1).marked (mk.stays.forward x held) ∙ mk.stays.marked ((seen h).forward x) held_main ∙ rec t in
     root_kept h1 (appended present shape) snapshot j (at 0 + 1) h.next k1 l rec1 kept main

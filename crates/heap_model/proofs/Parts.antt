@@ -5,6 +5,7 @@ use Rattle.graph_heap.specs.Graph.{new_object}
 use Rattle.size_classes.specs.Parts.{pieces_of}
 use Rattle.heap_model.specs.Core.{Name, null, PartGraph, Heap}
 use Rattle.heap_model.specs.Cut.{is_cut, count_of, width_of, words_of}
+use Rattle.heap_model.proofs.Stays.{Stays}
 
 -- the parts of a new object. A cell holds null, 0, or a later part of the object
 pub record Parts : Type 0 where
@@ -49,27 +50,24 @@ made g ps = record {
 abbrev pub made_at : (Name → ℕ) → ℕ → (ℕ → ℕ) → Name → ℕ
 made_at at next a n = if n.identity == next then a n.part else at n
 
--- the parts stand in fresh blocks, part p in block a p, and all else is as it was
+-- parts 0 to k - 1 of the object stand in their blocks, part p in block a p
+pub record Stand (h : Heap) (ps : Parts) (a : ℕ → ℕ) (k identity : ℕ) : Type 0 where
+  pub held : (p : ℕ) → p < k → h.held (a p) ≡ true
+  pub forward : (p : ℕ) → p < k → h.forward (a p) ≡ a p
+  pub name : (p : ℕ) → p < k → h.name (a p) ≡ record { identity = identity; part = p }
+  pub width : (p : ℕ) → p < k → h.width (a p) ≡ ps.width p
+  pub words : (p : ℕ) → p < k → h.words (a p) ≡ ps.words p
+  pub shape : (p : ℕ) → p < k → h.shape (a p) ≡ ps.shape
+  pub marked : (p : ℕ) → p < k → h.marked (a p) ≡ true
+
+-- the parts stand in fresh blocks, and all else is as it was
 pub record Makes (h : Heap) (ps : Parts) (a : ℕ → ℕ) (h' : Heap) : Type 0 where
   pub next : h'.next ≡ h.next + 1
   pub roots : h'.roots ≡ h.roots
   pub root : (j : ℕ) → j < h.roots → h'.root j ≡ h.root j
   pub free : (p : ℕ) → p < ps.count → h.held (a p) ≡ false
-  pub still_held : (x : ℕ) → h.held x ≡ true → h'.held x ≡ true
-  pub still_forward : (x : ℕ) → h.held x ≡ true → h'.forward x ≡ h.forward x
-  pub still_name : (x : ℕ) → h.held x ≡ true → h'.name x ≡ h.name x
-  pub still_width : (x : ℕ) → h.held x ≡ true → h'.width x ≡ h.width x
-  pub still_words : (x : ℕ) → h.held x ≡ true → h'.words x ≡ h.words x
-  pub still_shape : (x : ℕ) → h.held x ≡ true → h'.shape x ≡ h.shape x
-  pub still_marked : (x : ℕ) → h.held x ≡ true → h'.marked x ≡ h.marked x
-  pub still_cell : (x i : ℕ) → h.held x ≡ true → i < h.width x → h'.cell x i ≡ h.cell x i
-  pub held : (p : ℕ) → p < ps.count → h'.held (a p) ≡ true
-  pub forward : (p : ℕ) → p < ps.count → h'.forward (a p) ≡ a p
-  pub name : (p : ℕ) → p < ps.count → h'.name (a p) ≡ record { identity = h.next; part = p }
-  pub width : (p : ℕ) → p < ps.count → h'.width (a p) ≡ ps.width p
-  pub words : (p : ℕ) → p < ps.count → h'.words (a p) ≡ ps.words p
-  pub shape : (p : ℕ) → p < ps.count → h'.shape (a p) ≡ ps.shape
-  pub marked : (p : ℕ) → p < ps.count → h'.marked (a p) ≡ true
+  pub stays : Stays h h'
+  pub parts : Stand h' ps a ps.count h.next
   pub cell : (p i : ℕ) → p < ps.count → i < ps.width p → h'.cell (a p) i ≡ (if ps.link p i == 0 then 0 else a (ps.link p i))
   -- no other block is held
   pub part : ℕ → ℕ

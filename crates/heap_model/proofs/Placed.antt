@@ -68,19 +68,18 @@ takes_keeps old new class page index w = record {
     by_free k q e f false t g = absurd (let z : None ≡ Some q = sym e ∙ sym g ∙ f in cc)
 
 -- so the place of the phase stays
-receiving_kept : (old new : List (Option Page)) → KeepsPages old new → (k : ℕ) → is_receiving (page_at old k) ≡ true → is_receiving (page_at new k) ≡ true
-receiving_kept old new w k e = by_page (page_at old k) refl e
+flag_kept : (flag : Option Page → Bool) → flag None ≡ false → ((p q : Page) → KeepsClass p q → flag (Some q) ≡ flag (Some p)) → (old new : List (Option Page)) → KeepsPages old new → (k : ℕ) → flag (page_at old k) ≡ true → flag (page_at new k) ≡ true
+flag_kept flag none keeps old new w k e = by_page (page_at old k) refl e
   where
-    by_page : (o : Option Page) → page_at old k ≡ o → is_receiving o ≡ true → is_receiving (page_at new k) ≡ true
-    by_page None q e = absurd (cc)
-    by_page (Some p) q e = let r = w.used k p q in ap is_receiving r.1 ∙ r.2.receiving ∙ e
+    by_page : (o : Option Page) → page_at old k ≡ o → flag o ≡ true → flag (page_at new k) ≡ true
+    by_page None q e = absurd (let z : false ≡ true = sym none ∙ e in cc)
+    by_page (Some p) q e = let r = w.used k p q in ap flag r.1 ∙ keeps p r.0 r.2 ∙ e
+
+receiving_kept : (old new : List (Option Page)) → KeepsPages old new → (k : ℕ) → is_receiving (page_at old k) ≡ true → is_receiving (page_at new k) ≡ true
+receiving_kept = flag_kept is_receiving refl (λ p q c. c.receiving)
 
 leaving_kept : (old new : List (Option Page)) → KeepsPages old new → (k : ℕ) → is_leaving (page_at old k) ≡ true → is_leaving (page_at new k) ≡ true
-leaving_kept old new w k e = by_page (page_at old k) refl e
-  where
-    by_page : (o : Option Page) → page_at old k ≡ o → is_leaving o ≡ true → is_leaving (page_at new k) ≡ true
-    by_page None q e = absurd (cc)
-    by_page (Some p) q e = let r = w.used k p q in ap is_leaving r.1 ∙ r.2.leaving ∙ e
+leaving_kept = flag_kept is_leaving refl (λ p q c. c.leaving)
 
 pub place_stays : (old new : List (Option Page)) (p : Phase) → IsPlaced old p → KeepsPages old new → KeepsPlace old new p
 place_stays old new phases.Idle i w = tt

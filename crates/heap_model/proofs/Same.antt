@@ -1,5 +1,5 @@
 use Rattle.std.proofs.Common.{◌≡◌, ℕ, ◌<◌, ◌≤◌, Bool, true, arith}
-use Rattle.heap_model.specs.Core.{Name, PartGraph, Heap, Reach, Base, Tracing, Sweeping, Resting, Moving, Left}
+use Rattle.heap_model.specs.Core.{Name, PartGraph, Heap, Reach, Grows, Base, Tracing, Sweeping, Resting, Moving, Left}
 use Rattle.heap_model.proofs.Kept.{kept_reach, kept_fresh}
 use Rattle.heap_model.proofs.Made.{old_target_kept, old_root_kept}
 
@@ -19,29 +19,7 @@ pub record SameBlocks (h h' : Heap) : Type 0 where
   pub cell : (x i : ℕ) → h.held x ≡ true → i < h.width x → h'.cell x i ≡ h.cell x i
 
 pub same_base : (h h' : Heap) (g s : PartGraph) (at : Name → ℕ) → SameBlocks h h' → Base h g s at → Base h' g s at
-same_base h h' g s at e b = let w = b.grows in record {
-  grows = rw e.roots w;
-  next = grind arith;
-  null_held = grind arith;
-  null_forward = grind arith;
-  null_name = grind arith;
-  null_at = grind arith;
-  null_width = grind arith;
-  null_words = grind arith;
-  null_shape = grind arith;
-  below = grind arith;
-  held = grind arith;
-  main = grind arith;
-  name = grind arith;
-  width = grind arith;
-  words = grind arith;
-  shape = grind arith;
-  cell_held = grind arith;
-  cell = grind arith;
-  root_held = grind arith;
-  root = grind arith;
-  only = grind arith;
-}
+same_base h h' g s at e b = let grows : Grows h'.roots s g = rw e.roots b.grows in grind arith
 
 pub same_tracing : (h h' : Heap) (g s : PartGraph) (at : Name → ℕ) (done done' : ℕ → ℕ) (place : ℕ) → SameBlocks h h' → Base h g s at → ((x : ℕ) → h.held x ≡ true → Reach h.roots s (h.name x) → done' x ≤ done x) → Tracing h g s at done place → Tracing h' g s at done' place
 same_tracing h h' g s at done done' place e b d t = record {

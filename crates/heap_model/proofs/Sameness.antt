@@ -186,6 +186,15 @@ put_alike f g id o p a some l e k q = by_here (k == id) refl
         ap (object_of (put_object f.objects id o)) same ∙ object-put_same f.objects id o some l ∙ e ∙ sym (object-put_same g.objects id p some l') ∙ sym (ap (object_of (put_object g.objects id p)) same)
     by_here false t = let ne : k ≢ id = grind arith in object-put_other f.objects id o k some ne ∙ object_known f g a k q ∙ sym (object-put_other g.objects id p k some ne)
 
+alike_put : (f g : Graph) (id : ℕ) (o p : Object) → IsAlike f g → 0 < id → id ≤ length f.objects → o ≡ p → ((k : ℕ) → Reaches (record f { objects = put_object f.objects id o }) k → IsKnown f k)
+    → IsAlike (record f { objects = put_object f.objects id o }) (record g { objects = put_object g.objects id p })
+alike_put f g id o p a some l e known = record {
+  limits = a.limits;
+  count = length-put f.objects id o ∙ a.count ∙ sym (length-put g.objects id p);
+  roots = a.roots;
+  object = λ k r. put_alike f g id o p a some l e k (known k r);
+}
+
 pub reach_some : (g : Graph) (id : ℕ) → Reaches g id → 0 < id
 unfolding Reaches
 reach_some g id r = r.0
@@ -202,14 +211,8 @@ alike_changed f g (changes.Root j v) a w = record {
 alike_changed f g (changes.Ref id i v) a w =
     let o = object_of f.objects id in
     let some = reach_some f id w.0 in
-    let e : with_ref o i v ≡ with_ref (object_of g.objects id) i v = ap (λ z. with_ref z i v) (a.object id w.0) in
-    record {
-      limits = a.limits;
-      count = length-put f.objects id _ ∙ a.count ∙ sym (length-put g.objects id _);
-      roots = a.roots;
-      object = λ k r. put_alike f g id (with_ref o i v) (with_ref (object_of g.objects id) i v) a some w.1 e k
-          (after_put f id (with_ref o i v) some w.1 (λ n b. let b' : n < length o.refs = subst (λ z. n < z) (length-set o.refs i v) b in subst (λ z. IsKnown f z) (sym (read-set o.refs i v n w.2)) (by_here n b' (n == i))) k r);
-    }
+    let known = after_put f id (with_ref o i v) some w.1 (λ n b. let b' : n < length o.refs = subst (λ z. n < z) (length-set o.refs i v) b in subst (λ z. IsKnown f z) (sym (read-set o.refs i v n w.2)) (by_here n b' (n == i))) in
+    alike_put f g id (with_ref o i v) (with_ref (object_of g.objects id) i v) a some w.1 (ap (λ z. with_ref z i v) (a.object id w.0)) known
   where
     by_here : (n : ℕ) → n < length (object_of f.objects id).refs → (t : Bool) → IsKnown f (if t then v else get_or (object_of f.objects id).refs n 0)
     by_here n b true = w.3
@@ -217,13 +220,7 @@ alike_changed f g (changes.Ref id i v) a w =
 alike_changed f g (changes.Word id i word) a w =
     let o = object_of f.objects id in
     let some = reach_some f id w.0 in
-    let e : with_word o i word ≡ with_word (object_of g.objects id) i word = ap (λ z. with_word z i word) (a.object id w.0) in
-    record {
-      limits = a.limits;
-      count = length-put f.objects id _ ∙ a.count ∙ sym (length-put g.objects id _);
-      roots = a.roots;
-      object = λ k r. put_alike f g id (with_word o i word) (with_word (object_of g.objects id) i word) a some w.1 e k (after_put f id (with_word o i word) some w.1 (λ n b. known_ref f id n (inr w.0) b) k r);
-    }
+    alike_put f g id (with_word o i word) (with_word (object_of g.objects id) i word) a some w.1 (ap (λ z. with_word z i word) (a.object id w.0)) (after_put f id (with_word o i word) some w.1 (λ n b. known_ref f id n (inr w.0) b))
 alike_changed f g (changes.New j id shape) a w =
     let count : length f.objects + 1 ≡ length g.objects + 1 = ap (λ z. z + 1) a.count in
     record {

@@ -1,10 +1,10 @@
 -- What is seen of the heap after a write to one block, or to a root.
-use Rattle.std.proofs.Common.{◌≡◌, ◌≢◌, ℕ, ◌+◌, ◌-◌, ◌/◌, ◌%◌, ◌<◌, Bool, true, false, [], length, set, drop, get_or, refl, ap, sym, ◌∙◌, arith, ◌==◌, ◌&&◌, if◌then◌else◌, length-set, get_or-set_other}
+use Rattle.std.proofs.Common.{◌≡◌, ◌≢◌, ℕ, ◌+◌, ◌-◌, ◌/◌, ◌%◌, ◌<◌, Bool, true, false, List, [], length, set, drop, get_or, refl, ap, sym, ◌∙◌, arith, ◌==◌, ◌&&◌, if◌then◌else◌, length-set, get_or-set_other}
 use Rattle.std.proofs.lemmas.List.{drop-set-lt, drop-set-add}
 use Rattle.heap_model.specs.Block.{Node, with_cell}
 use Rattle.heap_model.specs.Pages.{page_at}
 use Rattle.heap_model.specs.Store.{Store, Writes, held_in, is_held, node_of}
-use Rattle.heap_model.specs.Core.{Name, null}
+use Rattle.heap_model.specs.Core.{Name, null, Heap}
 use Rattle.heap_model.specs.State.{HeapState, seen, width_at, same_colour}
 use Rattle.heap_model.proofs.Same.{SameBlocks}
 use Rattle.heap_model.proofs.Edits.{set_root, set_cell, set_word}
@@ -43,21 +43,46 @@ field_kept none f old new a n w x l e = by_null (x == 0) refl l
 pub behind : {A : Type 0} (none : A) (f : ℕ → A) (a : ℕ) → (if (a + 1) == 0 then none else f ((a + 1) - 1)) ≡ f a
 behind none f a = let e : ((a + 1) == 0) ≡ false = grind arith in let g : (a + 1) - 1 ≡ a = omega arith in rw (e, g) refl
 
+-- one block is taken, or given back
+pub held_put : (old new : Store) (a : ℕ) (v : Bool) → is_held new a ≡ v → ((b : ℕ) → b ≢ a → is_held new b ≡ is_held old b) → (x : ℕ) → (if x == 0 then true else is_held new (x - 1)) ≡ (if x == a + 1 then v else (if x == 0 then true else is_held old (x - 1)))
+held_put old new a v at others x = by_here (x == a + 1) refl
+  where
+    by_null : (t : Bool) → (x == 0) ≡ t → x ≢ a + 1 → (if t then true else is_held new (x - 1)) ≡ (if t then true else is_held old (x - 1))
+    by_null true q ne = refl
+    by_null false q ne = others (x - 1) (let some : x ≢ 0 = grind arith in omega arith)
+
+    by_here : (t : Bool) → (x == a + 1) ≡ t → (if x == 0 then true else is_held new (x - 1)) ≡ (if t then v else (if x == 0 then true else is_held old (x - 1)))
+    by_here true q = let same : x ≡ a + 1 = grind arith in ap (λ z. if z == 0 then true else is_held new (z - 1)) same ∙ behind true (λ z. is_held new z) a ∙ at
+    by_here false q = by_null (x == 0) refl (grind arith)
+
 -- a root is written
+other_roots : (h : Heap) (root root' : ℕ → ℕ) (roots : ℕ) → roots ≡ h.roots → ((j : ℕ) → j < h.roots → root' j ≡ root j) → SameBlocks (record h { root = root }) (record h { roots = roots; root = root' })
+other_roots h root root' roots n e = grind arith
+
 pub root_seen : (h : HeapState) (j y : ℕ) → j < length h.roots → SameBlocks (set_root (seen h) j y) (seen (record h { roots = set h.roots j y }))
-root_seen h j y l = record {
-  next = refl;
-  roots = length-set h.roots j y;
-  root = λ k m. read-set h.roots j y k l;
-  held = λ x. refl;
-  forward = λ x m. refl;
-  name = λ x m. refl;
-  width = λ x m. refl;
-  words = λ x m. refl;
-  shape = λ x m. refl;
-  marked = λ x m. refl;
-  cell = λ x i m k. refl;
-}
+root_seen h j y l = other_roots (seen h) _ _ _ (length-set h.roots j y) (λ k m. read-set h.roots j y k l)
+
+-- a block gets another colour and other cells: the rest of what it shows stays
+pub write_seen : (h : HeapState) (new : Store) (a : ℕ) (colour : Bool) (cells : List ℕ) (words : ℕ → List ℕ) (marked : ℕ → Bool) (cell : ℕ → ℕ → ℕ) → Writes h.store new a (record (node_of h.store a) { colour = colour; cells = cells })
+    → ((x : ℕ) → (seen h).held x ≡ true → (seen (record h { store = new })).words x ≡ words x)
+    → ((x : ℕ) → (seen h).held x ≡ true → (seen (record h { store = new })).marked x ≡ marked x)
+    → ((x i : ℕ) → (seen h).held x ≡ true → i < (seen h).width x → (seen (record h { store = new })).cell x i ≡ cell x i)
+    → SameBlocks (record (seen h) { words = words; marked = marked; cell = cell }) (seen (record h { store = new }))
+write_seen h new a colour cells words marked cell w same_words same_marks same_cells =
+    let n : Node = record (node_of h.store a) { colour = colour; cells = cells } in
+    record {
+      next = refl;
+      roots = refl;
+      root = λ j m. refl;
+      held = λ x. ap (λ b. if x == 0 then true else b) (held_pages h.store new (x - 1) w.pages);
+      forward = λ x m. field_kept 0 (λ z. z.forward + 1) h.store new a n w x m (λ e. refl);
+      name = λ x m. let f = λ (z : Node). let y : Name = record { identity = z.identity; part = z.part } in y in field_kept null f h.store new a n w x m (λ e. refl);
+      width = λ x m. field_kept 0 width_at h.store new a n w x m (λ e. refl);
+      words = same_words;
+      shape = λ x m. let f = λ (z : Node). z.shape in field_kept _ f h.store new a n w x m (λ e. refl);
+      marked = same_marks;
+      cell = same_cells;
+    }
 
 -- a cell is written
 cell_after : (h : HeapState) (new : Store) (a i v : ℕ) → Writes h.store new a (with_cell (node_of h.store a) i v) → i < length (node_of h.store a).cells → (x k : ℕ) → (seen h).held x ≡ true
@@ -81,19 +106,10 @@ pub cell_seen : (h : HeapState) (new : Store) (a i v : ℕ) → Writes h.store n
     → SameBlocks (set_cell (seen h) (a + 1) i v) (seen (record h { store = new }))
 cell_seen h new a i v w l lw =
     let n = with_cell (node_of h.store a) i v in
-    record {
-      next = refl;
-      roots = refl;
-      root = λ j m. refl;
-      held = λ x. ap (λ b. if x == 0 then true else b) (held_pages h.store new (x - 1) w.pages);
-      forward = λ x m. field_kept 0 (λ z. z.forward + 1) h.store new a n w x m (λ e. refl);
-      name = λ x m. let f = λ (z : Node). let y : Name = record { identity = z.identity; part = z.part } in y in field_kept null f h.store new a n w x m (λ e. refl);
-      width = λ x m. field_kept 0 width_at h.store new a n w x m (λ e. refl);
-      words = λ x m. let f = λ (z : Node). drop (width_at z) z.cells in field_kept [] f h.store new a n w x m (λ e. drop-set-lt (width_at (node_of h.store a)) (node_of h.store a).cells i v lw);
-      shape = λ x m. let f = λ (z : Node). z.shape in field_kept _ f h.store new a n w x m (λ e. refl);
-      marked = λ x m. field_kept true (λ z. same_colour h.sense z.colour) h.store new a n w x m (λ e. refl);
-      cell = λ x k m b. cell_after h new a i v w l x k m;
-    }
+    write_seen h new a _ _ _ _ _ w
+    (λ x m. let f = λ (z : Node). drop (width_at z) z.cells in field_kept [] f h.store new a n w x m (λ e. drop-set-lt (width_at (node_of h.store a)) (node_of h.store a).cells i v lw))
+    (λ x m. field_kept true (λ z. same_colour h.sense z.colour) h.store new a n w x m (λ e. refl))
+    (λ x k m b. cell_after h new a i v w l x k m)
 
 -- a word cell is written
 words_after : (h : HeapState) (new : Store) (a c v : ℕ) → Writes h.store new a (with_cell (node_of h.store a) (width_at (node_of h.store a) + c) v) → (x : ℕ) → (seen h).held x ≡ true
@@ -121,16 +137,4 @@ pub word_seen : (h : HeapState) (new : Store) (a c v : ℕ) → Writes h.store n
     → SameBlocks (set_word (seen h) (a + 1) c v) (seen (record h { store = new }))
 word_seen h new a c v w =
     let n = with_cell (node_of h.store a) (width_at (node_of h.store a) + c) v in
-    record {
-      next = refl;
-      roots = refl;
-      root = λ j m. refl;
-      held = λ x. ap (λ b. if x == 0 then true else b) (held_pages h.store new (x - 1) w.pages);
-      forward = λ x m. field_kept 0 (λ z. z.forward + 1) h.store new a n w x m (λ e. refl);
-      name = λ x m. let f = λ (z : Node). let y : Name = record { identity = z.identity; part = z.part } in y in field_kept null f h.store new a n w x m (λ e. refl);
-      width = λ x m. field_kept 0 width_at h.store new a n w x m (λ e. refl);
-      words = λ x m. words_after h new a c v w x m;
-      shape = λ x m. let f = λ (z : Node). z.shape in field_kept _ f h.store new a n w x m (λ e. refl);
-      marked = λ x m. field_kept true (λ z. same_colour h.sense z.colour) h.store new a n w x m (λ e. refl);
-      cell = λ x k m b. low_after h new a c v w x k m b;
-    }
+    write_seen h new a _ _ _ _ _ w (λ x m. words_after h new a c v w x m) (λ x m. field_kept true (λ z. same_colour h.sense z.colour) h.store new a n w x m (λ e. refl)) (λ x k m b. low_after h new a c v w x k m b)

@@ -1,5 +1,5 @@
 -- No event changes the settings of a heap.
-use Rattle.std.proofs.Common.{◌≡◌, ℕ, length, refl, ap, ◌∙◌}
+use Rattle.std.proofs.Common.{◌≡◌, ℕ, ◌+◌, length, refl, ap, ◌∙◌, length-set}
 use Rattle.graph_heap.specs.declared.command.Change.{Change}
 use Rattle.graph_heap.specs.Graph.{Graph}
 use Rattle.size_classes.specs.Parts.{cells_of, parts_in}
@@ -8,11 +8,12 @@ use Rattle.heap_model.specs.Action.{Action, Chain, Nothing_done, Then, Shades, W
 use Rattle.heap_model.specs.Change.{Records, Records_nothing, Records_main, DoesChange, Does_nothing, Does_root, Does_ref, Does_word, Does_new}
 use Rattle.heap_model.specs.Event.{Course, Event, Command_done, Cycle_begun, Cycle_on, Quantum_done, Quantum_refused, present_of, room_for, change_by, Does}
 use Rattle.heap_model.specs.Settings.{HeapSettings, settings_of}
+use Rattle.heap_model.proofs.Spent.{shades_units}
 use Rattle.heap_model.proofs.Marks.{action_count}
 use Rattle.heap_model.proofs.Taken.{takes_count}
 
 -- the settings but for how many pages there are
-abbrev others : HeapState → HeapSettings
+abbrev pub others : HeapState → HeapSettings
 others h = record (settings_of h) { pages = 0 }
 
 -- the others, with so many pages
@@ -30,25 +31,26 @@ records_settings : (h k : HeapState) (x : ℕ) → Records h x k → settings_of
 records_settings h k x (Records_nothing r) = refl
 records_settings h after x (Records_main k r s) = shades_settings h k _ s
 
-action_others : (h after : HeapState) (cost : ℕ) → Action h cost after → others after ≡ others h
-action_others h after cost (Scans_root next k e l sh) = ap (λ (s : HeapSettings). with_pages s 0) (shades_settings _ k _ sh)
-action_others h after cost (Ends_roots next e l) = refl
-action_others h after cost (Scans_header part cell x front back e f n) = refl
-action_others h after cost (Scans_cell part cell new k e l w sh) = ap (λ (s : HeapSettings). with_pages s 0) (shades_settings _ k _ sh)
-action_others h after cost (Ends_marking part cell e f n) = refl
-action_others h after cost (Frees_block page block p new e f was unmarked w pages) = refl
-action_others h after cost (Passes_block page block p e f l marked) = refl
-action_others h after cost (Closes_page page block new e l f w pages) = refl
-action_others h after cost (Ends_sweep page block e l) = refl
-action_others h after cost (Looks_at_page class page best chosen at few more) = refl
-action_others h after cost (Chooses_page class page best chosen c p new at few last is good there w pages) = refl
-action_others h after cost (Chooses_none class page best chosen at few last is) = refl
-action_others h after cost (Moves_block class page block chosen i to j p q new e at leaving next place there empty w pages) = refl
-action_others h after cost (Ends_moving done) = refl
+-- an action spends its cost, and leaves how many roots there are, and each setting but for how many pages there are
+pub action_rest : (h after : HeapState) (cost : ℕ) → Action h cost after → (others after ≡ others h) × (after.units ≡ h.units + cost) × (length after.roots ≡ length h.roots)
+action_rest h after cost (Scans_root next k e l sh) = (ap (λ (s : HeapSettings). with_pages s 0) (shades_settings _ k _ sh), ap (λ z. z + 1) (shades_units _ k _ sh).0, ap length (shades_units _ k _ sh).1 ∙ length-set h.roots next _)
+action_rest h after cost (Ends_roots next e l) = (refl, refl, refl)
+action_rest h after cost (Scans_header part cell x front back e f n) = (refl, refl, refl)
+action_rest h after cost (Scans_cell part cell new k e l w sh) = (ap (λ (s : HeapSettings). with_pages s 0) (shades_settings _ k _ sh), ap (λ z. z + 1) (shades_units _ k _ sh).0, ap length (shades_units _ k _ sh).1)
+action_rest h after cost (Ends_marking part cell e f n) = (refl, refl, refl)
+action_rest h after cost (Frees_block page block p new e f was unmarked w pages) = (refl, refl, refl)
+action_rest h after cost (Passes_block page block p e f l marked) = (refl, refl, refl)
+action_rest h after cost (Closes_page page block new e l f w pages) = (refl, refl, refl)
+action_rest h after cost (Ends_sweep page block e l) = (refl, refl, refl)
+action_rest h after cost (Looks_at_page class page best chosen at few more) = (refl, refl, refl)
+action_rest h after cost (Chooses_page class page best chosen c p new at few last is good there w pages) = (refl, refl, refl)
+action_rest h after cost (Chooses_none class page best chosen at few last is) = (refl, refl, refl)
+action_rest h after cost (Moves_block class page block chosen i to j p q new e at leaving next place there empty w pages) = (refl, refl, refl)
+action_rest h after cost (Ends_moving done) = (refl, refl, refl)
 
 pub chain_settings : (h after : HeapState) (units : ℕ) → Chain h units after → settings_of after ≡ settings_of h
 chain_settings h after units Nothing_done = refl
-chain_settings h after units (Then u cost j k chain a) = settings_same j k (action_others j k cost a) (action_count j k cost a) ∙ chain_settings h j u chain
+chain_settings h after units (Then u cost j k chain a) = settings_same j k (action_rest j k cost a).0 (action_count j k cost a) ∙ chain_settings h j u chain
 
 pub change_settings : (h after : HeapState) (g : Graph) (c : Change) → DoesChange h g c after → settings_of after ≡ settings_of h
 change_settings h after g c Does_nothing = refl

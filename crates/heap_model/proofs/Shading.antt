@@ -14,26 +14,11 @@ use Rattle.heap_model.proofs.Edits.{shade}
 use Rattle.heap_model.proofs.Barrier.{shades}
 use Rattle.heap_model.proofs.Written.{records-progress}
 use Rattle.heap_model.proofs.Agreements.{known_kept}
-use Rattle.heap_model.proofs.Acting.{again, colour_seen, shaded_state, shades_limits, shades_roots, shades_whole}
+use Rattle.heap_model.proofs.Acting.{again, shaded_already, colour_seen, shaded_state, shades_limits, shades_roots, shades_whole}
 
 -- a shade shows the same blocks, one of them marked
 pub shade_seen : (h k : HeapState) (x : ℕ) → Shades h x k → SameBlocks (shade (seen h) x) (seen k)
-shade_seen h k x (Was_marked e) = record {
-  next = refl;
-  roots = refl;
-  root = λ j m. refl;
-  held = λ z. refl;
-  forward = λ z m. refl;
-  name = λ z m. refl;
-  width = λ z m. refl;
-  words = λ z m. refl;
-  shape = λ z m. refl;
-  marked = λ z m. marked_already (seen h) x z e;
-  cell = λ z i m b. refl;
-}
-  where
-    marked_already : (heap : Heap) (x z : ℕ) → heap.marked x ≡ true → heap.marked z ≡ (if z == x then true else heap.marked z)
-    marked_already heap x z e = grind arith
+shade_seen h k x (Was_marked e) = shaded_already (seen h) x e
 shade_seen h k x (Is_marked new front back is e w) = colour_seen h new x (λ z. let t : (seen h).marked x ≡ true = ap (seen h).marked z in (let q : false ≡ true = sym e ∙ t in cc)) w
 
 pub shades_phase : (h k : HeapState) (x : ℕ) → Shades h x k → k.phase ≡ h.phase

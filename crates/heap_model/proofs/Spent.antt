@@ -28,7 +28,7 @@ use Rattle.heap_model.proofs.Acts.{cell_scanned}
 use Rattle.heap_model.proofs.Collector.{same_done, stage_at, left_main, contains-middle, once_middle, placed_contains, placed_done}
 use Rattle.heap_model.proofs.Seen.{behind, cell_seen}
 use Rattle.heap_model.proofs.Held.{set_page, page_within, block_within, is_page, held_at, size_some, page_of_place}
-use Rattle.heap_model.proofs.Acting.{at_phase, wide_within, scanned_held, same_shade, shaded_already, colour_seen, keeps_seen}
+use Rattle.heap_model.proofs.Acting.{at_phase, cell_blocks, same_shade, shaded_already, colour_seen, keeps_seen}
 use Rattle.heap_model.proofs.Moved.{move_seen, same_number, at_number, not_below, below_end}
 use Rattle.heap_model.proofs.Units.{total_le, work_bound, gone_bound, cell_units, header_units, move_units}
 use Rattle.heap_model.proofs.Apart.{size_behind, lie_apart}
@@ -124,24 +124,6 @@ header_within h present snapshot part cell x front back w c e f n i =
 
     here : (x : ℕ) (b : Bool) → ((x == x) || b) ≡ true
     here x b = grind arith
-
--- what a write to the part in scan shows
-cell_blocks : (h : HeapState) (present snapshot : Graph) (part cell : ℕ) (new : Store) → Consistent h present snapshot → h.phase ≡ phases.Marking part cell → cell < (seen h).width part
-    → Writes h.store new (part - 1) (with_cell (node_of h.store (part - 1)) cell ((seen h).forward ((seen h).cell part cell)))
-    → let x = (seen h).forward ((seen h).cell part cell) in SameBlocks (set_cell (seen h) part cell x) (seen (record h { store = new })) × ((seen (record h { store = new })).marked x ≡ (seen h).marked x)
-cell_blocks h present snapshot part cell new c e l w =
-    let x = (seen h).forward ((seen h).cell part cell) in
-    let h1 : HeapState = record h { store = new } in
-    let m = collector_by (seen h) h.store.pages (phases.Marking part cell) h.grey in
-    let c0 = at_phase h (phases.Marking part cell) (view present) (view snapshot) e c.parts in
-    let some : part ≢ 0 = λ z. let q : (seen h).width part ≡ 0 = ap (seen h).width z in omega arith in
-    let is : part - 1 + 1 ≡ part = omega arith in
-    let held : is_held h.store (part - 1) ≡ true = sym (behind true (λ z. is_held h.store z) (part - 1)) ∙ ap (seen h).held is ∙ c0.stage.1.scanning_held in
-    let wide : (seen h).width part ≡ width_at (node_of h.store (part - 1)) = ap (seen h).width (sym is) ∙ behind 0 (λ z. width_at (node_of h.store z)) (part - 1) in
-    let within : cell < width_at (node_of h.store (part - 1)) = subst (λ z. cell < z) wide l in
-    let inside : cell < length (node_of h.store (part - 1)).cells = (let q = wide_within h (part - 1) c.whole held in omega arith) in
-    let blocks : SameBlocks (set_cell (seen h) part cell x) (seen h1) = subst (λ z. SameBlocks (set_cell (seen h) z cell x) (seen h1)) is (cell_seen h new (part - 1) cell x w inside within) in
-    (blocks, blocks.marked x (scanned_held m (view present) (view snapshot) c0 c0.stage l))
 
 -- a cell is scanned
 cell_within : (h k : HeapState) (present snapshot : Graph) (part cell : ℕ) (new : Store) → ArePages h.store.pages → Consistent h present snapshot → h.phase ≡ phases.Marking part cell → cell < (seen h).width part

@@ -1,7 +1,8 @@
 use Rattle.std.proofs.Common.{◌≡◌, ℕ, ◌+◌, ◌<◌, ◌≤◌, ◌⊎◌, inl, true, false, List, arith, refl, ◌==◌, if◌then◌else◌}
 use Rattle.graph_heap.specs.declared.command.Shape.{Shape}
 use Rattle.heap_model.specs.Core.{Name, Heap}
-use Rattle.heap_model.proofs.Parts.{Parts, AreParts, Makes}
+use Rattle.heap_model.proofs.Parts.{Parts, AreParts, Stand, Makes}
+use Rattle.heap_model.proofs.Stays.{Stays}
 use Rattle.heap_model.proofs.Edits.{set_cell}
 
 -- one block is made at y, with no cell written
@@ -23,21 +24,8 @@ pub record MakesFirst (h : Heap) (ps : Parts) (a : ℕ → ℕ) (k linked : ℕ)
   pub roots : h'.roots ≡ h.roots
   pub root : (j : ℕ) → j < h.roots → h'.root j ≡ h.root j
   pub free : (p : ℕ) → p < k → h.held (a p) ≡ false
-  pub still_held : (x : ℕ) → h.held x ≡ true → h'.held x ≡ true
-  pub still_forward : (x : ℕ) → h.held x ≡ true → h'.forward x ≡ h.forward x
-  pub still_name : (x : ℕ) → h.held x ≡ true → h'.name x ≡ h.name x
-  pub still_width : (x : ℕ) → h.held x ≡ true → h'.width x ≡ h.width x
-  pub still_words : (x : ℕ) → h.held x ≡ true → h'.words x ≡ h.words x
-  pub still_shape : (x : ℕ) → h.held x ≡ true → h'.shape x ≡ h.shape x
-  pub still_marked : (x : ℕ) → h.held x ≡ true → h'.marked x ≡ h.marked x
-  pub still_cell : (x i : ℕ) → h.held x ≡ true → i < h.width x → h'.cell x i ≡ h.cell x i
-  pub held : (p : ℕ) → p < k → h'.held (a p) ≡ true
-  pub forward : (p : ℕ) → p < k → h'.forward (a p) ≡ a p
-  pub name : (p : ℕ) → p < k → h'.name (a p) ≡ record { identity = h.next; part = p }
-  pub width : (p : ℕ) → p < k → h'.width (a p) ≡ ps.width p
-  pub words : (p : ℕ) → p < k → h'.words (a p) ≡ ps.words p
-  pub shape : (p : ℕ) → p < k → h'.shape (a p) ≡ ps.shape
-  pub marked : (p : ℕ) → p < k → h'.marked (a p) ≡ true
+  pub stays : Stays h h'
+  pub parts : Stand h' ps a k h.next
   pub apart : (p q : ℕ) → p < k → q < k → a p ≡ a q → p ≡ q
   pub spine : (i : ℕ) → 0 < k → i < linked → i < ps.width 0 → h'.cell (a 0) i ≡ (if ps.link 0 i == 0 then 0 else a (ps.link 0 i))
   pub rest : (i : ℕ) → 0 < k → linked ≤ i → i < ps.width 0 → h'.cell (a 0) i ≡ 0
@@ -52,21 +40,8 @@ first_none h ps a = record {
   roots = refl;
   root = λ j l. refl;
   free = λ p l. absurd (omega arith);
-  still_held = λ x l. l;
-  still_forward = λ x l. refl;
-  still_name = λ x l. refl;
-  still_width = λ x l. refl;
-  still_words = λ x l. refl;
-  still_shape = λ x l. refl;
-  still_marked = λ x l. refl;
-  still_cell = λ x i l w. refl;
-  held = λ p l. absurd (omega arith);
-  forward = λ p l. absurd (omega arith);
-  name = λ p l. absurd (omega arith);
-  width = λ p l. absurd (omega arith);
-  words = λ p l. absurd (omega arith);
-  shape = λ p l. absurd (omega arith);
-  marked = λ p l. absurd (omega arith);
+  stays = grind arith;
+  parts = grind arith;
   apart = λ p q l m e. absurd (omega arith);
   spine = λ i l m w. absurd (omega arith);
   rest = λ i l m w. absurd (omega arith);
@@ -83,21 +58,8 @@ first_more h ps a k h' y m free e = record {
   roots = m.roots;
   root = m.root;
   free = grind arith;
-  still_held = grind arith;
-  still_forward = grind arith;
-  still_name = grind arith;
-  still_width = grind arith;
-  still_words = grind arith;
-  still_shape = grind arith;
-  still_marked = grind arith;
-  still_cell = grind arith;
-  held = grind arith;
-  forward = grind arith;
-  name = grind arith;
-  width = grind arith;
-  words = grind arith;
-  shape = grind arith;
-  marked = grind arith;
+  stays = let s = m.stays in grind arith;
+  parts = let s = m.stays in let o = m.parts in grind arith;
   apart = grind arith;
   spine = λ i l n w. absurd (omega arith);
   rest = grind arith;
@@ -114,21 +76,8 @@ first_link h ps a k i h' m some l = record {
   roots = m.roots;
   root = m.root;
   free = m.free;
-  still_held = m.still_held;
-  still_forward = m.still_forward;
-  still_name = m.still_name;
-  still_width = m.still_width;
-  still_words = m.still_words;
-  still_shape = m.still_shape;
-  still_marked = m.still_marked;
-  still_cell = grind arith;
-  held = m.held;
-  forward = m.forward;
-  name = m.name;
-  width = m.width;
-  words = m.words;
-  shape = m.shape;
-  marked = m.marked;
+  stays = let s = m.stays in grind arith;
+  parts = let o = m.parts in grind arith;
   apart = m.apart;
   spine = grind arith;
   rest = grind arith;
@@ -144,21 +93,8 @@ first_all h ps a linked h' w m rest leaf = record {
   roots = m.roots;
   root = m.root;
   free = m.free;
-  still_held = m.still_held;
-  still_forward = m.still_forward;
-  still_name = m.still_name;
-  still_width = m.still_width;
-  still_words = m.still_words;
-  still_shape = m.still_shape;
-  still_marked = m.still_marked;
-  still_cell = m.still_cell;
-  held = m.held;
-  forward = m.forward;
-  name = m.name;
-  width = m.width;
-  words = m.words;
-  shape = m.shape;
-  marked = m.marked;
+  stays = let s = m.stays in grind arith;
+  parts = let o = m.parts in grind arith;
   cell = λ p i k n. let f = leaf p i in let r = rest i in grind arith;
   part = m.part;
   others = m.others;

@@ -1,11 +1,11 @@
 -- What a turn spends.
-use Rattle.std.proofs.Common.{◌≡◌, ℕ, ◌+◌, ◌<◌, ◌≤◌, refl, ap, arith}
+use Rattle.std.proofs.Common.{◌≡◌, ℕ, ◌+◌, ◌<◌, ◌≤◌, arith}
 use Rattle.size_classes.proofs.Table.{size_low, size_high}
 use Rattle.heap_model.specs.Pages.{ArePages}
 use Rattle.heap_model.specs.State.{HeapState}
 use Rattle.heap_model.specs.Action.{Action, Scans_root, Ends_roots, Scans_header, Scans_cell, Ends_marking, Frees_block, Passes_block, Closes_page, Ends_sweep, Looks_at_page, Chooses_page, Chooses_none, Moves_block, Ends_moving, Chain, Nothing_done, Then}
 use Rattle.heap_model.proofs.Held.{is_page}
-use Rattle.heap_model.proofs.Spent.{shades_units}
+use Rattle.heap_model.proofs.Settings.{action_rest}
 
 -- an action costs from 1 to 256 units, and they are spent
 pub action_cost : (h after : HeapState) (cost : ℕ) → ArePages h.store.pages → Action h cost after → (0 < cost) × (cost ≤ 256)
@@ -28,23 +28,7 @@ action_cost h after cost w (Moves_block class page block chosen k to j q r new e
     (omega arith, high)
 action_cost h after cost w (Ends_moving done) = (omega arith, omega arith)
 
-pub action_units : (h after : HeapState) (cost : ℕ) → Action h cost after → after.units ≡ h.units + cost
-action_units h after cost (Scans_root next k e l sh) = ap (λ z. z + 1) (shades_units _ k _ sh).0
-action_units h after cost (Ends_roots next e l) = refl
-action_units h after cost (Scans_header part cell x front back e f n) = refl
-action_units h after cost (Scans_cell part cell new k e l w0 sh) = ap (λ z. z + 1) (shades_units _ k _ sh).0
-action_units h after cost (Ends_marking part cell e f n) = refl
-action_units h after cost (Frees_block page block q new e f was unmarked w0 pages) = refl
-action_units h after cost (Passes_block page block q e f l marked) = refl
-action_units h after cost (Closes_page page block new e l f w0 pages) = refl
-action_units h after cost (Ends_sweep page block e l) = refl
-action_units h after cost (Looks_at_page class page best chosen at few more) = refl
-action_units h after cost (Chooses_page class page best chosen b q new at few last is good there w0 pages) = refl
-action_units h after cost (Chooses_none class page best chosen at few last is) = refl
-action_units h after cost (Moves_block class page block chosen k to j q r new e at leaving next place there empty w0 pages) = refl
-action_units h after cost (Ends_moving done) = refl
-
 -- what a chain costs is spent
 pub chain_units : (h after : HeapState) (spent : ℕ) → Chain h spent after → after.units ≡ h.units + spent
 chain_units h after spent Nothing_done = omega arith
-chain_units h after spent (Then u cost j k chain action) = let a = chain_units h j u chain in let b = action_units j k cost action in omega arith
+chain_units h after spent (Then u cost j k chain action) = let a = chain_units h j u chain in let b = (action_rest j k cost action).1 in omega arith

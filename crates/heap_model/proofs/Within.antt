@@ -133,7 +133,7 @@ new_more h new at j shape f whole making many sizes =
     let h2 : HeapState = record h { store = new; next = h.next + 1; roots = set h.roots j (at 0 + 1) } in
     let mk = makes_object h shape at new f whole making in
     let one : (x : ℕ) → work (collector_of h) x ≤ work (collector_of h2) x = λ x. let a = made_work (collector_of h) (seen h1) (parts_of shape) (reference at) x mk in let e = same_marks x in omega arith in
-    let two : (x : ℕ) → gone (seen h) (size_behind h) x ≤ gone (seen h2) (size_behind h2) x = λ x. made_gone (seen h) (seen h2) (size_behind h) (size_behind h2) x (λ l. mk.still_held x l) (λ l. mk.still_forward x l) (λ l some. sizes (x - 1) (held_behind h x (omega arith) l)) refl in
+    let two : (x : ℕ) → gone (seen h) (size_behind h) x ≤ gone (seen h2) (size_behind h2) x = λ x. made_gone (seen h) (seen h2) (size_behind h) (size_behind h2) x (λ l. mk.stays.held x l) (λ l. mk.stays.forward x l) (λ l some. sizes (x - 1) (held_behind h x (omega arith) l)) refl in
     record {
       units = refl;
       phase = refl;

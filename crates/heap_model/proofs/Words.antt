@@ -11,29 +11,11 @@ word_null : (h : Heap) (x c w : ℕ) → h.words 0 ≡ [] → (set_word h x c w)
 word_null h x c w e = elim (0 == x) as (λ b. (if b then set (h.words 0) c w else h.words 0) ≡ []) [ true ↦ ap (λ z. set z c w) e | false ↦ e ]
 
 word_base : (h : Heap) (g s : PartGraph) (at : Name → ℕ) (n : Name) (c w : ℕ) → Base h g s at → Kept h.roots s g n → Base (set_word h (at n) c w) (write_word g n c w) s at
-word_base h g s at n c w b k = let gr : Grows h.roots s (write_word g n c w) = record { next = b.grows.next; width = b.grows.width; count = b.grows.count; reached = b.grows.reached; kept_root = b.grows.kept_root; kept_target = b.grows.kept_target } in record {
-  grows = gr;
-  next = b.next;
-  null_held = b.null_held;
-  null_forward = b.null_forward;
-  null_name = b.null_name;
-  null_at = b.null_at;
-  null_width = b.null_width;
-  null_words = word_null h (at n) c w b.null_words;
-  null_shape = b.null_shape;
-  below = b.below;
-  held = b.held;
-  main = b.main;
-  name = b.name;
-  width = b.width;
-  words = grind (arith, at_same);
-  shape = b.shape;
-  cell_held = b.cell_held;
-  cell = b.cell;
-  root_held = b.root_held;
-  root = b.root;
-  only = b.only;
-}
+word_base h g s at n c w b k =
+    let gr : Grows h.roots s (write_word g n c w) = record { next = b.grows.next; width = b.grows.width; count = b.grows.count; reached = b.grows.reached; kept_root = b.grows.kept_root; kept_target = b.grows.kept_target } in
+    let null_words = word_null h (at n) c w b.null_words in
+    let words : (m : Name) → Kept h.roots s g m → (set_word h (at n) c w).words (at m) ≡ (write_word g n c w).words m = grind (arith, at_same) in
+    grind arith
 
 -- the stages don't speak of words
 word_stage : (m : Collector) (g s : PartGraph) (at : Name → ℕ) (n : Name) (x c w : ℕ) (p : Progress) → Stage m g s at p → Stage (record m { heap = set_word m.heap x c w }) (write_word g n c w) s at p

@@ -47,6 +47,22 @@ fn play(heap: &mut Heap, line: &str) {
     }
 }
 
+/// Plays lines on a heap, and compares the report.
+fn expect_on(
+    rt: &(impl Abort + AllocGlobal),
+    heap: &mut Heap,
+    lines: &[&str],
+    written: &str,
+) -> Result<(), Fail> {
+    for line in lines {
+        play(heap, line);
+    }
+    let mut sink = MemorySink::new(rt.alloc());
+    assert_eq!(rt; report(heap, &mut sink), Ok(()));
+    assert_eq!(rt; sink.bytes(), written.as_bytes(), "{written}");
+    Ok(())
+}
+
 /// Plays lines on a new heap, and compares the report.
 fn expect(
     rt: &(impl Abort + AllocGlobal),
@@ -55,13 +71,25 @@ fn expect(
     written: &str,
 ) -> Result<(), Fail> {
     let mut heap = heap(rt, settings)?;
-    for line in lines {
+    expect_on(rt, &mut heap, lines, written)
+}
+
+/// Makes a ring of two objects on a new heap of two pages, plays lines, and compares the report.
+fn expect_of_ring(
+    rt: &(impl Abort + AllocGlobal),
+    lines: &[&str],
+    written: &str,
+) -> Result<(), Fail> {
+    let mut heap = heap(rt, &TWO_PAGES)?;
+    for line in [
+        "0 new 0 plain 1 0",
+        "0 new 1 plain 1 0",
+        "0 store 0 0 1",
+        "0 store 1 0 0",
+    ] {
         play(&mut heap, line);
     }
-    let mut sink = MemorySink::new(rt.alloc());
-    assert_eq!(rt; report(&heap, &mut sink), Ok(()));
-    assert_eq!(rt; sink.bytes(), written.as_bytes(), "{written}");
-    Ok(())
+    expect_on(rt, &mut heap, lines, written)
 }
 
 const EMPTY: &str =
@@ -73,87 +101,45 @@ fn an_empty_heap_has_no_page_in_use(rt: HostRuntime) -> Result<(), Fail> {
 }
 
 #[test]
-fn an_object_takes_a_page(rt: HostRuntime) -> Result<(), Fail> {
-    expect(
-        &rt,
-        &FOUR_PAGES,
-        &["0 new 0 plain 0 0"],
-        "phase idle\nunits 0\npages 4 free 3\npage 0 size 4 held 1 of 512\n\
-        roots 9 used 1\nobjects 1 parts 1 old 0\n",
-    )
-}
-
-#[test]
-fn a_large_array_has_parts(rt: HostRuntime) -> Result<(), Fail> {
-    expect(
-        &rt,
-        &FOUR_PAGES,
-        &["0 new 0 refs 253", "0 store 0 252 0", "0 load 1 0 252"],
-        "phase idle\nunits 0\npages 4 free 1\npage 0 size 6 held 1 of 341\n\
+fn an_object_takes_pages_for_its_parts(rt: HostRuntime) -> Result<(), Fail> {
+    let small = "phase idle\nunits 0\npages 4 free 3\npage 0 size 4 held 1 of 512\n\
+        roots 9 used 1\nobjects 1 parts 1 old 0\n";
+    expect(&rt, &FOUR_PAGES, &["0 new 0 plain 0 0"], small)?;
+    let large = "phase idle\nunits 0\npages 4 free 1\npage 0 size 6 held 1 of 341\n\
         page 1 size 256 held 1 of 8\npage 2 size 5 held 1 of 409\n\
-        roots 9 used 2\nobjects 1 parts 3 old 0\n",
-    )
+        roots 9 used 2\nobjects 1 parts 3 old 0\n";
+    let lines = ["0 new 0 refs 253", "0 store 0 252 0", "0 load 1 0 252"];
+    expect(&rt, &FOUR_PAGES, &lines, large)
 }
 
 #[test]
 fn what_dies_before_a_cycle_is_freed(rt: HostRuntime) -> Result<(), Fail> {
-    expect(
+    expect_of_ring(
         &rt,
-        &TWO_PAGES,
-        &[
-            "0 new 0 plain 1 0",
-            "0 new 1 plain 1 0",
-            "0 store 0 0 1",
-            "0 store 1 0 0",
-            "0 clear 0",
-            "0 clear 1",
-            "begin",
-            "quantum 1000",
-        ],
+        &["0 clear 0", "0 clear 1", "begin", "quantum 1000"],
         "phase idle\nunits 416\npages 2 free 2\nroots 2 used 0\nobjects 0 parts 0 old 0\n",
     )
 }
 
 #[test]
 fn what_dies_in_a_cycle_is_kept(rt: HostRuntime) -> Result<(), Fail> {
-    expect(
+    expect_of_ring(
         &rt,
-        &TWO_PAGES,
-        &[
-            "0 new 0 plain 1 0",
-            "0 new 1 plain 1 0",
-            "0 store 0 0 1",
-            "0 store 1 0 0",
-            "begin",
-            "0 clear 0",
-            "0 clear 1",
-            "quantum 1000",
-        ],
+        &["begin", "0 clear 0", "0 clear 1", "quantum 1000"],
         "phase idle\nunits 420\npages 2 free 1\npage 0 size 5 held 2 of 409\n\
         roots 2 used 0\nobjects 2 parts 2 old 0\n",
     )
 }
 
 #[test]
-fn a_cycle_begins_with_the_roots(rt: HostRuntime) -> Result<(), Fail> {
-    expect(
-        &rt,
-        &TWO_PAGES,
-        &["begin"],
-        "phase roots\nunits 0\npages 2 free 2\nroots 2 used 0\nobjects 0 parts 0 old 0\n",
-    )
-}
-
-#[test]
-fn a_cycle_sweeps(rt: HostRuntime) -> Result<(), Fail> {
+fn a_cycle_scans_roots_and_sweeps(rt: HostRuntime) -> Result<(), Fail> {
+    let roots = "phase roots\nunits 0\npages 2 free 2\nroots 2 used 0\nobjects 0 parts 0 old 0\n";
+    expect(&rt, &TWO_PAGES, &["begin"], roots)?;
     // Two roots, a change, a header and a cell, a change, and 250 blocks.
-    expect(
-        &rt,
-        &TWO_PAGES,
-        &["0 new 0 plain 1 0", "begin", "quantum 256"],
-        "phase sweeping\nunits 256\npages 2 free 1\npage 0 size 5 held 1 of 409\n\
-        roots 2 used 1\nobjects 1 parts 1 old 0\n",
-    )
+    let sweeping = "phase sweeping\nunits 256\npages 2 free 1\npage 0 size 5 held 1 of 409\n\
+        roots 2 used 1\nobjects 1 parts 1 old 0\n";
+    let lines = ["0 new 0 plain 1 0", "begin", "quantum 256"];
+    expect(&rt, &TWO_PAGES, &lines, sweeping)
 }
 
 /// A report to a sink, one call of which fails: each line is one call.

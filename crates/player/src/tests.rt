@@ -26,11 +26,21 @@ const ONE_PAGE: Settings = Settings {
     ..FOUR_PAGES
 };
 
+const TWO_PAGES: Settings = Settings {
+    pages: 2,
+    slots: 2,
+    ..ONE_PAGE
+};
+
+fn config(rt: &impl Abort, settings: &Settings) -> Config {
+    match Config::check(settings) {
+        Ok(config) => config,
+        Err(_) => panic!(rt; "the settings are good"),
+    }
+}
+
 fn player(rt: &(impl Abort + AllocGlobal), settings: &Settings) -> Result<Player, NoMemory> {
-    let Ok(config) = Config::check(settings) else {
-        panic!(rt; "the settings are good");
-    };
-    Player::new(rt.alloc(), &config)
+    Player::new(rt.alloc(), &config(rt, settings))
 }
 
 /// Plays a trace under settings, and compares the answer and what was written.
@@ -209,10 +219,7 @@ fn compare(rt: &(impl Abort + AllocGlobal), settings: &Settings, trace: &str) ->
     let mut source = MemorySource::new(trace.as_bytes());
     let mut sink = MemorySink::new(rt.alloc());
     play(&mut source, &mut sink, &mut player, Style::Replies)?;
-    let Ok(config) = Config::check(settings) else {
-        panic!(rt; "the settings are good");
-    };
-    let mut reference = Reference::new(rt.alloc(), &config.limits())?;
+    let mut reference = Reference::new(rt.alloc(), &config(rt, settings).limits())?;
     for entry in player.recorded().history() {
         assert!(rt; reference.accepts(entry)?, "{trace}");
     }
@@ -304,22 +311,5 @@ fn the_history_has_the_commands_and_replies(rt: HostRuntime) -> Result<(), Fail>
     assert_eq!(rt; entry.mutator, 0);
     assert_eq!(rt; entry.command, put);
     assert_eq!(rt; entry.reply, Reply::Done);
-    Ok(())
-}
-
-#[test]
-fn faults_have_their_texts(rt: HostRuntime) -> Result<(), Fail> {
-    let faults = [
-        (
-            TextFault::Line(2, LineFault::NotEnded),
-            "line 2: line not ended",
-        ),
-        (TextFault::Read, "cannot read"),
-        (TextFault::Write, "cannot write"),
-        (TextFault::NoMemory, "no memory"),
-    ];
-    for (fault, text) in faults {
-        assert_eq!(rt; format!(in rt.alloc(); "{fault}")?.as_str(), text);
-    }
     Ok(())
 }

@@ -1,20 +1,33 @@
 //! Numbers in decimal, parted by blanks.
-ghost use Rattle.std.specs.Prelude.{◌≡◌, ◌==◌, option_map, position};
+ghost use Rattle.std.specs.Prelude.{◌≡◌, ◌<◌, ◌^◌, ◌==◌, option_map, position};
+ghost use Rattle.std.specs.Option.{SomeIff};
+ghost use Rattle.std.specs.Str.Parse.{IsNumeral, digits_value};
 ghost use Rattle.trace.specs.Reading.{number_in, cut_at, field_in, two_in, three_in, four_in};
 
-use itoa::Buffer;
-use std::str;
+/// The number that a row of one digit or more writes, if it is below 2^64.
+fn digits(bytes: &[u8]) -> Option<u64>
+    ensures { SomeIff result (IsNumeral 10 bytes.now × (digits_value 10 bytes.now < 2 ^ 64)) (digits_value 10 bytes.now) }
+{
+    if bytes.is_empty() {
+        return None;
+    }
+    let mut n = 0u64;
+    for byte in bytes {
+        if !byte.is_ascii_digit() {
+            return None;
+        }
+        n = n.checked_mul(10)?.checked_add(u64::from(*byte - b'0'))?;
+    }
+    Some(n)
+}
 
 /// The word that the bytes spell.
 pub(crate) fn word(bytes: &[u8]) -> Option<u64>
     ensures { result ≡ number_in 64 bytes.now }
 {
-    let Ok(text) = str::from_utf8(bytes) else {
-        return None;
-    };
-    match text.parse::<u64>() {
-        Ok(n) if Buffer::new().format(n) == text => Some(n),
-        _ => None,
+    match bytes {
+        [b'0', _, ..] => None,
+        _ => digits(bytes),
     }
 }
 

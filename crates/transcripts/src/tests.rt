@@ -4,7 +4,7 @@ use graph_heap::{Command, Limits, NoMemory, Reference, Shape};
 use std::alloc::Global;
 use std::process::Abort;
 use std::test::Fail;
-use trace::{FailAt, LineFault, MemorySource, ReadSource, TextFault};
+use trace::{FailAt, LineFault, MemorySource, ReadSource, Source, TextFault};
 
 const LIMITS: Limits = Limits {
     mutators: 2,
@@ -30,6 +30,17 @@ fn refuse(
     Ok(())
 }
 
+/// Checks a history from a graph heap, and compares the answer.
+fn check_from<S: Source>(
+    rt: &impl Abort,
+    reference: &mut Reference,
+    source: &mut S,
+    answer: Result<Checked, TextFault>,
+    text: &str,
+) {
+    assert_eq!(rt; check_entries(source, reference), answer, "{text}");
+}
+
 /// Checks a history from a new graph heap, and compares the answer.
 fn check(
     rt: &(impl Abort + AllocGlobal),
@@ -38,11 +49,7 @@ fn check(
 ) -> Result<(), Fail> {
     let mut reference = Reference::new(rt.alloc(), &LIMITS)?;
     let mut source = MemorySource::new(text.as_bytes());
-    assert_eq!(rt;
-        check_entries(&mut source, &mut reference),
-        answer,
-        "{text}"
-    );
+    check_from(rt, &mut reference, &mut source, answer, text);
     Ok(())
 }
 
@@ -207,11 +214,7 @@ fn a_history_goes_on_where_the_heap_stands(rt: HostRuntime) -> Result<(), Fail> 
     ];
     for (text, checked) in runs {
         let mut source = MemorySource::new(text.as_bytes());
-        assert_eq!(rt;
-            check_entries(&mut source, &mut reference),
-            Ok(checked),
-            "{text}"
-        );
+        check_from(&rt, &mut reference, &mut source, Ok(checked), text);
     }
     Ok(())
 }
@@ -225,43 +228,7 @@ fn nothing_is_read_behind_a_wrong_entry(rt: HostRuntime) -> Result<(), Fail> {
     for (text, answer) in runs {
         let mut reference = Reference::new(rt.alloc(), &LIMITS)?;
         let mut source = FailAt::new(ReadSource::new(text.as_bytes()), 2);
-        assert_eq!(rt;
-            check_entries(&mut source, &mut reference),
-            answer,
-            "{text}"
-        );
-    }
-    Ok(())
-}
-
-#[test]
-fn faults_have_their_texts(rt: HostRuntime) -> Result<(), Fail> {
-    let faults = [
-        (
-            TextFault::Line(1, LineFault::NoSuchMutator),
-            "line 1: no such mutator",
-        ),
-        (
-            TextFault::Line(2, LineFault::NotACommand),
-            "line 2: not a command",
-        ),
-        (
-            TextFault::Line(3, LineFault::NotAnEntry),
-            "line 3: not an entry",
-        ),
-        (
-            TextFault::Line(4, LineFault::TooLong),
-            "line 4: line too long",
-        ),
-        (
-            TextFault::Line(18446744073709551615, LineFault::NotEnded),
-            "line 18446744073709551615: line not ended",
-        ),
-        (TextFault::Read, "cannot read"),
-        (TextFault::NoMemory, "no memory"),
-    ];
-    for (fault, text) in faults {
-        assert_eq!(rt; format!(in rt.alloc(); "{fault}")?.as_str(), text);
+        check_from(&rt, &mut reference, &mut source, answer, text);
     }
     Ok(())
 }

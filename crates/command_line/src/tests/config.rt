@@ -13,12 +13,18 @@ fn fault_of(alloc: Global, bytes: &[u8]) -> Result<String, Fail> {
     }
 }
 
-/// Expects the text of the fault of a file.
-fn expect(rt: &impl Abort, alloc: Global, text: &str, fault: &str) -> Result<(), Fail> {
-    let told = fault_of(alloc, text.as_bytes())?;
-    assert!(rt; told.as_str() == fault, "of {text}: {told}");
+/// Expects of each file, with lines in front of it, the text of its fault.
+fn expect(rt: &impl Abort, alloc: Global, front: &str, rows: &[(&str, &str)]) -> Result<(), Fail> {
+    for (line, fault) in rows {
+        let text = format!(in alloc; "{front}{line}")?;
+        let told = fault_of(alloc, text.as_bytes())?;
+        assert!(rt; told.as_str() == *fault, "of {text}: {told}");
+    }
     Ok(())
 }
+
+/// Good required keys.
+const KEYS: &str = "pages = 4\nmutators = 2\nslots = 4\n";
 
 #[test]
 fn a_file_has_faults(rt: HostRuntime) -> Result<(), Fail> {
@@ -35,10 +41,7 @@ fn a_file_has_faults(rt: HostRuntime) -> Result<(), Fail> {
         ("pages = 4.0\n", "pages not a whole number"),
         ("pages = -1\n", "pages out of range"),
     ];
-    for (text, fault) in rows {
-        expect(&rt, rt.alloc(), text, fault)?;
-    }
-    Ok(())
+    expect(&rt, rt.alloc(), "", &rows)
 }
 
 #[test]
@@ -64,10 +67,7 @@ fn the_first_fault_is_told(rt: HostRuntime) -> Result<(), Fail> {
         ),
         ("[pages.colour]\n[colour]\n", "unknown key"),
     ];
-    for (text, fault) in rows {
-        expect(&rt, rt.alloc(), text, fault)?;
-    }
-    Ok(())
+    expect(&rt, rt.alloc(), "", &rows)
 }
 
 #[test]
@@ -86,10 +86,7 @@ fn a_key_has_a_range(rt: HostRuntime) -> Result<(), Fail> {
         ("mutator_ticks = 1000000", ""),
         ("mutator_ticks = 0", "mutator_ticks out of range"),
     ];
-    for (line, fault) in rows {
-        expect_with(&rt, rt.alloc(), line, fault)?;
-    }
-    Ok(())
+    expect(&rt, rt.alloc(), KEYS, &rows)
 }
 
 #[test]
@@ -105,16 +102,7 @@ fn a_budget_has_a_range(rt: HostRuntime) -> Result<(), Fail> {
         ("rate = 26", ""),
         ("rate = 1000001", "rate out of range"),
     ];
-    for (line, fault) in rows {
-        expect_with(&rt, rt.alloc(), line, fault)?;
-    }
-    Ok(())
-}
-
-/// Expects the fault of a file with good required keys and one line more.
-fn expect_with(rt: &impl Abort, alloc: Global, line: &str, fault: &str) -> Result<(), Fail> {
-    let text = format!(in alloc; "pages = 4\nmutators = 2\nslots = 4\n{line}\n")?;
-    expect(rt, alloc, text.as_str(), fault)
+    expect(&rt, rt.alloc(), KEYS, &rows)
 }
 
 #[test]

@@ -1,6 +1,7 @@
 //! Answers where memory may be refused: the answer that they have with ample memory, or want of memory.
 use crate::{Job, ReadFault, WordsFault, read_config, read_words};
 use size_classes::ConfigFault;
+use std::process::Abort;
 
 #[test]
 fn a_job(rt: HostRuntime) {
@@ -54,20 +55,21 @@ fn a_good_file(rt: HostRuntime) {
     }
 }
 
-#[test]
-fn a_file_in_fault(rt: HostRuntime) {
-    let wanted = ReadFault::Refused(ConfigFault::UnknownKey);
-    match read_config(rt.alloc(), b"pages = [4, 5]\ncolour = \"red\"\n") {
+/// Expects the fault of a file, or want of memory.
+fn expect_fault(rt: &(impl Abort + AllocGlobal), bytes: &[u8], fault: ConfigFault) {
+    match read_config(rt.alloc(), bytes) {
         Ok(_) => panic!(rt; "another answer"),
-        Err(fault) => assert!(rt; fault == wanted || fault == ReadFault::NoMemory),
+        Err(told) => assert!(rt; told == ReadFault::Refused(fault) || told == ReadFault::NoMemory),
     }
 }
 
 #[test]
+fn a_file_in_fault(rt: HostRuntime) {
+    let bytes = b"pages = [4, 5]\ncolour = \"red\"\n";
+    expect_fault(&rt, bytes, ConfigFault::UnknownKey);
+}
+
+#[test]
 fn a_file_that_is_no_document(rt: HostRuntime) {
-    let wanted = ReadFault::Refused(ConfigFault::NotToml);
-    match read_config(rt.alloc(), b"pages = \"4\"\nslots 5\n") {
-        Ok(_) => panic!(rt; "another answer"),
-        Err(fault) => assert!(rt; fault == wanted || fault == ReadFault::NoMemory),
-    }
+    expect_fault(&rt, b"pages = \"4\"\nslots 5\n", ConfigFault::NotToml);
 }

@@ -57,14 +57,10 @@ impl Draw {
         }
     }
 
-    /// A command of one of the first seven kinds, counted from 0: those of cells.
+    /// A command of one of the kinds 1 to 6: those of cells.
     fn cell_command(&mut self, kind: u32) -> Command {
         let slot = self.slot();
         match kind {
-            0 => Command::New {
-                dst: slot,
-                shape: self.shape(),
-            },
             1 => Command::Load {
                 dst: slot,
                 obj: self.slot(),
@@ -99,7 +95,7 @@ impl Draw {
         }
     }
 
-    /// A command of one of the other seven kinds, counted from 7: those of roots.
+    /// A command of one of the kinds 7 to 13: those of roots.
     fn root_command(&mut self, kind: u32) -> Command {
         match kind {
             7 => Command::Copy {
@@ -128,13 +124,16 @@ impl Draw {
         }
     }
 
-    /// A command of any kind.
+    /// A command of any of the 14 kinds, counted from 0.
     fn command(&mut self) -> Command {
         let kind = self.next() % 14;
-        if kind < 7 {
-            self.cell_command(kind)
-        } else {
-            self.root_command(kind)
+        match kind {
+            0 => Command::New {
+                dst: self.slot(),
+                shape: self.shape(),
+            },
+            1..=6 => self.cell_command(kind),
+            _ => self.root_command(kind),
         }
     }
 }

@@ -2,14 +2,6 @@
 use super::*;
 use quanta::Interval;
 
-const TWO_PAGES: Settings = Settings {
-    pages: 2,
-    mutators: 1,
-    slots: 2,
-    statics: 0,
-    ..FOUR_PAGES
-};
-
 const MANY_SLOTS: Settings = Settings {
     slots: 256,
     statics: 0,
@@ -36,6 +28,19 @@ fn units(player: &Player) -> u64 {
     player.recorded().heap().units()
 }
 
+/// Plays a trace under settings, and compares what was written and the units of the last cycle.
+fn expect_units(
+    rt: &(impl Abort + AllocGlobal),
+    settings: &Settings,
+    trace: &str,
+    written: &str,
+    spent: u64,
+) -> Result<(), Fail> {
+    let player = played(rt, settings, trace, written)?;
+    assert_eq!(rt; units(&player), spent, "{trace}");
+    Ok(())
+}
+
 #[test]
 fn a_dead_block_is_used_again(rt: HostRuntime) -> Result<(), Fail> {
     let trace = "0 new 0 words 252\n0 new 1 words 252\n0 new 2 words 252\n0 new 3 words 252\n\
@@ -44,9 +49,7 @@ fn a_dead_block_is_used_again(rt: HostRuntime) -> Result<(), Fail> {
         0 new 3 words 252\n";
     let written = "made 1\nmade 2\nmade 3\nmade 4\nmade 5\nmade 6\nmade 7\nmade 8\n\
         refused 7\ndescribed 8 words 252\nrefused 2\ndone\nmade 9\n";
-    let player = played(&rt, &ONE_PAGE, trace, written)?;
-    assert_eq!(rt; units(&player), 28);
-    Ok(())
+    expect_units(&rt, &ONE_PAGE, trace, written, 28)
 }
 
 #[test]
@@ -55,9 +58,7 @@ fn what_is_overwritten_in_a_cell_is_kept(rt: HostRuntime) -> Result<(), Fail> {
         begin\nquantum 256\n0 load 2 0 0\n0 store 0 0 5\nquantum 256\nquantum 256\nquantum 256\n\
         0 get 2 0\n";
     let written = "made 1\nmade 2\ndone\ndone\ndone\nref 2\ndone\nword 77\n";
-    let player = played(&rt, &MANY_SLOTS, trace, written)?;
-    assert_eq!(rt; units(&player), 931);
-    Ok(())
+    expect_units(&rt, &MANY_SLOTS, trace, written, 931)
 }
 
 #[test]
@@ -65,14 +66,8 @@ fn what_is_overwritten_in_a_root_is_kept(rt: HostRuntime) -> Result<(), Fail> {
     let trace =
         "1 new 100 plain 0 1\n1 put 100 0 78\nbegin\nquantum 300\n1 copy 0 100\n1 clear 100\n\
         quantum 1000\n1 get 0 0\n";
-    let player = played(
-        &rt,
-        &MANY_SLOTS,
-        trace,
-        "made 1\ndone\ndone\ndone\nword 78\n",
-    )?;
-    assert_eq!(rt; units(&player), 929);
-    Ok(())
+    let written = "made 1\ndone\ndone\ndone\nword 78\n";
+    expect_units(&rt, &MANY_SLOTS, trace, written, 929)
 }
 
 #[test]
@@ -89,8 +84,7 @@ fn a_ring_goes_when_its_roots_are_gone(rt: HostRuntime) -> Result<(), Fail> {
     ];
     for (lines, spent) in runs {
         let trace = format!(in rt.alloc(); "{ring}{lines}")?;
-        let player = played(&rt, &TWO_PAGES, &trace, written)?;
-        assert_eq!(rt; units(&player), spent, "{trace}");
+        expect_units(&rt, &TWO_PAGES, &trace, written, spent)?;
     }
     Ok(())
 }
@@ -104,9 +98,7 @@ fn an_object_is_made_in_a_sweep(rt: HostRuntime) -> Result<(), Fail> {
     let trace = "0 new 0 plain 0 1\n0 new 1 plain 0 1\n0 clear 0\nbegin\nquantum 256\n\
         0 new 0 plain 0 1\n0 put 0 0 9\nquantum 256\n0 get 0 0\n";
     let written = "made 1\nmade 2\ndone\nmade 3\ndone\nword 9\n";
-    let player = played(&rt, &settings, trace, written)?;
-    assert_eq!(rt; units(&player), 416);
-    Ok(())
+    expect_units(&rt, &settings, trace, written, 416)
 }
 
 #[test]
@@ -128,9 +120,7 @@ fn ticks_place_quanta(rt: HostRuntime) -> Result<(), Fail> {
 fn a_long_cycle_takes_many_quanta(rt: HostRuntime) -> Result<(), Fail> {
     let settings = Settings {
         mutators: 64,
-        slots: 256,
-        statics: 0,
-        ..FOUR_PAGES
+        ..MANY_SLOTS
     };
     let player = played(&rt, &settings, "begin\ntick 66\n", "")?;
     let placed = [

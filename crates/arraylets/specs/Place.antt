@@ -16,7 +16,7 @@ ref_place shape i =
     then (if nat_lt i (ref_cells shape) then Ok (record { part = part_in (cells_of shape) i; cell = column_in (cells_of shape) i }) else Err refusals.BadIndex)
     else Err refusals.WrongKind
 
--- word cell i: in its part, behind the references
+-- word cell i: in its part, after the references
 abbrev pub word_place : Shape → ℕ → Result Place Refusal
 word_place shape i =
     if takes_words shape

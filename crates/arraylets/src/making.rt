@@ -19,7 +19,7 @@ use size_classes::{Parts, class_of, parts_of};
 /// The addresses of the parts of an object.
 type Addresses = [usize; 253];
 
-/// Makes a part of an object, for which and for the parts behind it there is room.
+/// Makes a part of an object, for which and for the parts after it there is room.
 fn make_part(
     nodes: &mut Nodes,
     shape: Shape,

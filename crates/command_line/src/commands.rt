@@ -27,7 +27,7 @@ fn trace<'a>(alloc: Global) -> Arg<'a> {
     file(alloc, "TRACE", "The trace, or - for standard input")
 }
 
-/// A number that may be given behind a name.
+/// A number that may be given after a name.
 fn number<'a>(alloc: Global, name: &'a str, value: &'a str, help: &'a str) -> Arg<'a> {
     Arg::new(alloc, name)
         .long(name)

@@ -11,7 +11,7 @@ use nodes::Nodes;
 use raw_heap::RawHeap;
 use size_classes::Class;
 
-/// Does the next step of a pass: a look at a page, or the end of moving behind the last class. It costs one
+/// Does the next step of a pass: a look at a page, or the end of moving after the last class. It costs one
 /// unit.
 pub fn pass_next(
     heap: &mut RawHeap,

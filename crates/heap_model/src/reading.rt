@@ -64,7 +64,7 @@ pub fn piece_shown()
         → Reads (seen h) (slice_index (node_of h.store address).cells (part - 1)) (record { identity = id; part = part }) }
 {}
 
-/// Word cell k of an object stands in its part behind the references, and is the object's.
+/// Word cell k of an object stands in its part after the references, and is the object's.
 pub fn word_shown()
     ensures { (h : HeapState) (g : Graph) (id k address : ℕ) → Agrees h g → Reaches g id → k < length (object_of g.objects id).words
         → IsMainCopy h.store address (record { identity = id; part = part_in (cells_of (object_of g.objects id).shape) k })

@@ -26,7 +26,7 @@ phase_line h = codes "phase " ++ phase_name h.phase
 abbrev pub units_line : HeapState → List ℕ
 units_line h = codes "units " ++ decimal h.units
 
--- two numbers, each behind its name
+-- two numbers, each after its name
 abbrev pub two_named : List ℕ → ℕ → List ℕ → ℕ → List ℕ
 two_named first n second m = first ++ decimal n ++ second ++ decimal m
 
@@ -68,6 +68,6 @@ tail_lines h = roots_line h ∷ copies_line (copies_in h.store) ∷ []
 abbrev pub lines_of : HeapState → List (List ℕ)
 lines_of h = head_lines h ++ page_lines 0 h.store.pages ++ tail_lines h
 
--- the text: each line with LF (byte 10) behind it
+-- the text: each line with LF (byte 10) after it
 abbrev pub report_of : HeapState → List ℕ
 report_of h = text_of (lines_of h)

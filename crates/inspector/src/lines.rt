@@ -87,7 +87,7 @@ pub(crate) fn write_roots<K: Sink>(heap: &Heap, sink: &mut K) -> Result<(), Writ
     write_two(sink, b"roots ", all, b" used ", used)
 }
 
-/// Puts what is told of a page in use at the front of an array, and answers the place behind it.
+/// Puts what is told of a page in use at the front of an array, and answers the place after it.
 fn put_page(out: &mut [u8; 256], number: usize, page: PageView) -> usize
     ensures text { take result out.new ≡ page_line number page }
     ensures place { result ≤ 120 }
@@ -124,7 +124,7 @@ pub(crate) fn write_page<K: Sink>(
 }
 
 /// Puts how many objects, parts and old copies there are at the front of an array, and answers the place
-/// behind it.
+/// after it.
 fn put_copies(out: &mut [u8; 256], copies: Copies) -> usize
     ensures text { take result out.new ≡ copies_line copies }
     ensures place { result ≤ 90 }

@@ -31,7 +31,7 @@ fn write_page_lines<K: Sink>(heap: &Heap, sink: &mut K) -> Result<(), WriteFaile
     Ok(())
 }
 
-/// Writes the lines behind those of the pages in use.
+/// Writes the lines after those of the pages in use.
 fn write_tail<K: Sink>(heap: &Heap, sink: &mut K) -> Result<(), WriteFailed>
     ensures ok { OnOk result (K.taken sink.new ≡ K.taken sink.old ++ text_of (tail_lines heap.now)) }
     ensures err { OnErr result (GrowsByPart (K.taken sink.old) (K.taken sink.new) (text_of (tail_lines heap.now))) }

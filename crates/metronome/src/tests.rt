@@ -56,7 +56,7 @@ const TWO_SLOTS: &str = "pages = 2\nmutators = 1\nslots = 2\n";
 const THREE_PAGES: &str =
     "pages = 3\nmutators = 1\nslots = 12\ndefrag_below = 4\ndefrag_pages = 1\n";
 
-/// A run: the words behind the program's name, and what must come of it.
+/// A run: the words after the program's name, and what must come of it.
 #[derive(Clone, Copy, Debug, PartialEq, Eq)]
 struct Run {
     words: &'static [&'static str],

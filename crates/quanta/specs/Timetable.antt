@@ -21,7 +21,7 @@ pub record Timetable : Type 0 where
 abbrev pub opening : ℕ → ℕ → Timetable
 opening c q = record { collector_ticks = c; mutator_ticks = q; clock = 0; due = None; intervals = []; reserved = 0 }
 
--- the first tick at which an interval may begin, behind an earlier one
+-- the first tick at which an interval may begin, after an earlier one
 abbrev pub start_after : ℕ → Option Interval → ℕ
 start_after q None = 0
 start_after q (Some i) = i.end + q
@@ -43,7 +43,7 @@ last_end intervals = start_after 0 (last_or None intervals)
 abbrev pub with_reserved : Timetable → ℕ → Timetable
 with_reserved t n = record t { reserved = n }
 
--- One interval more, of a quantum at a time; the next quantum is due behind it. Of the memory that was
+-- One interval more, of a quantum at a time; the next quantum is due after it. Of the memory that was
 -- reserved no more is gone than its own.
 pub record IsPlacedAt (due : ℕ) (old new : Timetable) : Type 0 where
   pub placed : new ≡ record old {
@@ -53,7 +53,7 @@ pub record IsPlacedAt (due : ℕ) (old new : Timetable) : Type 0 where
   }
   pub reserved : old.reserved ≤ new.reserved + 1
 
--- What holds of every timetable: the intervals are spaced, the quantum that is due comes behind them,
+-- What holds of every timetable: the intervals are spaced, the quantum that is due comes after them,
 -- and all numbers are within their limits.
 pub record IsTimetable (t : Timetable) : Type 0 where
   pub spaced : IsSpaced t.collector_ticks t.mutator_ticks t.intervals

@@ -7,7 +7,7 @@ ghost use Rattle.std.specs.List.{last_or};
 pub struct Interval {
     /// The first of its ticks.
     pub start: u64,
-    /// The first tick behind it.
+    /// The first tick after it.
     pub end: u64,
 }
 

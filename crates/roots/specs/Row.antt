@@ -3,7 +3,7 @@ use Rattle.std.specs.Prelude.{◌≡◌, ℕ, ◌<◌, ◌≤◌, ◌^◌, List,
 use Rattle.graph_heap.specs.declared.command.Limits.{Limits}
 use Rattle.graph_heap.specs.Graph.{root_cells}
 
--- Slot s of mutator m stands at m * slots + s, and the statics stand behind the slots. A cell holds
+-- Slot s of mutator m stands at m * slots + s, and the statics stand after the slots. A cell holds
 -- a reference: the address of a block plus one, or 0 for null.
 pub record Row : Type 0 where
   pub limits : Limits

@@ -55,7 +55,7 @@ fn sweep_block(heap: &mut RawHeap, page: u32, block: u32)
     heap.units += 1;
 }
 
-/// The phase behind a sweep: moving begins where pages may be emptied, and fewer are free than the
+/// The phase after a sweep: moving begins where pages may be emptied, and fewer are free than the
 /// configuration wants.
 fn after_sweep(heap: &RawHeap) -> Phase
     ensures { result ≡ actions.after_sweep (state_of heap.now) }

@@ -32,20 +32,20 @@ None >>= f = None
 unfoldable pub number_in : ℕ → List ℕ → Option ℕ
 number_in bits bytes = if nat_lt (digits_value 10 bytes) (2 ^ bits) && bytes_eq bytes (decimal (digits_value 10 bytes)) then Some (digits_value 10 bytes) else None
 
--- what stands before the first such byte, and behind it
+-- what stands before the first such byte, and after it
 unfoldable pub cut_at : ℕ → List ℕ → Option (List ℕ × List ℕ)
 cut_at byte bytes = do
   i ← position (λ b. b == byte) bytes
   Some (take i bytes, drop (i + 1) bytes)
 
--- the number before the first blank, and what stands behind that
+-- the number before the first blank, and what stands after that
 unfoldable pub field_in : ℕ → List ℕ → Option (ℕ × List ℕ)
 field_in bits bytes = do
   c ← cut_at 32 bytes
   n ← number_in bits c.0
   Some (n, c.1)
 
--- a number of so many bits, a blank, and behind it what another reader gives
+-- a number of so many bits, a blank, and after it what another reader gives
 abbrev pub number_then : {A : Type 0} → ℕ → (List ℕ → Option A) → List ℕ → Option (ℕ × A)
 number_then bits read bytes = field_in bits bytes >>= λ a. read a.1 >>= λ b. Some (a.0, b)
 
@@ -78,7 +78,7 @@ shape_in bytes = cut_at 32 bytes >>= λ c.
 unfoldable pub slot_and_shape_in : List ℕ → Option (ℕ × Shape)
 slot_and_shape_in = number_then 32 shape_in
 
--- what stands behind the keyword of a command
+-- what stands after the keyword of a command
 unfoldable pub arguments_in : Keyword → List ℕ → Option Command
 arguments_in keywords.New bytes = slot_and_shape_in bytes >>= λ n. Some (commands.New n.0 n.1)
 arguments_in keywords.Load bytes = three_in 32 32 32 bytes >>= λ n. Some (commands.Load n.0 n.1.0 n.1.1)
@@ -140,7 +140,7 @@ reply_word_in word = find (λ w. bytes_eq word (reply_word_text w)) all_reply_wo
 unfoldable pub identity_and_shape_in : List ℕ → Option (ℕ × Shape)
 identity_and_shape_in = number_then 64 shape_in
 
--- what stands behind the first word of a reply
+-- what stands after the first word of a reply
 unfoldable pub reply_arguments_in : ReplyWord → List ℕ → Option Reply
 reply_arguments_in words.Made bytes = number_in 64 bytes >>= λ n. Some (replies.Made n)
 reply_arguments_in words.Ref bytes = number_in 64 bytes >>= λ n. Some (replies.Ref n)
@@ -165,14 +165,14 @@ reply_in bytes =
     if bytes_eq bytes (codes "is yes") then Some (replies.Is true) else
     if bytes_eq bytes (codes "is no") then Some (replies.Is false) else long_reply_in bytes
 
--- what stands before the blank at the end, and behind "> " at the front
+-- what stands before the blank at the end, and after "> " at the front
 unfoldable pub before_blank_in : List ℕ → Option (List ℕ)
 before_blank_in bytes = if bytes_eq (drop (length bytes - 1) bytes) (codes " ") then Some (take (length bytes - 1) bytes) else None
 
 unfoldable pub behind_point_in : List ℕ → Option (List ℕ)
 behind_point_in bytes = if bytes_eq (take 2 bytes) (codes "> ") then Some (drop 2 bytes) else None
 
--- what stands before the arrow " => ", and behind it
+-- what stands before the arrow " => ", and after it
 unfoldable pub arrow_in : List ℕ → Option (List ℕ × List ℕ)
 arrow_in bytes = do
   c ← cut_at 61 bytes

@@ -46,7 +46,7 @@ NoLf bytes = All (λ b. b ≢ 10) bytes
 abbrev pub IsLine : List ℕ → Type 0
 IsLine line = NoLf line × (length line ≤ 256)
 
--- the text of lines: each with LF behind it
+-- the text of lines: each with LF after it
 abbrev pub text_of : List (List ℕ) → List ℕ
 text_of lines = flat_map (λ line. line ++ 10 ∷ []) lines
 
@@ -55,7 +55,7 @@ pub record Splits (text : List ℕ) (lines : List (List ℕ)) (rest : List ℕ) 
   pub whole : text ≡ text_of lines ++ rest
   pub each : AllByRecursion IsLine lines
 
--- A source gave some bytes more: behind what was kept, they make this text.
+-- A source gave some bytes more: after what was kept, they make this text.
 pub record Comes (given given' kept text : List ℕ) : Type 0 where
   pub more : List ℕ
   pub given_more : given' ≡ given ++ more

@@ -36,7 +36,7 @@ fn slot_and_shape(bytes: &[u8]) -> Option<(u32, Shape)>
     Some((a, b))
 }
 
-/// What stands behind the keyword of a command.
+/// What stands after the keyword of a command.
 #[tactic(auto, unfolding(crate::specs::Reading::arguments_in))]
 fn arguments(keyword: Keyword, bytes: &[u8]) -> Option<Command>
     ensures { result ≡ arguments_in keyword bytes.now }
@@ -89,7 +89,7 @@ fn command(bytes: &[u8]) -> Option<Command>
     arguments(keyword, rest)
 }
 
-/// A command, behind the number of its mutator.
+/// A command, after the number of its mutator.
 #[tactic(auto, unfolding(crate::specs::Reading::mutator_and_command_in))]
 pub(crate) fn mutator_and_command(bytes: &[u8]) -> Option<(u32, Command)>
     ensures { result ≡ mutator_and_command_in bytes.now }

@@ -27,7 +27,7 @@ fn before_blank(bytes: &[u8]) -> Option<&[u8]>
     bytes.strip_suffix(b" ".as_slice())
 }
 
-/// What stands behind `> ` at the front.
+/// What stands after `> ` at the front.
 #[tactic(auto, unfolding(crate::specs::Reading::behind_point_in))]
 fn behind_point(bytes: &[u8]) -> Option<&[u8]>
     ensures { option_map (λ b. b.now) result ≡ behind_point_in bytes.now }
@@ -35,7 +35,7 @@ fn behind_point(bytes: &[u8]) -> Option<&[u8]>
     bytes.strip_prefix(b"> ".as_slice())
 }
 
-/// What stands before the arrow ` => `, and behind it.
+/// What stands before the arrow ` => `, and after it.
 #[tactic(auto, unfolding(crate::specs::Reading::arrow_in))]
 fn arrow(bytes: &[u8]) -> Option<(&[u8], &[u8])>
     ensures { option_map (λ c. (c.0.now, c.1.now)) result ≡ arrow_in bytes.now }

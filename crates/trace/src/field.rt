@@ -47,7 +47,7 @@ pub(crate) fn place_of(byte: u8, bytes: &[u8]) -> Option<usize>
     bytes.iter().position(|b| *b == byte)
 }
 
-/// What stands before the first such byte, and behind it.
+/// What stands before the first such byte, and after it.
 #[tactic(auto, using(crate::proofs::Cuts::rest_of), unfolding(crate::specs::Reading::cut_at))]
 pub(crate) fn cut(byte: u8, bytes: &[u8]) -> Option<(&[u8], &[u8])>
     ensures { option_map (λ c. (c.0.now, c.1.now)) result ≡ cut_at byte bytes.now }
@@ -56,7 +56,7 @@ pub(crate) fn cut(byte: u8, bytes: &[u8]) -> Option<(&[u8], &[u8])>
     Some((&bytes[..i], &bytes[i + 1..]))
 }
 
-/// The number before the first blank, and what stands behind that.
+/// The number before the first blank, and what stands after that.
 #[tactic(auto, unfolding(crate::specs::Reading::field_in))]
 pub(crate) fn field(bytes: &[u8]) -> Option<(u32, &[u8])>
     ensures { option_map (λ c. (c.0, c.1.now)) result ≡ field_in 32 bytes.now }
@@ -66,7 +66,7 @@ pub(crate) fn field(bytes: &[u8]) -> Option<(u32, &[u8])>
     Some((n, rest))
 }
 
-/// The word before the first blank, and what stands behind that.
+/// The word before the first blank, and what stands after that.
 #[tactic(auto, unfolding(crate::specs::Reading::field_in))]
 pub(crate) fn word_field(bytes: &[u8]) -> Option<(u64, &[u8])>
     ensures { option_map (λ c. (c.0, c.1.now)) result ≡ field_in 64 bytes.now }

@@ -33,7 +33,7 @@ fn to_front(buffer: &mut [u8], start: usize, end: usize)
     buffer.copy_within(start..end, 0);
 }
 
-/// Reads into a buffer, behind the bytes at its front. Answers how many bytes were read.
+/// Reads into a buffer, after the bytes at its front. Answers how many bytes were read.
 fn read_behind<S: Source>(source: &mut S, buffer: &mut [u8], at: usize) -> Result<usize, ReadFailed>
     requires { at < length buffer.old }
     ensures within { IfOk result (λ n. at + n ≤ length buffer.new) }
@@ -49,7 +49,7 @@ fn read_behind<S: Source>(source: &mut S, buffer: &mut [u8], at: usize) -> Resul
 }
 
 /// A reader of lines: a buffer of 4096 bytes, with the line that was handed out last and the bytes that
-/// came behind it. It hands out lines of at most 256 bytes, without their LF.
+/// came after it. It hands out lines of at most 256 bytes, without their LF.
 #[derive(Drop)]
 pub struct LineReader {
     buffer: [u8; CAPACITY],
@@ -104,7 +104,7 @@ impl LineReader {
         self.number
     }
 
-    /// Reads behind the bytes that are kept. Answers how many were read.
+    /// Reads after the bytes that are kept. Answers how many were read.
     fn fill<S: Source>(&mut self, source: &mut S) -> Result<usize, ReadFailed>
         requires short { length self.old.kept ≤ 256 }
         requires behind { self.old.number + length self.old.kept ≤ length (S.given source.old) }
@@ -173,7 +173,7 @@ impl LineReader {
         ensures number { self.new.number ≡ self.old.number + lines_by result }
         ensures behind { self.new.number + length self.new.kept ≤ length (S.given source.new) }
         ensures counted { self.new.number < 2 ^ 64 }
-        // With what came behind it, the line fits into a buffer.
+        // With what came after it, the line fits into a buffer.
         ensures small { length (text_by result self.new) ≤ 4096 }
         ensures cause { S.failures source.new ≡ S.failures source.old + reads_failed result }
         ensures input { reads_failed result ≡ 0 → Stays (S.input source.old) (S.input source.new) }

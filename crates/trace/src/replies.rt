@@ -87,7 +87,7 @@ fn identity_and_shape(bytes: &[u8]) -> Option<(u64, Shape)>
     Some((a, b))
 }
 
-/// What stands behind the first word of a reply.
+/// What stands after the first word of a reply.
 #[tactic(auto, unfolding(crate::specs::Reading::reply_arguments_in))]
 fn reply_arguments(first: ReplyWord, bytes: &[u8]) -> Option<Reply>
     ensures { result ≡ reply_arguments_in first bytes.now }

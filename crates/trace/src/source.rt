@@ -32,7 +32,7 @@ pub trait Source {
         ensures bytes { IfOk result (λ n. given self.new ≡ given self.old ++ take n buffer.new) }
         ensures err { OnErr result (given self.new ≡ given self.old) }
         ensures end { IfOk result (λ n. n ≡ 0 → 0 < length buffer.new → IsTrue (ended self.new)) }
-        // Nothing comes behind the end.
+        // Nothing comes after the end.
         ensures over { IsTrue (ended self.old) → IsTrue (ended self.new) × (given self.new ≡ given self.old) }
         ensures cause { failures self.new ≡ failures self.old + failed result }
         // What is known of the input stays, unless the read fails.

@@ -316,7 +316,7 @@ fn other_entries_are_refused(rt: HostRuntime) {
     assert_eq!(rt; read_entry(b"#0 clear 0"), Some(EntryLine::Skip));
 }
 
-/// The first thousand lines of a source, each with a slash behind it, and why there is no next one.
+/// The first thousand lines of a source, each with a slash after it, and why there is no next one.
 fn lines_of<S: Source>(
     alloc: Global,
     source: &mut S,

@@ -5,7 +5,7 @@ ghost use Rattle.trace.specs.Streams.{GrowsByPart, failed};
 use crate::sink::{Sink, WriteFailed, write_all};
 use itoa::Buffer;
 
-/// Writes bytes at a place, behind which there must be room for them, and answers the place behind
+/// Writes bytes at a place, after which there must be room for them, and answers the place after
 /// them. What stands before the place stays.
 pub fn put(out: &mut [u8], at: usize, bytes: &[u8]) -> usize
     requires { at + length bytes.now ≤ length out.old }
@@ -28,7 +28,7 @@ pub(crate) fn put_number(out: &mut [u8], at: usize, n: u64) -> usize
     put(out, at, text.as_bytes())
 }
 
-/// Writes a word, and behind it a number in decimal, at a place, and answers the place behind them.
+/// Writes a word, and after it a number in decimal, at a place, and answers the place after them.
 /// There must be room for the word and 20 digits. What stands before the place stays.
 pub fn put_named(out: &mut [u8], at: usize, word: &[u8], n: u64) -> usize
     requires { at + length word.now + 20 ≤ length out.old }

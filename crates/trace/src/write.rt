@@ -108,7 +108,7 @@ fn put_command(out: &mut [u8], at: usize, command: &Command) -> usize
     }
 }
 
-/// Writes a mutator's command at a place, without LF, and answers the place behind it. What stands
+/// Writes a mutator's command at a place, without LF, and answers the place after it. What stands
 /// before the place stays.
 pub fn write_command(mutator: u32, command: &Command, out: &mut [u8; 256], at: usize) -> usize
     requires { at ≤ 128 }
@@ -152,7 +152,7 @@ fn put_reply(out: &mut [u8], at: usize, reply: &Reply) -> usize
     }
 }
 
-/// Writes a reply at a place, without LF, and answers the place behind it. What stands before the
+/// Writes a reply at a place, without LF, and answers the place after it. What stands before the
 /// place stays.
 pub fn write_reply(reply: &Reply, out: &mut [u8; 256], at: usize) -> usize
     requires { at ≤ 128 }
@@ -163,7 +163,7 @@ pub fn write_reply(reply: &Reply, out: &mut [u8; 256], at: usize) -> usize
     put_reply(out.as_mut_slice(), at, reply)
 }
 
-/// Writes an entry's line, without LF, at the front, and answers the place behind it.
+/// Writes an entry's line, without LF, at the front, and answers the place after it.
 pub fn write_entry(entry: &Entry, out: &mut [u8; 256]) -> usize
     ensures text { take result out.new ≡ entry_line entry.now }
     ensures short { length (entry_line entry.now) ≤ 193 }

@@ -7,7 +7,7 @@ use size_classes::{Config, Settings};
 use std::io::Read;
 use trace::{FailAt, MemorySink, MemorySource, TextFault};
 
-/// A reader that gives one byte each time. The read that would give the byte at `fails` fails, and those behind it
+/// A reader that gives one byte each time. The read that would give the byte at `fails` fails, and those after it
 /// find the end.
 #[derive(Drop)]
 struct Slow {

@@ -3,7 +3,7 @@ use super::*;
 use std::alloc::Global;
 use std::io::{Read, Write};
 
-/// A writer with room for so many bytes. The write that finds no room fails, and those behind it find room.
+/// A writer with room for so many bytes. The write that finds no room fails, and those after it find room.
 #[derive(Drop)]
 pub struct Narrow {
     bytes: Vec<u8>,
@@ -41,7 +41,7 @@ impl Write for Narrow {
     }
 }
 
-/// A reader of a text. If it is broken the read behind the last byte fails, and those behind that find the end.
+/// A reader of a text. If it is broken the read after the last byte fails, and those after that find the end.
 #[derive(Drop)]
 struct Torn {
     text: &'static [u8],

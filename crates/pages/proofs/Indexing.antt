@@ -1,6 +1,6 @@
 -- Bits and numbers, kept along with the records.
 use Rattle.std.proofs.Common.{◌≡◌, ◌≢◌, ℕ, zero, suc, ◌+◌, ◌-◌, ◌*◌, ◌<◌, ◌≤◌, Bool, true, false, not, cond, eqb, ltb, ◌&&◌, List, [], ◌∷◌, ◌++◌, replicate, length, get_or, set, map, Option, Some, None, ap, ◌∙◌, sym, refl, subst, inl, inr, arith}
-use Rattle.std.specs.Prelude.{position, count_by, sum_by, IfSome, IsNone, is_some}
+use Rattle.std.specs.Prelude.{position, count_by, sum_by, IfSome, IsSomeAnd, IsNone, is_some}
 use Rattle.std.proofs.lemmas.Bool.{cases_eq, cases_lt, ne_eqb, lt-ltb, le-ltb}
 use Rattle.std.proofs.lemmas.List.{length-set, get_or-set_same, get_or-set_other, map-set, get_or-map, get_or_read, get_or_past, length-map, length-replicate, get_or-replicate, length_push, get_or_push, get_or_append_left}
 use Rattle.std.proofs.lemmas.List.Sums.{sum_by-set, sum_by-cons, get_or-le-sum_by, prefix_len_is}
@@ -170,6 +170,68 @@ module _ (rows : List (Option PageRecord)) (pages : List (Option PageRecord)) (s
       (here ∙ ap bit on_is) others free_new (free_here ∙ ap bit (none_free row off off_is)) free_others (had - less + more)
       (ap (λ n. n - less + more) had_there ∙ ap (λ n. get_or free_blocks class 0 - n + more) (less_is ∙ ap (row_free_on class) old_is) ∙ ap (λ n. get_or free_blocks class 0 - row_free_on class (row_at rows page) + n) more_is)
       m (ap (λ c. m + bit c) (sym (none_free old gone gone_is ∙ ap row_free old_is)) ∙ counted ∙ ap (λ c. free_pages + bit c) (none_free row off off_is)))
+
+-- a page is usable exactly where it has a free block that counts
+some_left : (known stays : Bool) (blocks held : ℕ) → ltb 0 (cond (known && stays) (blocks - held) 0) ≡ (known && (stays && ltb held blocks))
+some_left true true blocks held = elim (cases_lt held blocks) [
+  | inl l ↦ lt-ltb 0 (blocks - held) (omega (arith, l)) ∙ sym (lt-ltb held blocks l)
+  | inr l ↦ le-ltb 0 (blocks - held) (omega (arith, l)) ∙ sym (le-ltb held blocks l)
+]
+some_left true false blocks held = refl
+some_left false stays blocks held = refl
+
+usable_some : (class : ℕ) (o : Option PageRecord) → ltb 0 (row_free_on class o) ≡ row_usable class o
+usable_some class None = refl
+usable_some class (Some r) = some_left (eqb r.class class) (not r.leaving) (blocks_in r.class) r.held
+
+-- a page in use
+used_class : (class : ℕ) (o : Option PageRecord) → IsSomeAnd o (λ r. r.class ≡ class) → OfClass class o
+used_class class None h = absurd h
+used_class class (Some r) h = h
+
+used_some : (class : ℕ) (o : Option PageRecord) → IsSomeAnd o (λ r. r.class ≡ class) → is_some o ≡ true
+used_some class None h = absurd h
+used_some class (Some r) h = refl
+
+used_kept : (class : ℕ) (o : Option PageRecord) → IsSomeAnd o (λ r. r.class ≡ class) → row_free o ≡ false
+used_kept class None h = absurd h
+used_kept class (Some r) h = refl
+
+-- a page in use gets another record
+module _ (rows : List (Option PageRecord)) (pages : List (Option PageRecord)) (seen : rows ≡ pages) (usable : List BitRow) (free : BitRow) (free_blocks : List ℕ) (free_pages : ℕ) (b : IsIndex rows usable free free_blocks free_pages)
+    (page class : ℕ) (old row : Option PageRecord) (below : page < length pages) (was_of : IsSomeAnd (row_at pages page) (λ r. r.class ≡ class)) (is_of : IsSomeAnd row (λ r. r.class ≡ class)) (known : class < 38)
+    (number : ℕ) (number_is : number ≡ class) (read : old ≡ get_or rows page old) (less more : ℕ) (less_is : less ≡ row_free_on class old) (more_is : more ≡ row_free_on class row)
+    (one : BitRow) (one_is : one ≡ get_or usable number one) where
+  inside : page < length rows
+  inside = subst (λ l. page < length l) (sym seen) below
+
+  there_is : row_at rows page ≡ old
+  there_is = sym (get_or_read rows page old inside read None)
+
+  old_of : IsSomeAnd old (λ r. r.class ≡ class)
+  old_of = subst (λ o. IsSomeAnd o (λ r. r.class ≡ class)) (sym (ap (λ l. row_at l page) seen) ∙ there_is) was_of
+
+  was_class : OfClass class (row_at pages page)
+  was_class = used_class class (row_at pages page) was_of
+
+  pub bit_was : has_bit one page ≡ bit (ltb 0 less)
+  bit_was =
+      sym (get_or-map (λ r. has_bit r page) usable class one 0 (omega (arith, b.classes, known)) ∙ ap (λ (x : BitRow). has_bit x page) (sym (one_is ∙ ap (λ n. get_or usable n one) number_is)))
+      ∙ b.usable_bits class page known (omega (arith, inside, b.few)) ∙ ap (λ o. bit (row_usable class o)) there_is ∙ ap bit (sym (ap (ltb 0) less_is ∙ usable_some class old))
+
+  module _ (had : ℕ) (had_is : had ≡ get_or free_blocks number had) where
+    pub fewer : less ≤ had
+    fewer = less_small rows pages seen usable free free_blocks free_pages b page class row below was_class (used_class class row is_of) known number number_is old read less more less_is more_is had had_is
+
+    pub few_had : had ≤ 2097152
+    few_had = had_small rows pages seen usable free free_blocks free_pages b page class row below was_class (used_class class row is_of) known number number_is old read less more less_is more_is had had_is
+
+    pub update_by : (new : BitRow) → has_bit new page ≡ bit (ltb 0 more) → ((i : ℕ) → i < 4096 → i ≢ page → has_bit new i ≡ has_bit one i)
+        → IsIndex (set rows page row) (set usable number new) free (set free_blocks number (had - less + more)) free_pages
+    update_by new here others =
+        put_by rows pages seen usable free free_blocks free_pages b page class row below was_class (used_class class row is_of) known number number_is old read less more less_is more_is had had_is
+        one new free (ltb 0 more) false false free_pages one_is here (ap (ltb 0) more_is ∙ usable_some class row) others
+        (b.free_bits page inside ∙ ap (λ o. bit (row_free o)) there_is ∙ ap bit (used_kept class old old_of)) (used_some class row is_of) (λ i _ _. refl) (used_some class old old_of) refl
 
 pub usable_is : (rows : List (Option PageRecord)) (usable : List BitRow) (free : BitRow) (free_blocks : List ℕ) (free_pages : ℕ) (b : IsIndex rows usable free free_blocks free_pages) (class number : ℕ) → class < 38 → number ≡ class
     → (one : BitRow) → one ≡ get_or usable number one → (r : Option ℕ) → IfSome r (λ k. k < 4096) → IfSome r (λ k. has_bit one k ≡ 1) → IfSome r (λ k. (i : ℕ) → i < k → has_bit one i ≡ 0) → (IsNone r → (i : ℕ) → i < 4096 → has_bit one i ≡ 0)

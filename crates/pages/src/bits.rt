@@ -60,6 +60,18 @@ impl BitRow {
         self.summary = with_bit(self.summary, at as u32, word != 0);
     }
 
+    /// Gives a bit another value. Where it has that one, nothing is written.
+    pub fn change(&mut self, k: usize, was: bool, is: bool)
+        requires within { k < 4096 }
+        requires was { has_bit self.old k ≡ (if was then 1 else 0) }
+        ensures here { has_bit self.new k ≡ (if is then 1 else 0) }
+        ensures others { (i : ℕ) → i < 4096 → i ≢ k → has_bit self.new i ≡ has_bit self.old i }
+    {
+        if was != is {
+            self.set(k, is);
+        }
+    }
+
     /// The lowest bit that is set.
     pub fn first(&self) -> Option<usize>
         ensures within { IfSome result (λ k. k < 4096) }

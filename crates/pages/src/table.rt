@@ -131,6 +131,25 @@ impl PageTable {
         self.rows[page] = row;
     }
 
+    /// Gives a page in use another record of its class. A bit is written only where the page gets its
+    /// first free block or loses its last.
+    fn update(&mut self, page: usize, class: Class, row: Option<PageRecord>)
+        requires page { page < length self.old }
+        requires was { IsSomeAnd (row_at self.old page) (λ r. r.class ≡ class) }
+        requires is { IsSomeAnd row (λ r. r.class ≡ class) }
+        ensures { self.new ≡ slice_set self.old page row }
+    {
+        let old = self.rows[page];
+        let now = row;
+        let number = class.number();
+        let less = free_on(class, old);
+        let more = free_on(class, now);
+        self.usable[number].change(page, less > 0, more > 0);
+        let had = self.free_blocks[number];
+        self.free_blocks[number] = had - less + more;
+        self.rows[page] = row;
+    }
+
     /// Gives a free page a class, and puts all its blocks on its list.
     fn use_page(&mut self, arena: &mut Arena, page: usize, class: Class)
         requires page { page < length self.old }
@@ -159,7 +178,7 @@ impl PageTable {
     {
         let mut row = self.row(page).unwrap();
         let index = pop(arena, page, &mut row);
-        self.put(page, class, Some(row));
+        self.update(page, class, Some(row));
         index
     }
 
@@ -204,7 +223,7 @@ impl PageTable {
     {
         let mut row = self.row(block.page).unwrap();
         push(arena, block.page, &mut row, block.index);
-        self.put(block.page, row.class, Some(row));
+        self.update(block.page, row.class, Some(row));
     }
 
     /// Takes the first free block of a page that isn't leaving, for one that is moved there: it is held,
@@ -221,7 +240,7 @@ impl PageTable {
         let mut row = self.row(page).unwrap();
         let index = pop(arena, page, &mut row);
         row.receiving = true;
-        self.put(page, row.class, Some(row));
+        self.update(page, row.class, Some(row));
         index
     }
 

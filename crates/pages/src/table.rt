@@ -254,7 +254,7 @@ impl PageTable {
     {
         let mut row = self.row(page).unwrap();
         row.leaving = true;
-        self.put(page, row.class, Some(row));
+        self.update(page, row.class, Some(row));
     }
 
     /// Closes a page, as the sweeper does when it has looked at all its blocks: the marks leaving and
@@ -271,7 +271,7 @@ impl PageTable {
             } else {
                 row.leaving = false;
                 row.receiving = false;
-                self.put(page, row.class, Some(row));
+                self.update(page, row.class, Some(row));
             }
         }
     }

@@ -12,8 +12,8 @@ returns-then-row-eq0-clause-closed c = λ words t.
 pub returns-else-row-eq0-clause-closed : goal.returns-else-row-eq0-clause-closed
 returns-else-row-eq0-clause-closed c = λ words t.
     let r = c.in-Some.row in
-    closed_by c.args.self.now words t c.args.page c.requires (Some r) c.put-else-row-eq0.new.self (sym c.in-Some.is ∙ c.row.ensures.row)
-    (c.put-else-row-eq0.ensures ∙ ap (λ b. set c.args.self.now c.args.page (cond b None (Some (record r { leaving = false; receiving = false })))) (sym (ne_eqb r.held 0 c.if-row-eq0.false)))
+    closed_by c.args.self.now words t c.args.page c.requires (Some r) c.update.new.self (sym c.in-Some.is ∙ c.row.ensures.row)
+    (c.update.ensures ∙ ap (λ b. set c.args.self.now c.args.page (cond b None (Some (record r { leaving = false; receiving = false })))) (sym (ne_eqb r.held 0 c.if-row-eq0.false)))
 
 pub returns-in_default-clause-closed : goal.returns-in_default-clause-closed
 returns-in_default-clause-closed c = λ words t.

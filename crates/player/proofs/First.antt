@@ -1,5 +1,5 @@
 -- Playing up to the line of the nth event.
-use Rattle.std.proofs.Common.{◌≡◌, ℕ, ◌+◌, Bool, true, false, not, cond, List, [], ◌∷◌, ◌++◌, inr, append_assoc, append-nil, ap, ◌∙◌, sym, refl, arith, Ok}
+use Rattle.std.proofs.Common.{◌≡◌, ℕ, ◌+◌, Bool, true, false, not, cond, List, [], ◌∷◌, ◌++◌, inl, inr, append_assoc, append-nil, ap, ◌∙◌, sym, refl, arith, Ok}
 use Rattle.std.specs.Prelude.{Some, IsTrue}
 use Rattle.std.specs.List.{count_by}
 use Rattle.std.proofs.lemmas.List.Sums.{sum_by_push}
@@ -44,12 +44,12 @@ first_done {style} {given} {old} {new} {reader} so n count end = inr (
     rest = [];
     read = record { text = text_of so.lines; came = refl; splits = record { whole = sym (append-nil (text_of so.lines)); each = so.read.splits.each }; small = omega arith };
     done = so.done;
-    ends = (refl, refl, refl);
+    ends = inl (refl, refl, refl);
   }),
   so.read.came ∙ ap (λ t. given.before ++ t) so.read.splits.whole ∙ sym (append_assoc given.before (text_of so.lines) reader.kept),
   so.read.small,
   refl,
   count,
   end,
-  refl,
+  inl refl,
 )

@@ -2,3 +2,4 @@ pub mod Doing
 pub mod First
 pub mod Lines
 pub mod Ticking
+pub mod Closing

@@ -1,6 +1,6 @@
 -- What lines do, one after the other.
-use Rattle.std.proofs.Common.{◌≡◌, ℕ, ◌+◌, List, [], ◌∷◌, ◌++◌, append_assoc, append-nil, ap, ◌∙◌, sym, refl}
-use Rattle.std.specs.Prelude.{Result}
+use Rattle.std.proofs.Common.{◌≡◌, ℕ, ◌+◌, inl, List, [], ◌∷◌, ◌++◌, append_assoc, append-nil, ap, ◌∙◌, sym, refl}
+use Rattle.std.specs.Prelude.{◌⊎◌, Result, Err}
 use Rattle.std.proofs.lemmas.Grind.{flat_map-append}
 use Rattle.graph_heap.specs.declared.command.Entry.{Entry}
 use Rattle.heap_model.specs.Event.{Course, Event, Command_done, Cycle_begun, Cycle_on, Quantum_done, Quantum_refused, Runs}
@@ -8,11 +8,12 @@ use Rattle.machine.proofs.Courses.{runs_then}
 use Rattle.trace.specs.declared.line.Line.{Line}
 use Rattle.trace.specs.declared.line.Line.TheVariants as lines
 use Rattle.trace.specs.declared.fault.TextFault.{TextFault}
+use Rattle.trace.specs.declared.fault.TextFault.TheVariants.{Write}
 use Rattle.trace.specs.GoneOver.{LinesDone, No_lines, One_line_more, GoneOver, Ends}
 use Rattle.trace.specs.Streams.{Given}
 use Rattle.player.specs.Player.{PlayerState, QuantaDue, None_yet, One_more, DoesLine, Skips, Commands, Begins, Goes_on, Spends, Ticks, entries_in}
 use Rattle.player.specs.declared.style.Style.{Style}
-use Rattle.player.specs.Playing.{Stage, PlaysText, StopsText, Played, written_line, written_of}
+use Rattle.player.specs.Playing.{Stage, PlaysText, StopsText, CutShort, Played, written_line, written_of}
 
 -- the entries of more events, and what is written of them
 pub entries_more : (es fs : List Event) → entries_in (es ++ fs) ≡ entries_in es ++ entries_in fs
@@ -69,7 +70,7 @@ pub lines_written : (style : Style) (old new : Stage) (ls : List (List ℕ)) (es
 lines_written style old new ls es No_lines = sym (append-nil old.taken)
 lines_written style old new ls es (One_line_more ls' es' more text mid new' d does) = written_more style old.taken mid.taken new'.taken es' more (lines_written style old mid ls' es' d) does.2.1
 
-abbrev pub played : (style : Style) (given : Given) (old new : Stage) (result : Result (Unit {0}) TextFault) → GoneOver (PlaysText style) given old (λ count events mid rest. Ends (StopsText style) count mid rest given.ended new result)
+abbrev pub played : (style : Style) (given : Given) (old new : Stage) (result : Result (Unit {0}) TextFault) → GoneOver (PlaysText style) given old (λ count events mid rest. Ends (StopsText style) count mid rest given.ended new result ⊎ ((result ≡ Err Write) × CutShort style count events mid rest old new))
     → Played style given old new result
 played style given old new result over =
     let runs = lines_run style old over.mid over.lines over.events over.done in
@@ -86,3 +87,8 @@ tick_entries p line es q n (Ticks k fs r small due none) e = due_entries (p.time
 
 pub tick_written : (style : Style) (taken : List ℕ) (p q : PlayerState) (n : ℕ) (es : List Event) → DoesLine p (lines.Tick n) es q → taken ≡ taken ++ written_of style (entries_in es)
 tick_written style taken p q n es d = sym (append-nil taken) ∙ ap (λ t. taken ++ written_of style t) (sym (tick_entries p (lines.Tick n) es q n d refl))
+
+-- an end is an end where no write fails
+abbrev pub ends_so : {style : Style} {given : Given} {old new : Stage} {result : Result (Unit {0}) TextFault} → GoneOver (PlaysText style) given old (λ count events mid rest. Ends (StopsText style) count mid rest given.ended new result) → Played style given old new result
+ends_so {style} {given} {old} {new} {result} over =
+    played style given old new result (record { lines = over.lines; events = over.events; mid = over.mid; rest = over.rest; read = over.read; done = over.done; ends = inl over.ends })

@@ -1,3 +1,4 @@
 pub mod Player
 pub mod Playing
 pub mod Ticking
+pub mod Closing

@@ -9,7 +9,7 @@ use Rattle.trace.specs.declared.line.Line.TheVariants as lines
 use Rattle.trace.specs.declared.fault.LineFault.TheVariants.{NotAnEvent, ClockSpent}
 use Rattle.trace.specs.declared.fault.TextFault.{TextFault}
 use Rattle.trace.specs.declared.fault.TextFault.TheVariants.{Line as At_line, Write, NoMemory}
-use Rattle.trace.specs.GoneOver.{GoneOver, Ends}
+use Rattle.trace.specs.GoneOver.{GoneOver, NextLine, Ends}
 use Rattle.trace.specs.Spelling.{Spells, is_skipped, reply_text, entry_line}
 use Rattle.trace.specs.Streams.{Given, GrowsByPart}
 use Rattle.heap_model.specs.Event.{Event, Command_done, Runs}
@@ -43,18 +43,10 @@ Plays style line old events new = DoesLine old.player line events new.player × 
 abbrev pub PlaysText : Style → List ℕ → Stage → List Event → Stage → Type 0
 PlaysText style text old events new = (line : Line) × Spells text line × Plays style line old events new
 
--- what a command does whose write fails: it is done, and a part of what is written of it is written
-abbrev pub PlaysInPart : Style → ℕ → Command → Stage → Stage → Type 0
-PlaysInPart style m c old new =
-    (reply : Reply) × DoesLine old.player (lines.Command m c) (Command_done m c reply ∷ []) new.player
-    × GrowsByPart old.taken new.taken (written_line style (record { mutator = m; command = c; reply = reply }))
-
 -- What a fault at a line of this number is.
 abbrev pub Stops : Style → TextFault → Line → ℕ → Stage → Stage → Type 0
 -- its ticks would pass the clock's limit
 Stops style (At_line k ClockSpent) (lines.Tick n) number old new = (k ≡ number) × (CLOCK_LIMIT < old.player.timetable.clock + n) × (new.player ≡ old.player) × (new.taken ≡ old.taken)
--- a write failed
-Stops style Write (lines.Command m c) number old new = PlaysInPart style m c old new
 -- memory was refused for the command's entry: nothing has changed
 Stops style NoMemory (lines.Command m c) number old new = (new.player ≡ old.player) × (new.taken ≡ old.taken)
 -- memory was refused for the interval of a quantum that is due: those before it are done, and the clock hasn't moved
@@ -68,10 +60,17 @@ StopsText style fault text number old new =
     ((fault ≡ At_line number NotAnEvent) × ((x : Line) → Spells text x → ⊥) × (new ≡ old))
     ⊎ ((line : Line) × Spells text line × Stops style fault line number old new)
 
+-- A write failed: after these lines no further one was done, or memory was refused for the next, too. Of their
+-- text, which ends with that of the last command, a beginning was written, and not all of it.
+abbrev pub CutShort : Style → ℕ → List Event → Stage → List ℕ → Stage → Stage → Type 0
+CutShort style count events mid rest old new =
+    GrowsByPart old.taken new.taken (written_of style (entries_in events))
+    × ((new.player ≡ mid.player) ⊎ NextLine (λ line. StopsText style NoMemory line (count + 1) mid (stage new.player mid.taken)) rest)
+
 -- What was played of an input: the lines that were done did these events, one after the other, what is
--- written of their entries is written, and it ended so.
+-- written of their entries is written, and it ended so. Where a write failed, mid has all of that text.
 pub record Played (style : Style) (given : Given) (old new : Stage) (result : Result (Unit {0}) TextFault) : Type 0 where
-  pub over : GoneOver (PlaysText style) given old (λ count events mid rest. Ends (StopsText style) count mid rest given.ended new result)
+  pub over : GoneOver (PlaysText style) given old (λ count events mid rest. Ends (StopsText style) count mid rest given.ended new result ⊎ ((result ≡ Err Write) × CutShort style count events mid rest old new))
   pub runs : Runs old.player.course over.events over.mid.player.course
   pub grows : over.mid.player.course.history ≡ old.player.course.history ++ entries_in over.events
   pub written : over.mid.taken ≡ old.taken ++ written_of style (entries_in over.events)
@@ -89,16 +88,15 @@ abbrev pub PlayedFirst : ℕ → Style → Given → Stage → Stage → Result 
 PlayedFirst n style given old new result =
     -- fewer events were done: what is played of the whole input
     ((all : Played style given old new result) × (count_by is_event all.over.lines < n))
-    -- the lines end at the nth event: what is played of an input that ends there. Of what comes after, which
-    -- wasn't looked at, at most a buffer was read
+    -- the lines end at the nth event: what is played of an input that ends there, unless a write failed behind
+    -- it. Of what comes after, which wasn't looked at, at most a buffer was read
     ⊎ ((seen : List ℕ) × (more : List ℕ) × (first : Played style (record given { after = seen; ended = true }) old new result)
-    × (given.after ≡ seen ++ more) × (length more ≤ 4096) × (first.over.rest ≡ []) × (count_by is_event first.over.lines ≡ n) × EndAtEvent first.over.lines × (result ≡ Ok tt))
+    × (given.after ≡ seen ++ more) × (length more ≤ 65536) × (first.over.rest ≡ []) × (count_by is_event first.over.lines ≡ n) × EndAtEvent first.over.lines × ((result ≡ Ok tt) ⊎ (result ≡ Err Write)))
 
 -- What came of a command, and of a line.
 abbrev pub CommandDone : Style → ℕ → Command → Stage → Stage → Result (Unit {0}) TextFault → Type 0
 CommandDone style m c old new (Ok done) =
     (reply : Reply) × DoesLine old.player (lines.Command m c) (Command_done m c reply ∷ []) new.player × (new.taken ≡ old.taken ++ written_line style (record { mutator = m; command = c; reply = reply }))
-CommandDone style m c old new (Err Write) = PlaysInPart style m c old new
 CommandDone style m c old new (Err NoMemory) = (new.player ≡ old.player) × (new.taken ≡ old.taken)
 CommandDone style m c old new (Err fault) = ⊥
 

@@ -1,68 +1,69 @@
 //! One line of a trace.
-ghost use Rattle.std.specs.Prelude.{◌≡◌, ◌+◌, ◌++◌, OnOk, OnErr};
-ghost use Rattle.trace.specs.Streams.{GrowsByPart, failed};
-ghost use Rattle.trace.specs.GoneOver.{writes_failed};
+ghost use Rattle.std.specs.Prelude.{◌≡◌, ℕ, ◌+◌, ◌≤◌, ◌++◌, List, length};
+ghost use Rattle.trace.specs.GoneOver.{reads_failed, writes_failed};
 ghost use Rattle.player.specs.Playing.{stage, written_line, CommandDone, LinePlayed};
 
 use crate::player::{Player, TickFault};
 use crate::style::Style;
 use graph_heap::{Command, Entry};
-use trace::{
-    Line, LineFault, Sink, TextFault, WriteFailed, end_line, read_line, write_entry, write_reply,
-};
+use trace::{Line, LineFault, TextFault, WriteBuffer, read_line, write_entry, write_reply};
 
-/// Writes the line of an entry, in a style.
-fn write_line<K: Sink>(sink: &mut K, style: Style, entry: &Entry) -> Result<(), WriteFailed>
-    ensures ok { OnOk result (K.taken sink.new ≡ K.taken sink.old ++ written_line style entry.now) }
-    ensures err { OnErr result (GrowsByPart (K.taken sink.old) (K.taken sink.new) (written_line style entry.now)) }
-    ensures cause { K.failures sink.new ≡ K.failures sink.old + failed result }
+/// Adds the line of an entry, in a style, to what waits.
+fn add_line(waiting: &mut WriteBuffer, style: Style, entry: &Entry)
+    requires { length waiting.old + 256 ≤ 65536 }
+    ensures { waiting.new ≡ waiting.old ++ written_line style entry.now }
 {
     let mut out = [0; 256];
     let end = match style {
         Style::Replies => write_reply(&entry.reply, &mut out, 0),
         Style::Entries => write_entry(entry, &mut out),
-        Style::Nothing => return Ok(()),
+        Style::Nothing => return,
     };
-    end_line(sink, &mut out, end)
+    out[end] = b'\n';
+    waiting.add(&out[..end + 1]);
 }
 
-/// Does a command, and writes its line.
-fn play_command<K: Sink>(
+/// Does a command, and adds its line to what waits.
+fn play_command(
     mutator: u32,
     command: Command,
-    sink: &mut K,
+    waiting: &mut WriteBuffer,
     player: &mut Player,
     style: Style,
 ) -> Result<(), TextFault>
-    ensures done { CommandDone style mutator command (stage player.old (K.taken sink.old)) (stage player.new (K.taken sink.new)) result }
-    ensures writes { K.failures sink.new ≡ K.failures sink.old + writes_failed result }
+    requires { length waiting.old + 256 ≤ 65536 }
+    ensures { CommandDone style mutator command (stage player.old waiting.old) (stage player.new waiting.new) result }
 {
     let Ok(receipt) = player.call(mutator, command) else {
         return Err(TextFault::NoMemory);
     };
-    match write_line(sink, style, receipt.entry()) {
-        Ok(()) => Ok(()),
-        Err(WriteFailed) => Err(TextFault::Write),
-    }
+    add_line(waiting, style, receipt.entry());
+    Ok(())
 }
 
-/// Does a line, and writes what is written of it. Answers whether it is that of an event.
-pub fn play_line<K: Sink>(
+/// Does a line, and adds what is written of it to what waits, where there must be room for a line.
+/// Answers whether it is that of an event.
+pub fn play_line(
     bytes: &[u8],
     number: u64,
-    sink: &mut K,
+    waiting: &mut WriteBuffer,
     player: &mut Player,
     style: Style,
 ) -> Result<bool, TextFault>
-    ensures played { LinePlayed style bytes.now number (stage player.old (K.taken sink.old)) (stage player.new (K.taken sink.new)) result }
-    ensures writes { K.failures sink.new ≡ K.failures sink.old + writes_failed result }
+    requires { length waiting.old + 256 ≤ 65536 }
+    // This is so behind whatever was written before.
+    ensures played { (before : List ℕ) → LinePlayed style bytes.now number (stage player.old (before ++ waiting.old)) (stage player.new (before ++ waiting.new)) result }
+    // No write is in it that could fail, and no read.
+    ensures calls { (writes_failed result ≡ 0) × (reads_failed result ≡ 0) }
 {
     let Some(line) = read_line(bytes) else {
         return Err(TextFault::Line(number, LineFault::NotAnEvent));
     };
     match line {
         Line::Skip => return Ok(false),
-        Line::Command { mutator, command } => play_command(mutator, command, sink, player, style)?,
+        Line::Command { mutator, command } => play_command(
+            mutator, command, waiting, player, style,
+        )?,
         Line::Begin => player.begin(),
         Line::Quantum(budget) => player.quantum(budget),
         Line::Tick(ticks) => match player.tick(ticks) {

@@ -1,17 +1,60 @@
 //! Playing a trace.
-ghost use Rattle.std.specs.Prelude.{◌≡◌, ◌+◌};
+ghost use Rattle.std.specs.Prelude.{◌≡◌, ◌+◌, ◌<◌, ◌≤◌, ◌++◌, ◌⊎◌, [], length};
 ghost use Rattle.trace.specs.GoneOver.{reads_failed, writes_failed};
 ghost use Rattle.trace.specs.Streams.{Stays, given_by};
 ghost use Rattle.player.specs.Playing.{stage, Played, PlayedFirst};
+ghost use Rattle.player.specs.Closing.{Closes};
 
 use crate::line::play_line;
 use crate::player::Player;
 use crate::style::Style;
-use trace::{LineReader, Sink, Source, TextFault};
+use trace::{LineReader, Sink, Source, TextFault, WriteBuffer};
+
+/// Writes what waits once lines have come to an end. Where that fails, it is what the play ends with.
+fn close<K: Sink>(
+    waiting: &mut WriteBuffer,
+    sink: &mut K,
+    ended: Result<(), TextFault>,
+) -> Result<(), TextFault>
+    requires { 0 < reads_failed ended + writes_failed ended → waiting.old ≡ [] }
+    ensures closes { Closes (K.taken sink.old) (K.taken sink.new) waiting.old ended result }
+    ensures reads { reads_failed result ≡ reads_failed ended }
+    ensures writes { K.failures sink.new + writes_failed ended ≡ K.failures sink.old + writes_failed result }
+{
+    match waiting.flush(sink) {
+        Ok(()) => ended,
+        Err(_) => Err(TextFault::Write),
+    }
+}
+
+/// Plays the lines of a source. What is written of them is written, or waits.
+fn play_lines<S: Source, K: Sink>(
+    source: &mut S,
+    sink: &mut K,
+    waiting: &mut WriteBuffer,
+    player: &mut Player,
+    style: Style,
+) -> Result<(), TextFault>
+    requires { waiting.old ≡ [] }
+    ensures played { Played style (given_by S.given S.ended source.old source.new) (stage player.old (K.taken sink.old)) (stage player.new (K.taken sink.new ++ waiting.new)) result }
+    ensures grows { length (K.taken sink.old) ≤ length (K.taken sink.new) }
+    ensures nothing { 0 < reads_failed result + writes_failed result → waiting.new ≡ [] }
+    ensures reads { S.failures source.new ≡ S.failures source.old + reads_failed result }
+    ensures writes { K.failures sink.new ≡ K.failures sink.old + writes_failed result }
+    ensures input { reads_failed result ≡ 0 → Stays (S.input source.old) (S.input source.new) }
+{
+    let mut reader = LineReader::new();
+    while reader.next_line_once_written(waiting, source, sink)? {
+        play_line(reader.line(), reader.number(), waiting, player, style)?;
+    }
+    Ok(())
+}
 
 /// Plays the lines of a source, and writes to a sink what the style says of each command: each line is
-/// done, one after the other, and what was done and written before a fault stands. The history stays legal,
-/// the heap in agreement with it, and the intervals spaced, as the types of the heap and of the schedule say.
+/// done, one after the other, and what was done and written before a fault stands. What is written waits
+/// in a buffer of 65536 bytes, until that has no room for a line, until the source is asked for more, or until the end.
+/// The history stays legal, the heap in agreement with it, and the intervals spaced, as the types of the heap and of the
+/// schedule say.
 pub fn play<S: Source, K: Sink>(
     source: &mut S,
     sink: &mut K,
@@ -23,9 +66,35 @@ pub fn play<S: Source, K: Sink>(
     ensures writes { K.failures sink.new ≡ K.failures sink.old + writes_failed result }
     ensures input { reads_failed result ≡ 0 → Stays (S.input source.old) (S.input source.new) }
 {
+    let mut waiting = WriteBuffer::new();
+    let ended = play_lines(source, sink, &mut waiting, player, style);
+    close(&mut waiting, sink, ended)
+}
+
+/// Plays the lines of a source as `play_lines` does, up to the line of the nth event.
+fn play_first_lines<S: Source, K: Sink>(
+    n: u32,
+    source: &mut S,
+    sink: &mut K,
+    waiting: &mut WriteBuffer,
+    player: &mut Player,
+    style: Style,
+) -> Result<(), TextFault>
+    requires { waiting.old ≡ [] }
+    ensures played { PlayedFirst n style (given_by S.given S.ended source.old source.new) (stage player.old (K.taken sink.old)) (stage player.new (K.taken sink.new ++ waiting.new)) result }
+    ensures none { n ≡ 0 → source.new ≡ source.old }
+    ensures grows { length (K.taken sink.old) ≤ length (K.taken sink.new) }
+    ensures nothing { 0 < reads_failed result + writes_failed result → waiting.new ≡ [] }
+    ensures reads { S.failures source.new ≡ S.failures source.old + reads_failed result }
+    ensures writes { K.failures sink.new ≡ K.failures sink.old + writes_failed result }
+    ensures input { reads_failed result ≡ 0 → Stays (S.input source.old) (S.input source.new) }
+{
     let mut reader = LineReader::new();
-    while reader.next_line(source)? {
-        play_line(reader.line(), reader.number(), sink, player, style)?;
+    let mut left = n;
+    while left > 0 && reader.next_line_once_written(waiting, source, sink)? {
+        if play_line(reader.line(), reader.number(), waiting, player, style)? {
+            left -= 1;
+        }
     }
     Ok(())
 }
@@ -46,12 +115,7 @@ pub fn play_first<S: Source, K: Sink>(
     ensures writes { K.failures sink.new ≡ K.failures sink.old + writes_failed result }
     ensures input { reads_failed result ≡ 0 → Stays (S.input source.old) (S.input source.new) }
 {
-    let mut reader = LineReader::new();
-    let mut left = n;
-    while left > 0 && reader.next_line(source)? {
-        if play_line(reader.line(), reader.number(), sink, player, style)? {
-            left -= 1;
-        }
-    }
-    Ok(())
+    let mut waiting = WriteBuffer::new();
+    let ended = play_first_lines(n, source, sink, &mut waiting, player, style);
+    close(&mut waiting, sink, ended)
 }

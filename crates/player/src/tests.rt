@@ -1,6 +1,7 @@
 //! Runs worked out by hand.
 mod collecting;
 mod first;
+mod waiting;
 
 use super::*;
 use graph_heap::{Command, NoMemory, Reference, Reply};
@@ -266,20 +267,6 @@ fn cells_at_the_edges_of_pieces(rt: HostRuntime) -> Result<(), Fail> {
 const TRACE: &str = "0 new 0 plain 0 1\n0 put 0 0 7\n0 get 0 0\n";
 
 const REPLIES: [&str; 4] = ["", "made 1\n", "made 1\ndone\n", "made 1\ndone\nword 7\n"];
-
-#[test]
-fn each_write_fails_in_turn(rt: HostRuntime) -> Result<(), Fail> {
-    for call in 1..4usize {
-        let mut player = player(&rt, &FOUR_PAGES)?;
-        let mut source = MemorySource::new(TRACE.as_bytes());
-        let mut sink = FailAt::new(MemorySink::new(rt.alloc()), call as u64);
-        let answer = play(&mut source, &mut sink, &mut player, Style::Replies);
-        assert_eq!(rt; answer, Err(TextFault::Write), "{call}");
-        assert_eq!(rt; player.recorded().history().len(), call);
-        assert_eq!(rt; sink.get_ref().bytes(), REPLIES[call - 1].as_bytes());
-    }
-    Ok(())
-}
 
 #[test]
 fn each_read_fails_in_turn(rt: HostRuntime) -> Result<(), Fail> {

@@ -21,7 +21,7 @@ abbrev pub later : Given → List ℕ → Bool → Given
 later given after ended = record { before = given.before; after = after; ended = ended }
 
 -- the rest after the same lines
-pub rest_more : (given : Given) (after kept rest : List ℕ) (ended : Bool) (lines : List (List ℕ)) → LinesRead given lines kept → Comes given.after after kept rest → length rest ≤ 4096 → LinesRead (later given after ended) lines rest
+pub rest_more : (given : Given) (after kept rest : List ℕ) (ended : Bool) (lines : List (List ℕ)) → LinesRead given lines kept → Comes given.after after kept rest → length rest ≤ 65536 → LinesRead (later given after ended) lines rest
 rest_more given after kept rest ended lines r comes small = record {
   text = r.text ++ comes.more;
   came = comes.given_more ∙ ap (λ t. t ++ comes.more) r.came ∙ append_assoc given.before r.text comes.more;
@@ -33,7 +33,7 @@ rest_more given after kept rest ended lines r comes small = record {
 }
 
 -- a line more
-pub line_more : (given : Given) (after kept kept' line : List ℕ) (ended : Bool) (lines : List (List ℕ)) → LinesRead given lines kept → Comes given.after after kept (line ++ 10 ∷ kept') → IsLine line → length (line ++ 10 ∷ kept') ≤ 4096
+pub line_more : (given : Given) (after kept kept' line : List ℕ) (ended : Bool) (lines : List (List ℕ)) → LinesRead given lines kept → Comes given.after after kept (line ++ 10 ∷ kept') → IsLine line → length (line ++ 10 ∷ kept') ≤ 65536
     → LinesRead (later given after ended) (lines ++ line ∷ []) kept'
 line_more given after kept kept' line ended lines r comes is small = record {
   text = r.text ++ comes.more;
@@ -66,7 +66,7 @@ pub record Hands (given : Given) (old new : Lines) (result : Result Bool TextFau
   pub text : Comes given.before given.after old.kept (text_by result new)
   pub says : Says result new given.ended
   pub number : new.number ≡ old.number + lines_by result
-  pub small : length (text_by result new) ≤ 4096
+  pub small : length (text_by result new) ≤ 65536
 
 -- a line has the next number
 pub one_line : (number : ℕ) (next : Lines) (b : Bool) → b ≡ true → next.number ≡ number + lines_by (Ok b) → next.number ≡ number + 1
@@ -78,7 +78,7 @@ module _ {S E : Type 0} {Does : List ℕ → S → List E → S → Type 0} {giv
   call after ended = record { before = given.after; after = after; ended = ended }
 
   -- it ends after the lines so far
-  abbrev ends_after : (after rest : List ℕ) (ended : Bool) (End : ℕ → List E → S → List ℕ → Type 0) → Comes given.after after reader.kept rest → length rest ≤ 4096 → End (length so.lines) so.events mid rest
+  abbrev ends_after : (after rest : List ℕ) (ended : Bool) (End : ℕ → List E → S → List ℕ → Type 0) → Comes given.after after reader.kept rest → length rest ≤ 65536 → End (length so.lines) so.events mid rest
       → GoneOver Does (later given after ended) old End
   ends_after after rest ended End comes small end = record {
     lines = so.lines;

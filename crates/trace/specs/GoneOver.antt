@@ -10,7 +10,7 @@ pub record LinesRead (given : Given) (lines : List (List ℕ)) (rest : List ℕ)
   pub text : List ℕ
   pub came : given.after ≡ given.before ++ text
   pub splits : Splits text lines rest
-  pub small : length rest ≤ 4096
+  pub small : length rest ≤ 65536
 
 -- After so many lines the rest has no further line, for this fault.
 abbrev pub NoLine : TextFault → ℕ → List ℕ → Bool → Type 0

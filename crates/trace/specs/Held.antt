@@ -9,7 +9,7 @@ lines_in a = record { line = slice_range a.buffer a.line_start a.line_end; kept 
 -- the ranges lie in the buffer, and the lines can be counted
 pub record IsHeld (a : Inside) : Type 0 where
   pub line : a.line_start ≤ a.line_end
-  pub line_within : a.line_end ≤ 4096
+  pub line_within : a.line_end ≤ 65536
   pub range : a.start ≤ a.end
-  pub within : a.end ≤ 4096
+  pub within : a.end ≤ 65536
   pub few : a.number + (a.end - a.start) < 2 ^ 64

@@ -4,6 +4,7 @@ pub mod Streams
 pub mod GoneOver
 pub mod LineReader
 pub mod Held
+pub mod Waiting
 pub mod Memory
 pub mod MemorySource
 pub mod MemorySink

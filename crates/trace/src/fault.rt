@@ -40,7 +40,7 @@ pub enum TextFault {
     /// A read failed.
     #[error("cannot read")]
     Read,
-    /// A write failed. The last command is done, and its reply may be out in part.
+    /// A write failed. The last command is done; of the text up to its reply a beginning is out.
     #[error("cannot write")]
     Write,
     /// Memory was refused, for what the next line asks.

@@ -19,6 +19,7 @@ pub mod standard;
 mod text;
 mod transcript;
 pub mod write;
+pub mod write_buffer;
 
 pub use entry::{EntryLine, read_entry};
 pub use fail_at::FailAt;
@@ -32,6 +33,7 @@ pub use source::{ReadFailed, Source};
 pub use standard::{ReadSource, WriteSink};
 pub use text::{end_line, put, put_named};
 pub use write::{write_command, write_entry, write_reply};
+pub use write_buffer::WriteBuffer;
 
 #[cfg(test)]
 mod tests;

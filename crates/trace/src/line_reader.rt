@@ -1,14 +1,16 @@
 //! Cutting what a source gives into lines.
-ghost use Rattle.std.specs.Prelude.{true, false, ◌∷◌, ◌++◌, ◌≡◌, ◌==◌, ◌+◌, ◌-◌, ◌<◌, ◌≤◌, ◌^◌, [], length, take, slice_range, IfOk, IfSome, IsNone, OnOk, OnErr, IsTrue};
-ghost use Rattle.trace.specs.Streams.{failed, Comes, Stays, NoLf, IsLine, FirstLf};
+ghost use Rattle.std.specs.Prelude.{true, false, ◌⊎◌, Ok, Err, ◌∷◌, ◌++◌, ◌≡◌, ◌==◌, ◌+◌, ◌-◌, ◌<◌, ◌≤◌, ◌^◌, [], length, take, slice_range, IfOk, IfSome, IsNone, OnOk, OnErr, IsTrue};
+ghost use Rattle.trace.specs.Streams.{failed, Comes, Stays, NoLf, IsLine, FirstLf, GrowsByPart};
 
 use crate::fault::{LineFault, TextFault};
 use crate::field::place_of;
+use crate::sink::{Sink, WriteFailed};
 use crate::source::{ReadFailed, Source};
+use crate::write_buffer::WriteBuffer;
 use std::marker::Model;
 
 /// How many bytes are read at once, at most.
-const CAPACITY: usize = 4096;
+const CAPACITY: usize = 65536;
 
 /// How many bytes a line has, at most, before its LF.
 const LONGEST: usize = 256;
@@ -48,7 +50,7 @@ fn read_behind<S: Source>(source: &mut S, buffer: &mut [u8], at: usize) -> Resul
     source.read(&mut buffer[at..])
 }
 
-/// A reader of lines: a buffer of 4096 bytes, with the line that was handed out last and the bytes that
+/// A reader of lines: a buffer of 65536 bytes, with the line that was handed out last and the bytes that
 /// came after it. It hands out lines of at most 256 bytes, without their LF.
 #[derive(Drop)]
 pub struct LineReader {
@@ -73,7 +75,7 @@ impl Model for LineReader {
 }
 
 impl LineReader {
-    ghost use Rattle.trace.specs.GoneOver.{reads_failed};
+    ghost use Rattle.trace.specs.GoneOver.{reads_failed, writes_failed};
     ghost use Rattle.trace.specs.LineReader.{text_by, Says, lines_by};
 
     /// A reader that has read nothing yet.
@@ -116,7 +118,7 @@ impl LineReader {
         ensures end { IfOk result (λ n. n ≡ 0 → IsTrue (S.ended source.new)) }
         ensures cause { S.failures source.new ≡ S.failures source.old + failed result }
         ensures input { OnOk result (Stays (S.input source.old) (S.input source.new)) }
-        ensures small { length self.new.kept ≤ 4096 }
+        ensures small { length self.new.kept ≤ 65536 }
     {
         let kept = self.end - self.start;
         to_front(&mut self.buffer, self.start, self.end);
@@ -143,7 +145,7 @@ impl LineReader {
         ensures number { IsTrue result → self.new.number ≡ self.old.number + 1 }
         ensures none { result ≡ false → NoLf (take 257 self.old.kept) }
         ensures same { result ≡ false → self.new ≡ self.old }
-        ensures small { length self.old.kept ≤ 4096 }
+        ensures small { length self.old.kept ≤ 65536 }
     {
         let Some(length) = line_feed(&self.buffer[self.start..self.end]) else {
             return false;
@@ -174,7 +176,7 @@ impl LineReader {
         ensures behind { self.new.number + length self.new.kept ≤ length (S.given source.new) }
         ensures counted { self.new.number < 2 ^ 64 }
         // With what came after it, the line fits into a buffer.
-        ensures small { length (text_by result self.new) ≤ 4096 }
+        ensures small { length (text_by result self.new) ≤ 65536 }
         ensures cause { S.failures source.new ≡ S.failures source.old + reads_failed result }
         ensures input { reads_failed result ≡ 0 → Stays (S.input source.old) (S.input source.new) }
     {
@@ -190,5 +192,41 @@ impl LineReader {
             }
         }
         Ok(true)
+    }
+
+    /// Hands out the next line, as `next_line` does. Before the source is read, and where there is no room
+    /// for a line, what waits in a buffer is written: so nothing waits while the source is asked for more.
+    pub fn next_line_once_written<S: Source, K: Sink>(
+        &mut self,
+        waiting: &mut WriteBuffer,
+        source: &mut S,
+        sink: &mut K,
+    ) -> Result<bool, TextFault>
+        requires { self.old.number + length self.old.kept ≤ length (S.given source.old) }
+        // The source was asked for nothing, or all that waited is written.
+        ensures asked { (source.new ≡ source.old) ⊎ (waiting.new ≡ []) }
+        ensures room { result ≡ Ok true → length waiting.new + 256 ≤ 65536 }
+        ensures whole { writes_failed result ≡ 0 → K.taken sink.new ++ waiting.new ≡ K.taken sink.old ++ waiting.old }
+        ensures part { result ≡ Err TextFault.Write → GrowsByPart (K.taken sink.old) (K.taken sink.new) waiting.old × (waiting.new ≡ []) }
+        ensures grows { length (K.taken sink.old) ≤ length (K.taken sink.new) }
+        ensures says { writes_failed result ≡ 0 → Says result self.new (S.ended source.new) }
+        ensures text { Comes (S.given source.old) (S.given source.new) self.old.kept (text_by result self.new) }
+        ensures number { self.new.number ≡ self.old.number + lines_by result }
+        ensures behind { self.new.number + length self.new.kept ≤ length (S.given source.new) }
+        ensures counted { self.new.number < 2 ^ 64 }
+        ensures small { writes_failed result ≡ 0 → length (text_by result self.new) ≤ 65536 }
+        // Where a write failed, no line was handed out, and nothing was read.
+        ensures stays { result ≡ Err TextFault.Write → (self.new ≡ self.old) × (source.new ≡ source.old) }
+        ensures writes { K.failures sink.new ≡ K.failures sink.old + writes_failed result }
+        ensures reads { S.failures source.new ≡ S.failures source.old + reads_failed result }
+        ensures input { reads_failed result ≡ 0 → Stays (S.input source.old) (S.input source.new) }
+    {
+        if waiting.has_room() && self.cut_line() {
+            return Ok(true);
+        }
+        match waiting.flush(sink) {
+            Ok(()) => self.next_line(source),
+            Err(WriteFailed) => Err(TextFault::Write),
+        }
     }
 }

@@ -5,7 +5,26 @@ use super::*;
 use player::{Player, Style, play};
 use size_classes::{Config, Settings};
 use std::io::Read;
-use trace::{FailAt, MemorySink, MemorySource, TextFault};
+use trace::{FailAt, MemorySink, ReadSource, TextFault};
+
+/// A reader that gives one line each time.
+#[derive(Drop)]
+struct Typed {
+    text: &'static [u8],
+}
+
+impl Read for Typed {
+    fn read(&mut self, buffer: &mut [u8]) -> io::Result<usize> {
+        let end = match self.text.iter().position(|byte| *byte == b'\n') {
+            Some(at) => at + 1,
+            None => self.text.len(),
+        };
+        let n = end.min(buffer.len());
+        buffer[..n].copy_from_slice(&self.text[..n]);
+        self.text = &self.text[n..];
+        Ok(n)
+    }
+}
 
 /// A reader that gives one byte each time. The read that would give the byte at `fails` fails, and those after it
 /// find the end.
@@ -101,13 +120,15 @@ fn player_of(rt: &(impl Abort + AllocGlobal)) -> Result<Player, NoMemory> {
     Player::new(rt.alloc(), &config)
 }
 
-/// Each reply is one write: where the nth fails, n commands are done and the replies before it stand.
+/// Line by line each reply is one write: where the nth fails, n commands are done and the replies before it stand.
 #[test]
 fn a_failed_write_ends_the_history(rt: HostRuntime) -> Result<(), NoMemory> {
     let lines = ended_lines(TRACE.as_bytes());
     for n in 1..=lines {
         let mut player = player_of(&rt)?;
-        let mut source = MemorySource::new(TRACE.as_bytes());
+        let mut source = ReadSource::new(Typed {
+            text: TRACE.as_bytes(),
+        });
         let mut sink = FailAt::new(MemorySink::new(rt.alloc()), n as u64);
         let answer = play(&mut source, &mut sink, &mut player, Style::Replies);
         assert_eq!(&rt; answer, Err(TextFault::Write), "{n}");

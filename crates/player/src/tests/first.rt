@@ -115,20 +115,3 @@ fn nothing_is_read_behind_that_event(rt: HostRuntime) -> Result<(), Fail> {
     }
     Ok(())
 }
-
-#[test]
-fn the_last_write_may_fail(rt: HostRuntime) -> Result<(), Fail> {
-    for n in 1..3u32 {
-        let mut player = player(&rt, &FOUR_PAGES)?;
-        let mut source = MemorySource::new(TRACE.as_bytes());
-        let mut sink = FailAt::new(MemorySink::new(rt.alloc()), 1);
-        let style = Style::Entries;
-        assert_eq!(rt;
-            play_first(n, &mut source, &mut sink, &mut player, style),
-            Err(TextFault::Write),
-            "{n}"
-        );
-        assert_eq!(rt; player.recorded().history().len(), 1);
-    }
-    Ok(())
-}

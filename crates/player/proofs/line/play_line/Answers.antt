@@ -1,4 +1,4 @@
-use Rattle.std.proofs.Common.{◌∷◌, ◌++◌, [], append-nil, sym, subst, ap, ◌∙◌}
+use Rattle.std.proofs.Common.{◌∷◌, ◌++◌, [], append-nil, append_assoc, sym, subst, ap, ◌∙◌}
 use Rattle.heap_model.specs.Event.{Command_done, Quantum_done}
 use Rattle.trace.specs.declared.line.Line.TheVariants as lines
 use Rattle.trace.specs.Spelling.{Spells}
@@ -9,39 +9,39 @@ use Rattle.player.proofs.Lines.{tick_written}
 use Rattle.player.proofs.line.play_line.Goals as goal
 
 pub returns-in-Skip-clause-played : goal.returns-in-Skip-clause-played
-returns-in-Skip-clause-played g c =
+returns-in-Skip-clause-played c = λ before.
     let spells = subst (Spells c.args.bytes.now) c.in-Skip.is c.in-Some.ensures.found in
-    ([], (lines.Skip, spells, (Skips, sym (append-nil (g.K.Sink.taken c.args.sink.now)))), skip_read c.args.bytes.now spells)
+    ([], (lines.Skip, spells, (Skips, sym (append-nil (before ++ c.args.waiting.now)))), skip_read c.args.bytes.now spells)
 
 pub returns-in_ok-play_command-in-Command-clause-played : goal.returns-in_ok-play_command-in-Command-clause-played
-returns-in_ok-play_command-in-Command-clause-played g c =
-    let d = c.in_ok-play_command-in-Command.ensures.done in
+returns-in_ok-play_command-in-Command-clause-played c = λ before.
+    let d = c.in_ok-play_command-in-Command.ensures in
     let m = c.in-Command.mutator in
     let command = c.in-Command.command in
     let line = written_line c.args.style (record { mutator = m; command = command; reply = d.0 }) in (
       Command_done m command d.0 ∷ [],
-      (lines.Command m command, subst (Spells c.args.bytes.now) c.in-Command.is c.in-Some.ensures.found, (d.1, d.2 ∙ ap (λ t. g.K.Sink.taken c.args.sink.now ++ t) (sym (append-nil line)))),
+      (lines.Command m command, subst (Spells c.args.bytes.now) c.in-Command.is c.in-Some.ensures.found, (d.1, ap (λ t. before ++ t) d.2 ∙ sym (append_assoc before c.args.waiting.now line) ∙ ap (λ t. (before ++ c.args.waiting.now) ++ t) (sym (append-nil line)))),
       event_read c.args.bytes.now c.in-Some.line c.in-Some.ensures.only (ap says c.in-Command.is),
     )
 
 pub returns-in-Quantum-clause-played : goal.returns-in-Quantum-clause-played
-returns-in-Quantum-clause-played g c =
+returns-in-Quantum-clause-played c = λ before.
     let s = c.quantum.ensures in
     let does = Quantum_done c.in-Quantum.budget s.0 s.1 ∷ [] in (
       does,
       (
         lines.Quantum c.in-Quantum.budget,
         subst (Spells c.args.bytes.now) c.in-Quantum.is c.in-Some.ensures.found,
-        (subst (λ (x : PlayerState). DoesLine c.args.player.now (lines.Quantum c.in-Quantum.budget) does x) (sym s.4) (Spends c.in-Quantum.budget s.0 s.1 s.2 s.3), sym (append-nil (g.K.Sink.taken c.args.sink.now))),
+        (subst (λ (x : PlayerState). DoesLine c.args.player.now (lines.Quantum c.in-Quantum.budget) does x) (sym s.4) (Spends c.in-Quantum.budget s.0 s.1 s.2 s.3), sym (append-nil (before ++ c.args.waiting.now))),
       ),
       event_read c.args.bytes.now c.in-Some.line c.in-Some.ensures.only (ap says c.in-Quantum.is),
     )
 
 pub returns-in-Ok-clause-played : goal.returns-in-Ok-clause-played
-returns-in-Ok-clause-played g c =
+returns-in-Ok-clause-played c = λ before.
     let t = c.in-Ok.ensures in
     let n = c.in-Tick.ticks in (
       t.0,
-      (lines.Tick n, subst (Spells c.args.bytes.now) c.in-Tick.is c.in-Some.ensures.found, (t.1, tick_written c.args.style (g.K.Sink.taken c.args.sink.now) c.args.player.now c.tick.new.self n t.0 t.1)),
+      (lines.Tick n, subst (Spells c.args.bytes.now) c.in-Tick.is c.in-Some.ensures.found, (t.1, tick_written c.args.style (before ++ c.args.waiting.now) c.args.player.now c.tick.new.self n t.0 t.1)),
       event_read c.args.bytes.now c.in-Some.line c.in-Some.ensures.only (ap says c.in-Tick.is),
     )

@@ -1,91 +1,9 @@
-use Rattle.std.proofs.Common.{◌≡◌, true, false, inl, inr, arith, sym, ap, ◌∙◌, refl}
-use Rattle.std.proofs.lemmas.Result.{err_from_is_err_and}
-use Rattle.trace.proofs.GoingOver.{stays_same, stays_on, at_first, goes_on, ends_without, ends_over, ends_at}
-use Rattle.player.specs.Playing.{stage, is_event, PlaysText, StopsText}
-use Rattle.player.proofs.Lines.{played}
-use Rattle.player.proofs.First.{first_done, count_more}
+use Rattle.player.specs.Playing.{stage}
+use Rattle.player.proofs.Closing.{closed_first, write_counts}
 use Rattle.player.proofs.playing.play_first.Goals as goal
 
-pub loop-left-init : goal.loop-left-init
-loop-left-init g c = rw c.new-reader.ensures (record {
-  done = at_first (PlaysText c.args.style) (g.S.Source.given c.args.source.now) (g.S.Source.ended c.args.source.now) (stage c.args.player.now (g.K.Sink.taken c.args.sink.now));
-  few = omega arith;
-  at_end = λ _. inl refl;
-  none = λ _. refl;
-  behind = omega arith;
-  reads = refl;
-  writes = refl;
-  input = stays_same (g.S.Source.input c.args.source.now);
-})
-
-pub returns-in_err-next_line-clause-played : goal.returns-in_err-next_line-clause-played
-returns-in_err-next_line-clause-played g c =
-    let p = err_from_is_err_and c.from_residual.result c.from_residual.ensures.1 in
-    let e = c.in_err-next_line.ensures in
-    let i = c.loop-left.invariant in
-    rw (p.1, p.2) (inl (
-      played c.args.style _ _ _ _
-          (ends_without i.done c.next_line.new.self _ _ (Unit {0}) (StopsText c.args.style) _ (record { text = e.text; says = e.says; number = e.number; small = e.small })),
-      omega (arith, i.few, c.loop-left-test.true),
-    ))
-
-pub returns-in_err-play_line-clause-played : goal.returns-in_err-play_line-clause-played
-returns-in_err-play_line-clause-played g c =
-    let p = err_from_is_err_and c.from_residual-in_err-play_line.result c.from_residual-in_err-play_line.ensures.1 in
-    let e = c.in_ok-next_line.ensures in
-    let i = c.loop-left.invariant in
-    rw (p.1, p.2) (inl (
-      played c.args.style _ _ _ _
-          (ends_at i.done c.next_line.new.self _ _ _ (record { text = e.text; says = e.says; number = e.number; small = e.small }) c.if-branch.true _ c.line.ensures (Unit {0}) (StopsText c.args.style) _ _ _ c.number.ensures
-          c.in_err-play_line.ensures.played),
-      omega (arith, i.few, c.loop-left-test.true),
-    ))
-
-pub loop-left-preserved-then-branch-2 : goal.loop-left-preserved-then-branch-2
-loop-left-preserved-then-branch-2 g c =
-    let e = c.in_ok-next_line.ensures in
-    let d = c.in_ok-play_line.ensures in
-    let i = c.loop-left.invariant in
-    let event : true ≡ is_event c.next_line.new.self.line = sym c.if-branch-2.true ∙ d.played.2 ∙ ap is_event c.line.ensures in
-    record {
-      done = goes_on i.done c.next_line.new.self _ _ _ (record { text = e.text; says = e.says; number = e.number; small = e.small }) c.if-branch.true _ c.line.ensures _ d.played.0 d.played.1;
-      few = omega (arith, count_more i.done.lines c.next_line.new.self.line true event, i.few, c.loop-left-test.true);
-      at_end = λ _. inr (i.done.lines, c.next_line.new.self.line, refl, sym event);
-      none = λ zero. absurd (omega (arith, zero, i.few, c.loop-left-test.true));
-      behind = e.behind;
-      reads = omega (arith, e.cause, i.reads);
-      writes = omega (arith, d.writes, i.writes);
-      input = stays_on (g.S.Source.input c.args.source.now) _ _ i.input (e.input (refl {a = 0}));
-    }
-
-pub loop-left-preserved : goal.loop-left-preserved
-loop-left-preserved g c =
-    let e = c.in_ok-next_line.ensures in
-    let d = c.in_ok-play_line.ensures in
-    let i = c.loop-left.invariant in
-    let skipped : false ≡ is_event c.next_line.new.self.line = sym c.if-branch-2.false ∙ d.played.2 ∙ ap is_event c.line.ensures in
-    record {
-      done = goes_on i.done c.next_line.new.self _ _ _ (record { text = e.text; says = e.says; number = e.number; small = e.small }) c.if-branch.true _ c.line.ensures _ d.played.0 d.played.1;
-      few = omega (arith, count_more i.done.lines c.next_line.new.self.line false skipped, i.few);
-      at_end = λ none. absurd (omega (arith, none, c.loop-left-test.true));
-      none = λ zero. absurd (omega (arith, zero, i.few, c.loop-left-test.true));
-      behind = e.behind;
-      reads = omega (arith, e.cause, i.reads);
-      writes = omega (arith, d.writes, i.writes);
-      input = stays_on (g.S.Source.input c.args.source.now) _ _ i.input (e.input (refl {a = 0}));
-    }
-
-pub returns-else-branch-clause-played : goal.returns-else-branch-clause-played
-returns-else-branch-clause-played g c =
-    let e = c.in_ok-next_line.ensures in
-    let i = c.loop-left.invariant in
-    inl (
-      played c.args.style _ _ _ _
-          (ends_over i.done c.next_line.new.self _ _ _ (record { text = e.text; says = e.says; number = e.number; small = e.small }) c.if-branch.false _ (λ rest all. (all.0, all.1, refl))),
-      omega (arith, i.few, c.loop-left-test.true),
-    )
-
-pub returns-after-loop-left-clause-played : goal.returns-after-loop-left-clause-played
-returns-after-loop-left-clause-played g c =
-    let i = c.loop-left.invariant in
-    first_done i.done c.args.n (omega (arith, i.few, c.loop-left-test.false)) (i.at_end (omega (arith, c.loop-left-test.false)))
+pub returns-clause-played : goal.returns-clause-played
+returns-clause-played g c =
+    let l = c.play_first_lines-ended.ensures in
+    closed_first c.args.style _ (stage c.args.player.now (g.K.Sink.taken c.args.sink.now)) c.args.n c.play_first_lines-ended.new.player (g.K.Sink.taken c.play_first_lines-ended.new.sink) (g.K.Sink.taken c.close.new.sink) c.play_first_lines-ended.new.waiting l.grows
+    c.play_first_lines-ended.result c.close.result (λ is. l.nothing (write_counts c.play_first_lines-ended.result is)) c.close.ensures.closes l.played

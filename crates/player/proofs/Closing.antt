@@ -1,0 +1,153 @@
+-- How plays end where what is written waits.
+use Rattle.std.proofs.Common.{◌≡◌, ℕ, ◌+◌, ◌-◌, ◌<◌, ◌≤◌, Bool, true, inl, inr, List, [], ◌++◌, length, take, arith, length-append, ap, ◌∙◌, sym, subst, refl}
+use Rattle.std.specs.Prelude.{◌⊎◌, Result, Ok, Err}
+use Rattle.std.proofs.Math.Seq.{take-append-add}
+use Rattle.heap_model.specs.Event.{Event}
+use Rattle.trace.specs.declared.line.Line.{Line}
+use Rattle.trace.specs.declared.line.Line.TheVariants as lines
+use Rattle.trace.specs.declared.fault.LineFault.TheVariants.{TooLong, NotEnded, NotAnEvent, NotACommand, NoSuchMutator, NotAnEntry, ClockSpent}
+use Rattle.trace.specs.declared.fault.TextFault.{TextFault}
+use Rattle.trace.specs.declared.fault.TextFault.TheVariants.{Line as At_line, Read, Write, NoMemory}
+use Rattle.trace.specs.GoneOver.{LinesDone, NextLine, Ends, reads_failed, writes_failed}
+use Rattle.trace.specs.LineReader.{Lines}
+use Rattle.trace.specs.Streams.{Given, GrowsByPart}
+use Rattle.trace.proofs.GoingOver.{SoFar}
+use Rattle.player.specs.declared.style.Style.{Style}
+use Rattle.player.specs.Player.{PlayerState, entries_in}
+use Rattle.player.specs.Playing.{Stage, stage, PlaysText, Stops, StopsText, CutShort, Played, PlayedFirst, written_of}
+use Rattle.player.specs.Closing.{Closes}
+use Rattle.player.proofs.Lines.{played, lines_written}
+
+-- of all that should stand, a part stands
+pub part_of : (old text taken taken' waiting : List ℕ) → taken ++ waiting ≡ old ++ text → length old ≤ length taken → GrowsByPart taken taken' waiting → GrowsByPart old taken' text
+part_of old text taken taken' waiting e low g =
+    let n = length taken + g.0 - length old in
+    let same : length taken + g.0 ≡ length old + n = omega (arith, low) in
+    let long : length taken + length waiting ≡ length old + length text = sym (length-append taken waiting) ∙ ap length e ∙ length-append old text in (
+      n,
+      omega (arith, low, long, g.1),
+      g.2 ∙ sym (take-append-add taken waiting g.0) ∙ ap (λ m. take m (taken ++ waiting)) same ∙ ap (take (length old + n)) e ∙ take-append-add old text n,
+    )
+
+-- nothing is no part of nothing
+pub no_part : (old new waiting : List ℕ) → waiting ≡ [] → GrowsByPart old new waiting → ⊥
+no_part old new waiting e g = let none : length waiting ≡ 0 = ap length e in let low = g.1 in omega (arith, none, low)
+
+-- either a write failed or it didn't
+pub either : {P : Type 0} (fault : TextFault) → (writes_failed {A = Bool} (Err fault) ≡ 0 → P) → (fault ≡ Write → P) → P
+either (At_line k f) p q = p refl
+either Read p q = p refl
+either Write p q = q refl
+either NoMemory p q = p refl
+
+-- what a line in fault leaves: no text, and what is done of it where memory is refused
+abbrev pub Left : Style → Line → ℕ → Stage → Stage → Type 0
+Left style line number mid new = (new.taken ≡ mid.taken) × ((new.player ≡ mid.player) ⊎ Stops style NoMemory line number mid (stage new.player mid.taken))
+
+left : (style : Style) (fault : TextFault) (line : Line) (number : ℕ) (mid new : Stage) → Stops style fault line number mid new → Left style line number mid new
+left style (At_line k ClockSpent) lines.Skip number mid new s = elim s [ ]
+left style (At_line k ClockSpent) (lines.Command m c) number mid new s = elim s [ ]
+left style (At_line k ClockSpent) lines.Begin number mid new s = elim s [ ]
+left style (At_line k ClockSpent) (lines.Quantum b) number mid new s = elim s [ ]
+left style (At_line k ClockSpent) (lines.Tick n) number mid new s = (s.3, inl s.2)
+left style (At_line k TooLong) line number mid new s = elim s [ ]
+left style (At_line k NotEnded) line number mid new s = elim s [ ]
+left style (At_line k NotAnEvent) line number mid new s = elim s [ ]
+left style (At_line k NotACommand) line number mid new s = elim s [ ]
+left style (At_line k NoSuchMutator) line number mid new s = elim s [ ]
+left style (At_line k NotAnEntry) line number mid new s = elim s [ ]
+left style Read line number mid new s = elim s [ ]
+left style Write line number mid new s = elim s [ ]
+left style NoMemory lines.Skip number mid new s = elim s [ ]
+left style NoMemory (lines.Command m c) number mid new s = (s.1, inl s.0)
+left style NoMemory lines.Begin number mid new s = elim s [ ]
+left style NoMemory (lines.Quantum b) number mid new s = elim s [ ]
+left style NoMemory (lines.Tick n) number mid new s = (s.1, inr (s.0, refl))
+
+-- the same of an end
+abbrev LeftBehind : Style → ℕ → Stage → List ℕ → Stage → Type 0
+LeftBehind style count mid rest new =
+    (new.taken ≡ mid.taken) × ((new.player ≡ mid.player) ⊎ NextLine (λ line. StopsText style NoMemory line (count + 1) mid (stage new.player mid.taken)) rest)
+
+same_left : (style : Style) (count : ℕ) (mid : Stage) (rest : List ℕ) (new : Stage) → new ≡ mid → LeftBehind style count mid rest new
+same_left style count mid rest new e = (ap (λ (s : Stage). s.taken) e, inl (ap (λ (s : Stage). s.player) e))
+
+at_line : (style : Style) (count : ℕ) (mid : Stage) (rest text more : List ℕ) (line : Line) (new : Stage) → (NextLine (λ l. StopsText style NoMemory l (count + 1) mid (stage new.player mid.taken)) rest → LeftBehind style count mid rest new)
+    → (Stops style NoMemory line (count + 1) mid (stage new.player mid.taken) → NextLine (λ l. StopsText style NoMemory l (count + 1) mid (stage new.player mid.taken)) rest) → Left style line (count + 1) mid new → LeftBehind style count mid rest new
+at_line style count mid rest text more line new all next (e, inl same) = (e, inl same)
+at_line style count mid rest text more line new all next (e, inr stops) = (e, inr (next stops))
+
+left_behind : (style : Style) (count : ℕ) (mid : Stage) (rest : List ℕ) (ended : Bool) (new : Stage) (result : Result (Unit {0}) TextFault) → Ends (StopsText style) count mid rest ended new result → LeftBehind style count mid rest new
+left_behind style count mid rest ended new (Ok all) e = same_left style count mid rest new e.2
+left_behind style count mid rest ended new (Err fault) (inl e) = same_left style count mid rest new e.1
+left_behind style count mid rest ended new (Err fault) (inr (text, more, whole, is, inl none)) = same_left style count mid rest new none.2
+left_behind style count mid rest ended new (Err fault) (inr (text, more, whole, is, inr (line, spells, stops))) =
+    at_line style count mid rest text more line new (λ next. ((left style fault line (count + 1) mid new stops).0, inr next)) (λ s. (text, more, whole, is, inr (line, spells, s))) (left style fault line (count + 1) mid new stops)
+
+module _ (style : Style) (given : Given) (old : Stage) (player : PlayerState) (taken taken' waiting : List ℕ) (low : length old.taken ≤ length taken) where
+  -- a write of what waits failed behind the end
+  pub cuts : (count : ℕ) (events : List Event) (mid : Stage) (rest : List ℕ) (ended : Result (Unit {0}) TextFault) → mid.taken ≡ old.taken ++ written_of style (entries_in events) → (ended ≡ Err Write → waiting ≡ []) → GrowsByPart taken taken' waiting
+      → Ends (StopsText style) count mid rest given.ended (stage player (taken ++ waiting)) ended ⊎ ((ended ≡ Err Write) × CutShort style count events mid rest old (stage player (taken ++ waiting))) → CutShort style count events mid rest old (stage player taken')
+  cuts count events mid rest ended written none g (inl e) =
+      let l = left_behind style count mid rest given.ended (stage player (taken ++ waiting)) ended e in
+      (part_of old.taken (written_of style (entries_in events)) taken taken' waiting (l.0 ∙ written) low g, l.1)
+  cuts count events mid rest ended written none g (inr e) = absurd (no_part taken taken' waiting (none e.0) g)
+
+  abbrev pub cut_short : (ended : Result (Unit {0}) TextFault) → (ended ≡ Err Write → waiting ≡ []) → GrowsByPart taken taken' waiting → Played style given old (stage player (taken ++ waiting)) ended → Played style given old (stage player taken') (Err Write)
+  cut_short ended none g p = record {
+    over = record {
+      lines = p.over.lines;
+      events = p.over.events;
+      mid = p.over.mid;
+      rest = p.over.rest;
+      read = p.over.read;
+      done = p.over.done;
+      ends = inr (refl, cuts (length p.over.lines) p.over.events p.over.mid p.over.rest ended p.written none g p.over.ends);
+    };
+    runs = p.runs;
+    grows = p.grows;
+    written = p.written;
+  }
+
+  pub closed : (ended result : Result (Unit {0}) TextFault) → (ended ≡ Err Write → waiting ≡ []) → Closes taken taken' waiting ended result → Played style given old (stage player (taken ++ waiting)) ended → Played style given old (stage player taken') result
+  closed ended result none (inl (e, same)) p = rw (e, same) p
+  closed ended result none (inr (g, is)) p = rw is (cut_short ended none g p)
+
+module _ (style : Style) (given : Given) (old : Stage) (n : ℕ) (player : PlayerState) (taken taken' waiting : List ℕ) (low : length old.taken ≤ length taken) where
+  first_cut : (ended : Result (Unit {0}) TextFault) → (ended ≡ Err Write → waiting ≡ []) → GrowsByPart taken taken' waiting → PlayedFirst n style given old (stage player (taken ++ waiting)) ended → PlayedFirst n style given old (stage player taken') (Err Write)
+  first_cut ended none g (inl (all, few)) = inl (cut_short style given old player taken taken' waiting low ended none g all, few)
+  first_cut ended none g (inr (seen, more, first, whole, small, rest, count, end, how)) =
+      inr (seen, more, cut_short style (record given { after = seen; ended = true }) old player taken taken' waiting low ended none g first, whole, small, rest, count, end, inr refl)
+
+  pub closed_first : (ended result : Result (Unit {0}) TextFault) → (ended ≡ Err Write → waiting ≡ []) → Closes taken taken' waiting ended result → PlayedFirst n style given old (stage player (taken ++ waiting)) ended → PlayedFirst n style given old (stage player taken') result
+  closed_first ended result none (inl (e, same)) p = rw (e, same) p
+  closed_first ended result none (inr (g, is)) p = rw is (first_cut ended none g p)
+
+-- where a write failed
+pub write_counts : (r : Result (Unit {0}) TextFault) → r ≡ Err Write → 0 < reads_failed r + writes_failed r
+write_counts r e = rw e (omega arith)
+
+-- the lines so far, of whose text a part is written
+abbrev pub cut_after : (style : Style) (given : Given) (old : Stage) (player : PlayerState) (taken waiting : List ℕ) (reader : Lines) (so : SoFar (PlaysText style) given old (stage player (taken ++ waiting)) reader) (taken' : List ℕ) → length old.taken ≤ length taken
+    → GrowsByPart taken taken' waiting → Played style given old (stage player taken') (Err Write)
+cut_after style given old player taken waiting reader so taken' low g =
+    let mid = stage player (taken ++ waiting) in
+    played style given old (stage player taken') (Err Write) (record {
+      lines = so.lines;
+      events = so.events;
+      mid = mid;
+      rest = reader.kept;
+      read = so.read;
+      done = so.done;
+      ends = inr (refl, (part_of old.taken (written_of style (entries_in so.events)) taken taken' waiting (lines_written style old mid so.lines so.events so.done) low g, inl refl));
+    })
+
+-- the lines so far, where the same text is written or waits
+abbrev pub moved : (style : Style) {given : Given} {old : Stage} {player : PlayerState} {reader : Lines} (taken taken' : List ℕ) (so : SoFar (PlaysText style) given old (stage player taken) reader) → taken' ≡ taken → SoFar (PlaysText style) given old (stage player taken') reader
+moved style {given} {old} {player} {reader} taken taken' so e = record {
+  lines = so.lines;
+  events = so.events;
+  read = so.read;
+  done = subst (λ t. LinesDone (PlaysText style) old so.lines so.events (stage player t)) (sym e) so.done;
+  counted = so.counted;
+}

@@ -6,21 +6,23 @@ ghost use Rattle.player.specs.Playing.{stage, written_line, CommandDone, LinePla
 use crate::player::{Player, TickFault};
 use crate::style::Style;
 use graph_heap::{Command, Entry};
-use trace::{Line, LineFault, TextFault, WriteBuffer, read_line, write_entry, write_reply};
+use trace::{Line, LineFault, TextFault, WriteBuffer, read_line, write_entry};
 
 /// Adds the line of an entry, in a style, to what waits.
 fn add_line(waiting: &mut WriteBuffer, style: Style, entry: &Entry)
     requires { length waiting.old + 256 ≤ 65536 }
     ensures { waiting.new ≡ waiting.old ++ written_line style entry.now }
 {
-    let mut out = [0; 256];
-    let end = match style {
-        Style::Replies => write_reply(&entry.reply, &mut out, 0),
-        Style::Entries => write_entry(entry, &mut out),
-        Style::Nothing => return,
-    };
-    out[end] = b'\n';
-    waiting.add(&out[..end + 1]);
+    match style {
+        Style::Replies => waiting.add_reply(&entry.reply),
+        Style::Entries => {
+            let mut out = [0; 256];
+            let end = write_entry(entry, &mut out);
+            out[end] = b'\n';
+            waiting.add(&out[..end + 1]);
+        }
+        Style::Nothing => {}
+    }
 }
 
 /// Does a command, and adds its line to what waits.

@@ -9,3 +9,4 @@ pub mod Cutting
 pub mod ReadReplies
 pub mod ReadEntries
 pub mod GoingOver
+mod Keywords

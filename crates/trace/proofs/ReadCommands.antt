@@ -11,6 +11,7 @@ use Rattle.trace.specs.declared.keyword.Keyword.{Keyword}
 use Rattle.trace.specs.declared.keyword.Keyword.TheVariants as keywords
 use Rattle.trace.specs.Spelling.{two, shape_text, keyword_text, command_text, command_line, ShapeFits, CommandFits}
 use Rattle.trace.specs.Reading.{◌>>=◌, number_in, cut_at, two_in, all_keywords, keyword_in, shape_in, slot_and_shape_in, arguments_in, command_in, mutator_and_command_in}
+use Rattle.trace.proofs.Keywords.{keyword_found, keyword_only}
 use Rattle.trace.proofs.Exact.{bind_parts, told, chosen, found_passes, Lacks, lacks, cut_at-Some, cut_at-spelled, Exact, narrow, wide, exact_number, exact_front, exact_two, exact_three, exact_four}
 
 -- a word that was recognised, and what follows it
@@ -50,28 +51,6 @@ exact_shape = record { found = shape_found; only = shape_only }
 exact_slot_and_shape : Exact slot_and_shape_in (λ p. decimal p.0 ++ 32 ∷ shape_text p.1) (λ p. (p.0 < 2 ^ 32) × ShapeFits p.1)
 unfolding slot_and_shape_in
 exact_slot_and_shape = exact_front 32 narrow shape_in shape_text ShapeFits exact_shape
-
-keyword_found : (word : List ℕ) (k : Keyword) → keyword_in word ≡ Some k → word ≡ keyword_text k
-unfolding keyword_in
-keyword_found word k e = (bytes_eq-Decides word (keyword_text k)).0 (found_passes (λ j. bytes_eq word (keyword_text j)) all_keywords k e)
-
--- a keyword is found by its text, in which no blank stands
-keyword_only : (k : Keyword) → (keyword_in (keyword_text k) ≡ Some k) × Lacks 32 (keyword_text k)
-unfolding keyword_in
-keyword_only keywords.New = (refl, lacks 32 (codes "new") refl)
-keyword_only keywords.Load = (refl, lacks 32 (codes "load") refl)
-keyword_only keywords.Store = (refl, lacks 32 (codes "store") refl)
-keyword_only keywords.CompareStore = (refl, lacks 32 (codes "cas") refl)
-keyword_only keywords.Get = (refl, lacks 32 (codes "get") refl)
-keyword_only keywords.Put = (refl, lacks 32 (codes "put") refl)
-keyword_only keywords.ComparePut = (refl, lacks 32 (codes "casput") refl)
-keyword_only keywords.Copy = (refl, lacks 32 (codes "copy") refl)
-keyword_only keywords.Clear = (refl, lacks 32 (codes "clear") refl)
-keyword_only keywords.LoadStatic = (refl, lacks 32 (codes "loadstatic") refl)
-keyword_only keywords.StoreStatic = (refl, lacks 32 (codes "storestatic") refl)
-keyword_only keywords.CompareStatic = (refl, lacks 32 (codes "casstatic") refl)
-keyword_only keywords.Same = (refl, lacks 32 (codes "same") refl)
-keyword_only keywords.Describe = (refl, lacks 32 (codes "describe") refl)
 
 -- what a reader gives, made into a command
 made : {A : Type 0} (read : List ℕ → Option A) (text : A → List ℕ) (Fits : A → Type 0) → Exact read text Fits → (k : Keyword) (f : A → Command) → ((x : A) → Fits x → (keyword_text k ++ 32 ∷ text x ≡ command_text (f x)) × CommandFits (f x))

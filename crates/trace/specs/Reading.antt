@@ -63,6 +63,17 @@ four_in a b c d = number_then a (three_in b c d)
 abbrev pub all_keywords : List Keyword
 all_keywords = keywords.New ∷ keywords.Load ∷ keywords.Store ∷ keywords.CompareStore ∷ keywords.Get ∷ keywords.Put ∷ keywords.ComparePut ∷ keywords.Copy ∷ keywords.Clear ∷ keywords.LoadStatic ∷ keywords.StoreStatic ∷ keywords.CompareStatic ∷ keywords.Same ∷ keywords.Describe ∷ []
 
+-- the kind whose word has so many bytes, and this one in front; of others it is some kind
+unfoldable pub likely_keyword : ℕ → ℕ → Keyword
+likely_keyword length first =
+    if length == 3 then (if first == 110 then keywords.New else if first == 103 then keywords.Get else if first == 112 then keywords.Put else keywords.CompareStore) else
+    if length == 4 then (if first == 108 then keywords.Load else if first == 115 then keywords.Same else keywords.Copy) else
+    if length == 5 then (if first == 115 then keywords.Store else keywords.Clear) else
+    if length == 6 then keywords.ComparePut else
+    if length == 8 then keywords.Describe else
+    if length == 9 then keywords.CompareStatic else
+    if length == 10 then keywords.LoadStatic else keywords.StoreStatic
+
 -- the kind that a word names
 unfoldable pub keyword_in : List ℕ → Option Keyword
 keyword_in word = find (λ k. bytes_eq word (keyword_text k)) all_keywords

@@ -560,24 +560,24 @@ fn faults_have_their_texts(rt: HostRuntime) -> Result<(), Fail> {
     Ok(())
 }
 
-/// Lines read at once, with replies that wait.
+/// Lines read at once, with what waits of them.
 #[test]
 fn what_waits_is_written_before_a_read(rt: HostRuntime) -> Result<(), Fail> {
     let mut source = MemorySource::new(b"a\nb\n");
     let mut sink = MemorySink::new(rt.alloc());
     let mut reader = LineReader::new();
     let mut waiting = WriteBuffer::new();
-    for (line, written) in [(b"a", b"".as_slice()), (b"b", b"".as_slice())] {
-        let read = reader.next_line_once_written(&mut waiting, &mut source, &mut sink);
-        assert_eq!(rt; read, Ok(true));
-        assert_eq!(rt; reader.line(), line.as_slice());
-        assert_eq!(rt; sink.bytes(), written);
-        assert!(rt; waiting.has_room());
-        waiting.add(b"to ");
-        waiting.add(line);
-    }
-    let read = reader.next_line_once_written(&mut waiting, &mut source, &mut sink);
-    assert_eq!(rt; read, Ok(false));
-    assert_eq!(rt; sink.bytes(), b"to ato b".as_slice());
+    let first = reader.next_line_once_written(&mut waiting, &mut source, &mut sink);
+    assert_eq!(rt; first, Ok(true));
+    waiting.add_reply(&Reply::Done);
+    let second = reader.next_line_once_written(&mut waiting, &mut source, &mut sink);
+    assert_eq!(rt; second, Ok(true));
+    assert_eq!(rt; reader.line(), b"b".as_slice());
+    assert_eq!(rt; sink.bytes(), b"".as_slice());
+    waiting.add(b"more");
+    assert!(rt; waiting.has_room());
+    let third = reader.next_line_once_written(&mut waiting, &mut source, &mut sink);
+    assert_eq!(rt; third, Ok(false));
+    assert_eq!(rt; sink.bytes(), b"done\nmore".as_slice());
     Ok(())
 }

@@ -1,9 +1,12 @@
 //! Bytes that wait to be written.
-ghost use Rattle.std.specs.Prelude.{◌≡◌, ℕ, ◌+◌, ◌≤◌, ◌++◌, ◌↔◌, List, [], length, IsTrue, OnOk, OnErr};
+ghost use Rattle.std.specs.Prelude.{◌≡◌, ℕ, ◌+◌, ◌≤◌, ◌++◌, ◌∷◌, ◌↔◌, List, [], length, IsTrue, OnOk, OnErr};
+ghost use Rattle.trace.specs.Spelling.{reply_text};
 ghost use Rattle.trace.specs.Streams.{GrowsByPart, failed};
 
 use crate::sink::{Sink, WriteFailed, write_all};
 use crate::text::put;
+use crate::write::write_reply;
+use graph_heap::Reply;
 use std::marker::Model;
 
 /// How many bytes wait, at most.
@@ -54,6 +57,15 @@ impl WriteBuffer {
         ensures { self.new ≡ self.old ++ bytes.now }
     {
         self.end = put(&mut self.bytes, self.end, bytes);
+    }
+
+    /// Adds the line of a reply, for which there must be room.
+    pub fn add_reply(&mut self, reply: &Reply)
+        requires { length self.old + 256 ≤ 65536 }
+        ensures { self.new ≡ self.old ++ (reply_text reply.now ++ 10 ∷ []) }
+    {
+        let end = write_reply(reply, &mut self.bytes, self.end);
+        self.end = put(&mut self.bytes, end, b"\n");
     }
 
     /// Writes what waits to a sink, all of it. After an error the sink has taken a beginning of what

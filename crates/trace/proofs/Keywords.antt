@@ -1,5 +1,5 @@
 -- The keyword that a word is.
-use Rattle.std.proofs.Common.{◌≡◌, ℕ, List, length, get_or, Some, None, Option, ap, ◌∙◌, sym, refl, subst}
+use Rattle.std.proofs.Common.{◌≡◌, ℕ, List, length, get_or, Some, None, Option, ap, ◌∙◌, sym, refl}
 use Rattle.std.specs.Prelude.{codes}
 use Rattle.std.specs.Str.{bytes_eq}
 use Rattle.std.proofs.lemmas.Slice.Eq.{bytes_eq-Decides}

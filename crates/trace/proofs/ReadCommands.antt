@@ -10,9 +10,9 @@ use Rattle.graph_heap.specs.declared.command.Command.TheVariants as commands
 use Rattle.trace.specs.declared.keyword.Keyword.{Keyword}
 use Rattle.trace.specs.declared.keyword.Keyword.TheVariants as keywords
 use Rattle.trace.specs.Spelling.{two, shape_text, keyword_text, command_text, command_line, ShapeFits, CommandFits}
-use Rattle.trace.specs.Reading.{◌>>=◌, number_in, cut_at, two_in, all_keywords, keyword_in, shape_in, slot_and_shape_in, arguments_in, command_in, mutator_and_command_in}
+use Rattle.trace.specs.Reading.{◌>>=◌, number_in, cut_at, two_in, keyword_in, shape_in, slot_and_shape_in, arguments_in, command_in, mutator_and_command_in}
 use Rattle.trace.proofs.Keywords.{keyword_found, keyword_only}
-use Rattle.trace.proofs.Exact.{bind_parts, told, chosen, found_passes, Lacks, lacks, cut_at-Some, cut_at-spelled, Exact, narrow, wide, exact_number, exact_front, exact_two, exact_three, exact_four}
+use Rattle.trace.proofs.Exact.{bind_parts, told, chosen, lacks, cut_at-Some, cut_at-spelled, Exact, narrow, wide, exact_number, exact_front, exact_two, exact_three, exact_four}
 
 -- a word that was recognised, and what follows it
 glued : (word rest p q : List ℕ) → bytes_eq word p ≡ true → rest ≡ q → word ++ 32 ∷ rest ≡ p ++ 32 ∷ q

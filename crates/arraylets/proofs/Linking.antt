@@ -11,11 +11,31 @@ use Rattle.size_classes.specs.Sizes.{class_for}
 use Rattle.heap_model.specs.Pages.{Page, TakesBlock}
 use Rattle.heap_model.specs.Taking.{Takes, Nothing_taken, Part_taken}
 use Rattle.heap_model.specs.Making.{Making, MakesObject, Nothing_made, Part_made, Piece_linked}
+use Rattle.nodes.specs.Links.{KeepsLinks}
 
 -- blocks are held as the pages say
 pub held_same : (s t : Store) (b : ℕ) → t.pages ≡ s.pages → is_held s b ≡ true → is_held t b ≡ true
 unfolding is_held
 held_same s t b e h = subst (λ pages. is_held (record { pages = pages; words = t.words }) b ≡ true) (sym e) h
+
+-- a block stays held where another is added, where a cell is written, and while an object is made
+added_held : (s t : Store) (a : ℕ) (node : Node) → Adds s t a node → (b : ℕ) → is_held s b ≡ true → is_held t b ≡ true
+added_held s t a node added b h = added.same b (λ e. clash (ap (is_held s) (sym e) ∙ h) added.free) ∙ h
+  where
+    clash : {b : Bool} → b ≡ true → b ≡ false → ⊥
+    clash p q = cc
+
+pub making_held : (old : Store) (shape : Shape) (colour : Bool) (id : ℕ) (at : ℕ → ℕ) (parts linked : ℕ) (new : Store) → Making old shape colour id at parts linked new → (b : ℕ) → is_held old b ≡ true → is_held new b ≡ true
+making_held old shape colour id at parts linked new Nothing_made b h = h
+making_held old shape colour id at parts linked new (Part_made k s t m a) b h = added_held s t (at k) (new_node (at k) (record { shape = shape; part = k; colour = colour }) id) a b (making_held old shape colour id at k 0 s m b h)
+making_held old shape colour id at parts linked new (Piece_linked k l s t m w) b h = held_same s t b w.pages (making_held old shape colour id at k l s m b h)
+
+-- the links stay where nothing is done, and after two steps of which each keeps them
+pub links_same : (s : Store) → KeepsLinks s s
+links_same s = record { len = refl; each = λ b h. refl }
+
+pub links_then : (s t u : Store) → ((b : ℕ) → is_held s b ≡ true → is_held t b ≡ true) → KeepsLinks s t → KeepsLinks t u → KeepsLinks s u
+links_then s t u still x y = record { len = y.len ∙ x.len; each = λ b h. y.each b (still b h) ∙ x.each b h }
 
 -- a cell of the spine is written
 module _ (s t : Store) (spine i v : ℕ) (written : Writes s t spine (with_cell (node_of s spine) i v)) where

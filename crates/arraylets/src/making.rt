@@ -11,6 +11,7 @@ ghost use Rattle.heap_model.specs.Room.{needed_from};
 ghost use Rattle.heap_model.specs.Store.{Store, is_held, node_of, Adds};
 ghost use Rattle.heap_model.specs.Making.{Making, MakesObject};
 ghost use Rattle.heap_model.specs.Taking.{Takes};
+ghost use Rattle.nodes.specs.Links.{KeepsLinks};
 
 use graph_heap::Shape;
 use nodes::Nodes;
@@ -36,6 +37,7 @@ fn make_part(
     ensures taken { (class : ℕ) × (index : ℕ) × (class_for (part_words (cells_of shape) part) ≡ Some class) × TakesBlock nodes.old.pages class (result / 2048) index nodes.new.pages }
     ensures room { has_room nodes.new.pages (needed_from (cells_of shape) (part + 1) (parts_in (cells_of shape))) ≡ true }
     ensures within { result ≤ 8388608 }
+    ensures links { KeepsLinks nodes.old nodes.new }
 {
     let words = parts.words(part);
     let class = class_of(words).unwrap();
@@ -60,6 +62,7 @@ fn make_parts(
     ensures held { is_held nodes.new (slice_index result 0) ≡ true }
     ensures cells { length (node_of nodes.new (slice_index result 0)).cells ≡ part_cells (cells_of shape) 0 }
     ensures within { (p : ℕ) → slice_index result p ≤ 8388608 }
+    ensures links { KeepsLinks nodes.old nodes.new }
 {
     let mut at = [0; 253];
     for part in 0..parts.count() {
@@ -76,6 +79,7 @@ fn link_pieces(nodes: &mut Nodes, at: &Addresses, pieces: usize)
     requires within { (p : ℕ) → slice_index at.now p ≤ 8388608 }
     ensures linked { (old : Store) (shape : Shape) (colour : Bool) (id parts : ℕ) → Making old shape colour id (λ p. slice_index at.now p) parts 0 nodes.old → Making old shape colour id (λ p. slice_index at.now p) parts pieces nodes.new }
     ensures pages { nodes.new.pages ≡ nodes.old.pages }
+    ensures links { KeepsLinks nodes.old nodes.new }
 {
     for piece in 0..pieces {
         nodes.set_cell(at[0], piece, at[piece + 1] as u64 + 1);
@@ -90,6 +94,7 @@ fn new_array(nodes: &mut Nodes, shape: Shape, parts: &Parts, colour: bool, ident
     requires room { has_room nodes.old.pages (needed_from (cells_of shape) 0 (parts_in (cells_of shape))) ≡ true }
     ensures made { (at : ℕ → ℕ) × (at 0 ≡ result) × MakesObject nodes.old shape colour identity at nodes.new × Takes (cells_of shape) at nodes.old.pages (parts_in (cells_of shape)) nodes.new.pages }
     ensures within { result ≤ 8388608 }
+    ensures links { KeepsLinks nodes.old nodes.new }
 {
     let at = make_parts(nodes, shape, parts, colour, identity);
     link_pieces(nodes, &at, parts.count() as usize - 1);
@@ -103,6 +108,7 @@ pub fn new_object(nodes: &mut Nodes, shape: Shape, colour: bool, identity: u64) 
     requires room { has_room nodes.old.pages (needed shape) ≡ true }
     ensures made { (at : ℕ → ℕ) × (at 0 ≡ result) × MakesObject nodes.old shape colour identity at nodes.new × Takes (cells_of shape) at nodes.old.pages (parts_in (cells_of shape)) nodes.new.pages }
     ensures within { result ≤ 8388608 }
+    ensures links { KeepsLinks nodes.old nodes.new }
 {
     let parts = parts_of(&shape).unwrap();
     if parts.count() == 1 {

@@ -11,6 +11,7 @@ use Rattle.heap_model.proofs.Settings.{action_rest}
 use Rattle.heap_model.proofs.Marks.{action_count}
 use Rattle.heap_model.proofs.Turns.{chain_units}
 use Rattle.heap_model.proofs.Costs.{turn_left}
+use Rattle.heap_model.proofs.Relinked.{relinked_count}
 use Rattle.heap_model.proofs.Stood.{stands_chain, stands_limit}
 
 pub same_limit : (h after : HeapState) → length after.roots ≡ length h.roots → length after.store.pages ≡ length h.store.pages → after.defrag_pages ≡ h.defrag_pages → cycle_limit after ≡ cycle_limit h
@@ -21,9 +22,10 @@ same_limit h after r p d =
 -- what a cycle may spend stays through actions
 pub chain_limit : (h after : HeapState) (spent : ℕ) → Chain h spent after → cycle_limit after ≡ cycle_limit h
 chain_limit h after spent Nothing_done = refl
-chain_limit h after spent (Then u cost j k chain action) =
-    let d = action_rest j k cost action in
-    same_limit j k d.2 (action_count j k cost action) (ap (λ (s : HeapSettings). s.defrag_pages) d.0) ∙ chain_limit h j u chain
+chain_limit h after spent (Then u cost j k linked chain links action) =
+    let i : HeapState = record j { store = linked } in
+    let d = action_rest i k cost action in
+    same_limit i k d.2 (action_count i k cost action) (ap (λ (s : HeapSettings). s.defrag_pages) d.0) ∙ same_limit j i refl (relinked_count j linked links) refl ∙ chain_limit h j u chain
 
 -- what n quanta spend, each at least d
 pub spent_more : (n d before after spent : ℕ) → n * d ≤ before → after ≡ before + spent → d ≤ spent → (n + 1) * d ≤ after

@@ -1,6 +1,6 @@
 -- How many grey parts there can be.
-use Rattle.std.proofs.Common.{◌≡◌, ◌≢◌, ℕ, zero, suc, ◌+◌, ◌-◌, ◌*◌, ◌/◌, ◌<◌, ◌≤◌, ◌⊎◌, inl, inr, Bool, true, false, List, [], ◌∷◌, length, arith, subst, sym, refl, ◌∙◌, ◌==◌, ◌||◌}
-use Rattle.std.specs.Prelude.{map}
+use Rattle.std.proofs.Common.{ap, ◌≡◌, ◌≢◌, ℕ, zero, suc, ◌+◌, ◌-◌, ◌*◌, ◌/◌, ◌<◌, ◌≤◌, ◌⊎◌, inl, inr, Bool, true, false, List, [], ◌∷◌, length, arith, subst, sym, refl, ◌∙◌, ◌==◌, ◌||◌}
+use Rattle.std.specs.Prelude.{map, Option}
 use Rattle.std.specs.List.{AllByRecursion, IsDistinct, list_any}
 use Rattle.std.proofs.Math.Dec.{eqb}
 use Rattle.std.proofs.lemmas.Bool.{ne_eqb, eqb-true}
@@ -9,8 +9,11 @@ use Rattle.std.proofs.lemmas.Map.Steps.{length-le_from_distinct_below}
 use Rattle.graph_heap.specs.Graph.{Graph}
 use Rattle.heap_model.specs.declared.phase.Phase.{Phase}
 use Rattle.heap_model.specs.declared.phase.Phase.TheVariants as phases
+use Rattle.heap_model.specs.declared.phase.Candidate.{Candidate}
+use Rattle.heap_model.specs.Action.{Action, Scans_root, Ends_roots, Scans_header, Scans_cell, Ends_marking, Frees_block, Passes_block, Closes_page, Ends_sweep, Looks_at_page, Chooses_page, Chooses_none, Moves_block, Ends_moving, AtPass, In_pass, After_page, No_class, No_page}
 use Rattle.heap_model.specs.Core.{Heap}
 use Rattle.heap_model.specs.Collector.{contains, Once, Greys, Stage}
+use Rattle.heap_model.specs.Grey.{AreGrey}
 use Rattle.heap_model.specs.State.{HeapState, seen, collector_of, collector_by, progress_of}
 use Rattle.heap_model.specs.Store.{is_held}
 use Rattle.heap_model.specs.Cut.{view}
@@ -20,6 +23,7 @@ use Rattle.heap_model.specs.Written.{records}
 use Rattle.heap_model.specs.Spent.{IsWithin, arena_words}
 use Rattle.heap_model.specs.Standing.{Stands}
 use Rattle.heap_model.proofs.Units.{LieApart}
+use Rattle.heap_model.proofs.Acting.{held_behind}
 use Rattle.heap_model.proofs.Apart.{lie_apart, size_behind}
 
 -- a part, by the quarter of the arena's words in which it begins
@@ -47,9 +51,9 @@ module _ (h : Heap) (size : ℕ → ℕ) (n : ℕ) (a : LieApart h size (4 * n))
   unfolding contains
   held_here x xs w = w x (here_of x (contains xs x))
 
-  held_behind : (x : ℕ) (xs : List ℕ) → AreHeld (x ∷ xs) → AreHeld xs
+  held_later : (x : ℕ) (xs : List ℕ) → AreHeld (x ∷ xs) → AreHeld xs
   unfolding contains
-  held_behind x xs w y e = w y (behind_of x y (contains xs y) e)
+  held_later x xs w y e = w y (behind_of x y (contains xs y) e)
 
   other_quarter : (x y : ℕ) → (h.held x ≡ true) × (0 < x) → (h.held y ≡ true) × (0 < y) → x ≢ y → quarter x ≢ quarter y
   other_quarter x y p q d e =
@@ -68,19 +72,19 @@ module _ (h : Heap) (size : ℕ → ℕ) (n : ℕ) (a : LieApart h size (4 * n))
   others x p [] e w = tt
   others x p (y ∷ ys) e w =
       let s = first_of y x (contains ys x) e in
-      (ne_eqb (quarter x) (quarter y) (λ z. other_quarter x y p (held_here y ys w) (λ t. s.0 (sym t)) z), others x p ys s.1 (held_behind y ys w))
+      (ne_eqb (quarter x) (quarter y) (λ z. other_quarter x y p (held_here y ys w) (λ t. s.0 (sym t)) z), others x p ys s.1 (held_later y ys w))
 
   distinct : (xs : List ℕ) → Once xs → AreHeld xs → IsDistinct eqb (map quarter xs)
   unfolding Once IsDistinct
   distinct [] o w = tt
-  distinct (x ∷ xs) o w = (others x (held_here x xs w) xs o.0 (held_behind x xs w), distinct xs o.1 (held_behind x xs w))
+  distinct (x ∷ xs) o w = (others x (held_here x xs w) xs o.0 (held_later x xs w), distinct xs o.1 (held_later x xs w))
 
   quarter_below : (x : ℕ) → (h.held x ≡ true) × (0 < x) → quarter x < n
   quarter_below x p = let f = a.fits x p.0 p.1 in let i = a.inside x p.0 p.1 in omega arith
 
   below : (xs : List ℕ) → AreHeld xs → (q : ℕ) → list_any (eqb q) (map quarter xs) ≡ true → q < n
   below [] w q e = absurd (let z : false ≡ true = e in cc)
-  below (x ∷ xs) w q e = by_case (eqb q (quarter x)) refl e (below xs (held_behind x xs w) q)
+  below (x ∷ xs) w q e = by_case (eqb q (quarter x)) refl e (below xs (held_later x xs w) q)
     where
       by_case : (b : Bool) → eqb q (quarter x) ≡ b → (b || list_any (eqb q) (map quarter xs)) ≡ true → (list_any (eqb q) (map quarter xs) ≡ true → q < n) → q < n
       by_case true t z more = let l = quarter_below x (held_here x xs w) in let u : q ≡ quarter x = grind arith in subst (λ k. k < n) (sym u) l
@@ -100,47 +104,46 @@ nonzero xs y n e = by_zero y e
     by_zero zero e = absurd (let z : false ≡ true = sym n ∙ e in cc)
     by_zero (suc k) e = omega arith
 
-one_more : (xs : List ℕ) (x n : ℕ) → length (x ∷ xs) ≤ n → length xs + 1 ≤ n
-one_more xs x n l = omega (arith, l)
+module _ (h : HeapState) (pages : ArePages h.store.pages) (whole : IsWhole h.store) (present : 0 < length h.store.pages) where
+  greys_by : (p : Phase) → Greys (collector_by (seen h) h.store.pages p h.grey) → contains h.grey 0 ≡ false → AreGrey h
+  greys_by p g null = record {
+    pages = present;
+    some = null;
+    held = λ x e. held_behind h x (nonzero h.grey x null e) (g.held x e);
+    marked = g.marked;
+    once = g.once;
+    few = few (seen h) (size_behind h) (512 * length h.store.pages) (subst (LieApart (seen h) (size_behind h)) (quarters h) (lie_apart h pages whole)) h.grey g.once (λ y e. (g.held y e, nonzero h.grey y null e));
+  }
 
--- a held part that isn't marked makes the grey parts one more, held as they are
-module _ (h : HeapState) (pages : ArePages h.store.pages) (whole : IsWhole h.store) (x : ℕ) (held : is_held h.store (x - 1) ≡ true) (unmarked : (seen h).marked x ≡ false) where
-  some : 0 < x
-  some = by_zero x unmarked
-    where
-      by_zero : (k : ℕ) → (seen h).marked k ≡ false → 0 < k
-      by_zero zero e = absurd (let z : true ≡ false = e in cc)
-      by_zero (suc k) e = omega arith
-
-  seen_held : (seen h).held x ≡ true
-  seen_held = let e : (x == 0) ≡ false = (let p = some in grind arith) in rw e held
-
-  pub few_greys : (p : Phase) → Greys (collector_by (seen h) h.store.pages p h.grey) → contains h.grey 0 ≡ false → length h.grey + 1 ≤ 512 * length h.store.pages
-  unfolding Once contains
-  few_greys p g null =
-      one_more h.grey x (512 * length h.store.pages) (few (seen h) (size_behind h) (512 * length h.store.pages) (subst (LieApart (seen h) (size_behind h)) (quarters h) (lie_apart h pages whole)) (x ∷ h.grey) once all)
-    where
-      fresh : (b : Bool) → contains h.grey x ≡ b → contains h.grey x ≡ false
-      fresh false e = e
-      fresh true e = absurd (let z : true ≡ false = sym (g.marked x e) ∙ unmarked in cc)
-
-      once : Once (x ∷ h.grey)
-      once = (fresh (contains h.grey x) refl, g.once)
-
-      by_place : (y : ℕ) (b : Bool) → (x == y) ≡ b → (b || contains h.grey y) ≡ true → ((seen h).held y ≡ true) × (0 < y)
-      by_place y true e c = let z : x ≡ y = eqb-true x y e in subst (λ k. ((seen h).held k ≡ true) × (0 < k)) z (seen_held, some)
-      by_place y false e c = (g.held y c, nonzero h.grey y null c)
-
-      all : (y : ℕ) → contains (x ∷ h.grey) y ≡ true → ((seen h).held y ≡ true) × (0 < y)
-      all y e = by_place y (x == y) refl e
-
--- In roots and marking there is a quarter of the arena's words for the grey parts and one more.
-pub grey_fit : (h : HeapState) (present snapshot : Graph) (x : ℕ) → Stands h present snapshot → records h.phase ≡ true → is_held h.store (x - 1) ≡ true → (seen h).marked x ≡ false → length h.grey + 1 ≤ 512 * length h.store.pages
-grey_fit h p s x w r held unmarked = by_phase h.phase r w.within w.consistent.parts.stage refl
+-- in roots and marking
+pub are_grey : (h : HeapState) (present snapshot : Graph) → Stands h present snapshot → records h.phase ≡ true → AreGrey h
+are_grey h p s w r = by_phase h.phase r w.within w.consistent.parts.stage
   where
-    by_phase : (q : Phase) → records q ≡ true → IsWithin h q → Stage (collector_of h) (view p) (view s) w.consistent.parts.at (progress_of h.store.pages q) → h.phase ≡ q → length h.grey + 1 ≤ 512 * length h.store.pages
-    by_phase phases.Idle r within stage e = absurd (let z : false ≡ true = r in cc)
-    by_phase (phases.Roots next) r within stage e = few_greys h w.pages w.consistent.whole x held unmarked h.phase stage.1 within.2
-    by_phase (phases.Marking part cell) r within stage e = few_greys h w.pages w.consistent.whole x held unmarked h.phase stage.1 within.1
-    by_phase (phases.Sweeping page block) r within stage e = absurd (let z : false ≡ true = r in cc)
-    by_phase (phases.Moving m) r within stage e = absurd (let z : false ≡ true = r in cc)
+    by_phase : (q : Phase) → records q ≡ true → IsWithin h q → Stage (collector_of h) (view p) (view s) w.consistent.parts.at (progress_of h.store.pages q) → AreGrey h
+    by_phase phases.Idle r within stage = absurd (let z : false ≡ true = r in cc)
+    by_phase (phases.Roots next) r within stage = greys_by h w.pages w.consistent.whole w.some h.phase stage.1 within.2
+    by_phase (phases.Marking part cell) r within stage = greys_by h w.pages w.consistent.whole w.some h.phase stage.1 within.1
+    by_phase (phases.Sweeping page block) r within stage = absurd (let z : false ≡ true = r in cc)
+    by_phase (phases.Moving m) r within stage = absurd (let z : false ≡ true = r in cc)
+
+pub passing : (h : HeapState) (class page : ℕ) (best : Option Candidate) (chosen : ℕ) → AtPass h class page best chosen → records h.phase ≡ false
+passing h class page best chosen (In_pass class0 page0 best0 chosen0 e) = ap records e
+passing h class page best chosen (After_page class0 page0 block chosen0 p e at l done less) = ap records e
+
+-- outside roots and marking no part is grey, after each action
+pub rests_empty : (h after : HeapState) (cost : ℕ) → Action h cost after → (records h.phase ≡ false → h.grey ≡ []) → records after.phase ≡ false → after.grey ≡ []
+rests_empty h after cost (Scans_root next k e l sh) none off = absurd (let z : true ≡ false = off in cc)
+rests_empty h after cost (Ends_roots next e l) none off = absurd (let z : true ≡ false = off in cc)
+rests_empty h after cost (Scans_header part cell x front back e f n) none off = absurd (let z : true ≡ false = off in cc)
+rests_empty h after cost (Scans_cell part cell new k e l w sh) none off = absurd (let z : true ≡ false = off in cc)
+rests_empty h after cost (Ends_marking part cell e f n) none off = n
+rests_empty h after cost (Frees_block page block p new e f was unmarked w pages) none off = none (ap records e)
+rests_empty h after cost (Passes_block page block p e f l marked) none off = none (ap records e)
+rests_empty h after cost (Closes_page page block new e l f w pages) none off = none (ap records e)
+rests_empty h after cost (Ends_sweep page block e l) none off = none (ap records e)
+rests_empty h after cost (Looks_at_page class page best chosen at few more) none off = none (passing h class page best chosen at)
+rests_empty h after cost (Chooses_page class page best chosen c p new at few last is good there w pages) none off = none (passing h class page best chosen at)
+rests_empty h after cost (Chooses_none class page best chosen at few last is) none off = none (passing h class page best chosen at)
+rests_empty h after cost (Moves_block class page block chosen i to j p q new e at leaving next place there empty w pages) none off = none (ap records e)
+rests_empty h after cost (Ends_moving (No_class page best chosen e)) none off = none (ap records e)
+rests_empty h after cost (Ends_moving (No_page class page block chosen p e at done less)) none off = none (ap records e)

@@ -32,6 +32,7 @@ pub mod Units
 pub mod Apart
 pub mod Spent
 pub mod Within
+pub mod Relinked
 pub mod Turns
 pub mod Placed
 pub mod Marks

@@ -8,6 +8,7 @@ use Rattle.heap_model.specs.Action.{Action, Chain, Nothing_done, Then, Shades, W
 use Rattle.heap_model.specs.Change.{Records, Records_nothing, Records_main, DoesChange, Does_nothing, Does_root, Does_ref, Does_word, Does_new}
 use Rattle.heap_model.specs.Event.{Course, Event, Command_done, Cycle_begun, Cycle_on, Quantum_done, Quantum_refused, present_of, room_for, change_by, Does}
 use Rattle.heap_model.specs.Settings.{HeapSettings, settings_of}
+use Rattle.heap_model.proofs.Relinked.{relinked_settings}
 use Rattle.heap_model.proofs.Spent.{shades_units}
 use Rattle.heap_model.proofs.Marks.{action_count}
 use Rattle.heap_model.proofs.Taken.{takes_count}
@@ -48,9 +49,14 @@ action_rest h after cost (Chooses_none class page best chosen at few last is) = 
 action_rest h after cost (Moves_block class page block chosen i to j p q new e at leaving next place there empty w pages) = (refl, refl, refl)
 action_rest h after cost (Ends_moving done) = (refl, refl, refl)
 
+pub action_settings : (h after : HeapState) (cost : ℕ) → Action h cost after → settings_of after ≡ settings_of h
+action_settings h after cost a = settings_same h after (action_rest h after cost a).0 (action_count h after cost a)
+
 pub chain_settings : (h after : HeapState) (units : ℕ) → Chain h units after → settings_of after ≡ settings_of h
 chain_settings h after units Nothing_done = refl
-chain_settings h after units (Then u cost j k chain a) = settings_same j k (action_rest j k cost a).0 (action_count j k cost a) ∙ chain_settings h j u chain
+chain_settings h after units (Then u cost j k linked chain links a) =
+    let i : HeapState = record j { store = linked } in
+    action_settings i k cost a ∙ relinked_settings j linked links ∙ chain_settings h j u chain
 
 pub change_settings : (h after : HeapState) (g : Graph) (c : Change) → DoesChange h g c after → settings_of after ≡ settings_of h
 change_settings h after g c Does_nothing = refl

@@ -17,6 +17,7 @@ use Rattle.heap_model.proofs.Actions.{action_kept, begun_kept}
 use Rattle.heap_model.proofs.Spent.{within_kept, begun_within, limit_kept}
 use Rattle.heap_model.proofs.Marks.{action_pages, action_count, action_placed, action_closed, no_mark}
 use Rattle.heap_model.proofs.Opening.{opening_stands, page_none}
+use Rattle.heap_model.proofs.Relinked.{stands_relinked}
 use Rattle.heap_model.proofs.Rest.{swept}
 
 pub stands_action : (h after : HeapState) (cost : ℕ) (present snapshot : Graph) → Stands h present snapshot → Action h cost after → Stands after present snapshot
@@ -31,7 +32,7 @@ stands_action h after cost p s w a = record {
 
 pub stands_chain : (h after : HeapState) (spent : ℕ) (present snapshot : Graph) → Stands h present snapshot → Chain h spent after → Stands after present snapshot
 stands_chain h after spent p s w Nothing_done = w
-stands_chain h after spent p s w (Then u cost j k chain action) = stands_action j k cost p s (stands_chain h j u p s w chain) action
+stands_chain h after spent p s w (Then u cost j k linked chain links action) = stands_action (record j { store = linked }) k cost p s (stands_relinked j linked links p s (stands_chain h j u p s w chain)) action
 
 pub stands_begun : (h : HeapState) (present snapshot : Graph) → Stands h present snapshot → h.phase ≡ phases.Idle → Stands (begun h) present present
 stands_begun h p s w e = record { pages = w.pages; some = w.some; consistent = begun_kept h p s w.consistent e; within = begun_within h; placed = tt; closed = tt }
@@ -100,4 +101,4 @@ idle_rests h after cost (Ends_moving (No_page class page block chosen q e at don
 
 pub idle_chain : (h after : HeapState) (spent : ℕ) → Chain h spent after → h.phase ≡ phases.Idle → (after ≡ h) × (spent ≡ 0)
 idle_chain h after spent Nothing_done i = (refl, refl)
-idle_chain h after spent (Then u cost j k chain action) i = absurd (idle_rests j k cost action (ap (λ (z : HeapState). z.phase) (idle_chain h j u chain i).0 ∙ i))
+idle_chain h after spent (Then u cost j k linked chain links action) i = absurd (idle_rests (record j { store = linked }) k cost action (ap (λ (z : HeapState). z.phase) (idle_chain h j u chain i).0 ∙ i))

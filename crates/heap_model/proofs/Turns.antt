@@ -31,4 +31,4 @@ action_cost h after cost w (Ends_moving done) = (omega arith, omega arith)
 -- what a chain costs is spent
 pub chain_units : (h after : HeapState) (spent : ℕ) → Chain h spent after → after.units ≡ h.units + spent
 chain_units h after spent Nothing_done = omega arith
-chain_units h after spent (Then u cost j k chain action) = let a = chain_units h j u chain in let b = (action_rest j k cost action).1 in omega arith
+chain_units h after spent (Then u cost j k linked chain links action) = let a = chain_units h j u chain in let b = (action_rest (record j { store = linked }) k cost action).1 in omega arith

@@ -66,7 +66,7 @@ unfolding size_at
 size_pages s t b e = ap (λ z. size_in (page_at z (b / 2048))) e
 
 -- a cell of a block is written
-cell_more : (h : HeapState) (new : Store) (b : Heap) → new.pages ≡ h.store.pages → ((x : ℕ) → work (collector_of h) x ≡ work (record (collector_of h) { heap = b }) x) → ((x : ℕ) → gone (seen h) (size_behind h) x ≡ gone b (size_behind h) x) → SameBlocks b (seen (record h { store = new })) → DoesMore h (record h { store = new })
+pub cell_more : (h : HeapState) (new : Store) (b : Heap) → new.pages ≡ h.store.pages → ((x : ℕ) → work (collector_of h) x ≡ work (record (collector_of h) { heap = b }) x) → ((x : ℕ) → gone (seen h) (size_behind h) x ≡ gone b (size_behind h) x) → SameBlocks b (seen (record h { store = new })) → DoesMore h (record h { store = new })
 unfolding marking_work moving_work
 cell_more h new b pages w g e =
     let h1 : HeapState = record h { store = new } in

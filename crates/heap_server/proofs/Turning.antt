@@ -1,10 +1,11 @@
 -- What a quantum does to the cycle that is on.
-use Rattle.std.proofs.Common.{◌≡◌, ◌≢◌, ℕ, ◌+◌, ◌-◌, ◌<◌, ◌≤◌, ◌⊎◌, inl, inr, refl, ap, sym, ◌∙◌, arith}
+use Rattle.std.proofs.Common.{◌≡◌, ◌≢◌, ℕ, ◌+◌, ◌-◌, ◌<◌, ◌≤◌, ◌⊎◌, inl, inr, refl, ap, sym, ◌∙◌, subst, arith}
 use Rattle.graph_heap.specs.Graph.{Graph}
 use Rattle.heap_model.specs.declared.phase.Phase.{Phase}
 use Rattle.heap_model.specs.declared.phase.Phase.TheVariants as phases
 use Rattle.heap_model.specs.State.{HeapState}
 use Rattle.heap_model.specs.Action.{Chain, Nothing_done, Then}
+use Rattle.heap_model.specs.Pages.{ArePages}
 use Rattle.heap_model.specs.Standing.{Stands}
 use Rattle.heap_model.specs.Event.{Course, present_of, snapshot_of, Collects, IsCourse}
 use Rattle.heap_model.proofs.Turns.{action_cost}
@@ -25,8 +26,8 @@ idle_or (phases.Moving place) = inr (λ e. cc, refl)
 -- without units spent nothing was done
 nothing_done : (h after : HeapState) (spent : ℕ) (present snapshot : Graph) → Stands h present snapshot → Chain h spent after → spent ≡ 0 → after ≡ h
 nothing_done h after spent p s w Nothing_done e = refl
-nothing_done h after spent p s w (Then u cost j k chain action) e =
-    let c : 0 < cost = (action_cost j k cost (stands_chain h j u p s w chain).pages action).0 in absurd (omega arith)
+nothing_done h after spent p s w (Then u cost j k linked chain links action) e =
+    let c : 0 < cost = (action_cost (record j { store = linked }) k cost (subst ArePages (sym links.pages) (stands_chain h j u p s w chain).pages) action).0 in absurd (omega arith)
 
 -- what a quantum spends, and where it leaves the cycle
 module _ (r new : Course) (budget units : ℕ) (phase : Phase) (w : IsCourse r) (c : Collects r budget units phase new) where

@@ -1,16 +1,25 @@
 -- A cycle that begins, and a turn of actions.
-use Rattle.std.proofs.Common.{◌≡◌, ◌≢◌, ℕ, ◌+◌, ◌-◌, ◌<◌, ◌≤◌, ◌⊎◌, inl, inr, subst, sym, arith}
+use Rattle.std.proofs.Common.{◌≡◌, ◌≢◌, ℕ, ◌+◌, ◌-◌, ◌<◌, ◌≤◌, ◌^◌, ◌⊎◌, inl, inr, Bool, true, false, length, refl, ap, ◌∙◌, subst, sym, arith}
 use Rattle.graph_heap.specs.Graph.{Graph}
 use Rattle.heap_model.specs.declared.phase.Phase.TheVariants as phases
 use Rattle.heap_model.specs.declared.phase.Moving.{Moving}
 use Rattle.heap_model.specs.State.{HeapState}
 use Rattle.heap_model.specs.Agreement.{Agrees}
-use Rattle.heap_model.specs.Action.{Chain, begun}
+use Rattle.heap_model.specs.Action.{Action, Relinks, Chain, Nothing_done, Then, begun}
+use Rattle.heap_model.specs.Pages.{ArePages}
+use Rattle.heap_model.specs.Store.{Store}
+use Rattle.heap_model.specs.Written.{records}
 use Rattle.heap_model.specs.Turn.{NextCosts, Of_other, SpendsTurn}
 use Rattle.heap_model.proofs.Agreements.{consistent_agrees}
 use Rattle.heap_model.proofs.Sameness.{told, agrees_alike}
+use Rattle.heap_model.proofs.Bound.{same_limit}
+use Rattle.heap_model.proofs.Costs.{turn_left}
+use Rattle.heap_model.proofs.Relinked.{relinked_count, stands_relinked}
 use Rattle.heap_model.proofs.Stood.{stands_chain, stands_begun}
-use Rattle.raw_heap.specs.Heap.{IsHeap}
+use Rattle.raw_heap.proofs.Keeping.{relinked_twice}
+use Rattle.raw_heap.specs.declared.heap.RawHeap.{RawHeap}
+use Rattle.raw_heap.specs.Grey.{grey_in}
+use Rattle.raw_heap.specs.Heap.{state_of, IsHeap, IsRawHeap}
 use Rattle.machine.proofs.Doing.{present_agrees}
 
 -- a cycle begins
@@ -38,3 +47,52 @@ turn_ends old after budget units chain within ends = record {
 -- where no block is moved the next action costs one unit
 pub costs_one : (h : HeapState) → h.phase ≢ phases.Idle → ((place : Moving) → h.phase ≢ phases.Moving place) → NextCosts h 1
 costs_one h busy still = Of_other busy (λ p n. still _ n.phase)
+
+-- what stood behind the blocks' links before stays a heap
+pub relinked_heap : (h : HeapState) (s : Store) → IsHeap h → Relinks h.store s → IsHeap (record h { store = s })
+relinked_heap h s w l = record {
+  present = w.present;
+  snapshot = w.snapshot;
+  stands = stands_relinked h s l w.present w.snapshot w.stands;
+  fits = w.fits;
+  small = subst (λ n. n < 2 ^ 31) (sym (same_limit h (record h { store = s }) refl (relinked_count h s l) refl)) w.small;
+}
+
+-- a chain of a heap whose blocks were threaded anew is one of the heap before that, unless nothing was done
+chain_relinked : (h : HeapState) (s : Store) (after : HeapState) (u : ℕ) → Relinks h.store s → Chain (record h { store = s }) u after → ((u ≡ 0) × (after ≡ record h { store = s })) ⊎ Chain h u after
+chain_relinked h s after u l Nothing_done = inl (refl, refl)
+chain_relinked h s after u l (Then v cost j k linked chain links action) = elim (chain_relinked h s j v l chain) [
+  | inl z ↦ inr (
+      subst (λ n. Chain h (n + cost) after) (sym z.0)
+      (Then 0 cost h after linked Nothing_done (relinked_twice h.store s linked l (subst (λ (x : HeapState). Relinks x.store linked) z.1 links)) (subst (λ (x : HeapState). Action (record x { store = linked }) cost after) z.1 action)))
+  | inr c ↦ inr (Then v cost j after linked c links action)
+]
+
+-- and so is a turn, in roots and marking
+pub turn_relinked : (h : HeapState) (s : Store) (after : HeapState) (budget spent : ℕ) → Relinks h.store s → records h.phase ≡ true → 256 ≤ budget → ArePages after.store.pages → SpendsTurn (record h { store = s }) budget after spent → SpendsTurn h budget after spent
+turn_relinked h s after budget spent l on low pages t = elim (chain_relinked h s after spent l t.chain) [
+  | inl z ↦ absurd (elim (turn_left (record h { store = s }) after budget spent pages t) [
+    | inl i ↦ (let e : true ≡ false = sym on ∙ ap records (sym (ap (λ (x : HeapState). x.phase) z.1) ∙ i) in cc)
+    | inr m ↦ (let n = z.0 in omega (arith, m, n, low))
+  ])
+  | inr c ↦ record { chain = c; within = t.within; ends = t.ends }
+]
+
+-- the buffers went into the list
+module _ (a mid : RawHeap) (w : IsRawHeap a) (same : mid ≡ record a { nodes = mid.nodes; grey = mid.grey }) (grey : grey_in mid.nodes mid.grey ≡ grey_in a.nodes a.grey) (links : Relinks a.nodes mid.nodes) where
+  flushed_state : state_of mid ≡ record (state_of a) { store = mid.nodes }
+  flushed_state = ap state_of same ∙ ap (λ xs. record (state_of a) { store = mid.nodes; grey = xs }) grey
+
+  pub flushed_heap : length mid.grey.buffers ≡ length a.grey.buffers → IsRawHeap mid
+  flushed_heap count = record {
+    heap = subst IsHeap (sym flushed_state) (relinked_heap (state_of a) mid.nodes w.heap links);
+    buffers = count ∙ w.buffers ∙ ap (λ (x : RawHeap). x.roots.limits.mutators) (sym same);
+    empty = λ off. grey ∙ w.empty (ap (λ (x : RawHeap). records x.phase) (sym same) ∙ off);
+  }
+
+  pub flushed_turn : (records a.phase ≡ false → mid ≡ a) → (after : HeapState) (budget spent : ℕ) → 256 ≤ budget → ArePages after.store.pages → SpendsTurn (state_of mid) budget after spent → SpendsTurn (state_of a) budget after spent
+  flushed_turn rests after budget spent low pages t = by_phase (records a.phase) refl
+    where
+      by_phase : (b : Bool) → records a.phase ≡ b → SpendsTurn (state_of a) budget after spent
+      by_phase false off = subst (λ (x : RawHeap). SpendsTurn (state_of x) budget after spent) (rests off) t
+      by_phase true on = turn_relinked (state_of a) mid.nodes after budget spent links on low pages (subst (λ h. SpendsTurn h budget after spent) flushed_state t)

@@ -10,3 +10,4 @@ pub mod Plans
 pub mod Reached
 pub mod Replying
 pub mod Writing
+pub mod Writers

@@ -1,5 +1,5 @@
 -- The writes of the heap, each a change of the graph heap.
-use Rattle.std.proofs.Common.{◌≡◌, ℕ, ◌+◌, ◌*◌, ◌<◌, ◌≤◌, length, get_or, set, ap, ◌∙◌, sym, subst, refl, arith}
+use Rattle.std.proofs.Common.{◌≡◌, ℕ, ◌+◌, ◌*◌, ◌<◌, ◌≤◌, ◌∷◌, ◌++◌, [], Bool, true, false, if◌then◌else◌, length, length-set, get_or, set, ap, ◌∙◌, sym, subst, refl, arith}
 use Rattle.graph_heap.specs.declared.command.Shape.{Shape}
 use Rattle.graph_heap.specs.declared.command.Change.{Change}
 use Rattle.graph_heap.specs.declared.command.Change.TheVariants as changes
@@ -7,9 +7,14 @@ use Rattle.graph_heap.specs.Graph.{Graph}
 use Rattle.size_classes.specs.Parts.{cells_of, parts_in}
 use Rattle.heap_model.specs.Block.{with_cell}
 use Rattle.heap_model.specs.Store.{Store, node_of, Writes}
-use Rattle.heap_model.specs.State.{HeapState}
+use Rattle.heap_model.specs.State.{HeapState, seen}
+use Rattle.heap_model.specs.Written.{records}
+use Rattle.heap_model.proofs.Left.{change_left}
+use Rattle.raw_heap.specs.Grey.{buffer_of, with_buffer}
+use Rattle.satb_barrier.specs.Recording.{with_room, shades, buffers_after}
+use Rattle.machine.specs.Buffers.{buffers_by}
 use Rattle.heap_model.specs.Agreement.{Agrees}
-use Rattle.heap_model.specs.Change.{DoesChange, Does_root, Does_ref, Does_word, Does_new, Records}
+use Rattle.heap_model.specs.Change.{DoesChange, Does_nothing, Does_root, Does_ref, Does_word, Does_new, Records, Records_nothing, Records_main}
 use Rattle.heap_model.specs.Making.{MakesObject}
 use Rattle.heap_model.specs.Taking.{Takes}
 use Rattle.heap_model.specs.Settings.{HeapSettings}
@@ -76,10 +81,42 @@ word_does h at word new wr g c a p =
     subst (λ (z : Change). DoesChange h g z (record h { store = new })) (sym p.2)
     (Does_word p.0 p.1 word at.block new p.3.1.main (subst (λ z. Writes h.store new at.block (with_cell (node_of h.store at.block) z word)) p.3.1.index wr))
 
+-- where nothing is recorded, what a change does leaves the grey parts
+records_grey : (h k : HeapState) (x : ℕ) → Records h x k → records h.phase ≡ false → k.grey ≡ h.grey
+records_grey h k x (Records_nothing e) off = refl
+records_grey h k x (Records_main l on sh) off = absurd (let z : true ≡ false = sym on ∙ off in cc)
+
+grey_left : (h after : HeapState) (g : Graph) (c : Change) → DoesChange h g c after → records h.phase ≡ false → after.grey ≡ h.grey
+grey_left h after g c Does_nothing off = refl
+grey_left h after g c (Does_root cell id y k r main) off = records_grey h k _ r off
+grey_left h after g c (Does_ref id i value address y k new at r main writes) off = records_grey h k _ r off
+grey_left h after g c (Does_word id i word address new at writes) off = refl
+grey_left h after g c (Does_new cell id shape k new at r makes takes) off = records_grey h k _ r off
+
+count_after : (a : RawHeap) (m x : ℕ) → length (buffers_after a m x) ≡ length a.grey.buffers
+count_after a m x = by_case (shades a x)
+  where
+    by_case : (b : Bool) → length (if b then (with_buffer a.grey m (with_room (buffer_of a.grey m) ++ (seen (state_of a)).forward x ∷ [])).buffers else a.grey.buffers) ≡ length a.grey.buffers
+    by_case true = length-set a.grey.buffers m (record { items = with_room (buffer_of a.grey m) ++ (seen (state_of a)).forward x ∷ [] })
+    by_case false = refl
+
 -- a write done leaves a heap
-pub written_heap : (a b : RawHeap) → IsRawHeap a → (write : Write) → CanPerform (state_of a) write → DoesEach (state_of a) write (state_of b) → a.grey.room ≤ b.grey.room → IsRawHeap b
-written_heap a b w write can does more =
+pub written_heap : (a b : RawHeap) → IsRawHeap a → (write : Write) → CanPerform (state_of a) write → DoesEach (state_of a) write (state_of b) → length b.grey.buffers ≡ length a.grey.buffers → IsRawHeap b
+written_heap a b w write can does count =
     let p = can w.heap.present (present_agrees (state_of a) w.heap) in
-    let count : length b.nodes.pages ≡ length a.nodes.pages = ap (λ (x : HeapSettings). x.pages) (change_settings (state_of a) (state_of b) w.heap.present p.0 (does w.heap.present p.0 (present_agrees (state_of a) w.heap) p.1)) in
-    let memory = w.memory in
-    record { heap = stays_heap (state_of a) (state_of a) refl w.heap write (state_of b) does can; memory = omega arith }
+    let change = does w.heap.present p.0 (present_agrees (state_of a) w.heap) p.1 in
+    record {
+      heap = stays_heap (state_of a) (state_of a) refl w.heap write (state_of b) does can;
+      buffers = count ∙ w.buffers ∙ sym (ap (λ (x : HeapSettings). x.limits.mutators) (change_settings (state_of a) (state_of b) w.heap.present p.0 change));
+      empty = λ off.
+          let still : records a.phase ≡ false = ap records (sym (change_left (state_of a) (state_of b) w.heap.present p.0 change).phase) ∙ off in
+          grey_left (state_of a) (state_of b) w.heap.present p.0 change still ∙ w.empty still;
+    }
+
+-- how many buffers there are
+pub count_by : (a : RawHeap) (m : ℕ) (write : Write) → length (buffers_by a m write) ≡ length a.grey.buffers
+count_by a m writes.Nothing = refl
+count_by a m (writes.Root cell x) = count_after a m (get_or a.roots.cells cell 0)
+count_by a m (writes.Ref at x) = count_after a m (get_or (node_of a.nodes at.block).cells at.index 0)
+count_by a m (writes.Word at word) = refl
+count_by a m (writes.New cell shape) = count_after a m (get_or a.roots.cells cell 0)

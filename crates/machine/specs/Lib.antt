@@ -3,3 +3,4 @@ pub mod Headline
 pub mod Plan
 pub mod Reading
 pub mod Recorded
+pub mod Buffers

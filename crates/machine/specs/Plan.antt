@@ -1,5 +1,5 @@
 -- What it is to plan a command, and to do what was planned.
-use Rattle.std.specs.Prelude.{◌≡◌, ℕ, ◌^◌, ◌<◌, true, length, Result, Ok, Err}
+use Rattle.std.specs.Prelude.{◌≡◌, ℕ, ◌^◌, ◌<◌, ◌⊎◌, true, length, Result, Ok, Err}
 use Rattle.graph_heap.specs.declared.command.Command.{Command}
 use Rattle.graph_heap.specs.declared.command.Refusal.{Refusal}
 use Rattle.graph_heap.specs.declared.command.Change.{Change}
@@ -46,6 +46,10 @@ IsPlan h m c p = (g : Graph) → Agrees h g → (change : Change) × (settled (e
 -- the write is that of some change, for each graph heap with which the heap agrees
 abbrev pub CanPerform : HeapState → Write → Type 0
 CanPerform h w = (g : Graph) → Agrees h g → (change : Change) × IsPlanned h g change w
+
+-- nothing is written, or the mutator is one that there is, if the heap agrees with some graph heap
+abbrev pub IsWriter : HeapState → ℕ → Write → Type 0
+IsWriter h m w = (g : Graph) → Agrees h g → (w ≡ writes.Nothing) ⊎ (m < h.limits.mutators)
 
 -- whatever change of such a graph heap the write is of, the heap does it
 abbrev pub DoesEach : HeapState → Write → HeapState → Type 0

@@ -7,7 +7,7 @@ ghost use Rattle.heap_model.specs.Settings.{settings_of, settings_by};
 ghost use Rattle.heap_model.specs.Agreement.{Agrees};
 ghost use Rattle.heap_model.specs.Change.{DoesChange};
 ghost use Rattle.heap_model.specs.Event.{change_by, room_for};
-ghost use Rattle.machine.specs.Plan.{Plans, IsPlan, CanPerform, Performs};
+ghost use Rattle.machine.specs.Plan.{Plans, IsPlan, IsWriter, CanPerform, Performs};
 
 use crate::plan::{Planned, Write};
 use graph_heap::{Command, NoMemory, Refusal, Reply};
@@ -62,7 +62,7 @@ impl Heap {
         ensures does { (g : Graph) → Agrees self.old g → DoesChange self.old g (change_by (room_for self.old command) g mutator command) self.new }
     {
         let planned = self.plan(mutator, &command);
-        self.perform(&planned.write);
+        self.perform(mutator, &planned.write);
         planned.reply
     }
 
@@ -107,11 +107,12 @@ impl Heap {
         }
     }
 
-    /// Does the write that was planned.
-    pub(crate) fn perform(&mut self, write: &Write)
-        requires { CanPerform self.old write.now }
+    /// Does the write that was planned for a mutator.
+    pub(crate) fn perform(&mut self, mutator: u32, write: &Write)
+        requires mutator { IsWriter self.old mutator write.now }
+        requires write { CanPerform self.old write.now }
         ensures { Performs self.old write.now self.new }
     {
-        do_write(&mut self.raw, write);
+        do_write(&mut self.raw, mutator, write);
     }
 }

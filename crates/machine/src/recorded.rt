@@ -120,7 +120,7 @@ impl Recorded {
         };
         let place = self.history.len();
         self.history.push(entry)?;
-        self.heap.perform(&planned.write);
+        self.heap.perform(mutator, &planned.write);
         Ok(Receipt { entry, place })
     }
 

@@ -6,6 +6,7 @@ use size_classes::{Config, Settings};
 use std::process::Abort;
 
 mod between;
+mod buffers;
 mod collecting;
 mod drawing;
 mod many_pages;

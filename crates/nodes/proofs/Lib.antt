@@ -7,6 +7,7 @@ pub mod Fresh
 pub mod Headers
 pub mod Joining
 pub mod Leaving
+pub mod Linked
 pub mod Made
 pub mod Making
 pub mod Moved

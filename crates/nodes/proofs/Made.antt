@@ -1,5 +1,5 @@
 -- A part made, as the code knows it: of the value t as which the fields s are seen.
-use Rattle.std.proofs.Common.{◌≡◌, ◌≢◌, ℕ, ◌+◌, ◌*◌, ◌/◌, ◌<◌, ◌≤◌, true, List, ◌∷◌, Option, Some, length, get_or, set, replicate, ap, ◌∙◌, sym, subst, arith}
+use Rattle.std.proofs.Common.{◌≡◌, ◌≢◌, ℕ, ◌+◌, ◌*◌, ◌/◌, ◌<◌, ◌≤◌, true, false, List, ◌∷◌, Option, Some, length, get_or, set, replicate, ap, ◌∙◌, sym, subst, arith}
 use Rattle.std.proofs.lemmas.List.{length-replicate}
 use Rattle.heap_model.specs.Header.{Header, HeaderFits, header_word}
 use Rattle.heap_model.specs.Block.{cell_count, new_node, new_words, spliced}
@@ -10,11 +10,12 @@ use Rattle.pages.specs.declared.page.PageRecord.{PageRecord}
 use Rattle.pages.specs.Together.{pages_in, Together, KeepsHeld}
 use Rattle.pages.proofs.Telling.{WritesBlock}
 use Rattle.nodes.specs.Joined.{joined, IsHeader, AreNodes}
-use Rattle.nodes.proofs.Headers.{packed_header, header_after}
+use Rattle.nodes.specs.Links.{link_of, KeepsLinks}
+use Rattle.nodes.proofs.Headers.{packed_header, word_after, header_after}
 use Rattle.nodes.proofs.Places.{held_place}
 use Rattle.nodes.proofs.Carried.{adds_then}
 use Rattle.nodes.proofs.Joining.{HeldBlock, held_block, writes_spliced, same_pages, still_store, still_together, through, word_kept, word_spliced}
-use Rattle.nodes.proofs.Making.{fit, within, few_words, page_place, held_after, same_after, whole_after, size_here, made_store, adds}
+use Rattle.nodes.proofs.Making.{fit, within, few_words, page_place, free_before, held_after, same_after, whole_after, size_here, made_store, adds}
 
 module _ (s t : Store) (is : s ≡ t) (whole : IsStore s) (class k i size : ℕ) (small : class < 38) (size_is : size ≡ size_of class) (found : page_for s.pages class ≡ Some k) (was_free : IsOpen (page_of_class class (page_at s.pages k)) i) where
   pub block_small : i * size + size ≤ 2048
@@ -138,6 +139,21 @@ module _ (rows : List (Option PageRecord)) (words : List ℕ) (t : Store) (is : 
 
   pub adds_made : Adds t (joined after new) address (new_node address h identity)
   adds_made = adds_by (joined rows words) t is are.whole class k i size small size_is found was_free address at h fits identity cells count room (pages_in after new) pages_made mid kept new begun
+
+  -- the links of those that were held before
+  link_after : (b : ℕ) → is_held (joined rows words) b ≡ true → link_of (joined after new) b ≡ link_of (joined rows words) b
+  link_after b was =
+      let ne : b ≢ address = λ e. absurd (let f : is_held (joined rows words) b ≡ false = ap (is_held (joined rows words)) (e ∙ there) ∙ free_before (joined rows words) are.whole class k i small found was_free in let z : true ≡ false = sym was ∙ f in cc) in
+      let still : is_held (joined after mid) b ≡ true =
+      ap (λ (g : List (Option Page)). is_held (record { pages = g; words = mid }) b) taken ∙ same_after (joined rows words) are.whole class k i small found was_free mid b (λ e. ne (e ∙ sym there)) ∙ was in
+      let low = (held_place (joined rows words) b are.whole was).size in
+      word_after (pages_in after mid) mid new whole_mid address (size_of block.row.class) block.size now_held write b still ne 3 (held_place (joined after mid) b whole_mid still).size
+      ∙ word_kept (pages_in rows words) words mid kept b was 3 (omega (arith, low))
+
+  pub links_made : KeepsLinks t (joined after new)
+  links_made =
+      subst (λ (x : Store). KeepsLinks x (joined after new)) is
+      (record { len = write.len ∙ kept.len; each = link_after })
 
 -- the block was taken as the pages say
 pub takes_by : (s t : Store) → s ≡ t → (class page index address : ℕ) (new : List (Option Page)) → page_for s.pages class ≡ Some page → page_for t.pages class ≡ Some (address / 2048)

@@ -141,16 +141,16 @@ module _ (s t : Store) (is : s ≡ t) (whole : IsStore s) (a : ℕ) (held : is_h
 
 -- the same, with the records: no write of colour or cell marks the block as free
 module _ (rows : List (Option PageRecord)) (words : List ℕ) (t : Store) (is : joined rows words ≡ t) (are : AreNodes rows words) (a : ℕ) (held : is_held t a ≡ true) (new : List ℕ) where
-  held_here : is_held (joined rows words) a ≡ true
+  pub held_here : is_held (joined rows words) a ≡ true
   held_here = subst (λ (x : Store). is_held x a ≡ true) (sym is) held
 
-  block : HeldBlock rows words a
+  pub block : HeldBlock rows words a
   block = held_block rows words a held_here
 
   header_there : a + 1 < length words
   header_there = omega (arith, in_words (joined rows words) are.whole a held_here, four (joined rows words) are.whole a held_here)
 
-  later : (k v : ℕ) → 0 < k → k < size_at (joined rows words) a → new ≡ set words (a + k) v → WritesBlock words new a (size_of block.row.class)
+  pub later : (k v : ℕ) → 0 < k → k < size_at (joined rows words) a → new ≡ set words (a + k) v → WritesBlock words new a (size_of block.row.class)
   later k v some within e = writes_later words new a (size_of block.row.class) k v (first_held rows words a block) some (subst (λ n. k < n) block.size within) e
 
   module _ (c : Bool) (e : new ≡ set words (a + 1) (recoloured (get_or words (a + 1) 0) c)) where

@@ -1,4 +1,5 @@
 pub mod Joined
+pub mod Links
 pub mod Moving
 pub mod Place
 pub mod Referent

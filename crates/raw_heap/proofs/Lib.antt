@@ -1,2 +1,5 @@
 pub mod Opening
 pub mod Standing
+pub mod Sorting
+pub mod Threading
+pub mod Keeping

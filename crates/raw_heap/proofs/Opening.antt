@@ -21,8 +21,8 @@ no_object_fits id = grind arith
 small_limit : (h : HeapState) → length h.store.pages ≤ 4096 → length h.roots ≤ 16640 → h.defrag_pages ≤ 4096 → cycle_limit h < 2 ^ 31
 small_limit h p r d = let z : (h.defrag_pages + 38) * length h.store.pages ≤ 4134 * length h.store.pages = mul-le-mul_right (length h.store.pages) (omega (arith, d)) in omega (arith, z)
 
-pub opening_heap : (a : RawHeap) → IsOpening (state_of a) → 0 < length a.nodes.pages → length a.nodes.pages ≤ 4096 → length a.roots.cells ≤ 16640 → a.config.defrag_pages ≤ 4096 → 512 * length a.nodes.pages ≤ a.grey.room → IsRawHeap a
-opening_heap a o some few row most memory = record {
+pub opening_heap : (a : RawHeap) → IsOpening (state_of a) → 0 < length a.nodes.pages → length a.nodes.pages ≤ 4096 → length a.roots.cells ≤ 16640 → a.config.defrag_pages ≤ 4096 → length a.grey.buffers ≡ a.roots.limits.mutators → IsRawHeap a
+opening_heap a o some few row most buffers = record {
   heap = record {
     present = opening a.roots.limits;
     snapshot = opening a.roots.limits;
@@ -30,7 +30,8 @@ opening_heap a o some few row most memory = record {
     fits = no_object_fits;
     small = small_limit (state_of a) few row most;
   };
-  memory = memory;
+  buffers = buffers;
+  empty = λ off. o.grey;
 }
 
 -- the pages of a new store are free

@@ -1,18 +1,21 @@
 -- What holds of the fields between two actions.
-use Rattle.std.proofs.Common.{◌≡◌, ◌≢◌, ℕ, ◌+◌, ◌-◌, ◌*◌, ◌<◌, ◌≤◌, ◌^◌, ◌==◌, if◌then◌else◌, Bool, true, false, length, get_or, refl, sym, subst, arith}
-use Rattle.heap_model.specs.Action.{Action, Chain, Nothing_done, Then}
+use Rattle.std.proofs.Common.{◌≡◌, ◌≢◌, ℕ, ◌+◌, ◌-◌, ◌<◌, ◌^◌, ◌==◌, if◌then◌else◌, Bool, true, false, [], length, get_or, refl, ap, ◌∙◌, sym, subst, arith}
+use Rattle.heap_model.specs.Action.{Action, Relinks, Nothing_done, Then}
 use Rattle.heap_model.specs.Store.{Store, is_held, node_of}
 use Rattle.heap_model.specs.State.{HeapState, seen}
+use Rattle.heap_model.specs.Collector.{contains, Once}
+use Rattle.heap_model.specs.Grey.{AreGrey}
+use Rattle.heap_model.specs.Settings.{HeapSettings}
 use Rattle.heap_model.specs.Agree.{Reads}
 use Rattle.heap_model.specs.Core.{Name}
 use Rattle.heap_model.specs.Written.{records}
 use Rattle.heap_model.proofs.Agreements.{consistent_agrees}
-use Rattle.heap_model.proofs.Grey.{grey_fit}
+use Rattle.heap_model.proofs.Grey.{are_grey as are_grey_now, rests_empty}
 use Rattle.heap_model.proofs.Shown.{leads, root_reads}
 use Rattle.nodes.specs.declared.nodes.Referent.{Referent}
 use Rattle.nodes.specs.Referent.{CanFollow, referent_of}
 use Rattle.heap_model.proofs.Bound.{chain_limit}
-use Rattle.heap_model.proofs.Marks.{action_count}
+use Rattle.heap_model.proofs.Settings.{action_settings}
 use Rattle.heap_model.proofs.Stood.{stands_action, stands_limit}
 use Rattle.raw_heap.specs.declared.heap.RawHeap.{RawHeap}
 use Rattle.raw_heap.specs.Heap.{state_of, IsHeap, IsRawHeap}
@@ -21,6 +24,10 @@ use Rattle.raw_heap.specs.Heap.{state_of, IsHeap, IsRawHeap}
 pub units_small : (a : RawHeap) → IsRawHeap a → a.units < 2 ^ 31
 units_small a w = let l = stands_limit (state_of a) w.heap.present w.heap.snapshot w.heap.stands in let s = w.heap.small in omega arith
 
+-- no block is threaded anew
+pub still : {s : Store} → Relinks s s
+still {s} = record { blocks = record { held = λ b. refl; nodes = λ b e. refl }; pages = refl }
+
 -- an action leaves a heap
 pub acted : (h after : HeapState) → IsHeap h → (cost : ℕ) → Action h cost after → IsHeap after
 acted h after w cost action = record {
@@ -28,13 +35,34 @@ acted h after w cost action = record {
   snapshot = w.snapshot;
   stands = stands_action h after cost w.present w.snapshot w.stands action;
   fits = w.fits;
-  small = subst (λ n. n < 2 ^ 31) (sym (chain_limit h after (0 + cost) (Then 0 cost h after Nothing_done action))) w.small;
+  small = subst (λ n. n < 2 ^ 31) (sym (chain_limit h after (0 + cost) (Then 0 cost h after h.store Nothing_done still action))) w.small;
 }
 
-pub heap_after : (a b : RawHeap) → IsRawHeap a → (cost : ℕ) → Action (state_of a) cost (state_of b) → a.grey.room ≤ b.grey.room → IsRawHeap b
-heap_after a b w cost action more =
-    let e = action_count (state_of a) (state_of b) cost action in
-    let m = w.memory in record { heap = acted (state_of a) (state_of b) w.heap cost action; memory = omega arith }
+pub heap_after : (a b : RawHeap) → IsRawHeap a → (cost : ℕ) → Action (state_of a) cost (state_of b) → length b.grey.buffers ≡ length a.grey.buffers → IsRawHeap b
+heap_after a b w cost action count = record {
+  heap = acted (state_of a) (state_of b) w.heap cost action;
+  buffers = count ∙ w.buffers ∙ sym (ap (λ (s : HeapSettings). s.limits.mutators) (action_settings (state_of a) (state_of b) cost action));
+  empty = rests_empty (state_of a) (state_of b) cost action w.empty;
+}
+
+-- the grey parts are held in every phase
+pub are_grey : (a : RawHeap) → IsRawHeap a → AreGrey (state_of a)
+unfolding contains Once
+are_grey a w = by_phase (records a.phase) refl
+  where
+    none : (h : HeapState) → 0 < length h.store.pages → h.grey ≡ [] → AreGrey h
+    none h p e = record {
+      pages = p;
+      some = ap (λ xs. contains xs 0) e;
+      held = λ x t. absurd (let z : false ≡ true = sym (ap (λ xs. contains xs x) e) ∙ t in cc);
+      marked = λ x t. absurd (let z : false ≡ true = sym (ap (λ xs. contains xs x) e) ∙ t in cc);
+      once = subst Once (sym e) tt;
+      few = (let l : length h.grey ≡ 0 = ap length e in omega arith);
+    }
+
+    by_phase : (b : Bool) → records a.phase ≡ b → AreGrey (state_of a)
+    by_phase true e = are_grey_now (state_of a) w.heap.present w.heap.snapshot w.heap.stands e
+    by_phase false e = none (state_of a) w.heap.stands.some (w.empty e)
 
 -- what reads as a name can be followed
 pub follows : (h : HeapState) (x : ℕ) (n : Name) → Reads (seen h) x n → CanFollow h.store x
@@ -43,15 +71,6 @@ follows h x n r some = let l = leads h x n r some in (l.held, l.main.held)
 -- and so can a root
 pub root_follows : (a : RawHeap) → IsRawHeap a → (root : ℕ) → root < length a.roots.cells → CanFollow a.nodes (get_or a.roots.cells root 0)
 root_follows a w root below = follows (state_of a) _ _ (root_reads (state_of a) w.heap.present root (consistent_agrees (state_of a) w.heap.present w.heap.snapshot w.heap.stands.consistent) below)
-
--- while roots or cells are scanned there is memory to shade what is held
-pub shade_room : (a : RawHeap) → IsRawHeap a → records a.phase ≡ true → (x : ℕ) → (x ≢ 0 → is_held a.nodes (x - 1) ≡ true) → (seen (state_of a)).marked x ≡ false → length a.grey.parts < a.grey.room
-shade_room a w tracing x held unmarked =
-    let f = grey_fit (state_of a) w.heap.present w.heap.snapshot x w.heap.stands tracing (held some) unmarked in
-    let m = w.memory in omega arith
-  where
-    some : x ≢ 0
-    some z = let e : (seen (state_of a)).marked 0 ≡ false = subst (λ y. (seen (state_of a)).marked y ≡ false) z unmarked in cc
 
 -- a main copy to which a reference leads is held
 pub main_held : (s : Store) (x : ℕ) (r : Referent) → r ≡ referent_of s x → CanFollow s x → r.reference ≢ 0 → is_held s (r.reference - 1) ≡ true

@@ -1,11 +1,13 @@
 -- The fields of a heap, as the heap in words.
-use Rattle.std.specs.Prelude.{◌≡◌, ◌*◌, ◌<◌, ◌≤◌, ◌^◌, ℕ, true, length}
+use Rattle.std.specs.Prelude.{◌≡◌, ◌<◌, ◌^◌, ℕ, true, false, [], length}
 use Rattle.graph_heap.specs.Graph.{Graph, object_of}
 use Rattle.graph_heap.specs.Shape.{fits}
 use Rattle.heap_model.specs.State.{HeapState}
 use Rattle.heap_model.specs.Spent.{cycle_limit}
 use Rattle.heap_model.specs.Standing.{Stands}
+use Rattle.heap_model.specs.Written.{records}
 use Rattle.raw_heap.specs.declared.heap.RawHeap.{RawHeap}
+use Rattle.raw_heap.specs.Grey.{grey_in}
 
 abbrev pub state_of : RawHeap → HeapState
 state_of a = record {
@@ -18,7 +20,7 @@ state_of a = record {
   phase = a.phase;
   units = a.units;
   sense = a.sense;
-  grey = a.grey.parts;
+  grey = grey_in a.nodes a.grey;
 }
 
 -- The heap stands for some graph heaps, no object of which is too large, and what a cycle may spend is a
@@ -30,8 +32,9 @@ pub record IsHeap (h : HeapState) : Type 0 where
   pub fits : (id : ℕ) → fits (object_of present.objects id).shape ≡ true
   pub small : cycle_limit h < 2 ^ 31
 
--- What holds of the fields between two steps: they are a heap, and there is memory for as many grey parts as
--- there can be, since a block has four words at least.
+-- What holds of the fields between two steps: they are a heap, each mutator has a buffer, and outside roots and
+-- marking no part is grey.
 pub record IsRawHeap (a : RawHeap) : Type 0 where
   pub heap : IsHeap (state_of a)
-  pub memory : 512 * length a.nodes.pages ≤ a.grey.room
+  pub buffers : length a.grey.buffers ≡ a.roots.limits.mutators
+  pub empty : records a.phase ≡ false → grey_in a.nodes a.grey ≡ []

@@ -1,3 +1,4 @@
 pub mod Acting
 pub mod Grey
 pub mod Heap
+pub mod Held

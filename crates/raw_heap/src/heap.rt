@@ -40,7 +40,7 @@ impl RawHeap {
     {
         let nodes = Nodes::new(alloc, config.pages)?;
         let roots = Roots::new(alloc, config)?;
-        let grey = Grey::new(alloc, 512 * config.pages as usize)?;
+        let grey = Grey::new(alloc, config.mutators)?;
         Ok(RawHeap {
             config: *config,
             nodes,

@@ -24,6 +24,6 @@ fn a_new_heap_is_idle_and_empty(rt: HostRuntime) -> Result<(), NoMemory> {
     assert_eq!(rt; heap.roots.cells().len(), 9);
     assert_eq!(rt; heap.next, 1);
     assert!(rt; heap.phase == Phase::Idle && heap.units == 0);
-    assert!(rt; heap.grey.is_empty());
+    assert_eq!(rt; heap.grey.first(), 0);
     Ok(())
 }

@@ -1,13 +1,17 @@
 //! Shading.
-ghost use Rattle.std.specs.Prelude.{◌≡◌, ◌≢◌, ◌-◌, ◌<◌, ◌≤◌, true, false, length};
-ghost use Rattle.heap_model.specs.Store.{is_held};
-ghost use Rattle.heap_model.specs.State.{seen};
+ghost use Rattle.std.specs.Prelude.{◌≡◌, ◌≢◌, ◌-◌, ◌<◌, true};
 ghost use Rattle.heap_model.specs.Action.{Shades};
 ghost use Rattle.heap_model.specs.Change.{Records};
+ghost use Rattle.heap_model.specs.Grey.{AreGrey};
+ghost use Rattle.heap_model.specs.State.{seen};
+ghost use Rattle.heap_model.specs.Store.{is_held};
 ghost use Rattle.heap_model.specs.Written as written;
 ghost use Rattle.nodes.specs.Referent.{CanFollow};
 ghost use Rattle.raw_heap.specs.Heap.{state_of, IsRawHeap};
+ghost use Rattle.raw_heap.specs.Held.{AreHeld};
+ghost use Rattle.satb_barrier.specs.Recording.{buffers_after};
 
+use crate::list::{make_room, thread};
 use heap_model::phase::Phase;
 use raw_heap::RawHeap;
 
@@ -26,33 +30,41 @@ pub fn records(phase: Phase) -> bool
     matches!(phase, Phase::Roots { .. } | Phase::Marking { .. })
 }
 
-/// Shades a main copy, or null: if it isn't marked yet, it gets the colour that means marked, and is
-/// grey.
+/// Shades a main copy, or null: if it isn't marked yet, it gets the colour that means marked, and goes
+/// into the list of grey parts.
 pub fn shade(heap: &mut RawHeap, reference: u64)
+    requires grey { AreGrey (state_of heap.old) }
     requires held { reference ≢ 0 → is_held heap.old.nodes (reference - 1) ≡ true }
-    requires room { (seen (state_of heap.old)).marked reference ≡ false → length heap.old.grey.parts < heap.old.grey.room }
     ensures shades { Shades (state_of heap.old) reference (state_of heap.new) }
-    ensures same { heap.new ≡ record heap.old { nodes = heap.new.nodes; grey = heap.new.grey } }
-    ensures room { heap.old.grey.room ≤ heap.new.grey.room }
+    ensures same { heap.new ≡ record heap.old { nodes = heap.new.nodes; grey = record heap.old.grey { first = heap.new.grey.first } } }
 {
     if is_marked(heap, reference) {
         return;
     }
     heap.nodes.set_colour(reference as usize - 1, heap.sense);
-    heap.grey.add(reference);
+    thread(heap, reference);
 }
 
-/// What a command overwrites, in a phase that records: its main copy is shaded (Yuasa, 1990). In other
-/// phases nothing is done.
-pub fn record(heap: &mut RawHeap, reference: u64)
+/// What a command of a mutator overwrites, in a phase that records: its main copy is shaded (Yuasa,
+/// 1990), and goes into the mutator's buffer, whose 64 records went into the list if it was full. In
+/// other phases nothing is done.
+pub fn record(heap: &mut RawHeap, mutator: u32, reference: u64)
     requires heap { IsRawHeap heap.old }
+    requires mutator { mutator < heap.old.roots.limits.mutators }
     requires leads { CanFollow heap.old.nodes reference }
     ensures records { Records (state_of heap.old) reference (state_of heap.new) }
+    ensures buffers { heap.new.grey.buffers ≡ buffers_after heap.old mutator reference }
+    ensures held { AreHeld heap.new }
     ensures same { heap.new ≡ record heap.old { nodes = heap.new.nodes; grey = heap.new.grey } }
-    ensures room { heap.old.grey.room ≤ heap.new.grey.room }
 {
-    if records(heap.phase) {
-        let main = heap.nodes.resolve(reference).reference;
-        shade(heap, main);
+    if !records(heap.phase) {
+        return;
     }
+    let main = heap.nodes.resolve(reference).reference;
+    if is_marked(heap, main) {
+        return;
+    }
+    make_room(heap, mutator);
+    heap.nodes.set_colour(main as usize - 1, heap.sense);
+    heap.grey.push(mutator, main);
 }

@@ -1,5 +1,5 @@
 //! The collector: a cycle is begun, and goes on by quanta.
-ghost use Rattle.std.specs.Prelude.{◌≡◌, ◌⊎◌, ◌+◌, ◌<◌, ◌≤◌, IfOk};
+ghost use Rattle.std.specs.Prelude.{◌≡◌, ◌⊎◌, ◌+◌, ◌<◌, ◌≤◌, [], IfOk};
 ghost use Rattle.graph_heap.specs.Graph.{Graph};
 ghost use Rattle.heap_model.specs.declared.phase.Phase.TheVariants as phases;
 ghost use Rattle.heap_model.specs.Agreement.{Agrees};
@@ -7,6 +7,7 @@ ghost use Rattle.heap_model.specs.Spent.{cycle_limit};
 ghost use Rattle.heap_model.specs.Standing.{Stands};
 ghost use Rattle.heap_model.specs.Turn.{SpendsTurn};
 ghost use Rattle.raw_heap.specs.Acting.{ActsIn};
+ghost use Rattle.raw_heap.specs.Grey.{in_buffers};
 ghost use Rattle.raw_heap.specs.Heap.{state_of, IsRawHeap};
 ghost use Rattle.machine.specs.Collecting.{Begins, Spends};
 
@@ -16,14 +17,16 @@ use defrag::move_next;
 use heap_model::phase::Phase;
 use marker::{scan_part, scan_root};
 use raw_heap::RawHeap;
+use satb_barrier::flush_all;
 use sweeper::sweep_next;
 
 /// Does the next action of the collector if its units fit in the room that is left, and answers them.
-/// Nothing changes where they don't, or where no cycle is on.
+/// Nothing changes where they don't, or where no cycle is on. The buffers are empty.
 fn act(heap: &mut RawHeap, room: u32) -> Option<u32>
-    requires { IsRawHeap heap.old }
+    requires heap { IsRawHeap heap.old }
+    requires buffers { in_buffers heap.old.grey.buffers ≡ [] }
     ensures acts { ActsIn heap.old room heap.new result }
-    ensures grey { heap.old.grey.room ≤ heap.new.grey.room }
+    ensures buffers { heap.new.grey.buffers ≡ heap.old.grey.buffers }
 {
     match heap.phase {
         Phase::Idle => return None,
@@ -37,9 +40,10 @@ fn act(heap: &mut RawHeap, room: u32) -> Option<u32>
 }
 
 /// Does actions while their units fit in what is left of a budget, until no cycle is on, and answers the
-/// units spent.
+/// units spent. The buffers are empty.
 fn spend(heap: &mut RawHeap, budget: u32) -> u32
-    requires { IsRawHeap heap.old }
+    requires heap { IsRawHeap heap.old }
+    requires buffers { in_buffers heap.old.grey.buffers ≡ [] }
     ensures raw { IsRawHeap heap.new }
     ensures turn { SpendsTurn (state_of heap.old) budget (state_of heap.new) result }
 {
@@ -77,15 +81,14 @@ impl Heap {
         if !matches!(self.raw.phase, Phase::Idle) {
             return Err(Busy);
         }
-        self.raw.grey.clear();
         self.raw.sense = !self.raw.sense;
         self.raw.phase = Phase::Roots { next: 0 };
         self.raw.units = 0;
         Ok(())
     }
 
-    /// Spends units of a budget: the next action is done while its units fit in what is left, until no
-    /// cycle is on. It never begins a cycle. Refused outside 256 to 1000000 units, and then nothing
+    /// Spends units of a budget: what mutators recorded goes into the list of grey parts, and then the next
+    /// action is done while its units fit in what is left, until no cycle is on. It never begins a cycle. Refused outside 256 to 1000000 units, and then nothing
     /// changes.
     pub fn quantum(&mut self, budget: u32) -> Result<Spent, BudgetOutOfRange>
         ensures spends { Spends self.old budget self.new result }
@@ -95,6 +98,7 @@ impl Heap {
         if budget < 256 || 1_000_000 < budget {
             return Err(BudgetOutOfRange);
         }
+        flush_all(&mut self.raw);
         let units = spend(&mut self.raw, budget);
         Ok(Spent {
             units,

@@ -1,8 +1,9 @@
 //! The writes of the heap. Each does one change of the graph heap, after it has recorded what it
 //! overwrites.
-ghost use Rattle.std.specs.Prelude.{◌≤◌};
+ghost use Rattle.std.specs.Prelude.{◌≡◌, ◌<◌};
 ghost use Rattle.raw_heap.specs.Heap.{state_of, IsRawHeap};
-ghost use Rattle.machine.specs.Plan.{CanPerform, DoesEach};
+ghost use Rattle.machine.specs.Plan.{CanPerform, DoesEach, IsWriter};
+ghost use Rattle.machine.specs.Buffers.{buffers_by};
 
 use crate::plan::{Cell, Write};
 use arraylets::new_object;
@@ -10,55 +11,59 @@ use graph_heap::Shape;
 use raw_heap::RawHeap;
 use satb_barrier::record;
 
-/// Does a write.
-pub fn do_write(heap: &mut RawHeap, write: &Write)
+/// Does a write of a mutator.
+pub fn do_write(heap: &mut RawHeap, mutator: u32, write: &Write)
     requires heap { IsRawHeap heap.old }
+    requires mutator { IsWriter (state_of heap.old) mutator write.now }
     requires write { CanPerform (state_of heap.old) write.now }
     ensures does { DoesEach (state_of heap.old) write.now (state_of heap.new) }
-    ensures grey { heap.old.grey.room ≤ heap.new.grey.room }
+    ensures buffers { heap.new.grey.buffers ≡ buffers_by heap.old mutator write.now }
 {
     match *write {
         Write::Nothing => {}
-        Write::Root { cell, reference } => write_root(heap, cell, reference),
-        Write::Ref { at, reference } => write_ref(heap, at, reference),
+        Write::Root { cell, reference } => write_root(heap, mutator, cell, reference),
+        Write::Ref { at, reference } => write_ref(heap, mutator, at, reference),
         Write::Word { at, word } => heap.nodes.set_cell(at.block, at.index, word),
-        Write::New { cell, shape } => write_new(heap, cell, shape),
+        Write::New { cell, shape } => write_new(heap, mutator, cell, shape),
     }
 }
 
 /// A root gets a reference.
-fn write_root(heap: &mut RawHeap, cell: usize, reference: u64)
+fn write_root(heap: &mut RawHeap, mutator: u32, cell: usize, reference: u64)
     requires heap { IsRawHeap heap.old }
+    requires mutator { mutator < heap.old.roots.limits.mutators }
     requires write { CanPerform (state_of heap.old) (Write.Root cell reference) }
     ensures does { DoesEach (state_of heap.old) (Write.Root cell reference) (state_of heap.new) }
-    ensures grey { heap.old.grey.room ≤ heap.new.grey.room }
+    ensures buffers { heap.new.grey.buffers ≡ buffers_by heap.old mutator (Write.Root cell reference) }
 {
     let before = heap.roots.get(cell);
-    record(heap, before);
+    record(heap, mutator, before);
     heap.roots.set(cell, reference);
 }
 
 /// A reference cell of an object gets a reference.
-fn write_ref(heap: &mut RawHeap, at: Cell, reference: u64)
+fn write_ref(heap: &mut RawHeap, mutator: u32, at: Cell, reference: u64)
     requires heap { IsRawHeap heap.old }
+    requires mutator { mutator < heap.old.roots.limits.mutators }
     requires write { CanPerform (state_of heap.old) (Write.Ref at reference) }
     ensures does { DoesEach (state_of heap.old) (Write.Ref at reference) (state_of heap.new) }
-    ensures grey { heap.old.grey.room ≤ heap.new.grey.room }
+    ensures buffers { heap.new.grey.buffers ≡ buffers_by heap.old mutator (Write.Ref at reference) }
 {
     let before = heap.nodes.cell(at.block, at.index);
-    record(heap, before);
+    record(heap, mutator, before);
     heap.nodes.set_cell(at.block, at.index, reference);
 }
 
 /// An object is made, and a root gets its reference.
-fn write_new(heap: &mut RawHeap, root: usize, shape: Shape)
+fn write_new(heap: &mut RawHeap, mutator: u32, root: usize, shape: Shape)
     requires heap { IsRawHeap heap.old }
+    requires mutator { mutator < heap.old.roots.limits.mutators }
     requires write { CanPerform (state_of heap.old) (Write.New root shape) }
     ensures does { DoesEach (state_of heap.old) (Write.New root shape) (state_of heap.new) }
-    ensures grey { heap.old.grey.room ≤ heap.new.grey.room }
+    ensures buffers { heap.new.grey.buffers ≡ buffers_by heap.old mutator (Write.New root shape) }
 {
     let before = heap.roots.get(root);
-    record(heap, before);
+    record(heap, mutator, before);
     let block = new_object(&mut heap.nodes, shape, heap.sense, heap.next);
     heap.roots.set(root, block as u64 + 1);
     heap.next += 1;

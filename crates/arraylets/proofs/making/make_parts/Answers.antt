@@ -2,7 +2,7 @@ use Rattle.std.proofs.Common.{◌≡◌, ◌<◌, ◌∙◌, ap, subst, get_or, 
 use Rattle.size_classes.specs.Parts.{cells_of, parts_in}
 use Rattle.heap_model.specs.Making.{Making, Nothing_made}
 use Rattle.heap_model.specs.Taking.{Takes, Nothing_taken}
-use Rattle.arraylets.proofs.Linking.{zeros_small, within_more, made_more, taken_more, spine_more}
+use Rattle.arraylets.proofs.Linking.{making_held, links_same, links_then, zeros_small, within_more, made_more, taken_more, spine_more}
 use Rattle.arraylets.proofs.making.make_parts.Goals as goal
 
 pub loop-part-init : goal.loop-part-init
@@ -12,6 +12,7 @@ loop-part-init c = record {
   taken = Nothing_taken;
   room = c.requires.room;
   spine = λ h. absurd (omega arith);
+  links = links_same c.args.nodes.now;
   within = λ p. zeros_small 253 p;
 }
 
@@ -26,6 +27,7 @@ loop-part-preserved c =
       taken = taken_more c.loop-part.at c.loop-part.part c.make_part.result below (cells_of c.args.shape) e.taken.0 e.taken.1 _ _ _ e.taken.2 e.taken.3 i.taken;
       room = e.room;
       spine = λ h. spine_more c.loop-part.at c.loop-part.part c.make_part.result below c.args.nodes.now _ _ c.args.shape c.args.colour c.args.identity e.made i.spine;
+      links = links_then _ _ _ (making_held _ _ _ _ _ _ _ _ i.made) i.links e.links;
       within = within_more c.loop-part.at c.loop-part.part c.make_part.result below i.within e.within;
     }
 

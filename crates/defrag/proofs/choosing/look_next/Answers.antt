@@ -1,5 +1,10 @@
-use Rattle.std.proofs.Common.{◌≡◌, Some, subst, sym, ap, ◌∙◌, arith, true, false, refl}
-use Rattle.heap_model.specs.Action.{Action, looked, is_chosen}
+use Rattle.std.proofs.Common.{◌≡◌, ◌+◌, Some, subst, sym, ap, ◌∙◌, arith, true, false, refl}
+use Rattle.heap_model.specs.declared.phase.Moving.TheVariants as moves
+use Rattle.heap_model.specs.declared.phase.Phase.TheVariants as phases
+use Rattle.heap_model.specs.Action.{Action, goes_to, looked, is_chosen}
+use Rattle.heap_model.specs.State.{HeapState}
+use Rattle.heap_model.proofs.Grey.{passing}
+use Rattle.raw_heap.proofs.Keeping.{store_still}
 use Rattle.raw_heap.specs.declared.heap.RawHeap.{RawHeap}
 use Rattle.raw_heap.specs.Heap.{state_of}
 use Rattle.raw_heap.proofs.Standing.{units_small}
@@ -26,11 +31,12 @@ returns-then-page-pages-clause-acts c =
 pub returns-in-Some-clause-acts : goal.returns-in-Some-clause-acts
 returns-in-Some-clause-acts c =
     subst (λ (x : RawHeap). Action (state_of c.args.heap.now) 1 (state_of x)) (sym c.go_to-in-Some.ensures)
+    (subst (λ (h : HeapState). Action (state_of c.args.heap.now) 1 (goes_to h 1 (phases.Moving (moves.Emptying c.args.class c.in-Some.found.page 0 (c.args.chosen + 1))))) (sym (store_still c.args.heap.now c.requires.heap (passing (state_of c.args.heap.now) c.args.class c.args.page c.args.candidate c.args.chosen c.requires.pass) c.leave.new.self))
     (chooses c.args.class c.args.page c.args.candidate c.requires.class c.args.heap.now.nodes c.look-candidate.result
     (subst (λ k. c.look-candidate.result ≡ looked c.args.heap.now.nodes.pages k c.args.page c.args.candidate) c.new-number.ensures c.look-candidate.ensures) (state_of c.args.heap.now) c.args.chosen refl c.requires.pass
     c.in-Some.found c.leave.new.self c.in-Some.is (omega (arith, c.pages.ensures.pages, c.requires.page, c.if-page-pages.false))
     (subst (λ k. is_chosen c.args.heap.now.nodes.pages k (Some c.in-Some.found) ≡ true) c.new-number.ensures (sym c.is_chosen.ensures ∙ c.if-is_chosen.true))
-    c.leave.ensures.kept c.leave.ensures.pages)
+    c.leave.ensures.kept c.leave.ensures.pages))
 
 pub returns-in_default-clause-acts : goal.returns-in_default-clause-acts
 returns-in_default-clause-acts c =

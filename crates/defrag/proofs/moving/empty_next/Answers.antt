@@ -4,6 +4,9 @@ use Rattle.size_classes.specs.Sizes.{size_of}
 use Rattle.heap_model.specs.declared.phase.Phase.TheVariants as phases
 use Rattle.heap_model.specs.declared.phase.Moving.TheVariants as moves
 use Rattle.heap_model.specs.Action.{Action, goes_to}
+use Rattle.heap_model.specs.State.{HeapState}
+use Rattle.heap_model.specs.Written.{records}
+use Rattle.raw_heap.proofs.Keeping.{store_still}
 use Rattle.raw_heap.specs.declared.heap.RawHeap.{RawHeap}
 use Rattle.raw_heap.specs.Heap.{state_of}
 use Rattle.raw_heap.proofs.Standing.{units_small}
@@ -47,8 +50,9 @@ go_to-requires c = let u = units_small c.args.heap.now c.requires.heap in let s 
 pub returns-clause-acts : goal.returns-clause-acts
 returns-clause-acts c = (
   subst (λ (x : RawHeap). Action (state_of c.args.heap.now) c.size-words.result (state_of x)) (sym c.go_to.ensures)
-      (subst (λ w. Action (state_of c.args.heap.now) w (goes_to (record (state_of c.args.heap.now) { store = c.move_block.new.self }) w (phases.Moving (moves.Emptying c.args.class c.args.page (c.in-Some.next.index + 1) c.args.chosen)))) (sym c.size-words.ensures.size)
+      (subst (λ w. Action (state_of c.args.heap.now) w (goes_to (state_of (record c.args.heap.now { nodes = c.move_block.new.self })) w (phases.Moving (moves.Emptying c.args.class c.args.page (c.in-Some.next.index + 1) c.args.chosen)))) (sym c.size-words.ensures.size)
+      (subst (λ (h : HeapState). Action (state_of c.args.heap.now) (size_of c.in-Some.next.class) (goes_to h (size_of c.in-Some.next.class) (phases.Moving (moves.Emptying c.args.class c.args.page (c.in-Some.next.index + 1) c.args.chosen)))) (sym (store_still c.args.heap.now c.requires.heap (ap records c.requires.phase) c.move_block.new.self))
       (moves_block c.args.heap.now c.requires.heap c.args.class c.args.page c.args.block c.args.chosen c.requires.phase c.in-Some.next c.in-Some.ensures.next
-      c.move_block.result c.move_block.new.self c.move_block.ensures.free c.move_block.ensures.moved c.move_block.ensures.pages)),
+      c.move_block.result c.move_block.new.self c.move_block.ensures.free c.move_block.ensures.moved c.move_block.ensures.pages))),
   c.if-words-room.false,
 )

@@ -1,11 +1,11 @@
-use Rattle.std.proofs.Common.{◌≡◌, ◌*◌, ◌≤◌, not, [], sym, subst, length}
+use Rattle.std.proofs.Common.{◌≡◌, [], ap, ◌∙◌, sym, subst}
 use Rattle.heap_model.specs.declared.phase.Phase.TheVariants as phases
 use Rattle.heap_model.specs.State.{HeapState}
 use Rattle.heap_model.specs.Agreement.{Agrees}
 use Rattle.heap_model.specs.Action.{begun}
-use Rattle.raw_heap.specs.Grey.{GreySet}
-use Rattle.raw_heap.specs.declared.heap.RawHeap.{RawHeap}
-use Rattle.raw_heap.specs.Heap.{state_of, IsRawHeap}
+use Rattle.heap_model.specs.Written.{records}
+use Rattle.raw_heap.specs.Grey.{grey_in}
+use Rattle.raw_heap.specs.Heap.{state_of, IsHeap}
 use Rattle.machine.proofs.Collecting.{begun_heap, begun_agrees}
 use Rattle.machine.proofs.heap.Heap.begin.Goals.{in-Idle, in_default}
 use Rattle.machine.proofs.heap.Heap.begin.Goals as goal
@@ -16,14 +16,26 @@ idle c = elim c.match-matches.branch [
   | in_default w ↦ absurd (let z = c.if-not-matches.false in let y = w.matches-is in cc)
 ]
 
+-- no part is grey
+none : (c : goal.After-self-3-1) → grey_in c.self.inside.raw.nodes c.self.inside.raw.grey ≡ []
+none c = c.self.invariant.empty (ap records (idle c))
+
 pub invariant_of-self : goal.invariant_of-self
 invariant_of-self c =
-    let a = c.self.inside.raw in
-    subst (λ (g : GreySet). IsRawHeap (record a { phase = phases.Roots 0; units = 0; sense = not a.sense; grey = g })) (sym c.clear.ensures)
-    (record { heap = begun_heap (state_of a) c.self.invariant.heap (idle c); memory = c.self.invariant.memory })
+    let h = state_of c.self.inside.raw in
+    record {
+      heap = subst (λ xs. IsHeap (record (begun h) { grey = xs })) (sym (none c)) (begun_heap h c.self.invariant.heap (idle c));
+      buffers = c.self.invariant.buffers;
+      empty = λ off. none c;
+    }
+
+pub returns-clause-begins : goal.returns-clause-begins
+returns-clause-begins c =
+    let h = state_of c.self.inside.raw in
+    (ap (λ (x : HeapState). x.phase) (sym c.self.view_is) ∙ idle c, ap (λ xs. record (begun h) { grey = xs }) (none c) ∙ ap begun c.self.view_is)
 
 pub returns-clause-agrees : goal.returns-clause-agrees
 returns-clause-agrees c g a =
     let h = state_of c.self.inside.raw in
-    subst (λ (l : GreySet). Agrees (record (begun h) { grey = l.parts }) g) (sym c.clear.ensures)
+    subst (λ xs. Agrees (record (begun h) { grey = xs }) g) (sym (none c))
     (begun_agrees h c.self.invariant.heap (idle c) g (subst (λ (x : HeapState). Agrees x g) (sym c.self.view_is) a))

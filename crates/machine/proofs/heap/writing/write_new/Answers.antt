@@ -1,4 +1,4 @@
-use Rattle.std.proofs.Common.{◌≡◌, ◌<◌, ◌^◌, length, ap, sym, subst, true, arith}
+use Rattle.std.proofs.Common.{◌≡◌, ◌+◌, ◌<◌, ◌^◌, length, set, ap, ◌∙◌, sym, subst, true, arith}
 use Rattle.size_classes.specs.Need.{needed}
 use Rattle.heap_model.specs.Pages as page_list
 use Rattle.heap_model.proofs.Recorded.{records_stay}
@@ -6,6 +6,13 @@ use Rattle.raw_heap.specs.declared.heap.RawHeap.{RawHeap}
 use Rattle.raw_heap.specs.Heap.{state_of}
 use Rattle.machine.proofs.Doing.{present_agrees}
 use Rattle.machine.proofs.Writing.{root_follows, new_does}
+use Rattle.heap_model.specs.State.{HeapState}
+use Rattle.heap_model.proofs.Taken.{takes_count}
+use Rattle.size_classes.specs.Parts.{cells_of, parts_in}
+use Rattle.machine.specs.Plan.{DoesEach}
+use Rattle.machine.specs.declared.plan.Write.TheVariants as writes
+use Rattle.raw_heap.proofs.Keeping.{store_kept}
+use Rattle.satb_barrier.specs.Recording.{buffers_after}
 use Rattle.machine.proofs.heap.writing.write_new.Goals as goal
 
 pub get-before-requires : goal.get-before-requires
@@ -34,4 +41,12 @@ overflow_add-heap c =
 
 pub returns-clause-does : goal.returns-clause-does
 returns-clause-does c =
-    rw c.set.ensures (new_does (state_of c.args.heap.now) (state_of c.record.new.heap) c.get-before.result c.record.ensures.records c.args.root c.new_object-block.result c.args.shape c.new_object-block.new.nodes c.get-before.ensures c.new_object-block.ensures.made)
+    let a = c.args.heap.now in let rec = c.record.new.heap in let new = c.new_object-block.new.nodes in let made = c.new_object-block.ensures.made in
+    let count : length new.pages ≡ length rec.nodes.pages = takes_count (cells_of c.args.shape) made.0 rec.nodes.pages (parts_in (cells_of c.args.shape)) new.pages made.3 in
+    rw c.set.ensures
+    (subst (λ (h : HeapState). DoesEach (state_of a) (writes.New c.args.root c.args.shape) (record h { next = rec.next + 1; roots = set rec.roots.cells c.args.root (c.new_object-block.result + 1) }))
+    (sym (store_kept rec c.record.ensures.held new count c.new_object-block.ensures.links))
+    (new_does (state_of a) (state_of rec) c.get-before.result c.record.ensures.records c.args.root c.new_object-block.result c.args.shape new c.get-before.ensures made))
+
+pub returns-clause-buffers : goal.returns-clause-buffers
+returns-clause-buffers c = c.record.ensures.buffers ∙ ap (buffers_after c.args.heap.now c.args.mutator) c.get-before.ensures

@@ -1,9 +1,13 @@
-use Rattle.std.proofs.Common.{◌<◌, length, sym, subst}
+use Rattle.std.proofs.Common.{◌<◌, length, ap, ◌∙◌, sym, subst}
 use Rattle.heap_model.proofs.Recorded.{records_cells, records_held}
 use Rattle.raw_heap.specs.Heap.{state_of}
 use Rattle.machine.proofs.Doing.{present_agrees}
 use Rattle.machine.proofs.Finding.{ref_held, ref_follows}
 use Rattle.machine.proofs.Writing.{ref_does}
+use Rattle.machine.specs.Plan.{DoesEach}
+use Rattle.machine.specs.declared.plan.Write.TheVariants as writes
+use Rattle.raw_heap.proofs.Keeping.{store_kept}
+use Rattle.satb_barrier.specs.Recording.{buffers_after}
 use Rattle.machine.proofs.heap.writing.write_ref.Goals as goal
 
 pub cell-before-requires-clause-held : goal.cell-before-requires-clause-held
@@ -35,4 +39,10 @@ set_cell-requires-clause-within c =
     subst (λ z. c.args.at.index < length z) (sym (records_cells (state_of c.args.heap.now) (state_of c.record.new.heap) c.cell-before.result c.args.at.block c.record.ensures.records held)) p.1.4.1.within
 
 pub returns-clause-does : goal.returns-clause-does
-returns-clause-does c = ref_does (state_of c.args.heap.now) (state_of c.record.new.heap) c.cell-before.result c.record.ensures.records c.args.at c.args.reference _ c.cell-before.ensures c.set_cell.ensures
+returns-clause-does c =
+    let a = c.args.heap.now in let rec = c.record.new.heap in
+    subst (DoesEach (state_of a) (writes.Ref c.args.at c.args.reference)) (sym (store_kept rec c.record.ensures.held c.set_cell.new.self (ap length c.set_cell.ensures.written.pages) c.set_cell.ensures.links))
+    (ref_does (state_of a) (state_of rec) c.cell-before.result c.record.ensures.records c.args.at c.args.reference _ c.cell-before.ensures c.set_cell.ensures.written)
+
+pub returns-clause-buffers : goal.returns-clause-buffers
+returns-clause-buffers c = c.record.ensures.buffers ∙ ap (buffers_after c.args.heap.now c.args.mutator) c.cell-before.ensures

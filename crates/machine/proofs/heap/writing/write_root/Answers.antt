@@ -1,6 +1,7 @@
-use Rattle.std.proofs.Common.{◌<◌, length, sym, subst}
+use Rattle.std.proofs.Common.{◌<◌, length, ap, ◌∙◌, sym, subst}
 use Rattle.machine.proofs.Doing.{present_agrees}
 use Rattle.machine.proofs.Writing.{root_follows, root_does}
+use Rattle.satb_barrier.specs.Recording.{buffers_after}
 use Rattle.raw_heap.specs.declared.heap.RawHeap.{RawHeap}
 use Rattle.raw_heap.specs.Heap.{state_of}
 use Rattle.machine.proofs.heap.writing.write_root.Goals as goal
@@ -18,3 +19,6 @@ set-requires c =
 
 pub returns-clause-does : goal.returns-clause-does
 returns-clause-does c = rw c.set.ensures (root_does (state_of c.args.heap.now) (state_of c.record.new.heap) c.get-before.result c.record.ensures.records c.args.cell c.args.reference c.get-before.ensures)
+
+pub returns-clause-buffers : goal.returns-clause-buffers
+returns-clause-buffers c = c.record.ensures.buffers ∙ ap (buffers_after c.args.heap.now c.args.mutator) c.get-before.ensures

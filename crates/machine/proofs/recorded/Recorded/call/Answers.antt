@@ -3,11 +3,15 @@ use Rattle.heap_model.specs.Event.{Command_done, Enters, present_of, snapshot_of
 use Rattle.heap_model.proofs.Agreements.{consistent_agrees}
 use Rattle.heap_model.proofs.Course.{does_course}
 use Rattle.machine.specs.Recorded.{RecordedHeap, recorded_of}
+use Rattle.machine.proofs.Writers.{writer_of}
 use Rattle.machine.proofs.Replying.{enters}
 use Rattle.machine.proofs.recorded.Recorded.call.Goals as goal
 
-pub perform-requires : goal.perform-requires
-perform-requires c g a = let p = c.plan-planned.ensures g a in (p.0, p.2)
+pub perform-requires-clause-mutator : goal.perform-requires-clause-mutator
+perform-requires-clause-mutator c g a = let p = c.plan-planned.ensures g a in writer_of _ g c.args.mutator c.args.command _ p.0 _ a p.1 p.2
+
+pub perform-requires-clause-write : goal.perform-requires-clause-write
+perform-requires-clause-write c g a = let p = c.plan-planned.ensures g a in (p.0, p.2)
 
 pub invariant_of-self-2 : goal.invariant_of-self-2
 invariant_of-self-2 c =

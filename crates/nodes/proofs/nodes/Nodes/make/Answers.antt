@@ -1,5 +1,5 @@
 use Rattle.std.proofs.Common.{arith}
-use Rattle.nodes.proofs.Made.{block_small, address_within, words_there, page_by, pages_made, nodes_made, adds_made, takes_by}
+use Rattle.nodes.proofs.Made.{block_small, address_within, words_there, page_by, pages_made, nodes_made, adds_made, links_made, takes_by}
 use Rattle.nodes.proofs.nodes.Nodes.make.Goals as goal
 
 pub address-address-requires-clause-block : goal.address-address-requires-clause-block
@@ -34,3 +34,8 @@ returns-clause-taken c = (
       (pages_made _ _ _ c.self.view_is c.self.invariant c.args.class c.in_ok-block.block.page c.in_ok-block.block.index c.size.result c.size.ensures.class c.size.ensures.size c.in_ok-block.ensures.page c.in_ok-block.ensures.«open» c.address-address.result c.address-address.ensures (record { shape = c.args.shape; part = c.args.part; colour = c.args.colour }) (c.requires.shape, c.requires.part) c.args.identity c.args.cells c.requires.cells c.requires.room
       c.take.new.self c.take.new.arena c.in_ok-block.ensures.together c.in_ok-block.ensures.held c.in_ok-block.ensures.words c.begin.new.self c.begin.ensures),
 )
+
+pub returns-clause-links : goal.returns-clause-links
+returns-clause-links c =
+    links_made _ _ _ c.self.view_is c.self.invariant c.args.class c.in_ok-block.block.page c.in_ok-block.block.index c.size.result c.size.ensures.class c.size.ensures.size c.in_ok-block.ensures.page c.in_ok-block.ensures.«open» c.address-address.result c.address-address.ensures (record { shape = c.args.shape; part = c.args.part; colour = c.args.colour }) (c.requires.shape, c.requires.part) c.args.identity c.args.cells c.requires.cells c.requires.room
+    c.take.new.self c.take.new.arena c.in_ok-block.ensures.together c.in_ok-block.ensures.held c.in_ok-block.ensures.words c.begin.new.self c.begin.ensures

@@ -1,4 +1,3 @@
-use Rattle.std.proofs.Common.{slice_index}
 use Rattle.size_classes.specs.Need.{blocks_needed}
 use Rattle.size_classes.specs.Parts.{parts_in}
 use Rattle.heap_model.specs.Pages.{has_room}

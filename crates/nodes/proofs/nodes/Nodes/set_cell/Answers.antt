@@ -1,4 +1,5 @@
 use Rattle.nodes.proofs.Writing.{cell_inside, rewritten_nodes, rewrites}
+use Rattle.nodes.proofs.Linked.{rewritten_links}
 use Rattle.nodes.proofs.nodes.Nodes.set_cell.Goals as goal
 
 pub set_cell-requires : goal.set_cell-requires
@@ -7,5 +8,8 @@ set_cell-requires c = cell_inside _ _ c.self.view_is c.self.invariant.whole c.ar
 pub invariant_of-self : goal.invariant_of-self
 invariant_of-self c = rewritten_nodes _ _ _ c.self.view_is c.self.invariant c.args.block c.requires.held _ c.args.i c.args.value c.requires.within c.set_cell.ensures
 
-pub returns : goal.returns
-returns c = rewrites _ _ _ c.self.view_is c.self.invariant c.args.block c.requires.held _ c.args.i c.args.value c.requires.within c.set_cell.ensures
+pub returns-clause-written : goal.returns-clause-written
+returns-clause-written c = rewrites _ _ _ c.self.view_is c.self.invariant c.args.block c.requires.held _ c.args.i c.args.value c.requires.within c.set_cell.ensures
+
+pub returns-clause-links : goal.returns-clause-links
+returns-clause-links c = rewritten_links _ _ _ c.self.view_is c.self.invariant c.args.block c.requires.held _ c.args.i c.args.value c.requires.within c.set_cell.ensures

@@ -1,0 +1,11 @@
+use Rattle.std.proofs.Common.{[], ◌∷◌, ◌++◌, replicate, ap, ◌∙◌, arith}
+use Rattle.std.proofs.lemmas.List.{replicate-append-replicate}
+use Rattle.raw_heap.proofs.grey.Grey.new.Goals as goal
+
+pub loop-preserved : goal.loop-preserved
+loop-preserved c =
+    c.in_ok-push.ensures.items ∙ ap (λ bs. bs ++ c.new.result ∷ []) c.loop.invariant ∙ ap (λ b. replicate c.loop.counter (record { items = [] }) ++ b ∷ []) (ap (λ xs. record { items = xs }) c.new.ensures)
+    ∙ replicate-append-replicate c.loop.counter 1 (record { items = [] })
+
+pub returns : goal.returns
+returns c = ap (λ bs. record { first = 0; buffers = bs }) (c.loop.invariant ∙ ap (λ n. replicate n (record { items = [] })) (omega (arith, c.loop.auto.counter-end, c.loop-test.false)))

@@ -1,0 +1,90 @@
+//! The list of grey parts, threaded through their headers, and the buffers beside it.
+ghost use Rattle.std.specs.Prelude.{◌≡◌, ◌≢◌, ◌<◌, ◌-◌, ◌*◌, [], ◌∷◌, ◌++◌, List, ℕ, true, false, length, IfSome, IsNone};
+ghost use Rattle.heap_model.specs.Action.{Relinks};
+ghost use Rattle.heap_model.specs.Collector.{contains};
+ghost use Rattle.heap_model.specs.Grey.{AreGrey};
+ghost use Rattle.heap_model.specs.Store.{is_held};
+ghost use Rattle.heap_model.specs.Written as written;
+ghost use Rattle.raw_heap.specs.Grey.{grey_in, in_buffers, buffer_of, inserted, with_buffer};
+ghost use Rattle.raw_heap.specs.Heap.{state_of, IsRawHeap};
+ghost use Rattle.satb_barrier.specs.Recording.{with_room};
+
+use crate::shading::records;
+use raw_heap::RawHeap;
+
+/// Puts a held part that isn't grey into the list, as its first.
+pub fn thread(heap: &mut RawHeap, part: u64)
+    requires some { part ≢ 0 }
+    requires held { is_held heap.old.nodes (part - 1) ≡ true }
+    requires fresh { contains (grey_in heap.old.nodes heap.old.grey) part ≡ false }
+    requires few { length (grey_in heap.old.nodes heap.old.grey) < 2048 * length heap.old.nodes.pages }
+    ensures grey { grey_in heap.new.nodes heap.new.grey ≡ inserted part (grey_in heap.old.nodes heap.old.grey) }
+    ensures links { Relinks heap.old.nodes heap.new.nodes }
+    ensures same { heap.new ≡ record heap.old { nodes = heap.new.nodes; grey = record heap.old.grey { first = part } } }
+{
+    heap.nodes.set_link(part as usize - 1, heap.grey.first());
+    heap.grey.set_first(part);
+}
+
+/// Takes a grey part out of the list, the one that came last. The buffers are empty.
+pub fn take(heap: &mut RawHeap) -> Option<u64>
+    requires heap { IsRawHeap heap.old }
+    requires buffers { in_buffers heap.old.grey.buffers ≡ [] }
+    ensures none { IsNone result → ((state_of heap.old).grey ≡ []) × (heap.new ≡ heap.old) }
+    ensures taken { IfSome result (λ part. (front : List ℕ) × (back : List ℕ) × ((state_of heap.old).grey ≡ front ++ part ∷ back) × ((state_of heap.new).grey ≡ front ++ back)) }
+    ensures same { heap.new ≡ record heap.old { grey = record heap.old.grey { first = heap.new.grey.first } } }
+{
+    let part = heap.grey.first();
+    if part == 0 {
+        return None;
+    }
+    let next = heap.nodes.link(part as usize - 1);
+    heap.grey.set_first(next);
+    Some(part)
+}
+
+/// Puts the records of a mutator's buffer into the list. The same parts are grey.
+pub fn flush(heap: &mut RawHeap, mutator: u32)
+    requires grey { AreGrey (state_of heap.old) }
+    requires mutator { mutator < length heap.old.grey.buffers }
+    ensures grey { grey_in heap.new.nodes heap.new.grey ≡ grey_in heap.old.nodes heap.old.grey }
+    ensures links { Relinks heap.old.nodes heap.new.nodes }
+    ensures same { heap.new ≡ record heap.old { nodes = heap.new.nodes; grey = record (with_buffer heap.old.grey mutator []) { first = heap.new.grey.first } } }
+{
+    while let Some(part) = heap.grey.pop(mutator) {
+        thread(heap, part);
+    }
+}
+
+/// Makes room for a record in a mutator's buffer: a full one goes into the list. The same parts are grey.
+pub fn make_room(heap: &mut RawHeap, mutator: u32)
+    requires grey { AreGrey (state_of heap.old) }
+    requires mutator { mutator < length heap.old.grey.buffers }
+    ensures grey { grey_in heap.new.nodes heap.new.grey ≡ grey_in heap.old.nodes heap.old.grey }
+    ensures links { Relinks heap.old.nodes heap.new.nodes }
+    ensures room { length (buffer_of heap.new.grey mutator) < 64 }
+    ensures same { heap.new ≡ record heap.old { nodes = heap.new.nodes; grey = record (with_buffer heap.old.grey mutator (with_room (buffer_of heap.old.grey mutator))) { first = heap.new.grey.first } } }
+{
+    if heap.grey.is_full(mutator) {
+        flush(heap, mutator);
+    }
+}
+
+/// Puts the records of all buffers into the list, as each quantum begins. The same parts are grey. Outside
+/// roots and marking the buffers are empty, and nothing changes.
+pub fn flush_all(heap: &mut RawHeap)
+    requires { IsRawHeap heap.old }
+    ensures grey { grey_in heap.new.nodes heap.new.grey ≡ grey_in heap.old.nodes heap.old.grey }
+    ensures links { Relinks heap.old.nodes heap.new.nodes }
+    ensures buffers { in_buffers heap.new.grey.buffers ≡ [] }
+    ensures count { length heap.new.grey.buffers ≡ length heap.old.grey.buffers }
+    ensures same { heap.new ≡ record heap.old { nodes = heap.new.nodes; grey = heap.new.grey } }
+    ensures rests { written.records heap.old.phase ≡ false → heap.new ≡ heap.old }
+{
+    if !records(heap.phase) {
+        return;
+    }
+    for mutator in 0..heap.roots.limits().mutators {
+        flush(heap, mutator);
+    }
+}

@@ -48,7 +48,7 @@ turn_ends old after budget units chain within ends = record {
 pub costs_one : (h : HeapState) → h.phase ≢ phases.Idle → ((place : Moving) → h.phase ≢ phases.Moving place) → NextCosts h 1
 costs_one h busy still = Of_other busy (λ p n. still _ n.phase)
 
--- what stood behind the blocks' links before stays a heap
+-- a heap whose blocks are threaded anew stays one
 pub relinked_heap : (h : HeapState) (s : Store) → IsHeap h → Relinks h.store s → IsHeap (record h { store = s })
 relinked_heap h s w l = record {
   present = w.present;

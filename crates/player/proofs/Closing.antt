@@ -85,7 +85,7 @@ left_behind style count mid rest ended new (Err fault) (inr (text, more, whole, 
     at_line style count mid rest text more line new (λ next. ((left style fault line (count + 1) mid new stops).0, inr next)) (λ s. (text, more, whole, is, inr (line, spells, s))) (left style fault line (count + 1) mid new stops)
 
 module _ (style : Style) (given : Given) (old : Stage) (player : PlayerState) (taken taken' waiting : List ℕ) (low : length old.taken ≤ length taken) where
-  -- a write of what waits failed behind the end
+  -- a write of what waits failed after the end
   pub cuts : (count : ℕ) (events : List Event) (mid : Stage) (rest : List ℕ) (ended : Result (Unit {0}) TextFault) → mid.taken ≡ old.taken ++ written_of style (entries_in events) → (ended ≡ Err Write → waiting ≡ []) → GrowsByPart taken taken' waiting
       → Ends (StopsText style) count mid rest given.ended (stage player (taken ++ waiting)) ended ⊎ ((ended ≡ Err Write) × CutShort style count events mid rest old (stage player (taken ++ waiting))) → CutShort style count events mid rest old (stage player taken')
   cuts count events mid rest ended written none g (inl e) =

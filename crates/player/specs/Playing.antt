@@ -88,7 +88,7 @@ abbrev pub PlayedFirst : ℕ → Style → Given → Stage → Stage → Result 
 PlayedFirst n style given old new result =
     -- fewer events were done: what is played of the whole input
     ((all : Played style given old new result) × (count_by is_event all.over.lines < n))
-    -- the lines end at the nth event: what is played of an input that ends there, unless a write failed behind
+    -- the lines end at the nth event: what is played of an input that ends there, unless a write failed after
     -- it. Of what comes after, which wasn't looked at, at most a buffer was read
     ⊎ ((seen : List ℕ) × (more : List ℕ) × (first : Played style (record given { after = seen; ended = true }) old new result)
     × (given.after ≡ seen ++ more) × (length more ≤ 65536) × (first.over.rest ≡ []) × (count_by is_event first.over.lines ≡ n) × EndAtEvent first.over.lines × ((result ≡ Ok tt) ⊎ (result ≡ Err Write)))

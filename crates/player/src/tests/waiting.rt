@@ -54,7 +54,7 @@ fn replies_of_what_is_read_at_once_are_one_write(rt: HostRuntime) -> Result<(), 
     Ok(())
 }
 
-/// A fault behind them: they are written, or that write fails.
+/// A fault after them: they are written, or that write fails.
 #[test]
 fn replies_before_a_fault_are_written(rt: HostRuntime) -> Result<(), Fail> {
     let trace = "0 clear 0\n0 same 0 0\nno event\n0 clear 0\n";

@@ -1,35 +1,54 @@
 //! One look of a pass.
-ghost use Rattle.std.specs.Prelude.{◌≡◌, ◌<◌, ◌^◌, length, Some};
+ghost use Rattle.std.specs.Prelude.{◌≡◌, ◌-◌, ◌<◌, ◌≤◌, ◌^◌, length, Some};
 ghost use Rattle.heap_model.specs.Action.{looked, fewer, is_chosen};
 ghost use Rattle.heap_model.specs.Action.{Action, AtPass};
 ghost use Rattle.heap_model.specs.declared.phase.Phase.TheVariants as phases;
 ghost use Rattle.heap_model.specs.declared.phase.Moving.TheVariants as moves;
+ghost use Rattle.raw_heap.specs.Acting.{Acts};
 ghost use Rattle.raw_heap.specs.Heap.{state_of, IsRawHeap};
+ghost use Rattle.defrag.specs.Looking.{looked_on};
 
 use heap_model::phase::{Candidate, Moving, Phase};
 use nodes::Nodes;
 use raw_heap::RawHeap;
 use size_classes::Class;
 
-/// Does the next step of a pass: a look at a page, or the end of moving after the last class. It costs one
-/// unit.
+/// Does the next steps of a pass: looks at the class's next pages before the last, as many as are left or as
+/// there is room for; where none is left, the look at the last one; after the last class the end of moving.
+/// Each costs one unit. Answers the units.
 pub fn pass_next(
     heap: &mut RawHeap,
     class: u32,
     page: u32,
     candidate: Option<Candidate>,
     chosen: u32,
-)
+    room: u32,
+) -> u32
     requires heap { IsRawHeap heap.old }
     requires phase { heap.old.phase ≡ phases.Moving (moves.Pass class page candidate chosen) }
-    ensures acts { Action (state_of heap.old) 1 (state_of heap.new) }
+    requires room { 0 < room }
+    ensures acts { Acts heap.old room heap.new result }
     ensures grey { heap.new.grey ≡ heap.old.grey }
 {
-    if class < 38 {
-        look_next(heap, class, page, candidate, chosen)
-    } else {
-        heap.go_to(1, Phase::Idle)
+    if class >= 38 {
+        heap.go_to(1, Phase::Idle);
+        return 1;
     }
+    let left = heap.nodes.pages().saturating_sub(page as usize + 1);
+    if left == 0 {
+        look_next(heap, class, page, candidate, chosen);
+        return 1;
+    }
+    let count = left.min(room as usize) as u32;
+    let next = page + count;
+    let place = Moving::Pass {
+        class,
+        page: next,
+        candidate: look_on(&heap.nodes, Class::new(class as u8), page, next, candidate),
+        chosen,
+    };
+    heap.go_to(count, Phase::Moving(place));
+    count
 }
 
 /// Looks at a page in a pass of a class, with the best page so far. After a look at the last page the best
@@ -85,6 +104,25 @@ pub fn look_next(
             }),
         ),
     }
+}
+
+/// The candidate after looks at the pages from one up to another.
+fn look_on(
+    nodes: &Nodes,
+    class: Class,
+    from: u32,
+    end: u32,
+    best: Option<Candidate>,
+) -> Option<Candidate>
+    requires from { from ≤ end }
+    requires within { end ≤ length nodes.now.pages }
+    ensures { result ≡ looked_on nodes.now.pages class from best (end - from) }
+{
+    let mut candidate = best;
+    for page in from..end {
+        candidate = look(nodes, class, page, candidate);
+    }
+    candidate
 }
 
 /// The candidate after a look at a page.

@@ -1,5 +1,5 @@
 -- A cycle that begins, and a turn of actions.
-use Rattle.std.proofs.Common.{◌≡◌, ◌≢◌, ℕ, ◌+◌, ◌-◌, ◌<◌, ◌≤◌, ◌^◌, ◌⊎◌, inl, inr, Bool, true, false, length, refl, ap, ◌∙◌, subst, sym, arith}
+use Rattle.std.proofs.Common.{◌≡◌, ◌≢◌, ℕ, ◌+◌, ◌<◌, ◌≤◌, ◌^◌, ◌⊎◌, inl, inr, Bool, true, false, length, refl, ap, ◌∙◌, subst, sym, arith}
 use Rattle.graph_heap.specs.Graph.{Graph}
 use Rattle.heap_model.specs.declared.phase.Phase.TheVariants as phases
 use Rattle.heap_model.specs.declared.phase.Moving.{Moving}
@@ -34,15 +34,6 @@ begun_agrees h w e g a =
 pub chain_agrees : (h after : HeapState) → IsHeap h → (units : ℕ) → Chain h units after → (g : Graph) → Agrees h g → Agrees after g
 chain_agrees h after w units chain g a =
     agrees_alike after w.present g (consistent_agrees after w.present w.snapshot (stands_chain h after units w.present w.snapshot w.stands chain).consistent) (told h w.present g (present_agrees h w) a)
-
--- a turn ends in idle, or before an action that doesn't fit
-pub turn_ends : (old after : HeapState) (budget units : ℕ) → Chain old units after → units ≤ budget
-    → (after.phase ≡ phases.Idle) ⊎ ((cost : ℕ) × NextCosts after cost × (budget - units < cost)) → SpendsTurn old budget after units
-turn_ends old after budget units chain within ends = record {
-  chain = chain;
-  within = within;
-  ends = elim ends [ inl e ↦ inl e | inr n ↦ inr (n.0, n.1, (let l = n.2 in omega arith)) ];
-}
 
 -- where no block is moved the next action costs one unit
 pub costs_one : (h : HeapState) → h.phase ≢ phases.Idle → ((place : Moving) → h.phase ≢ phases.Moving place) → NextCosts h 1

@@ -1,5 +1,5 @@
 -- A new object planned.
-use Rattle.std.proofs.Common.{◌≡◌, ℕ, ◌+◌, ◌<◌, ◌≤◌, ◌^◌, ◌↔◌, Bool, true, false, cond, List, length, Option, Some, IfSome, Result, Ok, Err, ap, ◌∙◌, sym, subst, arith, refl, slice_index}
+use Rattle.std.proofs.Common.{◌≡◌, ℕ, ◌+◌, ◌<◌, ◌≤◌, ◌^◌, ◌↔◌, Bool, true, false, cond, List, length, Option, Some, IfSome, Result, Ok, Err, ap, ◌∙◌, sym, subst, arith, refl}
 use Rattle.std.specs.Prelude.{nat_lt, IsNone, is_some}
 use Rattle.std.proofs.lemmas.Bool.{lt-ltb, le-ltb}
 use Rattle.graph_heap.specs.declared.command.Shape.{Shape}
@@ -18,7 +18,6 @@ use Rattle.size_classes.specs.Need.{needed, blocks_needed}
 use Rattle.heap_model.specs.Pages.{Page, has_room}
 use Rattle.heap_model.specs.State.{HeapState}
 use Rattle.heap_model.specs.Agreement.{Agrees}
-use Rattle.heap_model.proofs.Rooms.{room_same}
 use Rattle.machine.specs.Plan.{PlansFor}
 use Rattle.machine.specs.declared.plan.Write.TheVariants as writes
 

@@ -1,5 +1,5 @@
 -- The writes of the heap, each a change of the graph heap.
-use Rattle.std.proofs.Common.{◌≡◌, ℕ, ◌+◌, ◌*◌, ◌<◌, ◌≤◌, ◌∷◌, ◌++◌, [], Bool, true, false, if◌then◌else◌, length, length-set, get_or, set, ap, ◌∙◌, sym, subst, refl, arith}
+use Rattle.std.proofs.Common.{◌≡◌, ℕ, ◌+◌, ◌<◌, ◌∷◌, ◌++◌, [], Bool, true, false, if◌then◌else◌, length, length-set, get_or, set, ap, ◌∙◌, sym, subst, refl}
 use Rattle.graph_heap.specs.declared.command.Shape.{Shape}
 use Rattle.graph_heap.specs.declared.command.Change.{Change}
 use Rattle.graph_heap.specs.declared.command.Change.TheVariants as changes
@@ -13,7 +13,6 @@ use Rattle.heap_model.proofs.Left.{change_left}
 use Rattle.raw_heap.specs.Grey.{buffer_of, with_buffer}
 use Rattle.satb_barrier.specs.Recording.{with_room, shades, buffers_after}
 use Rattle.machine.specs.Buffers.{buffers_by}
-use Rattle.heap_model.specs.Agreement.{Agrees}
 use Rattle.heap_model.specs.Change.{DoesChange, Does_nothing, Does_root, Does_ref, Does_word, Does_new, Records, Records_nothing, Records_main}
 use Rattle.heap_model.specs.Making.{MakesObject}
 use Rattle.heap_model.specs.Taking.{Takes}

@@ -73,14 +73,17 @@ module _ (a : RawHeap) (w : IsRawHeap a) (part cell : ℕ) (e : a.phase ≡ phas
     pub cell_main : cell < width_at (node_of a.nodes (part - 1)) → (r : Referent) → r ≡ referent_of a.nodes (get_or (node_of a.nodes (part - 1)).cells cell 0) → r.reference ≢ 0 → is_held a.nodes (r.reference - 1) ≡ true
     cell_main l r is = main_held a.nodes _ r is (cell_follows l)
 
-    pub cell_small : cell < 2 ^ 31
-    cell_small =
+    pub width_small : width_at (node_of a.nodes (part - 1)) < 2 ^ 31
+    width_small =
         let apart = lie_apart h w.heap.stands.pages w.heap.stands.consistent.whole in
         let f = apart.fits part c.stage.1.scanning_held positive in
         let i = apart.inside part c.stage.1.scanning_held positive in
-        let l = c.stage.1.column in
         let s = w.heap.small in
+        let e = wide in
         omega arith
+
+    pub cell_small : cell < 2 ^ 31
+    cell_small = let l = column in let s = width_small in omega arith
 
   -- all cells of the part in scan were scanned
   pub all_scanned : (part ≢ 0 → width_at (node_of a.nodes (part - 1)) ≤ cell) → cell ≡ (seen (state_of a)).width part

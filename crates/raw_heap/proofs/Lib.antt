@@ -3,3 +3,4 @@ pub mod Standing
 pub mod Sorting
 pub mod Threading
 pub mod Keeping
+pub mod Chains

@@ -1,24 +1,21 @@
 -- What holds of the fields between two actions.
 use Rattle.std.proofs.Common.{◌≡◌, ◌≢◌, ℕ, ◌+◌, ◌-◌, ◌<◌, ◌^◌, ◌==◌, if◌then◌else◌, Bool, true, false, [], length, get_or, refl, ap, ◌∙◌, sym, subst, arith}
-use Rattle.heap_model.specs.Action.{Action, Relinks, Nothing_done, Then}
+use Rattle.heap_model.specs.Action.{Relinks}
 use Rattle.heap_model.specs.Store.{Store, is_held, node_of}
 use Rattle.heap_model.specs.State.{HeapState, seen}
 use Rattle.heap_model.specs.Collector.{contains, Once}
 use Rattle.heap_model.specs.Grey.{AreGrey}
-use Rattle.heap_model.specs.Settings.{HeapSettings}
 use Rattle.heap_model.specs.Agree.{Reads}
 use Rattle.heap_model.specs.Core.{Name}
 use Rattle.heap_model.specs.Written.{records}
 use Rattle.heap_model.proofs.Agreements.{consistent_agrees}
-use Rattle.heap_model.proofs.Grey.{are_grey as are_grey_now, rests_empty}
+use Rattle.heap_model.proofs.Grey.{are_grey as are_grey_now}
 use Rattle.heap_model.proofs.Shown.{leads, root_reads}
 use Rattle.nodes.specs.declared.nodes.Referent.{Referent}
 use Rattle.nodes.specs.Referent.{CanFollow, referent_of}
-use Rattle.heap_model.proofs.Bound.{chain_limit}
-use Rattle.heap_model.proofs.Settings.{action_settings}
-use Rattle.heap_model.proofs.Stood.{stands_action, stands_limit}
+use Rattle.heap_model.proofs.Stood.{stands_limit}
 use Rattle.raw_heap.specs.declared.heap.RawHeap.{RawHeap}
-use Rattle.raw_heap.specs.Heap.{state_of, IsHeap, IsRawHeap}
+use Rattle.raw_heap.specs.Heap.{state_of, IsRawHeap}
 
 -- units are counted on
 pub units_small : (a : RawHeap) → IsRawHeap a → a.units < 2 ^ 31
@@ -27,23 +24,6 @@ units_small a w = let l = stands_limit (state_of a) w.heap.present w.heap.snapsh
 -- no block is threaded anew
 pub still : {s : Store} → Relinks s s
 still {s} = record { blocks = record { held = λ b. refl; nodes = λ b e. refl }; pages = refl }
-
--- an action leaves a heap
-pub acted : (h after : HeapState) → IsHeap h → (cost : ℕ) → Action h cost after → IsHeap after
-acted h after w cost action = record {
-  present = w.present;
-  snapshot = w.snapshot;
-  stands = stands_action h after cost w.present w.snapshot w.stands action;
-  fits = w.fits;
-  small = subst (λ n. n < 2 ^ 31) (sym (chain_limit h after (0 + cost) (Then 0 cost h after h.store Nothing_done still action))) w.small;
-}
-
-pub heap_after : (a b : RawHeap) → IsRawHeap a → (cost : ℕ) → Action (state_of a) cost (state_of b) → length b.grey.buffers ≡ length a.grey.buffers → IsRawHeap b
-heap_after a b w cost action count = record {
-  heap = acted (state_of a) (state_of b) w.heap cost action;
-  buffers = count ∙ w.buffers ∙ sym (ap (λ (s : HeapSettings). s.limits.mutators) (action_settings (state_of a) (state_of b) cost action));
-  empty = rests_empty (state_of a) (state_of b) cost action w.empty;
-}
 
 -- the grey parts are held in every phase
 pub are_grey : (a : RawHeap) → IsRawHeap a → AreGrey (state_of a)

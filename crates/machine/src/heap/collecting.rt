@@ -20,8 +20,9 @@ use raw_heap::RawHeap;
 use satb_barrier::flush_all;
 use sweeper::sweep_next;
 
-/// Does the next action of the collector if its units fit in the room that is left, and answers them.
-/// Nothing changes where they don't, or where no cycle is on. The buffers are empty.
+/// Does the next actions of the collector, one or more of the same kind, if their units fit in the room that
+/// is left, and answers them. Nothing changes where they don't, or where no cycle is on. The buffers are
+/// empty.
 fn act(heap: &mut RawHeap, room: u32) -> Option<u32>
     requires heap { IsRawHeap heap.old }
     requires buffers { in_buffers heap.old.grey.buffers ≡ [] }
@@ -29,14 +30,16 @@ fn act(heap: &mut RawHeap, room: u32) -> Option<u32>
     ensures buffers { heap.new.grey.buffers ≡ heap.old.grey.buffers }
 {
     match heap.phase {
-        Phase::Idle => return None,
-        Phase::Moving(place) => return move_next(heap, place, room),
-        _ if room == 0 => return None,
-        Phase::Roots { next } => scan_root(heap, next),
-        Phase::Marking { part, cell } => scan_part(heap, part, cell),
-        Phase::Sweeping { page, block } => sweep_next(heap, page, block),
+        Phase::Idle => None,
+        Phase::Moving(place) => move_next(heap, place, room),
+        _ if room == 0 => None,
+        Phase::Roots { next } => {
+            scan_root(heap, next);
+            Some(1)
+        }
+        Phase::Marking { part, cell } => Some(scan_part(heap, part, cell, room)),
+        Phase::Sweeping { page, block } => Some(sweep_next(heap, page, block, room)),
     }
-    Some(1)
 }
 
 /// Does actions while their units fit in what is left of a budget, until no cycle is on, and answers the

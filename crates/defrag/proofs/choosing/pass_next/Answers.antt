@@ -1,11 +1,14 @@
-use Rattle.std.proofs.Common.{◌≡◌, subst, sym, arith}
+use Rattle.std.proofs.Common.{◌≡◌, ◌+◌, ◌-◌, ◌<◌, ◌≤◌, ◌∙◌, ap, subst, sym, arith}
 use Rattle.heap_model.specs.declared.phase.Phase.TheVariants as phases
 use Rattle.heap_model.specs.declared.phase.Moving.TheVariants as moves
-use Rattle.heap_model.specs.Action.{Action, In_pass, No_class, Ends_moving}
+use Rattle.heap_model.specs.Action.{Action, Chain, goes_to, In_pass, No_class, Ends_moving}
 use Rattle.heap_model.specs.Spent.{IsWithin}
 use Rattle.raw_heap.specs.declared.heap.RawHeap.{RawHeap}
 use Rattle.raw_heap.specs.Heap.{state_of}
+use Rattle.raw_heap.proofs.Chains.{runs_once}
 use Rattle.raw_heap.proofs.Standing.{units_small}
+use Rattle.defrag.specs.Looking.{looked_on}
+use Rattle.defrag.proofs.Looks.{looks_run}
 use Rattle.defrag.proofs.choosing.pass_next.Goals as goal
 
 pub look_next-requires-clause-pass : goal.look_next-requires-clause-pass
@@ -14,8 +17,32 @@ look_next-requires-clause-pass c = In_pass c.args.class c.args.page c.args.candi
 pub go_to-requires : goal.go_to-requires
 go_to-requires c = let u = units_small c.args.heap.now c.requires.heap in omega arith
 
-pub returns-else-class-lt38-clause-acts : goal.returns-else-class-lt38-clause-acts
-returns-else-class-lt38-clause-acts c =
-    let most = (subst (IsWithin (state_of c.args.heap.now)) c.requires.phase c.requires.heap.heap.stands.within).1 in
-    subst (λ (x : RawHeap). Action (state_of c.args.heap.now) 1 (state_of x)) (sym c.go_to.ensures)
-    (Ends_moving (No_class c.args.page c.args.candidate c.args.chosen (subst (λ z. c.args.heap.now.phase ≡ phases.Moving (moves.Pass z c.args.page c.args.candidate c.args.chosen)) (omega (arith, c.if-class-lt38.false, most)) c.requires.phase)))
+pub go_to-requires-2 : goal.go_to-requires-2
+go_to-requires-2 c = let u = units_small c.args.heap.now c.requires.heap in omega arith
+
+pub returns-then-class-ge38-clause-acts : goal.returns-then-class-ge38-clause-acts
+returns-then-class-ge38-clause-acts c =
+    let a = c.args.heap.now in
+    let most = (subst (IsWithin (state_of a)) c.requires.phase c.requires.heap.heap.stands.within).1 in
+    runs_once a c.go_to.new.self c.args.room 1 c.requires.heap
+    (subst (λ (x : RawHeap). Action (state_of a) 1 (state_of x)) (sym c.go_to.ensures)
+    (Ends_moving (No_class c.args.page c.args.candidate c.args.chosen (subst (λ z. a.phase ≡ phases.Moving (moves.Pass z c.args.page c.args.candidate c.args.chosen)) (omega (arith, c.if-class-ge38.true, most)) c.requires.phase))))
+    c.requires.room
+
+pub returns-then-left-eq0-clause-acts : goal.returns-then-left-eq0-clause-acts
+returns-then-left-eq0-clause-acts c = runs_once c.args.heap.now c.look_next.new.heap c.args.room 1 c.requires.heap c.look_next.ensures.acts c.requires.room
+
+pub returns-clause-acts : goal.returns-clause-acts
+returns-clause-acts c =
+    let a = c.args.heap.now in let h = state_of a in let n = c.min-count.result in let page = c.args.page in let best = c.args.candidate in
+    let low = c.if-class-ge38.false in let left = c.if-left-eq0.false in let pages = c.pages.ensures.pages in let room = c.requires.room in
+    let few : n ≤ c.saturating_sub-left.result = omega (arith, c.min-count.ensures) in
+    let some : 0 < n = omega (arith, c.min-count.ensures, left, room) in
+    let found : looked_on a.nodes.pages c.args.class page best n ≡ c.look_on.result =
+    sym (c.look_on.ensures ∙ ap (λ k. looked_on a.nodes.pages k page best (page + n - page)) c.new.ensures ∙ ap (looked_on a.nodes.pages c.args.class page best) (let e : page + n - page ≡ n = omega arith in e)) in (
+      subst (λ (x : RawHeap). Chain h n (state_of x)) (sym c.go_to-2.ensures)
+          (subst (λ b. Chain h n (goes_to h n (phases.Moving (moves.Pass c.args.class (page + n) b c.args.chosen)))) found
+          (looks_run h c.args.class page best c.args.chosen n c.requires.phase (omega (arith, low)) (omega (arith, few, left, pages, c.saturating_sub-left.ensures)))),
+      some,
+      omega (arith, c.min-count.ensures),
+    )

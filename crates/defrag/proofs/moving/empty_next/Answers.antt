@@ -9,6 +9,7 @@ use Rattle.heap_model.specs.Written.{records}
 use Rattle.raw_heap.proofs.Keeping.{store_still}
 use Rattle.raw_heap.specs.declared.heap.RawHeap.{RawHeap}
 use Rattle.raw_heap.specs.Heap.{state_of}
+use Rattle.raw_heap.proofs.Chains.{runs_once}
 use Rattle.raw_heap.proofs.Standing.{units_small}
 use Rattle.defrag.proofs.Moves.{page_in, class_small, chosen_small, costs_one, looks_again, ends, costs_words, can_move, moves_block}
 use Rattle.defrag.proofs.moving.empty_next.Goals as goal
@@ -48,11 +49,11 @@ pub go_to-requires : goal.go_to-requires
 go_to-requires c = let u = units_small c.args.heap.now c.requires.heap in let s = c.size-words.ensures.within in omega arith
 
 pub returns-clause-acts : goal.returns-clause-acts
-returns-clause-acts c = (
-  subst (λ (x : RawHeap). Action (state_of c.args.heap.now) c.size-words.result (state_of x)) (sym c.go_to.ensures)
-      (subst (λ w. Action (state_of c.args.heap.now) w (goes_to (state_of (record c.args.heap.now { nodes = c.move_block.new.self })) w (phases.Moving (moves.Emptying c.args.class c.args.page (c.in-Some.next.index + 1) c.args.chosen)))) (sym c.size-words.ensures.size)
-      (subst (λ (h : HeapState). Action (state_of c.args.heap.now) (size_of c.in-Some.next.class) (goes_to h (size_of c.in-Some.next.class) (phases.Moving (moves.Emptying c.args.class c.args.page (c.in-Some.next.index + 1) c.args.chosen)))) (sym (store_still c.args.heap.now c.requires.heap (ap records c.requires.phase) c.move_block.new.self))
-      (moves_block c.args.heap.now c.requires.heap c.args.class c.args.page c.args.block c.args.chosen c.requires.phase c.in-Some.next c.in-Some.ensures.next
-      c.move_block.result c.move_block.new.self c.move_block.ensures.free c.move_block.ensures.moved c.move_block.ensures.pages))),
-  c.if-words-room.false,
-)
+returns-clause-acts c =
+    runs_once c.args.heap.now c.go_to.new.self c.args.room c.size-words.result c.requires.heap
+    (subst (λ (x : RawHeap). Action (state_of c.args.heap.now) c.size-words.result (state_of x)) (sym c.go_to.ensures)
+    (subst (λ w. Action (state_of c.args.heap.now) w (goes_to (state_of (record c.args.heap.now { nodes = c.move_block.new.self })) w (phases.Moving (moves.Emptying c.args.class c.args.page (c.in-Some.next.index + 1) c.args.chosen)))) (sym c.size-words.ensures.size)
+    (subst (λ (h : HeapState). Action (state_of c.args.heap.now) (size_of c.in-Some.next.class) (goes_to h (size_of c.in-Some.next.class) (phases.Moving (moves.Emptying c.args.class c.args.page (c.in-Some.next.index + 1) c.args.chosen)))) (sym (store_still c.args.heap.now c.requires.heap (ap records c.requires.phase) c.move_block.new.self))
+    (moves_block c.args.heap.now c.requires.heap c.args.class c.args.page c.args.block c.args.chosen c.requires.phase c.in-Some.next c.in-Some.ensures.next
+    c.move_block.result c.move_block.new.self c.move_block.ensures.free c.move_block.ensures.moved c.move_block.ensures.pages))))
+    c.if-words-room.false

@@ -2,6 +2,7 @@ use Rattle.std.proofs.Common.{inr, refl, sym, subst, arith}
 use Rattle.heap_model.specs.Action.{Action, Ends_moving}
 use Rattle.raw_heap.specs.declared.heap.RawHeap.{RawHeap}
 use Rattle.raw_heap.specs.Heap.{state_of}
+use Rattle.raw_heap.proofs.Chains.{runs_once}
 use Rattle.raw_heap.proofs.Standing.{units_small}
 use Rattle.defrag.proofs.moving.page_done.Goals as goal
 
@@ -12,7 +13,11 @@ pub go_to-requires : goal.go_to-requires
 go_to-requires c = let u = units_small c.args.heap.now c.requires.heap in omega arith
 
 pub returns-else-chosen-heap-clause-acts : goal.returns-else-chosen-heap-clause-acts
-returns-else-chosen-heap-clause-acts c = (
-  subst (λ (x : RawHeap). Action (state_of c.args.heap.now) 1 (state_of x)) (sym c.go_to.ensures) (Ends_moving (c.requires.ends (let e = c.if-chosen-heap.false in omega arith))),
-  (let e = c.if-room-eq0.false in omega arith),
-)
+returns-else-chosen-heap-clause-acts c =
+    let a = c.args.heap.now in
+    runs_once a c.go_to.new.self c.args.room 1 c.requires.heap
+    (subst (λ (x : RawHeap). Action (state_of a) 1 (state_of x)) (sym c.go_to.ensures) (Ends_moving (c.requires.ends (let e = c.if-chosen-heap.false in omega arith))))
+    (let e = c.if-room-eq0.false in omega arith)
+
+pub returns-then-chosen-heap-clause-acts : goal.returns-then-chosen-heap-clause-acts
+returns-then-chosen-heap-clause-acts c = runs_once c.args.heap.now c.look_next.new.heap c.args.room 1 c.requires.heap c.look_next.ensures.acts (let e = c.if-room-eq0.false in omega arith)

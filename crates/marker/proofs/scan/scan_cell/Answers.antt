@@ -1,5 +1,7 @@
 use Rattle.std.proofs.Common.{◌-◌, length, ap, ◌∙◌, sym, subst, arith}
 use Rattle.heap_model.specs.Action.{Action}
+use Rattle.heap_model.specs.State.{width_at}
+use Rattle.heap_model.specs.Store.{node_of}
 use Rattle.heap_model.proofs.Seen.{held_pages}
 use Rattle.nodes.specs.declared.nodes.Referent.{Referent}
 use Rattle.nodes.specs.Referent.{referent_of}
@@ -8,7 +10,8 @@ use Rattle.raw_heap.specs.Heap.{state_of}
 use Rattle.raw_heap.proofs.Keeping.{are_held, store_kept}
 use Rattle.raw_heap.proofs.Standing.{are_grey, units_small}
 use Rattle.marker.proofs.Acting.{cell_scanned, corrected_grey}
-use Rattle.marker.proofs.Scanned.{cells_within, cell_main, cell_small}
+use Rattle.marker.proofs.Chains.{shades_width, writes_width}
+use Rattle.marker.proofs.Scanned.{part_held, cells_within, cell_main, cell_small}
 use Rattle.marker.proofs.scan.scan_cell.Goals as goal
 
 pub cell-requires-clause-within : goal.cell-requires-clause-within
@@ -33,6 +36,14 @@ overflow_add-cell c = let s = cell_small c.args.heap.now c.requires.heap c.args.
 
 pub go_to-requires : goal.go_to-requires
 go_to-requires c = let u = units_small c.args.heap.now c.requires.heap in omega (arith, ap (λ (x : RawHeap). x.units) c.shade.ensures.same)
+
+pub returns-clause-width : goal.returns-clause-width
+returns-clause-width c =
+    let a = c.args.heap.now in let written = c.set_cell.ensures.written in
+    let held = held_pages a.nodes c.set_cell.new.self (c.args.part - 1) written.pages ∙ part_held a c.requires.heap c.args.part c.args.cell c.requires.phase c.requires.some in
+    ap (λ (x : RawHeap). width_at (node_of x.nodes (c.args.part - 1))) c.go_to.ensures
+    ∙ shades_width (state_of (record a { nodes = c.set_cell.new.self })) (state_of c.shade.new.heap) c.resolve-main.result.reference (c.args.part - 1) c.shade.ensures.shades held
+    ∙ writes_width a.nodes c.set_cell.new.self (c.args.part - 1) c.args.cell c.resolve-main.result.reference written
 
 pub returns-clause-acts : goal.returns-clause-acts
 returns-clause-acts c =

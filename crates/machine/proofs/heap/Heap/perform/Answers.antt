@@ -1,6 +1,6 @@
-use Rattle.std.proofs.Common.{length, ap, ◌∙◌, sym, subst, refl}
+use Rattle.std.proofs.Common.{length, ap, ◌∙◌, sym, subst}
 use Rattle.heap_model.specs.State.{HeapState}
-use Rattle.machine.specs.Plan.{CanPerform, IsWriter, Performs}
+use Rattle.machine.specs.Plan.{CanPerform, IsWriter}
 use Rattle.raw_heap.specs.Heap.{state_of}
 use Rattle.machine.proofs.Writing.{written_heap, performs, count_by}
 use Rattle.machine.proofs.heap.Heap.perform.Goals as goal

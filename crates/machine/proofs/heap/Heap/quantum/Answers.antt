@@ -1,5 +1,4 @@
-use Rattle.std.proofs.Common.{◌≤◌, subst, sym, refl, arith}
-use Rattle.graph_heap.specs.Graph.{Graph}
+use Rattle.std.proofs.Common.{subst, sym, refl, arith}
 use Rattle.heap_model.specs.State.{HeapState}
 use Rattle.heap_model.specs.Agreement.{Agrees}
 use Rattle.heap_model.specs.Turn.{SpendsTurn}

@@ -1,7 +1,7 @@
 use Rattle.std.proofs.Common.{◌≡◌, length, ◌∙◌, sym, subst, ap}
 use Rattle.graph_heap.specs.declared.command.Change.{Change}
 use Rattle.heap_model.specs.Change.{DoesChange, Does_nothing}
-use Rattle.machine.specs.Plan.{IsPlanned, CanPerform, DoesEach}
+use Rattle.machine.specs.Plan.{CanPerform, DoesEach}
 use Rattle.machine.specs.declared.plan.Write.{Write}
 use Rattle.machine.specs.declared.plan.Write.TheVariants as writes
 use Rattle.raw_heap.specs.Heap.{state_of}

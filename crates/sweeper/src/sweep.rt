@@ -1,5 +1,5 @@
 //! One step of the sweep.
-ghost use Rattle.std.specs.Prelude.{◌≡◌, ℕ, ◌+◌, ◌<◌, ◌≤◌, length, true, false};
+ghost use Rattle.std.specs.Prelude.{◌≡◌, ℕ, ◌+◌, ◌<◌, ◌≤◌, None, length, true, false};
 ghost use Rattle.heap_model.specs.declared.phase.Phase.TheVariants as phases;
 ghost use Rattle.heap_model.specs.Action.{Chain};
 ghost use Rattle.heap_model.specs.Action as actions;
@@ -14,8 +14,9 @@ use nodes::Nodes;
 use raw_heap::RawHeap;
 
 /// Looks at the next blocks of a page, as many as are left or as there is room for: a block that is held and
-/// whose colour isn't the one that means marked is freed. Where none is left, it closes the page; where all
-/// pages are closed, it ends the sweep. Each of these costs one unit. Answers the units.
+/// whose colour isn't the one that means marked is freed. Where none is left, it closes the page, and the
+/// free pages right after it for which there is room; where all pages are closed, it ends the sweep. Each of
+/// these costs one unit. Answers the units.
 pub fn sweep_next(heap: &mut RawHeap, page: u32, block: u32, room: u32) -> u32
     requires heap { IsRawHeap heap.old }
     requires phase { heap.old.phase ≡ phases.Sweeping page block }
@@ -37,10 +38,44 @@ pub fn sweep_next(heap: &mut RawHeap, page: u32, block: u32, room: u32) -> u32
         sweep_blocks(heap, page, block, count);
         return count;
     }
+    close_pages(heap, page, block, room)
+}
+
+/// Closes a page, all of whose blocks were looked at, and the free pages right after it for which there is
+/// room. Answers how many.
+fn close_pages(heap: &mut RawHeap, page: u32, block: u32, room: u32) -> u32
+    requires heap { IsRawHeap heap.old }
+    requires phase { heap.old.phase ≡ phases.Sweeping page block }
+    requires page { page < length heap.old.nodes.pages }
+    requires looked { blocks_on (page_at heap.old.nodes.pages page) ≤ block }
+    requires room { 0 < room }
+    ensures acts { Acts heap.old room heap.new result }
+    ensures grey { heap.new.grey ≡ heap.old.grey }
+{
     heap.nodes.close_page(page as usize);
-    let page = page + 1;
-    heap.go_to(1, Phase::Sweeping { page, block: 0 });
-    1
+    let first = page as usize + 1;
+    let end = heap.nodes.pages().min(page as usize + room as usize);
+    let next = free_until(&heap.nodes, first, end) as u32;
+    let place = Phase::Sweeping {
+        page: next,
+        block: 0,
+    };
+    heap.go_to(next - page, place);
+    next - page
+}
+
+/// The first page from one on, up to another, that isn't free; the other where all are.
+fn free_until(nodes: &Nodes, from: usize, end: usize) -> usize
+    requires from { from ≤ end }
+    requires within { end ≤ length nodes.now.pages }
+    ensures within { (from ≤ result) × (result ≤ end) }
+    ensures free { (k : ℕ) → from ≤ k → k < result → page_at nodes.now.pages k ≡ None }
+{
+    let mut page = from;
+    while page < end && nodes.class(page).is_none() {
+        page += 1;
+    }
+    page
 }
 
 /// Looks at so many blocks of a page, from the next one on.

@@ -1,13 +1,13 @@
 -- Lines in a buffer.
-use Rattle.std.proofs.Common.{◌≡◌, ◌≢◌, ℕ, suc, ◌+◌, ◌-◌, ◌≤◌, ◌<◌, Bool, true, false, cond, eqb, List, ◌∷◌, ◌++◌, length, take, drop, get_or, Some, None, Option, nat_lt, arith, length-take, drop-cons, get_or-take, take-take, drop-drop, add-one, ap, ◌∙◌, sym, subst, refl}
+use Rattle.std.proofs.Common.{◌≡◌, ◌≢◌, ℕ, ◌+◌, ◌-◌, ◌≤◌, ◌<◌, Bool, true, false, cond, eqb, List, ◌∷◌, ◌++◌, length, take, drop, Some, None, Option, nat_lt, arith, length-take, get_or-take, take-take, drop-drop, ap, ◌∙◌, sym, subst, refl}
 use Rattle.std.specs.Prelude.{IfSome, IsNone, position, slice_range}
 use Rattle.std.specs.List.{position_or_len}
 use Rattle.std.proofs.lemmas.Bool.{eqb-true, eq-eqb, ltb-false}
-use Rattle.std.proofs.lemmas.List.{take-append-drop, drop-take}
+use Rattle.std.proofs.lemmas.List.{drop-take}
 use Rattle.std.proofs.lemmas.List.Sums.{fails_before_first}
 use Rattle.std.proofs.lemmas.List.Quantifiers.{position-Some}
 use Rattle.trace.specs.Streams.{NoLf, IsLine, FirstLf}
-use Rattle.trace.proofs.Cuts.{whole}
+use Rattle.trace.proofs.Cuts.{whole, parted}
 
 abbrev is_lf : ℕ → Bool
 is_lf b = eqb b 10
@@ -15,11 +15,6 @@ is_lf b = eqb b 10
 -- a byte that fails the test isn't LF
 other : (b : ℕ) → eqb b 10 ≡ false → b ≢ 10
 other b not is = let t : eqb b 10 ≡ true = eq-eqb b 10 is in absurd (cc)
-
-parted : (bytes : List ℕ) (i : ℕ) → i < length bytes → get_or bytes i 0 ≡ 10 → bytes ≡ take i bytes ++ 10 ∷ drop (i + 1) bytes
-parted bytes i h here =
-    sym (take-append-drop i bytes)
-    ∙ ap (λ l. take i bytes ++ l) (drop-cons bytes i 0 h ∙ ap (λ b. b ∷ drop (suc i) bytes) here ∙ ap (λ n. 10 ∷ drop n bytes) (sym (add-one i)))
 
 first_in : (bytes : List ℕ) (i : ℕ) → position is_lf (take 257 bytes) ≡ Some i → FirstLf bytes i
 first_in bytes i e =
@@ -29,7 +24,7 @@ first_in bytes i e =
     record {
       near = omega arith;
       within = within;
-      here = parted bytes i within (sym (get_or-take 257 bytes i 0 near) ∙ eqb-true _ 10 at.1);
+      here = parted 10 bytes i within (sym (get_or-take 257 bytes i 0 near) ∙ eqb-true _ 10 at.1);
       before = λ k d h. let low : k < i = omega (arith, h, length-take i bytes) in
           let small : k < 257 = omega arith in
           other _ (ap is_lf (get_or-take i bytes k d low ∙ sym (get_or-take 257 bytes k d small)) ∙ (position-Some is_lf (take 257 bytes) i d e).2 k low);

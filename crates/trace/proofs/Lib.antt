@@ -1,6 +1,8 @@
 pub mod Cuts
 pub mod Numbers
 pub mod Exact
+pub mod Fronts
+mod Keywords
 pub mod ReadCommands
 pub mod ReadLines
 pub mod Streaming
@@ -9,4 +11,3 @@ pub mod Cutting
 pub mod ReadReplies
 pub mod ReadEntries
 pub mod GoingOver
-mod Keywords

@@ -1,8 +1,7 @@
 -- Reading a command is exact.
-use Rattle.std.proofs.Common.{◌≡◌, ℕ, ◌^◌, ◌<◌, inl, inr, true, cond, List, ◌∷◌, ◌++◌, Some, None, Option, ap, ◌∙◌, sym, refl, subst}
+use Rattle.std.proofs.Common.{◌≡◌, ℕ, ◌^◌, ◌<◌, inl, inr, true, List, ◌∷◌, ◌++◌, length, take, drop, Some, Option, ap, ◌∙◌, refl}
 use Rattle.std.specs.Prelude.{decimal, codes}
 use Rattle.std.specs.Str.{bytes_eq}
-use Rattle.std.proofs.lemmas.Slice.Eq.{bytes_eq-Decides}
 use Rattle.graph_heap.specs.declared.command.Shape.{Shape}
 use Rattle.graph_heap.specs.declared.command.Shape.TheVariants.{Plain, RefArray, WordArray}
 use Rattle.graph_heap.specs.declared.command.Command.{Command}
@@ -10,40 +9,35 @@ use Rattle.graph_heap.specs.declared.command.Command.TheVariants as commands
 use Rattle.trace.specs.declared.keyword.Keyword.{Keyword}
 use Rattle.trace.specs.declared.keyword.Keyword.TheVariants as keywords
 use Rattle.trace.specs.Spelling.{two, shape_text, keyword_text, command_text, command_line, ShapeFits, CommandFits}
-use Rattle.trace.specs.Reading.{◌>>=◌, number_in, cut_at, two_in, keyword_in, shape_in, slot_and_shape_in, arguments_in, command_in, mutator_and_command_in}
-use Rattle.trace.proofs.Keywords.{keyword_found, keyword_only}
-use Rattle.trace.proofs.Exact.{bind_parts, told, chosen, lacks, cut_at-Some, cut_at-spelled, Exact, narrow, wide, exact_number, exact_front, exact_two, exact_three, exact_four}
+use Rattle.trace.specs.Reading.{◌>>=◌, number_in, behind_in, likely_at, front_keyword_in, two_in, shape_in, slot_and_shape_in, arguments_in, command_in, mutator_and_command_in}
+use Rattle.trace.proofs.Keywords.{likely_is}
+use Rattle.trace.proofs.Exact.{bind_parts, told, chosen, behind_is, behind_in-Some, behind_in-spelled, Exact, narrow, wide, exact_number, exact_front, exact_two, exact_three, exact_four}
 
 -- a word that was recognised, and what follows it
-glued : (word rest p q : List ℕ) → bytes_eq word p ≡ true → rest ≡ q → word ++ 32 ∷ rest ≡ p ++ 32 ∷ q
-glued word rest p q e g = ap (λ l. l ++ 32 ∷ rest) ((bytes_eq-Decides word p).0 e) ∙ ap (λ l. p ++ 32 ∷ l) g
+glued : (bytes word rest : List ℕ) → bytes_eq (take (length word) bytes) word ≡ true → drop (length word) bytes ≡ rest → bytes ≡ word ++ rest
+glued bytes word rest e g = behind_is word bytes e ∙ ap (λ l. word ++ l) g
 
 abbrev SpellsShape : List ℕ → Shape → Type 0
 SpellsShape bytes s = (bytes ≡ shape_text s) × ShapeFits s
 
--- the word and what follows it are a shape
-shape_of_word : (word rest : List ℕ) (s : Shape) → (cond (bytes_eq word (codes "plain")) (two_in 32 32 rest >>= (λ n. Some (Plain n.0 n.1)))
-    (cond (bytes_eq word (codes "refs")) (number_in 32 rest >>= (λ n. Some (RefArray n))) (cond (bytes_eq word (codes "words")) (number_in 32 rest >>= (λ n. Some (WordArray n))) None))) ≡ Some s → SpellsShape (word ++ 32 ∷ rest) s
-shape_of_word word rest s e = elim (chosen (bytes_eq word (codes "plain")) _ _ s e) [
-  | inl h ↦ bind_parts (two_in 32 32 rest) _ s h.1 (λ n en e1. let t = (exact_two 32 32 narrow narrow).found rest n en in told (SpellsShape (word ++ 32 ∷ rest)) (Plain n.0 n.1) s (glued word rest (codes "plain") (two n.0 n.1) h.0 t.0, t.1) e1)
-  | inr r ↦ elim (chosen (bytes_eq word (codes "refs")) _ _ s r.1) [
-    | inl h ↦ bind_parts (number_in 32 rest) _ s h.1 (λ n en e1. let t = (exact_number 32 narrow).found rest n en in told (SpellsShape (word ++ 32 ∷ rest)) (RefArray n) s (glued word rest (codes "refs") (decimal n) h.0 t.0, t.1) e1)
-    | inr r ↦ elim (chosen (bytes_eq word (codes "words")) _ _ s r.1) [
-      | inl h ↦ bind_parts (number_in 32 rest) _ s h.1 (λ n en e1. let t = (exact_number 32 narrow).found rest n en in told (SpellsShape (word ++ 32 ∷ rest)) (WordArray n) s (glued word rest (codes "words") (decimal n) h.0 t.0, t.1) e1)
+shape_found : (bytes : List ℕ) (s : Shape) → shape_in bytes ≡ Some s → SpellsShape bytes s
+unfolding shape_in
+shape_found bytes s e = elim (chosen (bytes_eq (take 6 bytes) (codes "plain ")) _ _ s e) [
+  | inl h ↦ bind_parts (two_in 32 32 (drop 6 bytes)) _ s h.1 (λ n en e1. let t = (exact_two 32 32 narrow narrow).found (drop 6 bytes) n en in told (SpellsShape bytes) (Plain n.0 n.1) s (glued bytes (codes "plain ") (two n.0 n.1) h.0 t.0, t.1) e1)
+  | inr r ↦ elim (chosen (bytes_eq (take 5 bytes) (codes "refs ")) _ _ s r.1) [
+    | inl h ↦ bind_parts (number_in 32 (drop 5 bytes)) _ s h.1 (λ n en e1. let t = (exact_number 32 narrow).found (drop 5 bytes) n en in told (SpellsShape bytes) (RefArray n) s (glued bytes (codes "refs ") (decimal n) h.0 t.0, t.1) e1)
+    | inr r ↦ elim (chosen (bytes_eq (take 6 bytes) (codes "words ")) _ _ s r.1) [
+      | inl h ↦ bind_parts (number_in 32 (drop 6 bytes)) _ s h.1 (λ n en e1. let t = (exact_number 32 narrow).found (drop 6 bytes) n en in told (SpellsShape bytes) (WordArray n) s (glued bytes (codes "words ") (decimal n) h.0 t.0, t.1) e1)
       | inr r ↦ absurd (cc r.1)
     ]
   ]
 ]
 
-shape_found : (bytes : List ℕ) (s : Shape) → shape_in bytes ≡ Some s → SpellsShape bytes s
-unfolding shape_in
-shape_found bytes s e = bind_parts (cut_at 32 bytes) _ s e (λ c ec e1. subst (λ b. SpellsShape b s) (sym (cut_at-Some 32 bytes c ec)) (shape_of_word c.0 c.1 s e1))
-
 shape_only : (s : Shape) → ShapeFits s → shape_in (shape_text s) ≡ Some s
 unfolding shape_in
-shape_only (Plain refs words) f = rw (cut_at-spelled 32 (codes "plain") (two refs words) (lacks 32 (codes "plain") refl), (exact_two 32 32 narrow narrow).only (refs, words) f) refl
-shape_only (RefArray n) f = rw (cut_at-spelled 32 (codes "refs") (decimal n) (lacks 32 (codes "refs") refl), (exact_number 32 narrow).only n f) refl
-shape_only (WordArray n) f = rw (cut_at-spelled 32 (codes "words") (decimal n) (lacks 32 (codes "words") refl), (exact_number 32 narrow).only n f) refl
+shape_only (Plain refs words) f = rw ((exact_two 32 32 narrow narrow).only (refs, words) f) refl
+shape_only (RefArray n) f = rw ((exact_number 32 narrow).only n f) refl
+shape_only (WordArray n) f = rw ((exact_number 32 narrow).only n f) refl
 
 pub exact_shape : Exact shape_in shape_text ShapeFits
 exact_shape = record { found = shape_found; only = shape_only }
@@ -80,16 +74,19 @@ arguments_found keywords.Describe = made _ _ _ (exact_number 32 narrow) keywords
 -- a command is read again, given what reads its arguments
 again : {A : Type 0} (read : List ℕ → Option A) (text : A → List ℕ) (Fits : A → Type 0) → Exact read text Fits → (k : Keyword) (f : A → Command) → ((bytes : List ℕ) → arguments_in k bytes ≡ (read bytes >>= λ y. Some (f y)))
     → (x : A) → Fits x → command_in (keyword_text k ++ 32 ∷ text x) ≡ Some (f x)
-unfolding command_in
+unfolding command_in front_keyword_in
 again read text Fits exact k f is x h =
-    rw (cut_at-spelled 32 (keyword_text k) (text x) (keyword_only k).1, (keyword_only k).0) (is (text x) ∙ ap (λ o. o >>= λ y. Some (f y)) (exact.only x h))
+    rw (likely_is k (text x), behind_in-spelled (keyword_text k) (32 ∷ text x), behind_in-spelled (codes " ") (text x)) (is (text x) ∙ ap (λ o. o >>= λ y. Some (f y)) (exact.only x h))
 
 command_found : (bytes : List ℕ) (c : Command) → command_in bytes ≡ Some c → (bytes ≡ command_text c) × CommandFits c
-unfolding command_in
+unfolding command_in front_keyword_in
 command_found bytes c e =
-    bind_parts (cut_at 32 bytes) _ c e (λ p ep e1. bind_parts (keyword_in p.0) _ c e1 (λ k ek e2.
-    let r = arguments_found k p.1 c e2 in
-    (cut_at-Some 32 bytes p ep ∙ ap (λ w. w ++ 32 ∷ p.1) (keyword_found p.0 k ek) ∙ r.0, r.1)))
+    bind_parts (front_keyword_in bytes) _ c e (λ p ep e1.
+    bind_parts (behind_in (keyword_text (likely_at bytes)) bytes) _ p ep (λ word ew e2. bind_parts (behind_in (codes " ") word) _ p e2 (λ rest er e3.
+    let parts : bytes ≡ keyword_text (likely_at bytes) ++ 32 ∷ rest = behind_in-Some (keyword_text (likely_at bytes)) bytes word ew ∙ ap (λ l. keyword_text (likely_at bytes) ++ l) (behind_in-Some (codes " ") word rest er) in
+    let whole = told (λ (q : Keyword × List ℕ). bytes ≡ keyword_text q.0 ++ 32 ∷ q.1) (likely_at bytes, rest) p parts e3 in
+    let r = arguments_found p.0 p.1 c e1 in
+    (whole ∙ r.0, r.1))))
 
 command_only : (c : Command) → CommandFits c → command_in (command_text c) ≡ Some c
 unfolding arguments_in

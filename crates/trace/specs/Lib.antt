@@ -1,4 +1,5 @@
 pub mod Spelling
+pub mod Numbers
 pub mod Reading
 pub mod Streams
 pub mod GoneOver

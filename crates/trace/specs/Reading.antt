@@ -1,5 +1,5 @@
 -- How private functions read, as functions on lists. What is promised of reading stands in Spelling.
-use Rattle.std.specs.Prelude.{ℕ, ◌+◌, ◌-◌, ◌^◌, true, false, ◌&&◌, nat_lt, nat_le, ◌==◌, if◌then◌else◌, List, [], ◌∷◌, length, take, drop, codes, decimal, Option, Some, None, position, find}
+use Rattle.std.specs.Prelude.{ℕ, ◌+◌, ◌-◌, ◌^◌, true, false, ◌&&◌, nat_lt, nat_le, ◌==◌, if◌then◌else◌, List, [], ◌∷◌, length, take, drop, get_or, codes, decimal, Option, Some, None, position, find}
 use Rattle.std.specs.Str.{bytes_eq}
 use Rattle.std.specs.Str.Parse.{digits_value}
 use Rattle.graph_heap.specs.declared.command.Shape.{Shape}
@@ -59,31 +59,40 @@ three_in a b c = number_then a (two_in b c)
 unfoldable pub four_in : ℕ → ℕ → ℕ → ℕ → List ℕ → Option (ℕ × (ℕ × (ℕ × ℕ)))
 four_in a b c d = number_then a (three_in b c d)
 
--- the words with which commands begin
-abbrev pub all_keywords : List Keyword
-all_keywords = keywords.New ∷ keywords.Load ∷ keywords.Store ∷ keywords.CompareStore ∷ keywords.Get ∷ keywords.Put ∷ keywords.ComparePut ∷ keywords.Copy ∷ keywords.Clear ∷ keywords.LoadStatic ∷ keywords.StoreStatic ∷ keywords.CompareStatic ∷ keywords.Same ∷ keywords.Describe ∷ []
+-- the kind whose word, with a blank after it, has these bytes; of others it is some kind
+unfoldable pub likely_keyword : ℕ → ℕ → ℕ → ℕ → ℕ → Keyword
+likely_keyword first second fourth fifth sixth =
+    if first == 110 then keywords.New else
+    if first == 103 then keywords.Get else
+    if first == 112 then keywords.Put else
+    if first == 100 then keywords.Describe else
+    if first == 108 then (if fifth == 32 then keywords.Load else keywords.LoadStatic) else
+    if first == 115 then (if second == 97 then keywords.Same else if sixth == 32 then keywords.Store else keywords.StoreStatic) else
+    if second == 111 then keywords.Copy else
+    if second == 108 then keywords.Clear else
+    if fourth == 32 then keywords.CompareStore else
+    if fourth == 112 then keywords.ComparePut else keywords.CompareStatic
 
--- the kind whose word has so many bytes, and this one in front; of others it is some kind
-unfoldable pub likely_keyword : ℕ → ℕ → Keyword
-likely_keyword length first =
-    if length == 3 then (if first == 110 then keywords.New else if first == 103 then keywords.Get else if first == 112 then keywords.Put else keywords.CompareStore) else
-    if length == 4 then (if first == 108 then keywords.Load else if first == 115 then keywords.Same else keywords.Copy) else
-    if length == 5 then (if first == 115 then keywords.Store else keywords.Clear) else
-    if length == 6 then keywords.ComparePut else
-    if length == 8 then keywords.Describe else
-    if length == 9 then keywords.CompareStatic else
-    if length == 10 then keywords.LoadStatic else keywords.StoreStatic
+-- what stands after a word at the front
+unfoldable pub behind_in : List ℕ → List ℕ → Option (List ℕ)
+behind_in word bytes = if bytes_eq (take (length word) bytes) word then Some (drop (length word) bytes) else None
 
--- the kind that a word names
-unfoldable pub keyword_in : List ℕ → Option Keyword
-keyword_in word = find (λ k. bytes_eq word (keyword_text k)) all_keywords
+-- the kind whose word is at the front, and what stands after it and a blank
+abbrev pub likely_at : List ℕ → Keyword
+likely_at bytes = likely_keyword (get_or bytes 0 0) (get_or bytes 1 0) (get_or bytes 3 0) (get_or bytes 4 0) (get_or bytes 5 0)
+
+unfoldable pub front_keyword_in : List ℕ → Option (Keyword × List ℕ)
+front_keyword_in bytes = do
+  word ← behind_in (keyword_text (likely_at bytes)) bytes
+  rest ← behind_in (codes " ") word
+  Some (likely_at bytes, rest)
 
 -- a shape
 unfoldable pub shape_in : List ℕ → Option Shape
-shape_in bytes = cut_at 32 bytes >>= λ c.
-    if bytes_eq c.0 (codes "plain") then two_in 32 32 c.1 >>= (λ n. Some (Plain n.0 n.1)) else
-    if bytes_eq c.0 (codes "refs") then number_in 32 c.1 >>= (λ n. Some (RefArray n)) else
-    if bytes_eq c.0 (codes "words") then number_in 32 c.1 >>= (λ n. Some (WordArray n)) else None
+shape_in bytes =
+    if bytes_eq (take 6 bytes) (codes "plain ") then two_in 32 32 (drop 6 bytes) >>= (λ n. Some (Plain n.0 n.1)) else
+    if bytes_eq (take 5 bytes) (codes "refs ") then number_in 32 (drop 5 bytes) >>= (λ n. Some (RefArray n)) else
+    if bytes_eq (take 6 bytes) (codes "words ") then number_in 32 (drop 6 bytes) >>= (λ n. Some (WordArray n)) else None
 
 -- a slot and a shape
 unfoldable pub slot_and_shape_in : List ℕ → Option (ℕ × Shape)
@@ -109,9 +118,8 @@ arguments_in keywords.Describe bytes = number_in 32 bytes >>= λ n. Some (comman
 -- a command
 unfoldable pub command_in : List ℕ → Option Command
 command_in bytes = do
-  c ← cut_at 32 bytes
-  k ← keyword_in c.0
-  arguments_in k c.1
+  c ← front_keyword_in bytes
+  arguments_in c.0 c.1
 
 -- a command of a mutator
 unfoldable pub mutator_and_command_in : List ℕ → Option (ℕ × Command)
@@ -176,19 +184,16 @@ reply_in bytes =
     if bytes_eq bytes (codes "is yes") then Some (replies.Is true) else
     if bytes_eq bytes (codes "is no") then Some (replies.Is false) else long_reply_in bytes
 
--- what stands before the blank at the end, and after "> " at the front
+-- what stands before the blank at the end
 unfoldable pub before_blank_in : List ℕ → Option (List ℕ)
 before_blank_in bytes = if bytes_eq (drop (length bytes - 1) bytes) (codes " ") then Some (take (length bytes - 1) bytes) else None
-
-unfoldable pub behind_point_in : List ℕ → Option (List ℕ)
-behind_point_in bytes = if bytes_eq (take 2 bytes) (codes "> ") then Some (drop 2 bytes) else None
 
 -- what stands before the arrow " => ", and after it
 unfoldable pub arrow_in : List ℕ → Option (List ℕ × List ℕ)
 arrow_in bytes = do
   c ← cut_at 61 bytes
   front ← before_blank_in c.0
-  back ← behind_point_in c.1
+  back ← behind_in (codes "> ") c.1
   Some (front, back)
 
 -- an entry

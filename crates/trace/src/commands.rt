@@ -2,7 +2,7 @@
 ghost use Rattle.std.specs.Prelude.{◌≡◌};
 ghost use Rattle.trace.specs.Reading.{shape_in, slot_and_shape_in, arguments_in, command_in, mutator_and_command_in};
 
-use crate::field::{cut, field, four, number, numbers_and_word, numbers_and_words, three, two};
+use crate::field::{field, four, number, numbers_and_word, numbers_and_words, three, two};
 use crate::keyword::Keyword;
 use graph_heap::{Command, Shape};
 
@@ -11,14 +11,13 @@ use graph_heap::{Command, Shape};
 pub(crate) fn shape(bytes: &[u8]) -> Option<Shape>
     ensures { result ≡ shape_in bytes.now }
 {
-    let (word, rest) = cut(b' ', bytes)?;
-    if word == b"plain".as_slice() {
+    if let Some(rest) = bytes.strip_prefix(b"plain ".as_slice()) {
         let (refs, words) = two(rest)?;
         Some(Shape::Plain { refs, words })
-    } else if word == b"refs".as_slice() {
+    } else if let Some(rest) = bytes.strip_prefix(b"refs ".as_slice()) {
         let n = number(rest)?;
         Some(Shape::RefArray(n))
-    } else if word == b"words".as_slice() {
+    } else if let Some(rest) = bytes.strip_prefix(b"words ".as_slice()) {
         let n = number(rest)?;
         Some(Shape::WordArray(n))
     } else {
@@ -84,8 +83,7 @@ fn arguments(keyword: Keyword, bytes: &[u8]) -> Option<Command>
 fn command(bytes: &[u8]) -> Option<Command>
     ensures { result ≡ command_in bytes.now }
 {
-    let (word, rest) = cut(b' ', bytes)?;
-    let keyword = Keyword::of(word)?;
+    let (keyword, rest) = Keyword::front(bytes)?;
     arguments(keyword, rest)
 }
 

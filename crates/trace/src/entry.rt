@@ -2,10 +2,10 @@
 ghost use Rattle.std.specs.Prelude.{◌≡◌, IfSome, option_map};
 ghost use Rattle.trace.specs.declared.entry.EntryLine.{EntryLine};
 ghost use Rattle.trace.specs.Spelling.{SpellsEntry};
-ghost use Rattle.trace.specs.Reading.{before_blank_in, behind_point_in, arrow_in, entry_in, entry_line_in};
+ghost use Rattle.trace.specs.Reading.{before_blank_in, arrow_in, entry_in, entry_line_in};
 
 use crate::commands::mutator_and_command;
-use crate::field::cut;
+use crate::field::{behind, cut};
 use crate::line::is_skipped;
 use crate::replies::reply;
 use graph_heap::Entry;
@@ -27,14 +27,6 @@ fn before_blank(bytes: &[u8]) -> Option<&[u8]>
     bytes.strip_suffix(b" ".as_slice())
 }
 
-/// What stands after `> ` at the front.
-#[tactic(auto, unfolding(crate::specs::Reading::behind_point_in))]
-fn behind_point(bytes: &[u8]) -> Option<&[u8]>
-    ensures { option_map (λ b. b.now) result ≡ behind_point_in bytes.now }
-{
-    bytes.strip_prefix(b"> ".as_slice())
-}
-
 /// What stands before the arrow ` => `, and after it.
 #[tactic(auto, unfolding(crate::specs::Reading::arrow_in))]
 fn arrow(bytes: &[u8]) -> Option<(&[u8], &[u8])>
@@ -42,7 +34,7 @@ fn arrow(bytes: &[u8]) -> Option<(&[u8], &[u8])>
 {
     let (front, back) = cut(b'=', bytes)?;
     let front = before_blank(front)?;
-    let back = behind_point(back)?;
+    let back = behind(b"> ", back)?;
     Some((front, back))
 }
 

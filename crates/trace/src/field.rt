@@ -1,34 +1,79 @@
 //! Numbers in decimal, parted by blanks.
-ghost use Rattle.std.specs.Prelude.{◌≡◌, ◌<◌, ◌^◌, ◌==◌, option_map, position};
-ghost use Rattle.std.specs.Option.{SomeIff};
-ghost use Rattle.std.specs.Str.Parse.{IsNumeral, digits_value};
-ghost use Rattle.trace.specs.Reading.{number_in, cut_at, field_in, two_in, three_in, four_in};
+ghost use Rattle.std.specs.Prelude.{◌≡◌, ℕ, ◌<◌, ◌≤◌, ◌^◌, ◌==◌, List, ◌++◌, Some, IfSome, decimal, length, option_map, position};
+ghost use Rattle.trace.specs.Numbers.{Row, NoDigitAt, Fronts};
+ghost use Rattle.trace.specs.Reading.{number_in, cut_at, behind_in, field_in, two_in, three_in, four_in};
 
-/// The number that a row of one digit or more writes, if it is below 2^64.
-fn digits(bytes: &[u8]) -> Option<u64>
-    ensures { SomeIff result (IsNumeral 10 bytes.now × (digits_value 10 bytes.now < 2 ^ 64)) (digits_value 10 bytes.now) }
+/// How many digits a number has, at least, where it may be 2^64 or more.
+const LONG: usize = 19;
+
+/// The digits at the front, up to 19: the number that they write, and how many they are.
+fn front_digits(bytes: &[u8]) -> (u64, usize)
+    ensures row { Row bytes.now result.0 result.1 }
+    ensures most { result.1 ≤ 19 }
+    ensures end { result.1 < 19 → NoDigitAt bytes.now result.1 }
 {
-    if bytes.is_empty() {
+    let end = bytes.len().min(LONG);
+    let mut n = 0u64;
+    let mut at = 0;
+    while at < end {
+        if !bytes[at].is_ascii_digit() {
+            return (n, at);
+        }
+        n = n * 10 + u64::from(bytes[at] - b'0');
+        at += 1;
+    }
+    (n, at)
+}
+
+/// The number at the front, of which 19 digits are read.
+#[cold]
+fn long_number(bytes: &[u8], n: u64) -> Option<(u64, usize)>
+    requires { Row bytes.now n 19 }
+    ensures found { IfSome result (λ f. Fronts bytes.now f.0 f.1) }
+    ensures only { (m : ℕ) (rest : List ℕ) → m < 2 ^ 64 → bytes.now ≡ decimal m ++ rest → NoDigitAt rest 0 → result ≡ Some (m, length (decimal m)) }
+{
+    if bytes[0] == b'0' {
         return None;
     }
-    let mut n = 0u64;
-    for byte in bytes {
-        if !byte.is_ascii_digit() {
-            return None;
-        }
-        n = n.checked_mul(10)?.checked_add(u64::from(*byte - b'0'))?;
+    if bytes.len() == LONG || !bytes[LONG].is_ascii_digit() {
+        return Some((n, LONG));
     }
-    Some(n)
+    if bytes.len() > LONG + 1 && bytes[LONG + 1].is_ascii_digit() {
+        return None;
+    }
+    let n = n
+        .checked_mul(10)?
+        .checked_add(u64::from(bytes[LONG] - b'0'))?;
+    Some((n, LONG + 1))
+}
+
+/// The number at the front, and how many digits it has. No digit follows it.
+#[inline(never)]
+fn front_number(bytes: &[u8]) -> Option<(u64, usize)>
+    // What is read stands at the front, as it is spelled.
+    ensures found { IfSome result (λ f. Fronts bytes.now f.0 f.1) }
+    // What is spelled there is read.
+    ensures only { (m : ℕ) (rest : List ℕ) → m < 2 ^ 64 → bytes.now ≡ decimal m ++ rest → NoDigitAt rest 0 → result ≡ Some (m, length (decimal m)) }
+{
+    let (n, count) = front_digits(bytes);
+    if count == LONG {
+        return long_number(bytes, n);
+    }
+    if count == 0 {
+        return None;
+    }
+    if count > 1 && bytes[0] == b'0' {
+        return None;
+    }
+    Some((n, count))
 }
 
 /// The word that the bytes spell.
 pub(crate) fn word(bytes: &[u8]) -> Option<u64>
     ensures { result ≡ number_in 64 bytes.now }
 {
-    match bytes {
-        [b'0', _, ..] => None,
-        _ => digits(bytes),
-    }
+    let (w, count) = front_number(bytes)?;
+    if count == bytes.len() { Some(w) } else { None }
 }
 
 /// The number that the bytes spell.
@@ -56,24 +101,38 @@ pub(crate) fn cut(byte: u8, bytes: &[u8]) -> Option<(&[u8], &[u8])>
     Some((&bytes[..i], &bytes[i + 1..]))
 }
 
+/// What stands after a word at the front.
+#[tactic(auto, unfolding(crate::specs::Reading::behind_in))]
+pub(crate) fn behind<'a>(word: &[u8], bytes: &'a [u8]) -> Option<&'a [u8]>
+    ensures { option_map (λ b. b.now) result ≡ behind_in word.now bytes.now }
+{
+    bytes.strip_prefix(word)
+}
+
+/// The word before the first blank, and what stands after that.
+#[tactic(auto, using(crate::proofs::Cuts::rest_of))]
+pub(crate) fn word_field(bytes: &[u8]) -> Option<(u64, &[u8])>
+    ensures { option_map (λ c. (c.0, c.1.now)) result ≡ field_in 64 bytes.now }
+{
+    let (w, count) = front_number(bytes)?;
+    if count < bytes.len() && bytes[count] == b' ' {
+        Some((w, &bytes[count + 1..]))
+    } else {
+        None
+    }
+}
+
 /// The number before the first blank, and what stands after that.
 #[tactic(auto, unfolding(crate::specs::Reading::field_in))]
 pub(crate) fn field(bytes: &[u8]) -> Option<(u32, &[u8])>
     ensures { option_map (λ c. (c.0, c.1.now)) result ≡ field_in 32 bytes.now }
 {
-    let (first, rest) = cut(b' ', bytes)?;
-    let n = number(first)?;
-    Some((n, rest))
-}
-
-/// The word before the first blank, and what stands after that.
-#[tactic(auto, unfolding(crate::specs::Reading::field_in))]
-pub(crate) fn word_field(bytes: &[u8]) -> Option<(u64, &[u8])>
-    ensures { option_map (λ c. (c.0, c.1.now)) result ≡ field_in 64 bytes.now }
-{
-    let (first, rest) = cut(b' ', bytes)?;
-    let w = word(first)?;
-    Some((w, rest))
+    let (w, rest) = word_field(bytes)?;
+    if w < 4294967296 {
+        Some((w as u32, rest))
+    } else {
+        None
+    }
 }
 
 /// Two numbers.

@@ -1,7 +1,9 @@
 //! The words with which commands begin.
-ghost use Rattle.std.specs.Prelude.{◌≡◌, get_or};
+ghost use Rattle.std.specs.Prelude.{◌≡◌, get_or, option_map};
 ghost use Rattle.trace.specs.Spelling.{keyword_text};
-ghost use Rattle.trace.specs.Reading.{keyword_in, likely_keyword};
+ghost use Rattle.trace.specs.Reading.{front_keyword_in, likely_keyword};
+
+use crate::field::behind;
 
 /// The kind of a command.
 #[derive(Clone, Copy, Debug, PartialEq, Eq)]
@@ -22,14 +24,11 @@ pub(crate) enum Keyword {
     Describe,
 }
 
-/// The byte in front, or 0 where there is none.
-fn front(word: &[u8]) -> u8
-    ensures { result ≡ get_or word.now 0 0 }
+/// The byte at a place, or 0 where there is none.
+fn byte(bytes: &[u8], i: usize) -> u8
+    ensures { result ≡ get_or bytes.now i 0 }
 {
-    match word {
-        [first, ..] => *first,
-        [] => 0,
-    }
+    if i < bytes.len() { bytes[i] } else { 0 }
 }
 
 impl Keyword {
@@ -55,38 +54,43 @@ impl Keyword {
         }
     }
 
-    /// The kind whose word has as many bytes, and the same one in front. Of other words it is some kind.
+    /// The kind whose word, with a blank after it, has these bytes. Of other bytes it is some kind.
     #[tactic(auto, unfolding(crate::specs::Reading::likely_keyword))]
-    fn likely(length: usize, first: u8) -> Keyword
-        ensures { result ≡ likely_keyword length first }
+    fn likely(first: u8, second: u8, fourth: u8, fifth: u8, sixth: u8) -> Keyword
+        ensures { result ≡ likely_keyword first second fourth fifth sixth }
     {
-        match (length, first) {
-            (3, b'n') => Keyword::New,
-            (3, b'g') => Keyword::Get,
-            (3, b'p') => Keyword::Put,
-            (3, _) => Keyword::CompareStore,
-            (4, b'l') => Keyword::Load,
-            (4, b's') => Keyword::Same,
-            (4, _) => Keyword::Copy,
-            (5, b's') => Keyword::Store,
-            (5, _) => Keyword::Clear,
-            (6, _) => Keyword::ComparePut,
-            (8, _) => Keyword::Describe,
-            (9, _) => Keyword::CompareStatic,
-            (10, _) => Keyword::LoadStatic,
-            _ => Keyword::StoreStatic,
+        match (first, second, fourth, fifth, sixth) {
+            (b'n', _, _, _, _) => Keyword::New,
+            (b'g', _, _, _, _) => Keyword::Get,
+            (b'p', _, _, _, _) => Keyword::Put,
+            (b'd', _, _, _, _) => Keyword::Describe,
+            (b'l', _, _, b' ', _) => Keyword::Load,
+            (b'l', _, _, _, _) => Keyword::LoadStatic,
+            (b's', b'a', _, _, _) => Keyword::Same,
+            (b's', _, _, _, b' ') => Keyword::Store,
+            (b's', _, _, _, _) => Keyword::StoreStatic,
+            (_, b'o', _, _, _) => Keyword::Copy,
+            (_, b'l', _, _, _) => Keyword::Clear,
+            (_, _, b' ', _, _) => Keyword::CompareStore,
+            (_, _, b'p', _, _) => Keyword::ComparePut,
+            _ => Keyword::CompareStatic,
         }
     }
 
-    /// The kind that a word names.
-    pub(crate) fn of(word: &[u8]) -> Option<Keyword>
-        ensures { result ≡ keyword_in word.now }
+    /// The kind whose word the bytes begin with, and what stands after it and a blank.
+    #[tactic(auto, unfolding(crate::specs::Reading::front_keyword_in))]
+    pub(crate) fn front(bytes: &[u8]) -> Option<(Keyword, &[u8])>
+        ensures { option_map (λ c. (c.0, c.1.now)) result ≡ front_keyword_in bytes.now }
     {
-        let likely = Keyword::likely(word.len(), front(word));
-        if word == likely.text() {
-            Some(likely)
-        } else {
-            None
-        }
+        let likely = Keyword::likely(
+            byte(bytes, 0),
+            byte(bytes, 1),
+            byte(bytes, 3),
+            byte(bytes, 4),
+            byte(bytes, 5),
+        );
+        let rest = behind(likely.text(), bytes)?;
+        let rest = behind(b" ", rest)?;
+        Some((likely, rest))
     }
 }

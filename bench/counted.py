@@ -58,7 +58,16 @@ def write_workloads(folder, lines, pages=None):
     return made
 
 
-def for_each_line(program, folder, lines, pages=None):
-    """Instructions for each line of the four workloads."""
+def beginning(program, folder, pages):
+    """The words of a run on so many pages that has nothing to do."""
+    with open(f"{folder}/config", "w", encoding="utf-8") as it:
+        it.write(f"pages = {pages}\nmutators = 1\nslots = 1\n")
+    return [program, "play", f"{folder}/config", os.devnull]
+
+
+def for_each_line(program, folder, lines, pages, measure):
+    """What a measure finds for each line of the four workloads. What a run costs that has nothing to do is taken off
+    where the number of pages is given."""
     made = write_workloads(folder, lines, pages)
-    return {kind: instructions([program, *words]) / count for kind, (words, count) in made.items()}
+    first = measure(beginning(program, folder, pages)) if pages else 0
+    return {kind: (measure([program, *words]) - first) / count for kind, (words, count) in made.items()}

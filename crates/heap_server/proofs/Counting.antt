@@ -4,16 +4,19 @@ use Rattle.std.proofs.lemmas.List.{length-map, map-append}
 use Rattle.heap_server.specs.Views.{SeatView}
 use Rattle.heap_server.specs.Seats.{new_seats, upto, mutators_of}
 
-upto-length : (n : ℕ) → length (upto n) ≡ n
+pub upto-length : (n : ℕ) → length (upto n) ≡ n
 upto-length zero = refl
 upto-length (suc n) = omega (arith, upto-length n, length-append (upto n) (n ∷ []))
 
+pub mutators-length : (seats : List SeatView) → length (mutators_of seats) ≡ length seats
+mutators-length seats = length-map seats (λ (s : SeatView). s.mutator)
+
 pub seats_count : (seats : List SeatView) (n : ℕ) → mutators_of seats ≡ upto n → length seats ≡ n
-seats_count seats n all = sym (length-map seats (λ (s : SeatView). s.mutator)) ∙ (ap length all ∙ upto-length n)
+seats_count seats n all = sym (mutators-length seats) ∙ (ap length all ∙ upto-length n)
 
 pub mutators_of-new : (n : ℕ) → mutators_of (new_seats n) ≡ upto n
 mutators_of-new zero = refl
-mutators_of-new (suc n) = map-append (λ (s : SeatView). s.mutator) (new_seats n) (record { mutator = n; calls = 0 } ∷ []) ∙ ap (λ (ms : List ℕ). ms ++ n ∷ []) (mutators_of-new n)
+mutators_of-new (suc n) = map-append (λ (s : SeatView). s.mutator) (new_seats n) (record { mutator = n; calls = 0; seen = [] } ∷ []) ∙ ap (λ (ms : List ℕ). ms ++ n ∷ []) (mutators_of-new n)
 
 -- another seat of the same mutator
 pub mutators_of-set : (seats : List SeatView) (i : ℕ) (s d : SeatView) → s.mutator ≡ (slice_index_or seats i d).mutator → mutators_of (slice_set seats i s) ≡ mutators_of seats

@@ -1,5 +1,11 @@
+pub mod Fronts
+pub mod Mine
+pub mod Adding
 pub mod Turning
 pub mod Keeping
 pub mod Counting
+pub mod Closing
+pub mod Parts
+pub mod Fronted
 pub mod Settling
 pub mod Collecting

@@ -1,26 +1,49 @@
 -- What the workers of a play did.
-use Rattle.std.specs.Prelude.{ℕ, ◌≡◌, ◌↔◌, ◌<◌, ◌≤◌, true, List, length, map, take, drop, All, sum, slice_index}
+use Rattle.std.specs.Prelude.{ℕ, ◌≡◌, ◌↔◌, ◌<◌, ◌≤◌, ◌⊎◌, true, false, List, [], ◌∷◌, length, map, take, drop, All, sum, slice_index, slice_index_or}
 use Rattle.std.specs.List.{AllZip}
 use Rattle.graph_heap.specs.declared.command.Command.{Command}
+use Rattle.graph_heap.specs.declared.command.Entry.{Entry}
 use Rattle.heap_model.specs.Event.{IsBudget}
 use Rattle.heap_model.specs.Led.{IsLed}
 use Rattle.heap_model.specs.Settings.{HeapSettings}
 use Rattle.heap_server.specs.Views.{SeatView}
 use Rattle.heap_server.specs.Seats.{mutators_of, upto}
+use Rattle.heap_server.specs.Seen.{mine, commands_of}
 use Rattle.heap_server.specs.Kept.{IsSound}
 use Rattle.heap_server.specs.declared.play.Outcome.{Outcome}
 
--- for the mutator of a seat that has made no call, at most so many were made as the script has commands
+-- Of each mutator the history has the first so many commands of its script, in their order, and of a mutator
+-- without a script none.
+abbrev pub HasFronts : List Entry → List (List Command) → List ℕ → Type 0
+HasFronts h scripts done = (m : ℕ) → commands_of (mine h m) ≡ take (slice_index done m) (slice_index_or scripts m [])
+
+-- Of each mutator the history has just its script, in its order: it is a merge of the scripts.
+abbrev pub IsMerge : List Entry → List (List Command) → Type 0
+IsMerge h scripts = (m : ℕ) → commands_of (mine h m) ≡ slice_index_or scripts m []
+
+-- the first list is the second one with some left out
+abbrev pub IsPart : List Command → List Command → Type 0
+IsPart [] ys = Unit {0}
+IsPart (x ∷ xs) [] = ⊥
+IsPart (x ∷ xs) (y ∷ ys) = ((x ≡ y) × IsPart xs ys) ⊎ IsPart (x ∷ xs) ys
+
+-- from a seat as many calls were made as the first so many commands of its script, and it was told of these
+pub record HasPlayed (s : SeatView) (script : List Command) : Type 0 where
+  pub within : s.calls ≤ length script
+  pub told : IsPart (take s.calls script) (commands_of (mine s.seen s.mutator))
+
+-- the same, of the seat of a mutator that had made no call
 pub record IsPlayed (script : List Command) (old new : SeatView) : Type 0 where
   pub mutator : new.mutator ≡ old.mutator
   pub within : new.calls ≤ length script
+  pub told : IsPart (take new.calls script) (commands_of (mine new.seen new.mutator))
 
--- The seats of so many mutators, in rising order, after scripts of these lengths: from each of the first seats at
--- most so many calls were made as its script is long, and from the others none.
-pub record HavePlayed (mutators : ℕ) (lengths : List ℕ) (seats : List SeatView) : Type 0 where
+-- The seats of so many mutators, in rising order, after these scripts: each of the first seats has played its
+-- script, or the first commands of it, and from the others no call was made.
+pub record HavePlayed (mutators : ℕ) (scripts : List (List Command)) (seats : List SeatView) : Type 0 where
   pub all : mutators_of seats ≡ upto mutators
-  pub within : AllZip (λ n most. n ≤ most) (map (λ s. s.calls) (take (length lengths) seats)) lengths
-  pub rest : All (λ s. s.calls ≡ 0) (drop (length lengths) seats)
+  pub played : AllZip HasPlayed (take (length scripts) seats) scripts
+  pub rest : All (λ s. s.calls ≡ 0) (drop (length scripts) seats)
 
 -- Budgets were used, all up to the first that no quantum may have: at least one unit of each was spent, and
 -- no more than all. For each budget at most one cycle was begun.
@@ -32,13 +55,17 @@ pub record IsCollected (budgets : List ℕ) (used cycles units : ℕ) : Type 0 w
   pub least : used ≤ units
   pub most : units ≤ sum (take used budgets)
 
--- What came of scripts of these lengths and of budgets, at a new heap of these settings: it is sound; each entry
--- of its history is counted once, as one that a script has done; of no script more is done than it has; and
--- the cycles and units that led to the heap are those of the budgets used. All is done where nothing is left.
-pub record IsOutcome (settings : HeapSettings) (lengths budgets : List ℕ) (o : Outcome) : Type 0 where
+-- What came of scripts and budgets, at a new heap of these settings: it is sound; each entry of its history is
+-- counted once, as one that a script has done; of no script more is done than it has; where the place word isn't
+-- torn, what was done is the fronts of the scripts; and the cycles and units that led to the heap are those of the
+-- budgets used. All is done where nothing is left and the word isn't torn, and then the history is a merge of the
+-- scripts.
+pub record IsOutcome (settings : HeapSettings) (scripts : List (List Command)) (budgets : List ℕ) (o : Outcome) : Type 0 where
   pub sound : IsSound settings o.recorded.course
   pub counted : length o.recorded.course.history ≡ sum o.done.items
-  pub within : AllZip (λ n most. n ≤ most) o.done.items lengths
+  pub within : AllZip (λ n most. n ≤ most) o.done.items (map length scripts)
+  pub fronts : o.torn ≡ false → HasFronts o.recorded.course.history scripts o.done.items
   pub led : IsLed o.recorded.course o.tally.begun o.tally.spent
   pub collected : IsCollected budgets o.used o.tally.begun o.tally.spent
-  pub all : o.all ≡ true ↔ (o.done.items ≡ lengths) × (o.used ≡ length budgets)
+  pub all : o.all ≡ true ↔ (o.torn ≡ false) × (o.done.items ≡ map length scripts) × (o.used ≡ length budgets)
+  pub merge : o.all ≡ true → IsMerge o.recorded.course.history scripts

@@ -2,10 +2,10 @@
 use Rattle.std.specs.Prelude.{ℕ, zero, suc, List, [], ◌∷◌, ◌++◌, map}
 use Rattle.heap_server.specs.Views.{SeatView}
 
--- a seat for each of n mutators, which has made no call
+-- a seat for each of n mutators, which has made no call and seen nothing
 abbrev pub new_seats : ℕ → List SeatView
 new_seats zero = []
-new_seats (suc n) = new_seats n ++ record { mutator = n; calls = 0 } ∷ []
+new_seats (suc n) = new_seats n ++ record { mutator = n; calls = 0; seen = [] } ∷ []
 
 -- the numbers below n, in rising order
 abbrev pub upto : ℕ → List ℕ

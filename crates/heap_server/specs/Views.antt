@@ -1,12 +1,14 @@
 -- What a seat, the pacer and the locked state show.
-use Rattle.std.specs.Prelude.{ℕ}
+use Rattle.std.specs.Prelude.{ℕ, List}
+use Rattle.graph_heap.specs.declared.command.Entry.{Entry}
 use Rattle.heap_model.specs.Event.{Course}
 use Rattle.heap_server.specs.declared.locked.Locked.TheInside.{Inside}
 
--- a seat's mutator, and how many calls it has made
+-- a seat's mutator, how many calls it has made, and what it has seen of the running history
 pub record SeatView : Type 0 where
   pub mutator : ℕ
   pub calls : ℕ
+  pub seen : List Entry
 
 -- how many cycles the pacer has begun and seen end, and the units that it has spent
 pub record PacerView : Type 0 where
@@ -14,7 +16,7 @@ pub record PacerView : Type 0 where
   pub ended : ℕ
   pub spent : ℕ
 
--- The locked heap with its history, for how many more entries there is memory, and the totals of the four
+-- The locked heap with its history, for how many more entries memory is kept ready, and the totals of the four
 -- books: calls made, cycles begun, cycles ended, units spent.
 pub record LockedView : Type 0 where
   pub course : Course
@@ -25,7 +27,7 @@ pub record LockedView : Type 0 where
   pub spent : ℕ
 
 abbrev pub locked_of : {N : Type 0} → Inside N → LockedView
-locked_of l = record { course = l.recorded.course; room = l.recorded.room; calls = l.calls.total; begun = l.begun.total; ended = l.ended.total; spent = l.units.total }
+locked_of l = record { course = l.recorded.course; room = l.ready; calls = l.calls.total; begun = l.begun.total; ended = l.ended.total; spent = l.units.total }
 
 -- what the pacer shows where its numbers are the totals of the books
 abbrev pub pacer_of : LockedView → PacerView

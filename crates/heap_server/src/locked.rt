@@ -1,36 +1,46 @@
 //! What lies under the lock, and the calls that are done while it is held.
-ghost use Rattle.std.specs.Prelude.{◌≡◌, ◌≢◌, ◌↔◌, ◌+◌, ◌<◌, ◌≤◌, length, IfOk, IsOk, OnErr, OnOk};
+ghost use Rattle.std.specs.Prelude.{◌≡◌, ◌≢◌, ◌↔◌, ◌+◌, ◌<◌, ◌≤◌, length, IfErr, IfOk, IsOk, OnErr, OnOk};
+ghost use mathlib.Core.List.{IsPrefix};
+ghost use Rattle.graph_heap.specs.Graph.{opening};
+ghost use Rattle.graph_heap.specs.History.{IsLegal};
 ghost use Rattle.heap_model.specs.Event.{Does, IsBudget};
 ghost use Rattle.heap_model.specs.Event as done;
 ghost use Rattle.machine.specs.Recorded.{begin_done, quantum_done};
 ghost use Rattle.heap_server.specs.Views.{pacer_of};
 ghost use Rattle.heap_server.specs.Kept.{cycles_on};
 ghost use Rattle.heap_server.specs.Paced.{IsPaced};
+ghost use Rattle.heap_server.specs.Seen.{Extends, FaultTells};
+ghost use Rattle.heap_server.specs.declared.fault.ServerFault.TheVariants as faults;
 
+use crate::fault::ServerFault;
 use crate::naming::{Begun, Calls, Ended, Naming, Units};
+use crate::place::{Front, Next, Place};
 use graph_heap::{Command, NoMemory};
 use heap_model::phase::Phase;
 use machine::{BudgetOutOfRange, Busy, Receipt, Recorded, Spent};
 use std::marker::Model;
 use std::sync::ledger::{Book, Share};
 
-/// A mutator's place at a server. Contracts see the mutator's number and how many calls the seat has made.
+/// A mutator's place at a server. Contracts see the mutator's number, how many calls the seat has made, and what it
+/// has seen of the running history: no fewer entries of its mutator than it has made calls.
 #[derive(Drop)]
 pub struct Seat<N: Naming> {
     pub(crate) mutator: u32,
     pub(crate) made: u64,
     pub(crate) calls: Share<Calls<N>>,
+    pub(crate) front: Front<N>,
 }
 
 impl<N: Naming> Model for Seat<N> {
-    ghost use Rattle.std.specs.Prelude.{◌≡◌};
+    ghost use Rattle.std.specs.Prelude.{◌≡◌, ◌≤◌, length};
+    ghost use Rattle.heap_server.specs.Seen.{mine};
     ghost use Rattle.heap_server.specs.Views.{SeatView};
 
     ghost Value = { SeatView };
 
-    ghost view = { λ s. record { mutator = s.mutator; calls = s.calls.amount } };
+    ghost view = { λ s. record { mutator = s.mutator; calls = s.calls.amount; seen = s.front } };
 
-    ghost invariant = { λ s. (s.calls.parts ≡ 1) × (s.calls.amount ≡ s.made) };
+    ghost invariant = { λ s. (s.calls.parts ≡ 1) × (s.calls.amount ≡ s.made) × (s.calls.amount ≤ length (mine s.front s.mutator)) };
 }
 
 impl<N: Naming> Seat<N> {
@@ -69,12 +79,15 @@ impl<N: Naming> Model for Pacer<N> {
     ghost invariant = { λ p. (p.begun.parts ≡ 1) × (p.ended.parts ≡ 1) × (p.units.parts ≡ 1) };
 }
 
-/// What lies under the lock: a heap with its history, and the books of calls made, cycles begun, cycles
-/// ended and units spent. The history is always legal, the heap agrees with the graph heap to which it
-/// leads, and the books count the events that led there.
+/// What lies under the lock: a heap with its history, for how many more entries memory is kept ready, and the
+/// books of calls made, cycles begun, cycles ended and units spent. The history is always legal and a beginning
+/// of the log that the place word counts, the heap agrees with the graph heap to which it leads, and the books
+/// count the events that led there.
 #[derive(Drop)]
 pub struct Locked<N: Naming> {
     pub(crate) recorded: Recorded,
+    pub(crate) ready: usize,
+    pub(crate) front: Front<N>,
     pub(crate) calls: Book<Calls<N>>,
     pub(crate) begun: Book<Begun<N>>,
     pub(crate) ended: Book<Ended<N>>,
@@ -82,6 +95,7 @@ pub struct Locked<N: Naming> {
 }
 
 impl<N: Naming> Model for Locked<N> {
+    ghost use Rattle.std.specs.Prelude.{◌≡◌, ◌≤◌};
     ghost use Rattle.heap_server.specs.Views.{LockedView, locked_of};
     ghost use Rattle.heap_server.specs.Kept.{IsKept};
 
@@ -89,7 +103,7 @@ impl<N: Naming> Model for Locked<N> {
 
     ghost view = { locked_of };
 
-    ghost invariant = { λ l. IsKept N.settings (locked_of l) };
+    ghost invariant = { λ l. IsKept N.settings (locked_of l) × (l.front ≡ l.recorded.course.history) × (l.ready ≤ l.recorded.room) };
 }
 
 impl<N: Naming> Locked<N> {
@@ -109,25 +123,60 @@ impl<N: Naming> Locked<N> {
         ensures kept { self.old.room ≤ self.new.room }
         ensures same { self.new ≡ record self.old { room = self.new.room } }
     {
-        self.recorded.reserve(calls)
+        self.recorded.reserve(calls)?;
+        if self.ready < calls {
+            self.ready = calls;
+        }
+        Ok(())
     }
 
-    /// Does a command of the seat's mutator, whole, and enters it with its reply. Where memory for the
-    /// entry is refused, nothing has changed.
-    pub fn transact(&mut self, seat: &mut Seat<N>, command: Command) -> Result<Receipt, NoMemory>
+    /// Makes room for one more call, unless there is some.
+    fn make_ready(&mut self) -> Result<(), NoMemory>
+        ensures room { OnOk result (0 < self.new.room) }
+        ensures sure { 0 < self.old.room → IsOk result }
+        ensures kept { self.old.room ≤ self.new.room }
+        ensures same { self.new ≡ record self.old { room = self.new.room } }
+    {
+        if self.ready == 0 {
+            return self.reserve(1);
+        }
+        Ok(())
+    }
+
+    /// Does a command of the seat's mutator, whole, and enters it with its reply. The place word goes from the
+    /// length of the history to one more first: where it has another number, the log was torn from the history,
+    /// and nothing has changed. So it is where memory for the entry is refused.
+    pub fn transact(
+        &mut self,
+        place: &Place<N>,
+        seat: &mut Seat<N>,
+        command: Command,
+    ) -> Result<Receipt, ServerFault>
         ensures does { IfOk result (λ r. Does self.old.course (done.Command_done seat.old.mutator command r.entry.reply) self.new.course) }
         ensures entry { IfOk result (λ r. (r.entry.mutator ≡ seat.old.mutator) × (r.entry.command ≡ command)) }
         ensures place { IfOk result (λ r. r.place ≡ length self.old.course.history) }
-        ensures seat { OnOk result (seat.new ≡ record seat.old { calls = seat.old.calls + 1 }) }
+        ensures seat { OnOk result (seat.new ≡ record seat.old { calls = seat.old.calls + 1; seen = self.new.course.history }) }
+        ensures legal { OnOk result (IsLegal (opening N.settings.limits) seat.new.seen) }
+        ensures ends { IfOk result (λ r. Extends seat.old.seen seat.new.seen r.place r.entry) }
         ensures books { OnOk result (self.new ≡ record self.old { course = self.new.course; room = self.new.room; calls = self.old.calls + 1 }) }
-        ensures err { OnErr result ((self.new ≡ record self.old { room = self.new.room }) × (seat.new ≡ seat.old)) }
-        ensures room { 0 < self.old.room → IsOk result }
+        ensures seen { IsPrefix seat.old.seen seat.new.seen }
+        ensures err { OnErr result ((self.new ≡ record self.old { room = self.new.room }) × (seat.new ≡ record seat.old { seen = seat.new.seen })) }
+        ensures fault { IfErr result (λ e. FaultTells e self.old.course.history seat.old.seen seat.new.seen) }
+        ensures room { IfErr result (λ e. 0 < self.old.room → e ≢ faults.NoMemory) }
         ensures left { self.old.room ≤ self.new.room + 1 }
     {
+        self.make_ready()?;
         self.calls.audit(&mut seat.calls);
-        // a seat has made no more calls than there are entries, so that one more can be counted
-        let _entries = self.recorded.history().len();
-        let receipt = self.recorded.call(seat.mutator, command)?;
+        let next = Next::of(&self.recorded, seat.mutator, command);
+        let at = self.recorded.history().len() as u64;
+        let found = self.front.commit(place, &mut seat.front, at, &next);
+        if found != at {
+            return Err(ServerFault::Torn(found));
+        }
+        let Ok(receipt) = self.recorded.call(seat.mutator, command) else {
+            unreachable!()
+        };
+        self.ready -= 1;
         self.calls.add(&mut seat.calls, 1);
         seat.made += 1;
         Ok(receipt)

@@ -2,13 +2,16 @@
 ghost use Rattle.std.specs.Prelude.{◌≡◌, ℕ};
 ghost use Rattle.heap_model.specs.Settings.{HeapSettings};
 
+use crate::place::Opened;
 use size_classes::Config;
 use std::marker::{Brand, PhantomData};
 use std::sync::ledger::{Blank, Ledger};
 
-/// Which server it is: the settings of its heap, and the names of its ledgers. Each call of a program picks
-/// them.
+/// Which server it is: the settings of its heap, the names of its ledgers, and the book of its entries. Each
+/// call of a program picks them.
 pub trait Naming {
+    ghost use Rattle.logbook.specs.Pages.{Book};
+
     ghost settings: { HeapSettings };
 
     ghost calls: { ℕ };
@@ -18,6 +21,8 @@ pub trait Naming {
     ghost ended: { ℕ };
 
     ghost units: { ℕ };
+
+    ghost book: { Book };
 }
 
 impl Naming for Brand {
@@ -30,6 +35,8 @@ impl Naming for Brand {
     ghost ended = { 0 };
 
     ghost units = { 0 };
+
+    ghost book = { record { number = 0; log_name = 0; cells_name = 0 } };
 }
 
 /// Names the ledger of calls, which has a part for each mutator.
@@ -76,7 +83,7 @@ impl<N: Naming> Ledger for Units<N> {
     ghost parts = { 1 };
 }
 
-/// What a server is made of: the configuration of its heap, and ledgers that have no name yet.
+/// What a server is made of: the configuration of its heap, and ledgers and a place word that have no name yet.
 #[derive(Drop)]
 pub struct Opening {
     pub config: Config,
@@ -84,6 +91,7 @@ pub struct Opening {
     pub begun: Blank,
     pub ended: Blank,
     pub units: Blank,
+    pub place: Opened,
     ghost calls_parts: { calls.parts ≡ config.mutators },
     ghost begun_parts: { begun.parts ≡ 1 },
     ghost ended_parts: { ended.parts ≡ 1 },
@@ -91,7 +99,7 @@ pub struct Opening {
 }
 
 impl Opening {
-    /// Blank ledgers for a heap of this configuration.
+    /// Blank ledgers and a blank place word for a heap of this configuration.
     pub fn new(config: &Config) -> Opening
         ensures { result.config ≡ config.now }
     {
@@ -101,6 +109,7 @@ impl Opening {
             begun: Blank::new(1),
             ended: Blank::new(1),
             units: Blank::new(1),
+            place: Opened::new(),
         }
     }
 }

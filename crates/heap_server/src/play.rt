@@ -1,5 +1,5 @@
 //! A play: scripts of mutators, each in a thread of its own, beside a collector.
-ghost use Rattle.std.specs.Prelude.{◌≡◌, ◌↔◌, ◌≤◌, true, length, map, take, IfOk, vec_len, vec_capacity};
+ghost use Rattle.std.specs.Prelude.{◌≡◌, ◌↔◌, ◌≤◌, true, false, length, map, take, IfOk, vec_len, vec_capacity};
 ghost use denote.Param.Send.{IsSync, IsSend};
 ghost use Rattle.heap_model.specs.Settings.{settings_by};
 ghost use Rattle.heap_server.specs.Views.{PacerView};
@@ -32,7 +32,9 @@ pub struct Outcome {
     pub used: usize,
     /// How many cycles were begun and how many units spent, for proofs alone.
     pub tally: Tally,
-    /// Whether all commands were done and all budgets used.
+    /// Whether the place word had another number in the end than the length of the history.
+    pub torn: bool,
+    /// Whether all commands were done and all budgets used, and the place word isn't torn.
     pub all: bool,
 }
 
@@ -41,8 +43,8 @@ pub struct Outcome {
 /// worker comes by the gate before each of its commands or budgets and after the last. All threads have ended
 /// when the outcome is there. Where a thread can't be started its commands are done in turn.
 ///
-/// A script whose command is refused memory ends before that command, and a budget that isn't 256 to 1000000
-/// units ends the collector. NoMemory is answered only where nothing was started.
+/// A script whose command is refused memory, or finds the place word torn, ends before that command, and a budget
+/// that isn't 256 to 1000000 units ends the collector. NoMemory is answered only where nothing was started.
 pub fn play_threads<G: Gate + Sync, R: Threads + Wait + Sync>(
     rt: &R,
     alloc: Global,
@@ -52,7 +54,7 @@ pub fn play_threads<G: Gate + Sync, R: Threads + Wait + Sync>(
     gate: &G,
 ) -> Result<Outcome, NoMemory>
     requires fits { length scripts.now ≤ config.now.mutators }
-    ensures { IfOk result (IsOutcome (settings_by config.now) (map vec_len scripts.now) budgets.now) }
+    ensures { IfOk result (IsOutcome (settings_by config.now) (map (λ s. s.items) scripts.now) budgets.now) }
 {
     played::<Brand, G, R>(rt, alloc, Opening::new(config), scripts, budgets, gate)
 }
@@ -70,8 +72,9 @@ fn played<N: Naming + Send + Sync, G: Gate + Sync, R: Threads + Wait + Sync>(
     requires begun { opening.begun.name ≡ N.begun }
     requires ended { opening.ended.name ≡ N.ended }
     requires units { opening.units.name ≡ N.units }
+    requires book { opening.place.seen.book ≡ N.book }
     requires fits { length scripts.now ≤ N.settings.limits.mutators }
-    ensures { IfOk result (IsOutcome N.settings (map vec_len scripts.now) budgets.now) }
+    ensures { IfOk result (IsOutcome N.settings (map (λ s. s.items) scripts.now) budgets.now) }
 {
     let number = scripts.len() as u32;
     let (server, seats, pacer) = Server::<N>::new(alloc, opening)?;
@@ -90,7 +93,7 @@ fn played<N: Naming + Send + Sync, G: Gate + Sync, R: Threads + Wait + Sync>(
         },
         move || -> Vec<Seat<N>>
             requires { IsSync R.row × IsSync G.row × IsSend N.row × IsSync N.row × (length scripts.now ≤ vec_len seats) × (seats.items ≡ new_seats N.settings.limits.mutators) }
-            ensures { HavePlayed N.settings.limits.mutators (map vec_len scripts.entry.now) result.items }
+            ensures { HavePlayed N.settings.limits.mutators (map (λ s. s.items) scripts.entry.now) result.items }
         { play_seats(rt, shared, gate, scripts, seats) },
     );
     Ok(settled(server, seats, pacer, scripts, budgets, used, done))
@@ -109,21 +112,31 @@ fn settled<N: Naming>(
     ghost numbers: { PacerView }
     requires pacer { pacer ≡ numbers }
     requires fits { length scripts.now ≤ N.settings.limits.mutators }
-    requires played { HavePlayed N.settings.limits.mutators (map vec_len scripts.now) seats.items }
+    requires played { HavePlayed N.settings.limits.mutators (map (λ s. s.items) scripts.now) seats.items }
     requires collected { IsCollected budgets.now used numbers.begun numbers.spent }
     requires room { (vec_len done ≡ 0) × (length scripts.now ≤ vec_capacity done) }
-    ensures { IsOutcome N.settings (map vec_len scripts.now) budgets.now result }
+    ensures { IsOutcome N.settings (map (λ s. s.items) scripts.now) budgets.now result }
 {
     count_calls(seats.as_slice(), scripts.len(), &mut done);
     let whole = is_whole(scripts, done.as_slice());
-    let recorded = server.close(seats, pacer);
+    let (recorded, found) = server.close(seats, pacer);
+    let torn = found != recorded.history().len() as u64;
+    let all = is_all(torn, whole, used, budgets.len());
     Outcome {
         recorded,
         done,
         used,
         tally: Tally::new(),
-        all: whole && used == budgets.len(),
+        torn,
+        all,
     }
+}
+
+/// Whether all was done.
+fn is_all(torn: bool, whole: bool, used: usize, budgets: usize) -> bool
+    ensures { result ≡ true ↔ (torn ≡ false) × (whole ≡ true) × (used ≡ budgets) }
+{
+    !torn && whole && used == budgets
 }
 
 /// Counts the calls of each of the first seats.

@@ -1,16 +1,21 @@
 //! The server: one lock round the heap, and the calls of seats and of the pacer.
-ghost use Rattle.std.specs.Prelude.{◌≡◌, ◌≢◌, ◌↔◌, ◌+◌, ◌<◌, length, IfOk, IsOk, OnErr, OnOk, vec_len};
+ghost use Rattle.std.specs.Prelude.{◌≡◌, ◌≢◌, ◌↔◌, ◌+◌, ◌<◌, [], length, All, IfErr, IfOk, IsOk, IsPermutation, OnErr, OnOk, vec_len};
+ghost use mathlib.Core.List.{IsPrefix};
 ghost use Rattle.std.specs.List.{sum_by};
+ghost use Rattle.graph_heap.specs.Graph.{opening};
+ghost use Rattle.graph_heap.specs.History.{IsLegal};
 ghost use Rattle.heap_model.specs.Settings.{settings_by};
 ghost use Rattle.heap_model.specs.Event.{IsBudget};
 ghost use Rattle.heap_model.specs.Led.{IsLed};
 ghost use Rattle.heap_server.specs.Kept.{IsSound};
 ghost use Rattle.heap_server.specs.Paced.{IsPaced};
 ghost use Rattle.heap_server.specs.Seats.{new_seats, mutators_of, upto};
+ghost use Rattle.heap_server.specs.Seen.{EachKnown, Extends, FaultShows, IsKnown, OneBegins, WasTold};
 
 use crate::fault::ServerFault;
 use crate::locked::{Locked, Pacer, Seat};
 use crate::naming::{Calls, Naming, Opening};
+use crate::place::{Front, Place};
 use graph_heap::{Command, NoMemory};
 use machine::{BudgetOutOfRange, Busy, Receipt, Recorded, Spent};
 use size_classes::Config;
@@ -19,10 +24,11 @@ use std::sync::ledger::Share;
 use std::sync::{Mutex, Wait};
 
 /// A heap that threads share. Each call of a seat or of the pacer is one event, done whole while the one
-/// lock is held.
+/// lock is held. The place word beside the lock has the length of the history, and is read without the lock.
 #[derive(Drop)]
 pub struct Server<N: Naming> {
-    locked: Mutex<Locked<N>>,
+    pub(crate) place: Place<N>,
+    pub(crate) locked: Mutex<Locked<N>>,
 }
 
 impl<N: Naming> Server<N> {
@@ -36,6 +42,7 @@ impl<N: Naming> Server<N> {
         requires begun { opening.begun.name ≡ N.begun }
         requires ended { opening.ended.name ≡ N.ended }
         requires units { opening.units.name ≡ N.units }
+        requires book { opening.place.seen.book ≡ N.book }
         ensures seats { IfOk result (λ r. r.1.items ≡ new_seats N.settings.limits.mutators) }
         ensures mutators { IfOk result (λ r. mutators_of r.1.items ≡ upto N.settings.limits.mutators) }
         ensures len { IfOk result (λ r. vec_len r.1 ≡ N.settings.limits.mutators) }
@@ -47,15 +54,19 @@ impl<N: Naming> Server<N> {
             begun,
             ended,
             units,
+            place,
         } = opening;
         let recorded = Recorded::new(alloc, &config)?;
+        let (place, front) = place.named();
         let (calls, shares) = calls.open();
         let (begun, my_begun) = begun.open();
         let (ended, my_ended) = ended.open();
         let (units, my_units) = units.open();
-        let seats = seated(alloc, &config, shares)?;
+        let seats = seated(alloc, &config, shares, &front)?;
         let locked = Mutex::new(Locked {
             recorded,
+            ready: 0,
+            front,
             calls,
             begun,
             ended,
@@ -66,11 +77,12 @@ impl<N: Naming> Server<N> {
             ended: my_ended,
             units: my_units,
         };
-        Ok((Server { locked }, seats, pacer))
+        Ok((Server { place, locked }, seats, pacer))
     }
 
     /// Does a command of the seat's mutator. The receipt has its entry in the history, and the place of
-    /// that entry, from 0. Only want of memory is refused: then the command isn't done.
+    /// that entry, from 0. The seat has then seen the history up to it. Where memory is refused, or the place word
+    /// has another number than the length of the history, the command isn't done.
     pub fn call(
         &self,
         seat: &mut Seat<N>,
@@ -78,10 +90,25 @@ impl<N: Naming> Server<N> {
         rt: &impl Wait,
     ) -> Result<Receipt, ServerFault>
         ensures entry { IfOk result (λ r. (r.entry.mutator ≡ seat.old.mutator) × (r.entry.command ≡ command)) }
-        ensures counted { OnOk result (seat.new ≡ record seat.old { calls = seat.old.calls + 1 }) }
-        ensures err { OnErr result (seat.new ≡ seat.old) }
+        ensures counted { OnOk result (seat.new ≡ record seat.old { calls = seat.old.calls + 1; seen = seat.new.seen }) }
+        ensures legal { OnOk result (IsLegal (opening N.settings.limits) seat.new.seen) }
+        ensures ends { IfOk result (λ r. Extends seat.old.seen seat.new.seen r.place r.entry) }
+        ensures seen { IsPrefix seat.old.seen seat.new.seen }
+        ensures err { OnErr result (seat.new ≡ record seat.old { seen = seat.new.seen }) }
+        ensures fault { IfErr result (λ e. FaultShows e seat.old.seen seat.new.seen) }
     {
-        Ok(self.locked.lock(rt).transact(seat, command)?)
+        let mut locked = self.locked.lock(rt);
+        locked.transact(&self.place, seat, command)
+    }
+
+    /// The length of the running history now, and all that the seat saw before is a beginning of it. It waits for
+    /// nobody.
+    pub fn place_now(&self, seat: &mut Seat<N>) -> u64
+        ensures found { result ≡ length seat.new.seen }
+        ensures grows { IsPrefix seat.old.seen seat.new.seen }
+        ensures same { seat.new ≡ record seat.old { seen = seat.new.seen } }
+    {
+        seat.front.observe(&self.place)
     }
 
     /// Begins a cycle of the collector, unless one is on.
@@ -112,32 +139,38 @@ impl<N: Naming> Server<N> {
         self.locked.lock(rt).reserve(calls)
     }
 
-    /// The heap with the history of all calls. All that `new` gave comes back: every seat, in its order,
-    /// and the pacer. It waits for nobody.
-    pub fn close(self, seats: Vec<Seat<N>>, mut pacer: Pacer<N>) -> Recorded
-        requires { mutators_of seats.items ≡ upto N.settings.limits.mutators }
-        ensures sound { IsSound N.settings result.course }
-        ensures counted { length result.course.history ≡ sum_by (λ s. s.calls) seats.items }
-        ensures led { IsLed result.course pacer.begun pacer.spent }
+    /// The heap with the history of all calls, and the number of the place word. All that `new` gave comes back:
+    /// every seat, in any order, and the pacer. It waits for nobody.
+    pub fn close(self, seats: Vec<Seat<N>>, mut pacer: Pacer<N>) -> (Recorded, u64)
+        requires { IsPermutation (mutators_of seats.items) (upto N.settings.limits.mutators) }
+        ensures sound { IsSound N.settings result.0.course }
+        ensures counted { length result.0.course.history ≡ sum_by (λ s. s.calls) seats.items }
+        ensures led { IsLed result.0.course pacer.begun pacer.spent }
+        ensures begins { All (λ s. OneBegins result.0.course.history s.seen) seats.items }
+        ensures told { result.1 ≡ length result.0.course.history → All (WasTold result.0.course.history) seats.items }
     {
-        let Server { locked } = self;
+        let Server { place, locked } = self;
         let mut locked = locked.into_inner();
         locked.begun.audit(&mut pacer.begun);
         locked.units.audit(&mut pacer.units);
-        locked.calls.audit(&mut gathered(seats));
+        let mut seen = locked.front.again();
+        locked.calls.audit(&mut gathered(seats, &mut seen));
+        let found = seen.observe(&place);
         let Locked { recorded, .. } = locked;
-        recorded
+        (recorded, found)
     }
 }
 
-/// A seat for each mutator, in rising order, with its part of the ledger of calls.
+/// A seat for each mutator, in rising order, with its part of the ledger of calls. It has seen what the front has.
 fn seated<N: Naming>(
     alloc: Global,
     config: &Config,
     mut shares: Share<Calls<N>>,
+    front: &Front<N>,
 ) -> Result<Vec<Seat<N>>, NoMemory>
     requires parts { shares.parts ≡ config.now.mutators }
     requires amount { shares.amount ≡ 0 }
+    requires front { front.now ≡ [] }
     ensures { IfOk result (λ seats. seats.items ≡ new_seats config.now.mutators) }
 {
     let mut seats = Vec::new(alloc);
@@ -146,25 +179,43 @@ fn seated<N: Naming>(
             mutator,
             made: 0,
             calls: shares.split_off(1, 0),
+            front: front.again(),
         };
         seats.push(seat)?;
     }
     Ok(seats)
 }
 
-/// The parts of all seats in one share.
-fn gathered<N: Naming>(mut seats: Vec<Seat<N>>) -> Share<Calls<N>>
+/// The parts of all seats in one share. The front then knows all that they have seen.
+fn gathered<N: Naming>(mut seats: Vec<Seat<N>>, front: &mut Front<N>) -> Share<Calls<N>>
     requires { 0 < vec_len seats }
     ensures parts { result.parts ≡ vec_len seats }
     ensures amount { result.amount ≡ sum_by (λ s. s.calls) seats.items }
+    ensures grows { IsPrefix front.old front.new }
+    ensures known { EachKnown front.new seats.items }
 {
     let Some(last) = seats.pop() else {
         unreachable!()
     };
-    let Seat { mut calls, .. } = last;
+    let mut calls = given(last, front);
     while let Some(seat) = seats.pop() {
-        let Seat { calls: more, .. } = seat;
-        calls.merge(more);
+        calls.merge(given(seat, front));
     }
+    calls
+}
+
+/// The part of a seat. The front then knows what it has seen.
+fn given<N: Naming>(seat: Seat<N>, front: &mut Front<N>) -> Share<Calls<N>>
+    ensures parts { result.parts ≡ 1 }
+    ensures amount { result.amount ≡ seat.calls }
+    ensures grows { IsPrefix front.old front.new }
+    ensures known { IsKnown front.new seat }
+{
+    let Seat {
+        calls,
+        front: seen,
+        ..
+    } = seat;
+    front.learn(&seen);
     calls
 }

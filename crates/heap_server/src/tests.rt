@@ -15,6 +15,7 @@ mod crowd;
 mod meeting;
 mod playing;
 mod rows;
+mod seeing;
 
 const FOUR_PAGES: Settings = Settings {
     pages: 4,
@@ -61,6 +62,7 @@ fn six_calls<N: Naming, R: Wait + Abort>(
     requires begun { opening.begun.name ≡ N.begun }
     requires ended { opening.ended.name ≡ N.ended }
     requires units { opening.units.name ≡ N.units }
+    requires book { opening.place.seen.book ≡ N.book }
 {
     let (server, mut seats, _pacer) = Server::<N>::new(alloc, opening)?;
     server.reserve_history(6, rt)?;

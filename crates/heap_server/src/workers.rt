@@ -3,7 +3,7 @@ ghost use Rattle.std.specs.Prelude.{◌≡◌, ◌<◌, ◌≤◌, length, map, 
 ghost use Rattle.std.specs.List.{AllZip};
 ghost use denote.Param.Send.{IsSync, IsSend};
 ghost use Rattle.heap_server.specs.Seats.{new_seats, mutators_of};
-ghost use Rattle.heap_server.specs.Played.{IsPlayed, HavePlayed, IsCollected};
+ghost use Rattle.heap_server.specs.Played.{IsPlayed, HasPlayed, HavePlayed, IsCollected};
 
 use crate::gate::Gate;
 use crate::locked::{Pacer, Seat};
@@ -14,7 +14,8 @@ use std::sync::Wait;
 use std::thread;
 use std::thread::Threads;
 
-/// Does the commands of a script, one after the other. It stops at the first that is refused memory.
+/// Does the commands of a script, one after the other. It stops at the first that is refused memory or finds the
+/// place word torn.
 fn work<N: Naming, G: Gate, R: Wait>(
     rt: &R,
     server: &Server<N>,
@@ -72,7 +73,7 @@ fn play_scripts<N: Naming + Send + Sync, G: Gate + Sync, R: Threads + Wait + Syn
     requires count { length scripts.now ≡ length seats.old }
     requires fresh { All (λ s. s.calls ≡ 0) seats.old }
     ensures mutators { mutators_of seats.new ≡ mutators_of seats.old }
-    ensures within { AllZip (λ n most. n ≤ most) (map (λ s. s.calls) seats.new) (map vec_len scripts.now) }
+    ensures played { AllZip HasPlayed seats.new (map (λ s. s.items) scripts.now) }
 {
     let threads = scripts.len().max(1);
     thread::for_each_mut(
@@ -96,7 +97,7 @@ pub fn play_seats<N: Naming + Send + Sync, G: Gate + Sync, R: Threads + Wait + S
 ) -> Vec<Seat<N>>
     requires count { length scripts.now ≤ vec_len seats }
     requires new { seats.items ≡ new_seats N.settings.limits.mutators }
-    ensures { HavePlayed N.settings.limits.mutators (map vec_len scripts.now) result.items }
+    ensures { HavePlayed N.settings.limits.mutators (map (λ s. s.items) scripts.now) result.items }
 {
     let (playing, _) = seats.as_mut_slice().split_at_mut(scripts.len());
     play_scripts(rt, server, gate, scripts, playing);

@@ -1,5 +1,5 @@
 -- What each subcommand reads and writes.
-use Rattle.std.specs.Prelude.{◌≡◌, ℕ, ◌*◌, Bool, true, false, ◌⊎◌, List, [], ◌∷◌, ◌++◌, length, map, replicate, Option, Some, None, Result, Ok, Err, Vec, vec_len, codes, decimal}
+use Rattle.std.specs.Prelude.{◌≡◌, ℕ, ◌*◌, Bool, true, false, ◌⊎◌, List, [], ◌∷◌, ◌++◌, length, map, replicate, Option, Some, None, Result, Ok, Err, Vec, codes, decimal}
 use Rattle.std.specs.declared.alloc.Global.{Global}
 use Rattle.size_classes.specs.declared.config.Config.{Config}
 use Rattle.size_classes.specs.Config.{limits_of}
@@ -111,10 +111,11 @@ HistoryWritten outcome taken result =
 
 -- what came of scripts, as they were read
 abbrev pub RunBehind : ℕ → ℕ → Config → Result (Vec (Vec Command Global) Global) TextFault → Taken → Result Ending RunFault → Type 0
--- threads ran them beside so many quanta of a budget, and the history was written; or memory was refused, and nothing was
+-- threads ran them beside so many quanta of a budget, and the history was written, which is a merge of the scripts
+-- where all was done; or memory was refused, and nothing was
 RunBehind turns budget config (Ok scripts) taken result =
     ((result ≡ Err NoMemory) × (taken.after ≡ taken.before))
-    ⊎ ((outcome : Outcome) × IsOutcome (settings_by config) (map vec_len scripts.items) (replicate turns budget) outcome × HistoryWritten outcome taken result)
+    ⊎ ((outcome : Outcome) × IsOutcome (settings_by config) (map (λ s. s.items) scripts.items) (replicate turns budget) outcome × HistoryWritten outcome taken result)
 -- a fault ended the reading: nothing was run or written
 RunBehind turns budget config (Err why) taken result = (result ≡ Err (of_text why)) × (taken.after ≡ taken.before)
 

@@ -1,5 +1,5 @@
 //! What each subcommand does, from a source to a sink.
-ghost use Rattle.std.specs.Prelude.{◌≡◌, ◌≤◌, ◌++◌, length, map, replicate, vec_len, IfOk, IfErr, OnOk, OnErr, string_bytes};
+ghost use Rattle.std.specs.Prelude.{◌≡◌, ◌≤◌, ◌++◌, length, map, replicate, IfOk, IfErr, OnOk, OnErr, string_bytes};
 ghost use Rattle.heap_model.specs.Settings.{settings_by};
 ghost use Rattle.trace.specs.Streams.{GrowsByPart, given_by, taken_by};
 ghost use Rattle.player.specs.declared.style.Style.TheVariants.{Entries};
@@ -94,7 +94,7 @@ fn run_scripts<T: Threads + Wait + Sync>(
     budget: u32,
 ) -> Result<Outcome, NoMemory>
     requires { length scripts.now ≤ config.now.mutators }
-    ensures { IfOk result (IsOutcome (settings_by config.now) (map vec_len scripts.now) (replicate turns budget)) }
+    ensures { IfOk result (IsOutcome (settings_by config.now) (map (λ s. s.items) scripts.now) (replicate turns budget)) }
 {
     let budgets = budgets_of(alloc, turns, budget)?;
     play_threads(rt, alloc, config, scripts, budgets.as_slice(), &OpenGate)

@@ -59,6 +59,7 @@ fn looked_at(
     outcome: &Outcome,
 ) -> Result<(), NoMemory> {
     let history = outcome.recorded.history();
+    assert!(rt; !outcome.torn);
     assert!(rt; is_legal(alloc, &config.limits(), history)?);
     assert!(rt; outcome.done.len() == scripts.len());
     for m in 0..scripts.len() {

@@ -91,6 +91,7 @@ fn follow<N: Naming, R: Wait + Abort>(
     requires begun { opening.begun.name ≡ N.begun }
     requires ended { opening.ended.name ≡ N.ended }
     requires units { opening.units.name ≡ N.units }
+    requires book { opening.place.seen.book ≡ N.book }
 {
     let (server, mut seats, mut pacer) = Server::<N>::new(alloc, opening)?;
     let Some(mut seat) = seats.pop() else {

@@ -1,14 +1,17 @@
-use Rattle.std.proofs.Common.{◌≡◌, ◌≤◌, length, map, take, drop, sum, ap, ◌∙◌, sym, arith, ℕ, List, vec_len, subst}
+use Rattle.std.proofs.Common.{◌≡◌, ◌≤◌, length, map, take, drop, sum, ap, ◌∙◌, sym, arith, ℕ, List, false, not, eqb, vec_len, subst}
+use Rattle.std.specs.Prelude.{IsPermutation}
 use Rattle.std.specs.List.{All, AllZip}
 use Rattle.std.proofs.lemmas.List.{length-map}
 use Rattle.std.proofs.lemmas.List.Sums.{sum-map}
+use Rattle.std.proofs.lemmas.List.Sorted.{IsPermutation-refl}
 use Rattle.heap_model.specs.Led.{IsLed}
 use Rattle.heap_server.specs.Views.{SeatView, PacerView}
-use Rattle.heap_server.specs.Played.{IsCollected}
+use Rattle.heap_server.specs.Seats.{mutators_of}
+use Rattle.heap_server.specs.Played.{IsCollected, HasFronts}
 use Rattle.heap_server.proofs.Counting.{seats_count}
-use Rattle.heap_server.proofs.Settling.{first_sum, all_done, none_done}
+use Rattle.heap_server.proofs.Settling.{first_sum, lengths_of, played_within, not_torn}
+use Rattle.heap_server.proofs.Fronted.{has_fronts, fronts_merge}
 use Rattle.heap_server.proofs.play.settled.Goals as goal
-use Rattle.heap_server.proofs.play.settled.Goals.{then-whole, else-whole}
 
 pub count_calls-requires-clause-count : goal.count_calls-requires-clause-count
 count_calls-requires-clause-count g c = omega (arith, ap length c.as_slice.ensures.value, seats_count c.args.seats.items g.N.Naming.settings.limits.mutators c.requires.1.1.1.0.all, c.requires.1.1.0)
@@ -16,28 +19,39 @@ count_calls-requires-clause-count g c = omega (arith, ap length c.as_slice.ensur
 pub is_whole-whole-requires : goal.is_whole-whole-requires
 is_whole-whole-requires g c = omega (arith, c.count_calls.ensures.len, c.as_slice-2.ensures.len)
 
+pub close-recorded-requires : goal.close-recorded-requires
+close-recorded-requires g c = subst (λ (ms : List ℕ). IsPermutation (mutators_of c.args.seats.items) ms) c.requires.1.1.1.0.all (IsPermutation-refl (mutators_of c.args.seats.items))
+
 at_same : (P : ℕ → ℕ → Type 0) {a b c d : ℕ} → a ≡ c → b ≡ d → P c d → P a b
 at_same P {a = a} {d = d} first second held = subst (λ n. P a n) (sym second) (subst (λ n. P n d) (sym first) held)
 
 pub returns : goal.returns
 returns g c =
-    let k = length c.args.scripts.now in
+    let scripts = map (λ s. s.items) c.args.scripts.now in
+    let k = length scripts in
     let seats = c.args.seats.items in
     let calls = λ (s : SeatView). s.calls in
-    let counts : c.count_calls.new.done.items ≡ map calls (take k seats) = c.count_calls.ensures.items ∙ ap (λ (w : List SeatView). map calls (take k w)) c.as_slice.ensures.value in
-    let long = length-map c.args.scripts.now (λ s. vec_len s) in
-    let first = first_sum k seats (subst (λ (n : ℕ). All (λ s. s.calls ≡ 0) (drop n seats)) long c.requires.1.1.1.0.rest) in
-    let value = c.as_slice-2.ensures.value in
+    let n = g.N.Naming.settings.limits.mutators in
+    let h = c.close-recorded.result.0.course.history in
+    let done = c.count_calls.new.done.items in
+    let long : k ≡ length c.args.scripts.now = length-map c.args.scripts.now (λ s. s.items) in
+    let played = c.requires.1.1.1.0 in
+    let counts : done ≡ map calls (take k seats) = c.count_calls.ensures.items ∙ (ap (λ (w : List SeatView). map calls (take (length c.args.scripts.now) w)) c.as_slice.ensures.value ∙ ap (λ (j : ℕ). map calls (take j seats)) (sym long)) in
+    let counted = c.close-recorded.ensures.counted ∙ first_sum k seats played.rest in
+    let fronts : not (eqb c.close-recorded.result.1 (length c.history.result.now)) ≡ false → HasFronts h scripts done = λ torn.
+    let found = not_torn c.close-recorded.result.1 (length c.history.result.now) torn in
+    subst (λ (w : List ℕ). HasFronts h scripts w) (sym counts) (has_fronts seats h scripts n (c.close-recorded.ensures.told (found ∙ ap length c.history.ensures.history)) played.all (omega (arith, long, c.requires.1.1.0)) played.played counted) in
     let whole = c.is_whole-whole.ensures in
-    let Whole : Type 0 = c.count_calls.new.done.items ≡ map vec_len c.args.scripts.now in
+    let value = c.as_slice-2.ensures.value in
+    let lengths = lengths_of c.args.scripts.now in
+    let both = c.is_all-all.ensures in
     record {
       sound = c.close-recorded.ensures.sound;
-      counted = c.close-recorded.ensures.counted ∙ (first ∙ (sym (sum-map calls (take k seats)) ∙ ap sum (sym counts)));
-      within = subst (λ (done : List ℕ). AllZip (λ n most. n ≤ most) done (map vec_len c.args.scripts.now)) (sym (counts ∙ ap (λ (n : ℕ). map calls (take n seats)) (sym long))) c.requires.1.1.1.0.within;
-      led = at_same (λ n m. IsLed c.close-recorded.result.course n m) c.new.ensures.0 c.new.ensures.1 (subst (λ (p : PacerView). IsLed c.close-recorded.result.course p.begun p.spent) c.requires.1.0 c.close-recorded.ensures.led);
+      counted = counted ∙ (sym (sum-map calls (take k seats)) ∙ ap sum (sym counts));
+      within = subst (λ (w : List ℕ). AllZip (λ n most. n ≤ most) w (map length scripts)) (sym counts) (played_within (take k seats) scripts played.played);
+      fronts = fronts;
+      led = at_same (λ n m. IsLed c.close-recorded.result.0.course n m) c.new.ensures.0 c.new.ensures.1 (subst (λ (p : PacerView). IsLed c.close-recorded.result.0.course p.begun p.spent) c.requires.1.0 c.close-recorded.ensures.led);
       collected = at_same (λ n m. IsCollected c.args.budgets.now c.args.used n m) c.new.ensures.0 c.new.ensures.1 c.requires.1.1.1.1.0;
-      all = elim c.if-whole.branch [
-        | then-whole w ↦ all_done c.if-whole.result c.args.used (length c.args.budgets.now) Whole (sym value ∙ whole.0 w.if-whole.true) w.result-is
-        | else-whole w ↦ none_done c.if-whole.result c.is_whole-whole.result c.args.used (length c.args.budgets.now) Whole w.if-whole.false (λ is. whole.1 (value ∙ is)) (w.result-is ∙ w.if-whole.false)
-      ];
+      all = (λ yes. (let b = both.0 yes in (b.0, sym value ∙ whole.0 b.1 ∙ lengths, b.2)), λ b. both.1 (b.0, whole.1 (value ∙ (b.1 ∙ sym lengths)), b.2));
+      merge = λ yes. (let b = both.0 yes in fronts_merge h scripts done (fronts b.0) (sym value ∙ whole.0 b.1 ∙ lengths));
     }

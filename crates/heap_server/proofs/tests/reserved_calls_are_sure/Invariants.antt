@@ -1,7 +1,7 @@
 use Rattle.heap_model.specs.Settings.{settings_by}
 use Rattle.heap_server.proofs.tests.reserved_calls_are_sure.Given as goal
 
--- the ledgers that were just opened
+-- the ledgers and the book that were just opened
 abbrev pub ghosts-six_calls : goal.ghosts-six_calls
 ghosts-six_calls g a = record {
   settings = settings_by a.opening.config;
@@ -9,4 +9,5 @@ ghosts-six_calls g a = record {
   begun = a.opening.begun.name;
   ended = a.opening.ended.name;
   units = a.opening.units.name;
+  book = a.opening.place.seen.book;
 }

@@ -21,5 +21,5 @@ returns g c =
     let all : front ++ rest ≡ new_seats n = sym split.ensures.value ∙ (c.as_mut_slice.ensures.value ∙ c.requires.new) in
     let long : length seats ≡ c.args.seats.len = omega (arith, length-append c.play_scripts.new.seats rest, split.ensures.front_len, split.ensures.back_len, c.play_scripts.auto.seats, ap length c.as_mut_slice.ensures.value, c.args.seats.ok.0) in
     let same : take c.args.seats.len (seats ++ drop (length seats) c.args.seats.items) ≡ seats = ap (λ (k : ℕ). take k (seats ++ drop (length seats) c.args.seats.items)) (sym long) ∙ take-append_seam seats (drop (length seats) c.args.seats.items) in
-    let lengths = map (λ s. vec_len s) c.args.scripts.now in
-    subst (λ (all : List SeatView). HavePlayed n lengths all) (sym same) (first_played n lengths front rest c.play_scripts.new.seats all c.play_scripts.ensures.mutators c.play_scripts.ensures.within)
+    let scripts = map (λ s. s.items) c.args.scripts.now in
+    subst (λ (all : List SeatView). HavePlayed n scripts all) (sym same) (first_played n scripts front rest c.play_scripts.new.seats all c.play_scripts.ensures.mutators c.play_scripts.ensures.played)

@@ -1,4 +1,4 @@
-use Rattle.std.proofs.Common.{◌++◌, ℕ, List, Ok, inl, inr, map, vec_len, ap, ◌∙◌, subst, replicate}
+use Rattle.std.proofs.Common.{◌++◌, ℕ, List, Ok, inl, inr, map, ap, ◌∙◌, subst, replicate}
 use Rattle.std.specs.Prelude.{Vec}
 use Rattle.std.specs.declared.alloc.Global.{Global}
 use Rattle.graph_heap.specs.declared.command.Command.{Command}
@@ -20,7 +20,7 @@ returns-in_err-write_history g c =
     let old = g.K.Sink.taken c.args.sink.now in
     let new = g.K.Sink.taken c.write_history.new.sink in
     let Read : ℕ → Type 0 = λ mutators. ScriptsRead (given_by g.S.Source.given g.S.Source.ended c.args.source.now c.read_scripts.new.source) mutators (Ok scripts) in
-    let Ran : List (Vec Command Global) → Type 0 = λ all. IsOutcome (settings_by c.args.config.now) (map vec_len all) (replicate c.args.turns c.args.budget) outcome in
+    let Ran : List (Vec Command Global) → Type 0 = λ all. IsOutcome (settings_by c.args.config.now) (map (λ s. s.items) all) (replicate c.args.turns c.args.budget) outcome in
     let Part : List Entry → Type 0 = λ history. GrowsByPart old new (written_of Entries history) in
     let read = subst Read (ap (λ (limits : Limits). limits.mutators) c.limits.ensures) c.in_ok-scripts.ensures.read in
     let ran = subst Ran c.as_slice.ensures.value c.in_ok-outcome.ensures in
@@ -33,7 +33,7 @@ returns g c =
     let outcome = c.in_ok-outcome.outcome in
     let old = g.K.Sink.taken c.args.sink.now in
     let Read : ℕ → Type 0 = λ mutators. ScriptsRead (given_by g.S.Source.given g.S.Source.ended c.args.source.now c.read_scripts.new.source) mutators (Ok scripts) in
-    let Ran : List (Vec Command Global) → Type 0 = λ all. IsOutcome (settings_by c.args.config.now) (map vec_len all) (replicate c.args.turns c.args.budget) outcome in
+    let Ran : List (Vec Command Global) → Type 0 = λ all. IsOutcome (settings_by c.args.config.now) (map (λ s. s.items) all) (replicate c.args.turns c.args.budget) outcome in
     let read = subst Read (ap (λ (limits : Limits). limits.mutators) c.limits.ensures) c.in_ok-scripts.ensures.read in
     let ran = subst Ran c.as_slice.ensures.value c.in_ok-outcome.ensures in
     (Ok scripts, read, inr (outcome, ran, inl (c.finished.ensures, c.in_ok-write_history.ensures.ok ∙ ap (λ (h : List Entry). old ++ written_of Entries h) c.history.ensures.history)))

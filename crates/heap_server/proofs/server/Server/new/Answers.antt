@@ -1,4 +1,4 @@
-use Rattle.std.proofs.Common.{◌≡◌, ◌<◌, length, ap, ◌∙◌, arith}
+use Rattle.std.proofs.Common.{◌≡◌, ◌<◌, length, ap, sym, ◌∙◌, arith}
 use Rattle.heap_model.specs.Settings.{HeapSettings}
 use Rattle.heap_server.specs.Seats.{mutators_of, upto}
 use Rattle.heap_server.proofs.Counting.{seats_count, mutators_of-new}
@@ -11,7 +11,7 @@ invariant_of-new g c =
     let mutators : 0 < g.N.Naming.settings.limits.mutators = omega (arith, count, c.args.opening.config.mutators_in_range.0) in
     let r = c.in_ok-recorded.ensures in
     let pages : 0 < length c.in_ok-recorded.recorded.course.heap.store.pages = omega (arith, ap (λ (s : HeapSettings). s.pages) r.settings, c.args.opening.config.pages_in_range.0) in
-    opening_kept _ _ mutators r.heap pages r.history r.place (r.settings ∙ c.requires.calls.1) c.open-calls.ensures.total c.open-begun.ensures.total c.open-ended.ensures.total c.open-units.ensures.total
+    (opening_kept _ _ mutators r.heap pages r.history r.place (r.settings ∙ c.requires.calls.1) c.open-calls.ensures.total c.open-begun.ensures.total c.open-ended.ensures.total c.open-units.ensures.total, c.named-place.ensures ∙ sym r.history, omega arith)
 
 pub returns-clause-mutators : goal.returns-clause-mutators
 returns-clause-mutators g c =

@@ -1,0 +1,61 @@
+-- What callers have seen of the running history.
+use Rattle.std.specs.Prelude.{ℕ, ◌≡◌, ◌+◌, ◌<◌, ◌≤◌, ◌⊎◌, List, [], ◌∷◌, ◌++◌, length, map, nat_eq, if◌then◌else◌}
+use mathlib.Core.List.{IsPrefix}
+use Rattle.graph_heap.specs.declared.command.Command.{Command}
+use Rattle.graph_heap.specs.declared.command.Entry.{Entry}
+use Rattle.heap_server.specs.declared.fault.ServerFault.{ServerFault}
+use Rattle.heap_server.specs.declared.fault.ServerFault.TheVariants as faults
+use Rattle.heap_server.specs.Views.{SeatView}
+
+-- the entries of mutator m, each with its place, in a part of a history that begins at this place
+abbrev pub mine_from : ℕ → List Entry → ℕ → List (ℕ × Entry)
+mine_from place [] m = []
+mine_from place (e ∷ es) m = if nat_eq e.mutator m then (place, e) ∷ mine_from (place + 1) es m else mine_from (place + 1) es m
+
+-- the entries of mutator m in a history, each with its place
+abbrev pub mine : List Entry → ℕ → List (ℕ × Entry)
+mine h m = mine_from 0 h m
+
+-- their commands, in order
+abbrev pub commands_of : List (ℕ × Entry) → List Command
+commands_of es = map (λ e. e.1.command) es
+
+-- What was seen goes on to the place of this entry, and ends with it.
+abbrev pub Extends : List Entry → List Entry → ℕ → Entry → Type 0
+Extends seen new place e = (before : List Entry) × IsPrefix seen before × (new ≡ before ++ e ∷ []) × (place ≡ length before)
+
+-- the numbers of faults, which go on from those of refusals
+abbrev pub fault_number : ServerFault → ℕ
+fault_number faults.NoMemory = 9
+fault_number (faults.Torn found) = 10
+
+-- What a fault tells of what the seat has seen: nothing new, for want of memory; or all of a log of the length that
+-- was found.
+abbrev pub FaultShows : ServerFault → List Entry → List Entry → Type 0
+FaultShows faults.NoMemory seen new = new ≡ seen
+FaultShows (faults.Torn found) seen new = found ≡ length new
+
+-- What it tells beside the locked history: where another number was found, the log begins with the history and is
+-- longer.
+abbrev pub FaultTells : ServerFault → List Entry → List Entry → List Entry → Type 0
+FaultTells faults.NoMemory history seen new = new ≡ seen
+FaultTells (faults.Torn found) history seen new = (found ≡ length new) × IsPrefix history new × (length history < length new)
+
+-- of a history and what was seen one begins the other
+abbrev pub OneBegins : List Entry → List Entry → Type 0
+OneBegins h seen = IsPrefix seen h ⊎ IsPrefix h seen
+
+-- what a seat has seen begins the history, and of its mutator the history has just the calls that the seat was told of
+pub record WasTold (h : List Entry) (s : SeatView) : Type 0 where
+  pub begins : IsPrefix s.seen h
+  pub calls : s.calls ≡ length (mine h s.mutator)
+
+-- what a seat has seen begins a log, and has at least its calls
+pub record IsKnown (log : List Entry) (s : SeatView) : Type 0 where
+  pub begins : IsPrefix s.seen log
+  pub calls : s.calls ≤ length (mine s.seen s.mutator)
+
+-- the same of each seat
+abbrev pub EachKnown : List Entry → List SeatView → Type 0
+EachKnown log [] = Unit {0}
+EachKnown log (s ∷ ss) = IsKnown log s × EachKnown log ss

@@ -1,0 +1,251 @@
+//! The place word: the length of the running history, which is read without waiting.
+ghost use Rattle.std.specs.Prelude.{◌≡◌, ◌+◌, ◌==◌, ◌<◌, ◌≤◌, ◌^◌, ◌++◌, ◌∷◌, [], length, MatchBool};
+ghost use mathlib.Core.List.{IsPrefix};
+ghost use Rattle.heap_server.specs.Place.{word_of, next_entry, Commits};
+
+use crate::naming::Naming;
+use graph_heap::{Command, Entry};
+use logbook::{Gain, Offer, Plain, Play, Rule, Seen, Start, Word};
+use machine::Recorded;
+use std::marker::{Model, PhantomData};
+use std::snapshot::Snapshot;
+
+/// The rule of the place word: it is the length of the log of entries, and no more.
+pub struct Law;
+
+impl Rule<Entry, u64> for Law {
+    ghost use Rattle.std.specs.Prelude.{[]};
+    ghost use base.Fml.{ftrue};
+    ghost use Rattle.heap_server.specs.Place.{IsLength};
+
+    ghost holds = { λ cells log. IsLength cells log };
+
+    ghost first = { [] };
+
+    ghost hinted = { λ n log. Unit {0} };
+
+    ghost shows = { λ log. [] };
+
+    ghost keeps = { λ names log. ftrue };
+
+    ghost moves = { λ ask before after answer. Unit {0} };
+}
+
+/// Nothing is traded in a step.
+pub struct Nothing;
+
+impl Gain<Entry, u64> for Nothing {
+    ghost use base.Fml.{ftrue};
+
+    ghost after = { λ names about answer. ftrue };
+}
+
+/// The log at the start.
+pub struct Empty;
+
+impl logbook::Opening<u64, Entry> for Empty {
+    ghost use Rattle.std.specs.Prelude.{[]};
+
+    ghost log = { λ count about. [] };
+}
+
+/// A step that looks.
+pub struct Look;
+
+impl Play<Entry, u64> for Look {
+    ghost use Rattle.heap_server.specs.Place.{Looks};
+
+    ghost then = { Looks };
+}
+
+/// A step that adds an entry.
+pub struct Add;
+
+impl Play<Entry, u64> for Add {
+    ghost use Rattle.heap_server.specs.Place.{Adds};
+
+    ghost then = { Adds };
+}
+
+impl Plain<u64, Entry, u64> for Look {
+    ghost use Rattle.std.specs.Prelude.{None};
+    ghost use Rattle.graph_heap.specs.declared.command.Command.TheVariants as commands;
+    ghost use Rattle.graph_heap.specs.declared.command.Reply.TheVariants as replies;
+
+    ghost ask = { λ n. record { mutator = n; command = commands.Clear n; reply = replies.Done } };
+
+    ghost state = { λ n. None };
+}
+
+impl Plain<Next, Entry, u64> for Add {
+    ghost use Rattle.std.specs.Prelude.{None};
+
+    ghost ask = { λ entry. entry };
+
+    ghost state = { λ entry. None };
+}
+
+/// A command that is about to be done at a heap, for proofs alone: contracts see the entry that it will get. So
+/// the entry can be added to the log before the command is planned.
+#[derive(Drop)]
+pub struct Next {
+    recorded: Snapshot<Recorded>,
+    mutator: u32,
+    command: Command,
+}
+
+impl Model for Next {
+    ghost use Rattle.graph_heap.specs.declared.command.Entry.{Entry};
+    ghost use Rattle.heap_server.specs.Place.{next_entry};
+
+    ghost Value = { Entry };
+
+    ghost view = { λ n. next_entry n.recorded.value.course n.mutator n.command };
+}
+
+impl Next {
+    /// The command, at this heap with its history.
+    pub fn of(recorded: &Recorded, mutator: u32, command: Command) -> Next
+        ensures { result ≡ next_entry recorded.now.course mutator command }
+    {
+        Next {
+            recorded: Snapshot::of(recorded),
+            mutator,
+            command,
+        }
+    }
+}
+
+/// A place word with an empty log, which has no name yet.
+#[derive(Drop)]
+pub struct Opened {
+    word: Word<Entry, u64, Law>,
+    seen: Seen<Entry, u64, Law>,
+    ghost empty: { seen.log ≡ [] },
+    ghost word_is: { word ≡ word_of seen.book },
+}
+
+impl Opened {
+    /// A word that is 0.
+    pub fn new() -> Opened {
+        let (seen, mut pens) = Seen::open_row::<u64, Empty>(&0, Start::alone(), 1);
+        let mut pen = pens.take();
+        Opened {
+            word: Word::tracked(0, &mut pen),
+            seen,
+        }
+    }
+
+    /// The word under a name, and a front that has seen nothing.
+    pub fn named<N: Naming>(self) -> (Place<N>, Front<N>)
+        requires { self.seen.book ≡ N.book }
+        ensures { result.1 ≡ [] }
+    {
+        let Opened { word, seen } = self;
+        (
+            Place {
+                word,
+                of: PhantomData,
+            },
+            Front {
+                seen,
+                of: PhantomData,
+            },
+        )
+    }
+}
+
+/// The word that all threads share: the length of the running history.
+#[derive(Drop)]
+pub struct Place<N: Naming> {
+    word: Word<Entry, u64, Law>,
+    of: PhantomData<N>,
+    ghost word_is: { word ≡ word_of N.book },
+}
+
+/// A beginning of the running history that was seen. It takes no bytes: contracts see its entries.
+#[derive(Drop)]
+pub struct Front<N: Naming> {
+    seen: Seen<Entry, u64, Law>,
+    of: PhantomData<N>,
+}
+
+impl<N: Naming> Model for Front<N> {
+    ghost use Rattle.std.specs.Prelude.{◌≡◌, List};
+    ghost use Rattle.graph_heap.specs.declared.command.Entry.{Entry};
+
+    ghost Value = { List Entry };
+
+    ghost view = { λ f. f.seen.log };
+
+    ghost invariant = { λ f. f.seen.book ≡ N.book };
+}
+
+impl<N: Naming> Front<N> {
+    /// The same once more.
+    pub fn again(&self) -> Front<N>
+        ensures { result ≡ self.now }
+    {
+        Front {
+            seen: self.seen.again(),
+            of: PhantomData,
+        }
+    }
+
+    /// Afterwards it has seen what both have.
+    pub fn learn(&mut self, other: &Front<N>)
+        ensures this { IsPrefix self.old self.new }
+        ensures that { IsPrefix other.now self.new }
+    {
+        self.seen.learn(&other.seen);
+    }
+
+    /// One load: the length of the log, which is then seen.
+    pub fn observe(&mut self, place: &Place<N>) -> u64
+        ensures found { result ≡ length self.new }
+        ensures grows { IsPrefix self.old self.new }
+    {
+        let mut offer: Offer<Entry, u64, Law, Nothing> = self.seen.plain::<Nothing, u64, Look>(&0);
+        place.word.load::<Look, Nothing>(&mut self.seen, &mut offer)
+    }
+
+    /// One exchange, which adds the entry if the log has the length given, and answers the length found.
+    pub(crate) fn add(&mut self, place: &Place<N>, at: u64, next: &Next) -> u64
+        requires room { at + 1 < 2 ^ 64 }
+        requires known { at ≤ length self.old }
+        ensures grows { IsPrefix self.old self.new }
+        ensures added { MatchBool (result == at) ((self.new ≡ self.old ++ next.now ∷ []) × (length self.old ≡ at)) (result ≡ length self.new) }
+    {
+        let mut offer: Offer<Entry, u64, Law, Nothing> = self
+            .seen
+            .plain::<Nothing, Next, Add>(next);
+        let mut pen = self.seen.no_pen();
+        place
+            .word
+            .compare_exchange::<Add, Nothing>(at, at + 1, &mut self.seen, &mut offer, &mut pen)
+    }
+
+    /// One exchange, which adds the entry if this front, of the length given, is the whole log. Both fronts then
+    /// know the log; or the log is longer, and the other front knows it.
+    pub(crate) fn commit(
+        &mut self,
+        place: &Place<N>,
+        mine: &mut Front<N>,
+        at: u64,
+        next: &Next,
+    ) -> u64
+        requires room { at + 1 < 2 ^ 64 }
+        requires whole { at ≡ length self.old }
+        ensures grows { IsPrefix mine.old mine.new }
+        ensures done { Commits self.old mine.old next.now result self.new mine.new }
+    {
+        let mut both = self.again();
+        both.learn(mine);
+        let found = both.add(place, at, next);
+        *mine = both.again();
+        if found == at {
+            *self = both;
+        }
+        found
+    }
+}

@@ -1,0 +1,173 @@
+//! What seats have seen, and the place word beside the lock.
+ghost use Rattle.std.specs.Prelude.{◌≡◌};
+ghost use Rattle.heap_model.specs.Settings.{settings_by};
+
+use super::*;
+use crate::place::Next;
+use std::sync::atomic::{AtomicU64, Ordering};
+use std::thread;
+use std::thread::Threads;
+
+/// How often a thread looks for the other.
+const TURNS: u32 = 1000000;
+
+const NEW: Command = Command::New {
+    dst: 0,
+    shape: Shape::Plain { refs: 0, words: 0 },
+};
+
+const LOAD: Command = Command::Load {
+    dst: 0,
+    obj: 0,
+    i: 0,
+};
+
+const COPY: Command = Command::Copy { dst: 1, src: 0 };
+
+const SAME: Command = Command::Same { a: 0, b: 1 };
+
+/// Three calls of one seat, which the other sees, and one of the other, which the first sees.
+fn seats_see<N: Naming, R: Wait + Abort>(
+    rt: &R,
+    alloc: Global,
+    opening: Opening,
+) -> Result<(), ServerFault>
+    requires calls { (opening.calls.name ≡ N.calls) × (settings_by opening.config ≡ N.settings) }
+    requires begun { opening.begun.name ≡ N.begun }
+    requires ended { opening.ended.name ≡ N.ended }
+    requires units { opening.units.name ≡ N.units }
+    requires book { opening.place.seen.book ≡ N.book }
+{
+    let (server, mut seats, _pacer) = Server::<N>::new(alloc, opening)?;
+    let (Some(mut second), Some(mut first)) = (seats.pop(), seats.pop()) else {
+        panic!(rt; "there are two seats");
+    };
+    assert!(rt; server.place_now(&mut first) == 0);
+    assert!(rt; call(rt, &server, &mut second, 0, NEW)? == Reply::Made(1));
+    assert!(rt; call(rt, &server, &mut second, 1, COPY)? == Reply::Done);
+    assert!(rt; call(rt, &server, &mut second, 2, SAME)? == Reply::Is(true));
+    assert!(rt; server.place_now(&mut first) == 3);
+    assert!(rt; call(rt, &server, &mut first, 3, LOAD)? == Reply::Refused(Refusal::NullSlot));
+    assert!(rt; server.place_now(&mut second) == 4);
+    Ok(())
+}
+
+#[test]
+fn each_sees_the_other(rt: HostRuntime) -> Result<(), ServerFault> {
+    let config = config_of(&rt, &FOUR_PAGES);
+    seats_see::<Brand, _>(&rt, rt.alloc(), Opening::new(&config))
+}
+
+/// Adds an entry to the log that no call has made.
+fn add_foreign<N: Naming, R: Wait + Abort>(rt: &R, server: &Server<N>, seat: &Seat<N>) {
+    let mut front = seat.front.again();
+    let at = front.observe(&server.place);
+    let next = Next::of(server.locked.lock(rt).recorded(), 0, NEW);
+    if at < 1000 {
+        assert!(rt; front.add(&server.place, at, &next) == at);
+    }
+}
+
+/// Calls behind a foreign exchange: the word is torn, and nothing is done.
+fn calls_are_torn<N: Naming, R: Wait + Abort>(
+    rt: &R,
+    alloc: Global,
+    opening: Opening,
+) -> Result<(), ServerFault>
+    requires calls { (opening.calls.name ≡ N.calls) × (settings_by opening.config ≡ N.settings) }
+    requires begun { opening.begun.name ≡ N.begun }
+    requires ended { opening.ended.name ≡ N.ended }
+    requires units { opening.units.name ≡ N.units }
+    requires book { opening.place.seen.book ≡ N.book }
+{
+    let (server, mut seats, _pacer) = Server::<N>::new(alloc, opening)?;
+    let (Some(mut second), Some(mut first)) = (seats.pop(), seats.pop()) else {
+        panic!(rt; "there are two seats");
+    };
+    call(rt, &server, &mut first, 0, NEW)?;
+    add_foreign(rt, &server, &first);
+    assert!(rt; server.call(&mut second, NEW, rt).err() == Some(ServerFault::Torn(2)));
+    assert!(rt; server.call(&mut first, COPY, rt).err() == Some(ServerFault::Torn(2)));
+    assert!(rt; first.made() == 1 && second.made() == 0);
+    assert!(rt; server.place_now(&mut first) == 2);
+    assert!(rt; server.locked.lock(rt).recorded().history().len() == 1);
+    Ok(())
+}
+
+#[test]
+fn a_foreign_exchange_is_met(rt: HostRuntime) -> Result<(), ServerFault> {
+    let config = config_of(&rt, &FOUR_PAGES);
+    assert!(&rt; ServerFault::NoMemory.number() == 9 && ServerFault::Torn(2).number() == 10);
+    calls_are_torn::<Brand, _>(&rt, rt.alloc(), Opening::new(&config))
+}
+
+/// What two threads tell each other: that the lock is held, that the word was read, and that one has given up.
+#[derive(Drop)]
+struct Held {
+    held: AtomicU64,
+    read: AtomicU64,
+    late: AtomicU64,
+}
+
+impl Held {
+    /// Waits until a flag is set.
+    fn wait(&self, flag: &AtomicU64) {
+        for _ in 0..TURNS {
+            if flag.load(Ordering::SeqCst) == 1 {
+                return;
+            }
+            thread::yield_now();
+        }
+        self.late.store(1, Ordering::SeqCst);
+    }
+}
+
+/// The place word is read while another thread holds the lock.
+fn read_beside<N: Naming + Send + Sync, R: Threads + Wait + Abort + Sync>(
+    rt: &R,
+    alloc: Global,
+    opening: Opening,
+) -> Result<(), ServerFault>
+    requires calls { (opening.calls.name ≡ N.calls) × (settings_by opening.config ≡ N.settings) }
+    requires begun { opening.begun.name ≡ N.begun }
+    requires ended { opening.ended.name ≡ N.ended }
+    requires units { opening.units.name ≡ N.units }
+    requires book { opening.place.seen.book ≡ N.book }
+{
+    let (server, mut seats, _pacer) = Server::<N>::new(alloc, opening)?;
+    let Some(mut seat) = seats.pop() else {
+        panic!(rt; "there is a seat");
+    };
+    call(rt, &server, &mut seat, 0, NEW)?;
+    let flags = Held {
+        held: AtomicU64::new(0),
+        read: AtomicU64::new(0),
+        late: AtomicU64::new(0),
+    };
+    let (shared, told) = (&server, &flags);
+    let (_, place) = thread::join(
+        rt,
+        move || {
+            let locked = shared.locked.lock(rt);
+            told.held.store(1, Ordering::SeqCst);
+            told.wait(&told.read);
+            drop(locked);
+        },
+        move || -> u64 {
+            let mut seat = seat;
+            told.wait(&told.held);
+            let place = shared.place_now(&mut seat);
+            told.read.store(1, Ordering::SeqCst);
+            place
+        },
+    );
+    assert!(rt; place == 1);
+    assert!(rt; flags.late.load(Ordering::SeqCst) == 0);
+    Ok(())
+}
+
+#[test]
+fn a_place_is_read_while_the_lock_is_held(rt: HostRuntime) -> Result<(), ServerFault> {
+    let config = config_of(&rt, &FOUR_PAGES);
+    read_beside::<Brand, _>(&rt, rt.alloc(), Opening::new(&config))
+}

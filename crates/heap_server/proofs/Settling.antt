@@ -12,7 +12,7 @@ use Rattle.graph_heap.specs.declared.command.Command.{Command}
 use Rattle.heap_server.specs.Views.{SeatView}
 use Rattle.heap_server.specs.Seats.{new_seats, mutators_of}
 use Rattle.heap_server.specs.Played.{HasPlayed, HavePlayed}
-use Rattle.heap_server.proofs.Counting.{mutators_of-new, mutators-length}
+use Rattle.heap_server.proofs.Counting.{mutators_of-new}
 
 abbrev calls : SeatView → ℕ
 calls s = s.calls

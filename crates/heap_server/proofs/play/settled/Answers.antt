@@ -1,6 +1,6 @@
-use Rattle.std.proofs.Common.{◌≡◌, ◌≤◌, length, map, take, drop, sum, ap, ◌∙◌, sym, arith, ℕ, List, false, not, eqb, vec_len, subst}
+use Rattle.std.proofs.Common.{◌≡◌, ◌≤◌, length, map, take, sum, ap, ◌∙◌, sym, arith, ℕ, List, false, not, eqb, subst}
 use Rattle.std.specs.Prelude.{IsPermutation}
-use Rattle.std.specs.List.{All, AllZip}
+use Rattle.std.specs.List.{AllZip}
 use Rattle.std.proofs.lemmas.List.{length-map}
 use Rattle.std.proofs.lemmas.List.Sums.{sum-map}
 use Rattle.std.proofs.lemmas.List.Sorted.{IsPermutation-refl}

@@ -1,4 +1,4 @@
-use Rattle.std.proofs.Common.{◌≡◌, ◌++◌, length, map, take, drop, ap, sym, subst, ◌∙◌, arith, length-append, vec_len, List, ℕ}
+use Rattle.std.proofs.Common.{◌≡◌, ◌++◌, length, map, take, drop, ap, sym, subst, ◌∙◌, arith, length-append, List, ℕ}
 use Rattle.std.proofs.Math.Seq.{take-append_seam}
 use Rattle.heap_server.specs.Views.{SeatView}
 use Rattle.heap_server.specs.Seats.{new_seats}

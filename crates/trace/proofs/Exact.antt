@@ -12,7 +12,7 @@ use Rattle.std.proofs.lemmas.Slice.Eq.{bytes_eq-Decides}
 use Rattle.std.proofs.lemmas.Fmt.{digits_decimal}
 use Rattle.std.proofs.lemmas.Str.Parse.{numerals_by_value, tells_digits, not_in_digits, IsNumeralModel}
 use Rattle.trace.specs.Spelling.{two, three, four}
-use Rattle.trace.specs.Reading.{◌>>=◌, number_in, cut_at, behind_in, field_in, two_in, three_in, four_in, number_then}
+use Rattle.trace.specs.Reading.{◌>>=◌, number_in, cut_at, after_in, field_in, two_in, three_in, four_in, number_then}
 use Rattle.trace.proofs.Numbers.{number_in-spelled, number_in-Some}
 
 -- the parts of what was read in steps
@@ -42,16 +42,16 @@ found_passes p (y ∷ xs) x e = elim (chosen (p y) (Some y) (find p xs) x e) [
 pub behind_is : (word bytes : List ℕ) → bytes_eq (take (length word) bytes) word ≡ true → bytes ≡ word ++ drop (length word) bytes
 behind_is word bytes e = sym (take-append-drop (length word) bytes) ∙ ap (λ l. l ++ drop (length word) bytes) ((bytes_eq-Decides (take (length word) bytes) word).0 e)
 
-pub behind_in-Some : (word bytes rest : List ℕ) → behind_in word bytes ≡ Some rest → bytes ≡ word ++ rest
-unfolding behind_in
-behind_in-Some word bytes rest e = elim (chosen (bytes_eq (take (length word) bytes) word) (Some (drop (length word) bytes)) None rest e) [
+pub after_in-Some : (word bytes rest : List ℕ) → after_in word bytes ≡ Some rest → bytes ≡ word ++ rest
+unfolding after_in
+after_in-Some word bytes rest e = elim (chosen (bytes_eq (take (length word) bytes) word) (Some (drop (length word) bytes)) None rest e) [
   | inl h ↦ behind_is word bytes h.0 ∙ ap (λ l. word ++ l) (same_Some (drop (length word) bytes) rest h.1)
   | inr h ↦ absurd (cc h.1)
 ]
 
-pub behind_in-spelled : (word rest : List ℕ) → behind_in word (word ++ rest) ≡ Some rest
-unfolding behind_in
-behind_in-spelled word rest =
+pub after_in-spelled : (word rest : List ℕ) → after_in word (word ++ rest) ≡ Some rest
+unfolding after_in
+after_in-spelled word rest =
     let front = take_at word rest (length word) refl in
     let same : bytes_eq (take (length word) (word ++ rest)) word ≡ true = (bytes_eq-Decides (take (length word) (word ++ rest)) word).1 front in
     rw (same, drop_at word rest (length word) refl) refl

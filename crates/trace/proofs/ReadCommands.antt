@@ -9,9 +9,9 @@ use Rattle.graph_heap.specs.declared.command.Command.TheVariants as commands
 use Rattle.trace.specs.declared.keyword.Keyword.{Keyword}
 use Rattle.trace.specs.declared.keyword.Keyword.TheVariants as keywords
 use Rattle.trace.specs.Spelling.{two, shape_text, keyword_text, command_text, command_line, ShapeFits, CommandFits}
-use Rattle.trace.specs.Reading.{◌>>=◌, number_in, behind_in, likely_at, front_keyword_in, two_in, shape_in, slot_and_shape_in, arguments_in, command_in, mutator_and_command_in}
+use Rattle.trace.specs.Reading.{◌>>=◌, number_in, after_in, likely_at, front_keyword_in, two_in, shape_in, slot_and_shape_in, arguments_in, command_in, mutator_and_command_in}
 use Rattle.trace.proofs.Keywords.{likely_is}
-use Rattle.trace.proofs.Exact.{bind_parts, told, chosen, behind_is, behind_in-Some, behind_in-spelled, Exact, narrow, wide, exact_number, exact_front, exact_two, exact_three, exact_four}
+use Rattle.trace.proofs.Exact.{bind_parts, told, chosen, behind_is, after_in-Some, after_in-spelled, Exact, narrow, wide, exact_number, exact_front, exact_two, exact_three, exact_four}
 
 -- a word that was recognised, and what follows it
 glued : (bytes word rest : List ℕ) → bytes_eq (take (length word) bytes) word ≡ true → drop (length word) bytes ≡ rest → bytes ≡ word ++ rest
@@ -76,14 +76,14 @@ again : {A : Type 0} (read : List ℕ → Option A) (text : A → List ℕ) (Fit
     → (x : A) → Fits x → command_in (keyword_text k ++ 32 ∷ text x) ≡ Some (f x)
 unfolding command_in front_keyword_in
 again read text Fits exact k f is x h =
-    rw (likely_is k (text x), behind_in-spelled (keyword_text k) (32 ∷ text x), behind_in-spelled (codes " ") (text x)) (is (text x) ∙ ap (λ o. o >>= λ y. Some (f y)) (exact.only x h))
+    rw (likely_is k (text x), after_in-spelled (keyword_text k) (32 ∷ text x), after_in-spelled (codes " ") (text x)) (is (text x) ∙ ap (λ o. o >>= λ y. Some (f y)) (exact.only x h))
 
 command_found : (bytes : List ℕ) (c : Command) → command_in bytes ≡ Some c → (bytes ≡ command_text c) × CommandFits c
 unfolding command_in front_keyword_in
 command_found bytes c e =
     bind_parts (front_keyword_in bytes) _ c e (λ p ep e1.
-    bind_parts (behind_in (keyword_text (likely_at bytes)) bytes) _ p ep (λ word ew e2. bind_parts (behind_in (codes " ") word) _ p e2 (λ rest er e3.
-    let parts : bytes ≡ keyword_text (likely_at bytes) ++ 32 ∷ rest = behind_in-Some (keyword_text (likely_at bytes)) bytes word ew ∙ ap (λ l. keyword_text (likely_at bytes) ++ l) (behind_in-Some (codes " ") word rest er) in
+    bind_parts (after_in (keyword_text (likely_at bytes)) bytes) _ p ep (λ word ew e2. bind_parts (after_in (codes " ") word) _ p e2 (λ rest er e3.
+    let parts : bytes ≡ keyword_text (likely_at bytes) ++ 32 ∷ rest = after_in-Some (keyword_text (likely_at bytes)) bytes word ew ∙ ap (λ l. keyword_text (likely_at bytes) ++ l) (after_in-Some (codes " ") word rest er) in
     let whole = told (λ (q : Keyword × List ℕ). bytes ≡ keyword_text q.0 ++ 32 ∷ q.1) (likely_at bytes, rest) p parts e3 in
     let r = arguments_found p.0 p.1 c e1 in
     (whole ∙ r.0, r.1))))

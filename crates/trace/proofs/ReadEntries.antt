@@ -16,8 +16,8 @@ use Rattle.graph_heap.specs.declared.command.Entry.{Entry}
 use Rattle.trace.specs.declared.entry.EntryLine.{EntryLine}
 use Rattle.trace.specs.declared.entry.EntryLine.TheVariants as lines
 use Rattle.trace.specs.Spelling.{two, three, four, shape_text, command_text, command_line, reply_text, entry_line, ShapeFits, CommandFits, ReplyFits, is_skipped, SpellsEntry}
-use Rattle.trace.specs.Reading.{◌>>=◌, cut_at, mutator_and_command_in, reply_in, before_blank_in, behind_in, arrow_in, entry_in, entry_line_in}
-use Rattle.trace.proofs.Exact.{bind_parts, told, chosen, Lacks, free, lacks, plain, narrow, cut_at-Some, cut_at-spelled, behind_in-Some, behind_in-spelled}
+use Rattle.trace.specs.Reading.{◌>>=◌, cut_at, mutator_and_command_in, reply_in, before_blank_in, after_in, arrow_in, entry_in, entry_line_in}
+use Rattle.trace.proofs.Exact.{bind_parts, told, chosen, Lacks, free, lacks, plain, narrow, cut_at-Some, cut_at-spelled, after_in-Some, after_in-spelled}
 use Rattle.trace.proofs.ReadCommands.{exact_mutator_and_command}
 use Rattle.trace.proofs.ReadReplies.{exact_reply}
 
@@ -44,13 +44,13 @@ sides front back = append_assoc front (32 ∷ []) (61 ∷ (codes "> " ++ back)) 
 
 arrow_found : (bytes : List ℕ) (c : List ℕ × List ℕ) → arrow_in bytes ≡ Some c → bytes ≡ (c.0 ++ codes " => ") ++ c.1
 unfolding arrow_in
-arrow_found bytes c e = bind_parts (cut_at 61 bytes) _ c e (λ d ed e1. bind_parts (before_blank_in d.0) _ c e1 (λ front ef e2. bind_parts (behind_in (codes "> ") d.1) _ c e2 (λ back eb e3.
+arrow_found bytes c e = bind_parts (cut_at 61 bytes) _ c e (λ d ed e1. bind_parts (before_blank_in d.0) _ c e1 (λ front ef e2. bind_parts (after_in (codes "> ") d.1) _ c e2 (λ back eb e3.
     told (λ (p : List ℕ × List ℕ). bytes ≡ (p.0 ++ codes " => ") ++ p.1) (front, back) c
-    (cut_at-Some 61 bytes d ed ∙ ap (λ l. l ++ 61 ∷ d.1) (before_blank-Some d.0 front ef) ∙ ap (λ l. (front ++ 32 ∷ []) ++ 61 ∷ l) (behind_in-Some (codes "> ") d.1 back eb) ∙ sides front back) e3)))
+    (cut_at-Some 61 bytes d ed ∙ ap (λ l. l ++ 61 ∷ d.1) (before_blank-Some d.0 front ef) ∙ ap (λ l. (front ++ 32 ∷ []) ++ 61 ∷ l) (after_in-Some (codes "> ") d.1 back eb) ∙ sides front back) e3)))
 
 arrow_only : (front back : List ℕ) → Lacks 61 (front ++ 32 ∷ []) → arrow_in ((front ++ codes " => ") ++ back) ≡ Some (front, back)
 unfolding arrow_in
-arrow_only front back none = rw (← sides front back) (rw (cut_at-spelled 61 (front ++ 32 ∷ []) (codes "> " ++ back) none, before_blank-spelled front, behind_in-spelled (codes "> ") back) refl)
+arrow_only front back none = rw (← sides front back) (rw (cut_at-spelled 61 (front ++ 32 ∷ []) (codes "> " ++ back) none, before_blank-spelled front, after_in-spelled (codes "> ") back) refl)
 
 entry_found : (bytes : List ℕ) (x : Entry) → entry_in bytes ≡ Some x → SpellsEntry bytes (lines.Entry x)
 unfolding entry_in

@@ -74,8 +74,8 @@ likely_keyword first second fourth fifth sixth =
     if fourth == 112 then keywords.ComparePut else keywords.CompareStatic
 
 -- what stands after a word at the front
-unfoldable pub behind_in : List ℕ → List ℕ → Option (List ℕ)
-behind_in word bytes = if bytes_eq (take (length word) bytes) word then Some (drop (length word) bytes) else None
+unfoldable pub after_in : List ℕ → List ℕ → Option (List ℕ)
+after_in word bytes = if bytes_eq (take (length word) bytes) word then Some (drop (length word) bytes) else None
 
 -- the kind whose word is at the front, and what stands after it and a blank
 abbrev pub likely_at : List ℕ → Keyword
@@ -83,8 +83,8 @@ likely_at bytes = likely_keyword (get_or bytes 0 0) (get_or bytes 1 0) (get_or b
 
 unfoldable pub front_keyword_in : List ℕ → Option (Keyword × List ℕ)
 front_keyword_in bytes = do
-  word ← behind_in (keyword_text (likely_at bytes)) bytes
-  rest ← behind_in (codes " ") word
+  word ← after_in (keyword_text (likely_at bytes)) bytes
+  rest ← after_in (codes " ") word
   Some (likely_at bytes, rest)
 
 -- a shape
@@ -193,7 +193,7 @@ unfoldable pub arrow_in : List ℕ → Option (List ℕ × List ℕ)
 arrow_in bytes = do
   c ← cut_at 61 bytes
   front ← before_blank_in c.0
-  back ← behind_in (codes "> ") c.1
+  back ← after_in (codes "> ") c.1
   Some (front, back)
 
 -- an entry

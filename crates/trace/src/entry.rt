@@ -5,7 +5,7 @@ ghost use Rattle.trace.specs.Spelling.{SpellsEntry};
 ghost use Rattle.trace.specs.Reading.{before_blank_in, arrow_in, entry_in, entry_line_in};
 
 use crate::commands::mutator_and_command;
-use crate::field::{behind, cut};
+use crate::field::{after, cut};
 use crate::line::is_skipped;
 use crate::replies::reply;
 use graph_heap::Entry;
@@ -34,7 +34,7 @@ fn arrow(bytes: &[u8]) -> Option<(&[u8], &[u8])>
 {
     let (front, back) = cut(b'=', bytes)?;
     let front = before_blank(front)?;
-    let back = behind(b"> ", back)?;
+    let back = after(b"> ", back)?;
     Some((front, back))
 }
 

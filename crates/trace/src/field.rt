@@ -1,7 +1,7 @@
 //! Numbers in decimal, parted by blanks.
 ghost use Rattle.std.specs.Prelude.{◌≡◌, ℕ, ◌<◌, ◌≤◌, ◌^◌, ◌==◌, List, ◌++◌, Some, IfSome, decimal, length, option_map, position};
 ghost use Rattle.trace.specs.Numbers.{Row, NoDigitAt, Fronts};
-ghost use Rattle.trace.specs.Reading.{number_in, cut_at, behind_in, field_in, two_in, three_in, four_in};
+ghost use Rattle.trace.specs.Reading.{number_in, cut_at, after_in, field_in, two_in, three_in, four_in};
 
 /// How many digits a number has, at least, where it may be 2^64 or more.
 const LONG: usize = 19;
@@ -26,7 +26,7 @@ fn front_digits(bytes: &[u8]) -> (u64, usize)
 }
 
 /// The number at the front, of which 19 digits are read.
-#[cold]
+#[inline(always)]
 fn long_number(bytes: &[u8], n: u64) -> Option<(u64, usize)>
     requires { Row bytes.now n 19 }
     ensures found { IfSome result (λ f. Fronts bytes.now f.0 f.1) }
@@ -102,9 +102,9 @@ pub(crate) fn cut(byte: u8, bytes: &[u8]) -> Option<(&[u8], &[u8])>
 }
 
 /// What stands after a word at the front.
-#[tactic(auto, unfolding(crate::specs::Reading::behind_in))]
-pub(crate) fn behind<'a>(word: &[u8], bytes: &'a [u8]) -> Option<&'a [u8]>
-    ensures { option_map (λ b. b.now) result ≡ behind_in word.now bytes.now }
+#[tactic(auto, unfolding(crate::specs::Reading::after_in))]
+pub(crate) fn after<'a>(word: &[u8], bytes: &'a [u8]) -> Option<&'a [u8]>
+    ensures { option_map (λ b. b.now) result ≡ after_in word.now bytes.now }
 {
     bytes.strip_prefix(word)
 }

@@ -3,7 +3,7 @@ ghost use Rattle.std.specs.Prelude.{◌≡◌, get_or, option_map};
 ghost use Rattle.trace.specs.Spelling.{keyword_text};
 ghost use Rattle.trace.specs.Reading.{front_keyword_in, likely_keyword};
 
-use crate::field::behind;
+use crate::field::after;
 
 /// The kind of a command.
 #[derive(Clone, Copy, Debug, PartialEq, Eq)]
@@ -89,8 +89,8 @@ impl Keyword {
             byte(bytes, 4),
             byte(bytes, 5),
         );
-        let rest = behind(likely.text(), bytes)?;
-        let rest = behind(b" ", rest)?;
+        let rest = after(likely.text(), bytes)?;
+        let rest = after(b" ", rest)?;
         Some((likely, rest))
     }
 }

@@ -42,7 +42,10 @@ pub fn scan_part(heap: &mut RawHeap, part: u64, cell: u32, room: u32) -> u32
     ensures buffers { heap.new.grey.buffers ≡ heap.old.grey.buffers }
 {
     if part != 0 {
-        let left = heap.nodes.width(part as usize - 1).saturating_sub(cell as usize);
+        let left = heap
+            .nodes
+            .width(part as usize - 1)
+            .saturating_sub(cell as usize);
         if left > 0 {
             let count = left.min(room as usize) as u32;
             scan_cells(heap, part, cell, count);

@@ -68,7 +68,7 @@ fn add_foreign<N: Naming, R: Wait + Abort>(rt: &R, server: &Server<N>, seat: &Se
     }
 }
 
-/// Calls behind a foreign exchange: the word is torn, and nothing is done.
+/// Calls after a foreign exchange: the word is torn, and nothing is done.
 fn calls_are_torn<N: Naming, R: Wait + Abort>(
     rt: &R,
     alloc: Global,

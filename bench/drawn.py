@@ -9,6 +9,9 @@ CELLS = [0, 0, 0, 0, 1, 1, 2, 3, 251, 252, 503, 504, 900, 63503, 4294967295]
 LENGTHS = [0, 1, 2, 3, 5, 251, 252, 253, 504, 505, 1500, 63504, 63505, 4294967295]
 WORDS = [0, 1, 2, 7, 18446744073709551615]
 
+# the first line of a trace in which mutators may join and leave
+SECOND = "version 2"
+
 
 def configuration(draw):
     """A configuration as a dict of its keys."""
@@ -26,6 +29,8 @@ def configuration(draw):
         keys["defrag_pages"] = draw.choice([0, 1, 1, 2, 5])
         if draw.random() < 0.1:
             keys["identities"] = draw.randint(1, 900)
+        if draw.random() < 0.3:
+            keys["live"] = draw.randint(0, keys["mutators"])
         if 256 <= keys["collector_ticks"] * keys["rate"] <= 1000000:
             return keys
 
@@ -88,13 +93,19 @@ def command(draw, keys, mutator, shapes):
 
 
 def trace(draw, keys, length):
-    """The lines of a trace: commands of all mutators, and what drives the collector."""
+    """The lines of a trace: commands of all mutators, which come and go in some, and what drives the collector."""
     lines, shapes = [], palette(draw)
+    comes = "live" in keys or draw.random() < 0.3
+    if comes:
+        lines.append(SECOND)
     steady = draw.random() * 0.4
     while len(lines) < length:
         if draw.random() >= steady:
             mutator = draw.randint(0, keys["mutators"] - (draw.random() < 0.99))
-            lines.append(command(draw, keys, mutator, shapes))
+            if comes and draw.random() < 0.05:
+                lines.append(f"{mutator} {draw.choice(['join', 'join', 'leave'])}")
+            else:
+                lines.append(command(draw, keys, mutator, shapes))
             continue
         kind = draw.random()
         if kind < 0.3:

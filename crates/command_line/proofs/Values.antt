@@ -1,50 +1,66 @@
 -- What stands at a key of a document.
-use Rattle.std.proofs.Common.{◌≡◌, true, List, [], ◌∷◌, ◌||◌, not, Option, Some, None, refl, sym, ap, String, Global}
-use Rattle.std.specs.Prelude.{ℤ, string_bytes, IfOk}
+use Rattle.std.proofs.Common.{◌≡◌, true, List, [], ◌∷◌, ◌||◌, not, Option, Some, None, refl, sym, ap, arith, String, Global}
+use Rattle.std.proofs.lemmas.Int.{ints}
+use Rattle.std.specs.Prelude.{ℤ, pos, ◌≤ℤ◌, string_bytes, IfOk}
 use Rattle.std.specs.List.{list_any}
 use Rattle.std.specs.Map.{keys_of}
 use Rattle.std.specs.Option.{ok_or, unwrap_or}
 use Rattle.std.specs.Result.{result_err}
 use Rattle.size_classes.specs.declared.key.Key.{Key}
-use Rattle.size_classes.specs.declared.key.Key.TheVariants.{Pages, Mutators, Slots, Statics, Identities, DefragBelow, DefragPages, CollectorTicks, MutatorTicks, Rate}
+use Rattle.size_classes.specs.declared.key.Key.TheVariants.{Pages, Mutators, Slots, Statics, Identities, DefragBelow, DefragPages, CollectorTicks, MutatorTicks, Rate, Live}
 use Rattle.size_classes.specs.declared.fault.ConfigFault.TheVariants as faults
-use Rattle.size_classes.specs.Keys.{row_of, is_between, is_allowed}
+use Rattle.size_classes.specs.Keys.{name_of, row_of, is_between, is_allowed}
+use Rattle.toml.specs.Data.{Data, Members, get_member}
 use Rattle.toml.specs.View.{members_view}
 use Rattle.toml.specs.declared.value.Value.{Value}
-use Rattle.command_line.specs.Document.{value_fault, number_in, is_known, has_unknown_key}
+use Rattle.command_line.specs.Document.{value_fault, number_in, number_for, mutators_of, is_known, has_unknown_key}
 
 -- two values that are one
 some_same : (a b : ℤ) → Some a ≡ Some b → a ≡ b
 some_same a b e = ap (λ o. unwrap_or o a) e
 
 -- a default is in its key's range
-pub default_within : (key : Key) (n : ℤ) → (row_of key).default ≡ Some n → is_allowed key n ≡ true
+pub default_within : (m : ℤ) (key : Key) (n : ℤ) → pos (row_of m key).least ≤ℤ (row_of m key).greatest → (row_of m key).default ≡ Some n → is_allowed m key n ≡ true
 unfolding is_between
-default_within Pages n e = cc
-default_within Mutators n e = cc
-default_within Slots n e = cc
-default_within Statics n e = rw (← some_same _ _ e) refl
-default_within Identities n e = rw (← some_same _ _ e) refl
-default_within DefragBelow n e = rw (← some_same _ _ e) refl
-default_within DefragPages n e = rw (← some_same _ _ e) refl
-default_within CollectorTicks n e = rw (← some_same _ _ e) refl
-default_within MutatorTicks n e = rw (← some_same _ _ e) refl
-default_within Rate n e = rw (← some_same _ _ e) refl
+default_within m Pages n some e = cc
+default_within m Mutators n some e = cc
+default_within m Slots n some e = cc
+default_within m Statics n some e = rw (← some_same _ _ e) refl
+default_within m Identities n some e = rw (← some_same _ _ e) refl
+default_within m DefragBelow n some e = rw (← some_same _ _ e) refl
+default_within m DefragPages n some e = rw (← some_same _ _ e) refl
+default_within m CollectorTicks n some e = rw (← some_same _ _ e) refl
+default_within m MutatorTicks n some e = rw (← some_same _ _ e) refl
+default_within m Rate n some e = rw (← some_same _ _ e) refl
+default_within m Live n some e = rw (← some_same _ _ e) (grind (arith, ints))
 
 -- a key with nothing at it gives its default, or is missing
-pub missing_fault : (key : Key) (d : Option ℤ) → d ≡ (row_of key).default → result_err (ok_or d (faults.Missing key)) ≡ value_fault key None
-missing_fault key None e = rw (← e) refl
-missing_fault key (Some n) e = rw (← e) refl
+pub missing_fault : (m : ℤ) (key : Key) (d : Option ℤ) → d ≡ (row_of m key).default → result_err (ok_or d (faults.Missing key)) ≡ value_fault m key None
+missing_fault m key None e = rw (← e) refl
+missing_fault m key (Some n) e = rw (← e) refl
 
-pub missing_value : (key : Key) (d : Option ℤ) → d ≡ (row_of key).default → IfOk (ok_or d (faults.Missing key)) (λ n. n ≡ number_in key None)
-missing_value key None e = tt
-missing_value key (Some n) e = rw (← e) refl
+pub missing_value : (m : ℤ) (key : Key) (d : Option ℤ) → d ≡ (row_of m key).default → IfOk (ok_or d (faults.Missing key)) (λ n. n ≡ number_in m key None)
+missing_value m key None e = tt
+missing_value m key (Some n) e = rw (← e) refl
 
-pub missing_within : (key : Key) (d : Option ℤ) → d ≡ (row_of key).default → IfOk (ok_or d (faults.Missing key)) (λ n. is_allowed key n ≡ true)
-missing_within key None e = tt
-missing_within key (Some n) e = default_within key n (sym e)
+pub missing_within : (m : ℤ) (key : Key) (d : Option ℤ) → pos (row_of m key).least ≤ℤ (row_of m key).greatest → d ≡ (row_of m key).default → IfOk (ok_or d (faults.Missing key)) (λ n. is_allowed m key n ≡ true)
+missing_within m key None some e = tt
+missing_within m key (Some n) some e = default_within m key n some (sym e)
 
 -- the keys of the map and the members of the document
 pub any_unknown : (entries : List (String Global × Value)) → list_any (λ k. not (is_known (string_bytes k))) (keys_of entries) ≡ has_unknown_key (members_view entries)
 any_unknown [] = refl
 any_unknown (e ∷ es) = ap (λ b. not (is_known (string_bytes e.0)) || b) (any_unknown es)
+
+-- the number at the key of the mutators is the same for any number of mutators
+same_number : (m n : ℤ) (d : Option Data) → number_in m Mutators d ≡ number_in n Mutators d
+same_number m n None = refl
+same_number m n (Some value) = refl
+
+pub mutators_same : (document : Members) → number_for document Mutators ≡ mutators_of document
+mutators_same document = same_number (mutators_of document) (pos 0) (get_member (name_of Mutators) document)
+
+-- where there is a mutator, some number of them may be live
+pub some_live : (m : ℤ) → is_allowed m Mutators m ≡ true → pos 0 ≤ℤ m
+unfolding is_between
+some_live m e = grind (arith, ints)

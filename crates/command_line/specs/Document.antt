@@ -1,5 +1,5 @@
 -- What a configuration file says, and what is wrong with it.
-use Rattle.std.specs.Prelude.{◌≡◌, ℕ, ◌≤◌, nat_lt, ℤ, pos, Bool, false, not, ◌||◌, if◌then◌else◌, List, [], ◌∷◌, ◌++◌, map, length, Option, Some, None, is_some, Result, Ok, Err, String}
+use Rattle.std.specs.Prelude.{◌≡◌, ℕ, ◌≤◌, nat_lt, ℤ, pos, ◌≤ℤ◌, Bool, false, not, ◌||◌, if◌then◌else◌, List, [], ◌∷◌, ◌++◌, map, length, Option, Some, None, is_some, Result, Ok, Err, String}
 use Rattle.std.specs.Option.{unwrap_or}
 use Rattle.std.specs.List.{list_any}
 use Rattle.std.specs.Str.{IsUtf8, is_utf8, bytes_eq}
@@ -12,7 +12,7 @@ use Rattle.size_classes.specs.declared.key.TheConstants.Key.{ALL}
 use Rattle.size_classes.specs.declared.fault.ConfigFault.{ConfigFault}
 use Rattle.size_classes.specs.declared.fault.ConfigFault.TheVariants as faults
 use Rattle.size_classes.specs.declared.settings.Settings.{Settings}
-use Rattle.size_classes.specs.Keys.{row_of, is_allowed}
+use Rattle.size_classes.specs.Keys.{name_of, row_of, is_allowed}
 use Rattle.size_classes.specs.Config.{budget_fault, IsOf}
 use Rattle.toml.specs.Data.{Data, as_integer, get_member, Members, no_members, member}
 use Rattle.toml.specs.Errors.{IsBlank}
@@ -28,33 +28,41 @@ document_of bytes = if is_utf8 bytes then parse_document bytes else None
 
 -- it is the name of a key
 abbrev pub is_known : List ℕ → Bool
-is_known name = list_any (λ key. bytes_eq (row_of key).name name) ALL
+is_known name = list_any (λ key. bytes_eq (name_of key) name) ALL
 
 -- some member's key isn't known
 abbrev pub has_unknown_key : Members → Bool
 has_unknown_key no_members = false
 has_unknown_key (member name value rest) = not (is_known name) || has_unknown_key rest
 
+-- the number at a key, or its default, in a file with this number of mutators
+abbrev pub number_in : ℤ → Key → Option Data → ℤ
+number_in mutators key None = unwrap_or (row_of mutators key).default (pos 0)
+number_in mutators key (Some value) = unwrap_or (as_integer value) (pos 0)
+
+-- the document's number of mutators, or 0 where it has none; the row of this key doesn't ask for it
+abbrev pub mutators_of : Members → ℤ
+mutators_of document = number_in (pos 0) keys_of_files.Mutators (get_member (name_of keys_of_files.Mutators) document)
+
 -- what is wrong with a whole number at a key, or with what is none
-abbrev pub number_fault : Key → Option ℤ → Option ConfigFault
-number_fault key None = Some (faults.NotWhole key)
-number_fault key (Some n) = if is_allowed key n then None else Some (faults.OutOfRange key)
+abbrev pub number_fault : ℤ → Key → Option ℤ → Option ConfigFault
+number_fault mutators key None = Some (faults.NotWhole key)
+number_fault mutators key (Some n) = if is_allowed mutators key n then None else Some (faults.OutOfRange key)
 
 -- what is wrong with what stands at a key
-abbrev pub value_fault : Key → Option Data → Option ConfigFault
-value_fault key None = if is_some (row_of key).default then None else Some (faults.Missing key)
-value_fault key (Some value) = number_fault key (as_integer value)
+abbrev pub value_fault : ℤ → Key → Option Data → Option ConfigFault
+value_fault mutators key None = if is_some (row_of mutators key).default then None else Some (faults.Missing key)
+value_fault mutators key (Some value) = number_fault mutators key (as_integer value)
 
 abbrev pub key_fault : Members → Key → Option ConfigFault
-key_fault document key = value_fault key (get_member (row_of key).name document)
-
--- the number at a key, or its default
-abbrev pub number_in : Key → Option Data → ℤ
-number_in key None = unwrap_or (row_of key).default (pos 0)
-number_in key (Some value) = unwrap_or (as_integer value) (pos 0)
+key_fault document key = value_fault (mutators_of document) key (get_member (name_of key) document)
 
 abbrev pub number_for : Members → Key → ℤ
-number_for document key = number_in key (get_member (row_of key).name document)
+number_for document key = number_in (mutators_of document) key (get_member (name_of key) document)
+
+-- some number is in the range of a key; of `live`, there is no negative number of mutators
+abbrev pub HasRange : Members → Key → Type 0
+HasRange document key = pos (row_of (mutators_of document) key).least ≤ℤ (row_of (mutators_of document) key).greatest
 
 abbrev pub settings_of : Members → Settings
 settings_of document = record {
@@ -68,6 +76,7 @@ settings_of document = record {
   collector_ticks = number_for document keys_of_files.CollectorTicks;
   mutator_ticks = number_for document keys_of_files.MutatorTicks;
   rate = number_for document keys_of_files.Rate;
+  live = number_for document keys_of_files.Live;
 }
 
 -- the first that there is

@@ -4,7 +4,7 @@ ghost use Rattle.std.specs.Result.{result_err};
 ghost use Rattle.size_classes.specs.Keys.{is_allowed};
 ghost use Rattle.size_classes.specs.Config.{first_outside, IsOf};
 ghost use Rattle.toml.specs.View.{table_view};
-ghost use Rattle.command_line.specs.Document.{IsRead, IsOpened, is_known, has_unknown_key, key_fault, number_for, settings_of, first_some, document_fault, keys_faults};
+ghost use Rattle.command_line.specs.Document.{IsRead, IsOpened, is_known, has_unknown_key, mutators_of, key_fault, number_for, HasRange, settings_of, first_some, document_fault, keys_faults};
 
 use crate::fault::ReadFault;
 use size_classes::{Config, ConfigFault, Key, Settings};
@@ -65,7 +65,7 @@ fn has_unknown_key(document: &Table) -> bool
 fn is_known(name: &str) -> bool
     ensures { result ≡ is_known name.now }
 {
-    Key::ALL.iter().any(|key| key.row().name == name)
+    Key::ALL.iter().any(|key| key.name() == name)
 }
 
 /// The settings that a document gives, with the defaults filled in, or the fault of the first key that
@@ -86,21 +86,32 @@ fn settings_in(document: &Table) -> Result<Settings, ConfigFault>
         collector_ticks: number_at(document, Key::CollectorTicks)?,
         mutator_ticks: number_at(document, Key::MutatorTicks)?,
         rate: number_at(document, Key::Rate)?,
+        live: number_at(document, Key::Live)?,
     })
+}
+
+/// The number of mutators that a document has, or 0 where it has none.
+fn mutators_in(document: &Table) -> i64
+    ensures { result ≡ mutators_of (table_view document.now) }
+{
+    match document.get(Key::Mutators.name()) {
+        Some(value) => value.as_integer().unwrap_or(0),
+        None => 0,
+    }
 }
 
 /// The number that a document has for a key, else the key's default.
 fn number_at(document: &Table, key: Key) -> Result<i64, ConfigFault>
     ensures fault { result_err result ≡ key_fault (table_view document.now) key }
     ensures value { IfOk result (λ n. n ≡ number_for (table_view document.now) key) }
-    ensures within { IfOk result (λ n. is_allowed key n ≡ true) }
+    ensures within { HasRange (table_view document.now) key → IfOk result (λ n. is_allowed (mutators_of (table_view document.now)) key n ≡ true) }
 {
-    let row = key.row();
-    let Some(value) = document.get(row.name) else {
-        return row.default.ok_or(ConfigFault::Missing(key));
+    let mutators = mutators_in(document);
+    let Some(value) = document.get(key.name()) else {
+        return key.row(mutators).default.ok_or(ConfigFault::Missing(key));
     };
     match value.as_integer() {
-        Some(number) if key.allows(number) => Ok(number),
+        Some(number) if key.allows(mutators, number) => Ok(number),
         Some(_) => Err(ConfigFault::OutOfRange(key)),
         None => Err(ConfigFault::NotWhole(key)),
     }

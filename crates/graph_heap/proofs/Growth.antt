@@ -45,3 +45,5 @@ changed_stands g (changes.New cell id shape) k o h =
     let within : k < length g.objects = slice_get_within g.objects k o h in
     let xs = g.objects ++ new_object shape ∷ [] in
     (o, slice_get-get_or xs k o (omega (arith, within, length-append g.objects (new_object shape ∷ []))) ∙ ap Some (get_or_append_left g.objects (new_object shape ∷ []) o k within ∙ get_or_from_slice_get g.objects k o o h), refl)
+changed_stands g (changes.Join m) k o h = (o, h, refl)
+changed_stands g (changes.Leave m) k o h = (o, h, refl)

@@ -1,5 +1,5 @@
 -- The graph heap: objects that never move and never go, and the roots.
-use Rattle.std.specs.Prelude.{ℕ, ◌+◌, ◌-◌, ◌*◌, ◌==◌, if◌then◌else◌, List, [], ◌∷◌, ◌++◌, replicate, slice_set, slice_index_or}
+use Rattle.std.specs.Prelude.{ℕ, zero, suc, ◌+◌, ◌-◌, ◌*◌, ◌==◌, Bool, true, false, if◌then◌else◌, List, [], ◌∷◌, ◌++◌, replicate, slice_set, slice_index_or}
 use Rattle.graph_heap.specs.declared.command.Shape.{Shape}
 use Rattle.graph_heap.specs.declared.command.Shape.TheVariants.{Plain}
 use Rattle.graph_heap.specs.declared.command.Limits.{Limits}
@@ -15,19 +15,33 @@ pub record Object : Type 0 where
 
 -- A graph heap. The object of identity n stands at place n - 1, so that the next identity is the
 -- number of objects and one. The roots are one row of identities, 0 for null: slot s of mutator m
--- at m * slots + s, and then the statics.
+-- at m * slots + s, and then the statics. Mutator m is live where the row `live` says so.
 pub record Graph : Type 0 where
   pub limits : Limits
   pub objects : List Object
   pub roots : List ℕ
+  pub live : List Bool
 
 -- how many roots there are
 abbrev pub root_cells : Limits → ℕ
 root_cells l = l.mutators * l.slots + l.statics
 
--- the graph heap from which each history starts: no object, and null roots
+-- which mutators are live at first: the numbers below a limit
+abbrev pub live_first : Limits → List Bool
+live_first l = replicate l.live true ++ replicate (l.mutators - l.live) false
+
+-- the graph heap from which each history starts: no object, null roots, and the first mutators live
 abbrev pub opening : Limits → Graph
-opening l = record { limits = l; objects = []; roots = replicate (root_cells l) 0 }
+opening l = record { limits = l; objects = []; roots = replicate (root_cells l) 0; live = live_first l }
+
+-- a row of roots with null in so many of them, from one on
+abbrev pub nulled : List ℕ → ℕ → ℕ → List ℕ
+nulled roots first zero = roots
+nulled roots first (suc n) = slice_set (nulled roots first n) (first + n) 0
+
+-- where the slots of a mutator begin in the row of roots
+abbrev pub first_slot : Limits → ℕ → ℕ
+first_slot l m = m * l.slots
 
 -- a new object has null references and zero words
 abbrev pub new_object : Shape → Object
@@ -59,3 +73,5 @@ changed g (changes.Root cell id) = record g { roots = slice_set g.roots cell id 
 changed g (changes.Ref id i value) = record g { objects = put_object g.objects id (with_ref (object_of g.objects id) i value) }
 changed g (changes.Word id i value) = record g { objects = put_object g.objects id (with_word (object_of g.objects id) i value) }
 changed g (changes.New cell id shape) = record g { objects = g.objects ++ new_object shape ∷ []; roots = slice_set g.roots cell id }
+changed g (changes.Join m) = record g { live = slice_set g.live m true }
+changed g (changes.Leave m) = record g { roots = nulled g.roots (first_slot g.limits m) g.limits.slots; live = slice_set g.live m false }

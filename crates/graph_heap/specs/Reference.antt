@@ -1,12 +1,13 @@
 -- The slow heap, as a graph heap.
-use Rattle.std.specs.Prelude.{◌≡◌, map, length}
+use Rattle.std.specs.Prelude.{◌≡◌, ◌≤◌, map, length}
 use Rattle.graph_heap.specs.declared.reference.Reference.TheInside.{Inside}
 use Rattle.graph_heap.specs.Graph.{Graph, root_cells}
 use Rattle.graph_heap.specs.Stored.{object_in}
 
 abbrev pub graph_in : Inside → Graph
-graph_in a = record { limits = a.limits; objects = map object_in a.objects.items; roots = a.roots.items }
+graph_in a = record { limits = a.limits; objects = map object_in a.objects.items; roots = a.roots.items; live = a.live.items }
 
--- the row of roots has its length
+-- the row of roots has its length, and each mutator is live or not
 pub record IsRow (a : Inside) : Type 0 where
   pub row : length a.roots.items ≡ root_cells a.limits
+  pub live : a.limits.mutators ≤ length a.live.items

@@ -1,7 +1,7 @@
 -- The numbers of refusals.
 use Rattle.std.specs.Prelude.{ℕ}
 use Rattle.graph_heap.specs.declared.command.Refusal.{Refusal}
-use Rattle.graph_heap.specs.declared.command.Refusal.TheVariants.{BadSlot, NullSlot, BadIndex, WrongKind, TooLarge, IdentitiesSpent, NoSpace, BadStatic}
+use Rattle.graph_heap.specs.declared.command.Refusal.TheVariants.{BadSlot, NullSlot, BadIndex, WrongKind, TooLarge, IdentitiesSpent, NoSpace, BadStatic, NotLive, AlreadyLive}
 
 abbrev pub refusal_number : Refusal → ℕ
 refusal_number BadSlot = 1
@@ -12,3 +12,5 @@ refusal_number TooLarge = 5
 refusal_number IdentitiesSpent = 6
 refusal_number NoSpace = 7
 refusal_number BadStatic = 8
+refusal_number NotLive = 14
+refusal_number AlreadyLive = 15

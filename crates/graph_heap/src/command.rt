@@ -92,6 +92,25 @@ pub enum Command {
     Describe {
         a: u32,
     },
+    /// The mutator comes to be live.
+    Join,
+    /// Null into each slot of the mutator, which is live no more.
+    Leave,
+}
+
+impl Command {
+    ghost use Rattle.std.specs.Prelude.{◌≡◌};
+    ghost use Rattle.graph_heap.specs.Effect as effect;
+
+    /// Whether the command is Join, which alone is for a mutator that isn't live.
+    pub fn is_join(&self) -> bool
+        ensures { result ≡ effect.is_join self.now }
+    {
+        match *self {
+            Command::Join => true,
+            _ => false,
+        }
+    }
 }
 
 /// Why a command was refused. A refusal leaves the heap as it was.
@@ -113,6 +132,10 @@ pub enum Refusal {
     NoSpace,
     /// The named static isn't below `statics`.
     BadStatic,
+    /// The mutator isn't live, and the command isn't Join.
+    NotLive,
+    /// The mutator is live, and the command is Join.
+    AlreadyLive,
 }
 
 impl Refusal {
@@ -132,6 +155,8 @@ impl Refusal {
             Refusal::IdentitiesSpent => 6,
             Refusal::NoSpace => 7,
             Refusal::BadStatic => 8,
+            Refusal::NotLive => 14,
+            Refusal::AlreadyLive => 15,
         }
     }
 }
@@ -166,13 +191,15 @@ pub struct Entry {
     pub reply: Reply,
 }
 
-/// What bounds a heap: mutators, slots of each, statics, and the greatest identity.
+/// What bounds a heap: mutators, slots of each, statics, and the greatest identity; and how many
+/// mutators are live at first.
 #[derive(Clone, Copy, Debug, PartialEq, Eq)]
 pub struct Limits {
     pub mutators: u32,
     pub slots: u32,
     pub statics: u32,
     pub identities: u64,
+    pub live: u32,
 }
 
 /// What a command changes. Roots are numbered in one row: the slots of mutator 0, of mutator 1 and so
@@ -188,4 +215,8 @@ pub enum Change {
     Word { id: u64, i: u32, value: u64 },
     /// An object is made, and a root gets its identity.
     New { cell: usize, id: u64, shape: Shape },
+    /// A mutator comes to be live.
+    Join { mutator: u32 },
+    /// The slots of a mutator get null, and it is live no more.
+    Leave { mutator: u32 },
 }

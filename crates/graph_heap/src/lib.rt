@@ -2,12 +2,14 @@
 //! never moves or frees an object. All other crates are proved against it.
 #![tactic(auto)]
 
+pub mod admission;
 pub mod command;
 mod laws;
 pub mod no_memory;
 pub mod reference;
 mod stored;
 
+pub use admission::{admit, live_row, set_live};
 pub use command::{Change, Command, Entry, Limits, Refusal, Reply, Shape};
 pub use laws::{one_more, one_step, shapes_stand};
 pub use no_memory::NoMemory;

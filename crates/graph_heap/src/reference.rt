@@ -1,13 +1,14 @@
 //! A slow heap, which replies as the graph heap does.
 ghost use Rattle.std.specs.Prelude.{true, ◌≡◌, ◌<◌, ◌+◌, ◌*◌, ◌^◌, ◌≤◌, ◌↔◌, length, slice_set, IfOk, IsOkAnd, OnOk, OnErr, IsTrue};
 ghost use Rattle.graph_heap.specs.Shape as shapes;
-ghost use Rattle.graph_heap.specs.Graph.{root_cells, new_object, changed, opening};
+ghost use Rattle.graph_heap.specs.Graph.{root_cells, nulled, new_object, changed, opening};
 ghost use Rattle.graph_heap.specs.Effect as effect;
-ghost use Rattle.graph_heap.specs.Effect.{slot_at, static_at, effect_of, fitting, reply_of, next_of};
+ghost use Rattle.graph_heap.specs.Effect.{slot_at, static_at, deed_of, effect_of, fitting, reply_of, next_of};
 ghost use Rattle.graph_heap.specs.Stored.{object_in};
 ghost use Rattle.graph_heap.specs.History as history;
 ghost use Rattle.graph_heap.specs.History.{IsEntryOf, after_entry};
 
+use crate::admission::{admit, live_row, set_live};
 use crate::command::{Change, Command, Entry, Limits, Refusal, Reply, Shape};
 use crate::no_memory::NoMemory;
 use crate::stored::{StoredObject, object_of, ref_of, set_ref_of, set_word_of, word_of};
@@ -21,6 +22,7 @@ pub struct Reference {
     limits: Limits,
     objects: Vec<StoredObject>,
     roots: Vec<u64>,
+    live: Vec<bool>,
     alloc: Global,
 }
 
@@ -139,6 +141,12 @@ impl Reference {
                 self.objects.push(object)?;
                 set_cell(self.roots.as_mut_slice(), cell, id);
             }
+            Change::Join { mutator } => set_live(self.live.as_mut_slice(), mutator, true),
+            Change::Leave { mutator } => {
+                let slots = self.limits.slots as usize;
+                null_cells(self.roots.as_mut_slice(), mutator as usize * slots, slots);
+                set_live(self.live.as_mut_slice(), mutator, false);
+            }
         }
         Ok(())
     }
@@ -146,6 +154,15 @@ impl Reference {
     /// What the graph heap does.
     fn plan(&self, room: bool, mutator: u32, command: &Command) -> Result<(Reply, Change), Refusal>
         ensures { result ≡ effect_of room self.now mutator command.now }
+    {
+        let joins = command.is_join();
+        admit(&self.limits, self.live.as_slice(), mutator, joins)?;
+        self.deed(room, mutator, command)
+    }
+
+    /// What the graph heap does for a mutator that may ask this.
+    fn deed(&self, room: bool, mutator: u32, command: &Command) -> Result<(Reply, Change), Refusal>
+        ensures { result ≡ deed_of room self.now mutator command.now }
     {
         match *command {
             Command::New { dst, shape } => self.make(room, mutator, dst, shape),
@@ -169,6 +186,8 @@ impl Reference {
             ),
             Command::Same { a, b } => self.same(mutator, a, b),
             Command::Describe { a } => self.describe(mutator, a),
+            Command::Join => Ok((Reply::Done, Change::Join { mutator })),
+            Command::Leave => Ok((Reply::Done, Change::Leave { mutator })),
         }
     }
 
@@ -191,7 +210,7 @@ impl Reference {
         dst: u32,
         shape: Shape,
     ) -> Result<(Reply, Change), Refusal>
-        ensures { result ≡ effect_of room self.now mutator (Command.New dst shape) }
+        ensures { result ≡ deed_of room self.now mutator (Command.New dst shape) }
     {
         let cell = slot_of(&self.limits, mutator, dst)?;
         fitting_of(shape)?;
@@ -203,7 +222,7 @@ impl Reference {
     }
 
     fn load(&self, mutator: u32, dst: u32, obj: u32, i: u32) -> Result<(Reply, Change), Refusal>
-        ensures { result ≡ effect_of true self.now mutator (Command.Load dst obj i) }
+        ensures { result ≡ deed_of true self.now mutator (Command.Load dst obj i) }
     {
         let cell = slot_of(&self.limits, mutator, dst)?;
         let at = slot_of(&self.limits, mutator, obj)?;
@@ -212,7 +231,7 @@ impl Reference {
     }
 
     fn store(&self, mutator: u32, obj: u32, i: u32, src: u32) -> Result<(Reply, Change), Refusal>
-        ensures { result ≡ effect_of true self.now mutator (Command.Store obj i src) }
+        ensures { result ≡ deed_of true self.now mutator (Command.Store obj i src) }
     {
         let at = slot_of(&self.limits, mutator, obj)?;
         let from = slot_of(&self.limits, mutator, src)?;
@@ -230,7 +249,7 @@ impl Reference {
         expect: u32,
         new: u32,
     ) -> Result<(Reply, Change), Refusal>
-        ensures { result ≡ effect_of true self.now mutator (Command.CompareStore obj i expect new) }
+        ensures { result ≡ deed_of true self.now mutator (Command.CompareStore obj i expect new) }
     {
         let at = slot_of(&self.limits, mutator, obj)?;
         let expected = slot_of(&self.limits, mutator, expect)?;
@@ -246,7 +265,7 @@ impl Reference {
     }
 
     fn get(&self, mutator: u32, obj: u32, i: u32) -> Result<(Reply, Change), Refusal>
-        ensures { result ≡ effect_of true self.now mutator (Command.Get obj i) }
+        ensures { result ≡ deed_of true self.now mutator (Command.Get obj i) }
     {
         let at = slot_of(&self.limits, mutator, obj)?;
         let value = word_of(self.objects.as_slice(), self.roots[at], i)?;
@@ -254,7 +273,7 @@ impl Reference {
     }
 
     fn put(&self, mutator: u32, obj: u32, i: u32, word: u64) -> Result<(Reply, Change), Refusal>
-        ensures { result ≡ effect_of true self.now mutator (Command.Put obj i word) }
+        ensures { result ≡ deed_of true self.now mutator (Command.Put obj i word) }
     {
         let at = slot_of(&self.limits, mutator, obj)?;
         let id = self.roots[at];
@@ -270,7 +289,7 @@ impl Reference {
         old: u64,
         new: u64,
     ) -> Result<(Reply, Change), Refusal>
-        ensures { result ≡ effect_of true self.now mutator (Command.ComparePut obj i old new) }
+        ensures { result ≡ deed_of true self.now mutator (Command.ComparePut obj i old new) }
     {
         let at = slot_of(&self.limits, mutator, obj)?;
         let id = self.roots[at];
@@ -283,7 +302,7 @@ impl Reference {
     }
 
     fn copy(&self, mutator: u32, dst: u32, src: u32) -> Result<(Reply, Change), Refusal>
-        ensures { result ≡ effect_of true self.now mutator (Command.Copy dst src) }
+        ensures { result ≡ deed_of true self.now mutator (Command.Copy dst src) }
     {
         let cell = slot_of(&self.limits, mutator, dst)?;
         let from = slot_of(&self.limits, mutator, src)?;
@@ -292,14 +311,14 @@ impl Reference {
     }
 
     fn clear(&self, mutator: u32, dst: u32) -> Result<(Reply, Change), Refusal>
-        ensures { result ≡ effect_of true self.now mutator (Command.Clear dst) }
+        ensures { result ≡ deed_of true self.now mutator (Command.Clear dst) }
     {
         let cell = slot_of(&self.limits, mutator, dst)?;
         Ok((Reply::Done, Change::Root { cell, id: 0 }))
     }
 
     fn load_static(&self, mutator: u32, dst: u32, k: u32) -> Result<(Reply, Change), Refusal>
-        ensures { result ≡ effect_of true self.now mutator (Command.LoadStatic dst k) }
+        ensures { result ≡ deed_of true self.now mutator (Command.LoadStatic dst k) }
     {
         let cell = slot_of(&self.limits, mutator, dst)?;
         let from = static_of(&self.limits, k)?;
@@ -308,7 +327,7 @@ impl Reference {
     }
 
     fn store_static(&self, mutator: u32, k: u32, src: u32) -> Result<(Reply, Change), Refusal>
-        ensures { result ≡ effect_of true self.now mutator (Command.StoreStatic k src) }
+        ensures { result ≡ deed_of true self.now mutator (Command.StoreStatic k src) }
     {
         let from = slot_of(&self.limits, mutator, src)?;
         let cell = static_of(&self.limits, k)?;
@@ -323,7 +342,7 @@ impl Reference {
         expect: u32,
         new: u32,
     ) -> Result<(Reply, Change), Refusal>
-        ensures { result ≡ effect_of true self.now mutator (Command.CompareStatic k expect new) }
+        ensures { result ≡ deed_of true self.now mutator (Command.CompareStatic k expect new) }
     {
         let expected = slot_of(&self.limits, mutator, expect)?;
         let from = slot_of(&self.limits, mutator, new)?;
@@ -338,7 +357,7 @@ impl Reference {
     }
 
     fn same(&self, mutator: u32, a: u32, b: u32) -> Result<(Reply, Change), Refusal>
-        ensures { result ≡ effect_of true self.now mutator (Command.Same a b) }
+        ensures { result ≡ deed_of true self.now mutator (Command.Same a b) }
     {
         let first = slot_of(&self.limits, mutator, a)?;
         let second = slot_of(&self.limits, mutator, b)?;
@@ -349,7 +368,7 @@ impl Reference {
     }
 
     fn describe(&self, mutator: u32, a: u32) -> Result<(Reply, Change), Refusal>
-        ensures { result ≡ effect_of true self.now mutator (Command.Describe a) }
+        ensures { result ≡ deed_of true self.now mutator (Command.Describe a) }
     {
         let at = slot_of(&self.limits, mutator, a)?;
         let id = self.roots[at];
@@ -368,6 +387,16 @@ fn had_room_of(reply: &Reply) -> bool
     }
 }
 
+/// Writes null to so many roots, from one on.
+fn null_cells(cells: &mut [u64], first: usize, count: usize)
+    requires { first + count < 2 ^ 64 }
+    ensures { cells.new ≡ nulled cells.old first count }
+{
+    for i in 0..count {
+        set_cell(cells, first + i, 0);
+    }
+}
+
 /// Writes a root, if it is there.
 fn set_cell(cells: &mut [u64], cell: usize, id: u64)
     ensures { cells.new ≡ slice_set cells.old cell id }
@@ -378,16 +407,18 @@ fn set_cell(cells: &mut [u64], cell: usize, id: u64)
 }
 
 impl Reference {
-    /// A heap with no object and null roots.
+    /// A heap with no object and null roots, where the first `live` mutators are live.
     pub fn new(alloc: Global, limits: &Limits) -> Result<Reference, NoMemory>
         ensures { IfOk result (λ r. r ≡ opening limits.now) }
     {
         let count = limits.mutators as usize * limits.slots as usize + limits.statics as usize;
         let roots = vec![in alloc; 0; count]?;
+        let live = live_row(alloc, limits)?;
         Ok(Reference {
             limits: *limits,
             objects: Vec::new(alloc),
             roots,
+            live,
             alloc,
         })
     }

@@ -6,6 +6,7 @@ const LIMITS: Limits = Limits {
     slots: 4,
     statics: 1,
     identities: 2,
+    live: 2,
 };
 
 /// Commands of mutators, in the order in which they come, and the reply to each.
@@ -200,7 +201,55 @@ fn accepts_steps_alone(rt: HostRuntime) -> Result<(), NoMemory> {
     Ok(())
 }
 
+/// Commands where mutator 0 alone is live at first.
+const JOINED: [(u32, Command, Reply); 14] = [
+    (
+        1,
+        Command::Clear { dst: 9 },
+        Reply::Refused(Refusal::NotLive),
+    ),
+    (1, Command::Join, Reply::Done),
+    (1, Command::Join, Reply::Refused(Refusal::AlreadyLive)),
+    (
+        1,
+        Command::New {
+            dst: 3,
+            shape: Shape::WordArray(1),
+        },
+        Reply::Made(1),
+    ),
+    (1, Command::StoreStatic { k: 0, src: 3 }, Reply::Done),
+    (1, Command::Leave, Reply::Done),
+    (
+        1,
+        Command::Get { obj: 3, i: 0 },
+        Reply::Refused(Refusal::NotLive),
+    ),
+    (0, Command::LoadStatic { dst: 0, k: 0 }, Reply::Ref(1)),
+    (2, Command::Join, Reply::Refused(Refusal::BadSlot)),
+    (1, Command::Join, Reply::Done),
+    (
+        1,
+        Command::Get { obj: 3, i: 0 },
+        Reply::Refused(Refusal::NullSlot),
+    ),
+    (0, Command::Get { obj: 0, i: 0 }, Reply::Word(0)),
+    (0, Command::Leave, Reply::Done),
+    (0, Command::Leave, Reply::Refused(Refusal::NotLive)),
+];
+
+#[test]
+fn mutators_join_and_leave(rt: HostRuntime) -> Result<(), NoMemory> {
+    let limits = Limits { live: 1, ..LIMITS };
+    let mut heap = Reference::new(rt.alloc(), &limits)?;
+    for (mutator, command, reply) in JOINED.iter() {
+        assert!(rt; heap.reply(*mutator, command)? == *reply);
+    }
+    Ok(())
+}
+
 #[test]
 fn refusals_have_their_numbers(rt: HostRuntime) {
     assert!(rt; Refusal::BadSlot.number() == 1 && Refusal::BadStatic.number() == 8);
+    assert!(rt; Refusal::NotLive.number() == 14 && Refusal::AlreadyLive.number() == 15);
 }

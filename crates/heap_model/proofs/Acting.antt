@@ -32,9 +32,10 @@ pub at_phase : (h : HeapState) (p : Phase) (g s : PartGraph) → h.phase ≡ p �
 at_phase h p g s e c = subst (λ z. Coherent (collector_by (seen h) h.store.pages z h.grey) g s) e c
 
 -- the heap after an action, with the graph heaps as they were
-pub again : (h after : HeapState) (present snapshot : Graph) → Consistent h present snapshot → after.limits ≡ h.limits → length after.roots ≡ length h.roots → IsWhole after.store → Coherent (collector_of after) (view present) (view snapshot) → Consistent after present snapshot
-again h after present snapshot c limits roots whole parts = record {
+pub again : (h after : HeapState) (present snapshot : Graph) → Consistent h present snapshot → after.limits ≡ h.limits → after.live ≡ h.live → length after.roots ≡ length h.roots → IsWhole after.store → Coherent (collector_of after) (view present) (view snapshot) → Consistent after present snapshot
+again h after present snapshot c limits live roots whole parts = record {
   limits = limits ∙ c.limits;
+  live = live ∙ c.live;
   row = roots ∙ c.row ∙ ap root_cells (sym limits);
   present_row = roots ∙ c.present_row;
   snapshot_row = roots ∙ c.snapshot_row;
@@ -89,6 +90,10 @@ shaded_state h k x p g s (Is_marked new front back is e w) c =
     let c3 = placed_stands (collector_by (seen (record h { store = new })) h.store.pages p (x ∷ h.grey)) front back x (ap (λ (l : List ℕ). x ∷ l) is) g s c2 in
     subst (λ z. Coherent (collector_by (seen (record h { store = new })) z p (front ++ x ∷ back)) g s) (sym w.pages) c3
 
+pub shades_live : (h k : HeapState) (x : ℕ) → Shades h x k → k.live ≡ h.live
+shades_live h k x (Was_marked e) = refl
+shades_live h k x (Is_marked new front back is m w) = refl
+
 pub shades_limits : (h k : HeapState) (x : ℕ) → Shades h x k → k.limits ≡ h.limits
 shades_limits h k x (Was_marked e) = refl
 shades_limits h k x (Is_marked new front back is e w) = refl
@@ -112,7 +117,7 @@ root_act h k present snapshot next c e l sh =
     let c1 = acts m (root_scanned m next) (view present) (view snapshot) (collector.Scans_root next refl l) c0 in
     let c2 = same_stands (root_scanned m next) (shade (seen h1) x) (view present) (view snapshot) (same_shade (set_root (seen h) next x) (seen h1) x (root_seen h next x l)) c1 in
     let c3 = shaded_state h1 k x (phases.Roots (next + 1)) (view present) (view snapshot) sh c2 in
-    again h (goes_to k 1 (phases.Roots (next + 1))) present snapshot c (shades_limits h1 k x sh) (ap length (shades_roots h1 k x sh) ∙ length-set h.roots next x) (shades_whole h1 k x sh c.whole) c3
+    again h (goes_to k 1 (phases.Roots (next + 1))) present snapshot c (shades_limits h1 k x sh) (shades_live h1 k x sh) (ap length (shades_roots h1 k x sh) ∙ length-set h.roots next x) (shades_whole h1 k x sh c.whole) c3
 
 pub roots_end_act : (h : HeapState) (present snapshot : Graph) (next : ℕ) → Consistent h present snapshot → h.phase ≡ phases.Roots next → length h.roots ≤ next → Consistent (goes_to h 1 (phases.Marking 0 0)) present snapshot
 roots_end_act h present snapshot next c e l =
@@ -120,7 +125,7 @@ roots_end_act h present snapshot next c e l =
     let c0 = at_phase h (phases.Roots next) (view present) (view snapshot) e c.parts in
     let c1 = acts m (record m { phase = In_marking }) (view present) (view snapshot) (collector.Ends_roots next refl l) c0 in
     let c2 : Coherent (collector_by (seen h) h.store.pages (phases.Marking 0 0) h.grey) (view present) (view snapshot) = record { at = c1.at; base = c1.base; stage = (c1.stage.0, (let w = c1.stage.1 in record { held = w.held; marked = w.marked; scanning_held = w.scanning_held; scanning_marked = w.scanning_marked; scanning_apart = w.scanning_apart; column = w.column; once = w.once })) } in
-    again h (goes_to h 1 (phases.Marking 0 0)) present snapshot c refl refl c.whole c2
+    again h (goes_to h 1 (phases.Marking 0 0)) present snapshot c refl refl refl c.whole c2
 
 -- a part is taken for scanning
 pub header_act : (h : HeapState) (present snapshot : Graph) (part cell x : ℕ) (front back : List ℕ) → Consistent h present snapshot → h.phase ≡ phases.Marking part cell → cell ≡ (seen h).width part → h.grey ≡ front ++ x ∷ back
@@ -130,7 +135,7 @@ header_act h present snapshot part cell x front back c e f n =
     let c0 = at_phase h (phases.Marking part cell) (view present) (view snapshot) e c.parts in
     let c1 = acts m (record m { grey = front ++ back; scanning = x; column = 0 }) (view present) (view snapshot) (collector.Scans_header front back x refl f n) c0 in
     let c2 : Coherent (collector_by (seen h) h.store.pages (phases.Marking x 0) (front ++ back)) (view present) (view snapshot) = record { at = c1.at; base = c1.base; stage = (c1.stage.0, (let w = c1.stage.1 in record { held = w.held; marked = w.marked; scanning_held = w.scanning_held; scanning_marked = w.scanning_marked; scanning_apart = w.scanning_apart; column = w.column; once = w.once })) } in
-    again h (goes_to (record h { grey = front ++ back }) 1 (phases.Marking x 0)) present snapshot c refl refl c.whole c2
+    again h (goes_to (record h { grey = front ++ back }) 1 (phases.Marking x 0)) present snapshot c refl refl refl c.whole c2
 
 -- the cells of a held block
 pub wide_within : (h : HeapState) (a : ℕ) → IsWhole h.store → is_held h.store a ≡ true → width_at (node_of h.store a) ≤ length (node_of h.store a).cells
@@ -193,7 +198,7 @@ cell_act h k present snapshot part cell new c e l w sh =
     let c3 = subst (λ b. Coherent (collector_by (shade (seen h1) x) h.store.pages (phases.Marking part (cell + 1)) (if b then h.grey else x ∷ h.grey)) (view present) (view snapshot)) (sym blocks.1) c2' in
     let c4 = subst (λ z. Coherent (collector_by (shade (seen h1) x) z (phases.Marking part (cell + 1)) (if (seen h1).marked x then h1.grey else x ∷ h1.grey)) (view present) (view snapshot)) (sym w.pages) c3 in
     let c5 = shaded_state h1 k x (phases.Marking part (cell + 1)) (view present) (view snapshot) sh c4 in
-    again h (goes_to k 1 (phases.Marking part (cell + 1))) present snapshot c (shades_limits h1 k x sh) (ap length (shades_roots h1 k x sh)) (shades_whole h1 k x sh (whole_cell h.store new (part - 1) cell x w c.whole)) c5
+    again h (goes_to k 1 (phases.Marking part (cell + 1))) present snapshot c (shades_limits h1 k x sh) (shades_live h1 k x sh) (ap length (shades_roots h1 k x sh)) (shades_whole h1 k x sh (whole_cell h.store new (part - 1) cell x w c.whole)) c5
 
 -- marking ends
 pub marking_end_act : (h : HeapState) (present snapshot : Graph) (part cell : ℕ) → Consistent h present snapshot → h.phase ≡ phases.Marking part cell → cell ≡ (seen h).width part → h.grey ≡ [] → Consistent (goes_to h 1 (phases.Sweeping 0 0)) present snapshot
@@ -205,7 +210,7 @@ marking_end_act h present snapshot part cell c e f n =
     let first : reference_of h.store.pages 0 0 ≡ 1 = omega arith in
     let c2 = acts m1 (record m1 { phase = In_sweep (reference_of h.store.pages 0 0) }) (view present) (view snapshot) (collector.Keeps 0 (reference_of h.store.pages 0 0) refl (λ z l low high. let zero : z ≡ 0 = omega arith in ap (seen h).marked zero)) c1 in
     let c3 : Coherent (collector_by (seen h) h.store.pages (phases.Sweeping 0 0) h.grey) (view present) (view snapshot) = record { at = c2.at; base = c2.base; stage = c2.stage } in
-    again h (goes_to h 1 (phases.Sweeping 0 0)) present snapshot c refl refl c.whole c3
+    again h (goes_to h 1 (phases.Sweeping 0 0)) present snapshot c refl refl refl c.whole c3
 
 -- the sweeper's place goes on
 sweep_on : (heap : Heap) (old new : List (Option Page)) (page block page' block' : ℕ) (grey : List ℕ) (g s : PartGraph) → Coherent (collector_by heap old (phases.Sweeping page block) grey) g s
@@ -245,7 +250,7 @@ pass_act h present snapshot page block p store c e f l marked =
     let c1 = sweep_on (seen h) h.store.pages h.store.pages page block page (block + 1) h.grey (view present) (view snapshot) c0 (λ z held low high.
     let q = between h.store page block p z store f l (omega arith) (held_behind h z (omega arith) held) low high in
     ap (seen h).marked q.1 ∙ marked q.0) in
-    again h (goes_to h 1 (phases.Sweeping page (block + 1))) present snapshot c refl refl c.whole c1
+    again h (goes_to h 1 (phases.Sweeping page (block + 1))) present snapshot c refl refl refl c.whole c1
 
 -- each block says the same, and the held ones are told
 all_kept : (h : HeapState) (new : Store) (held : ℕ → Bool) → ((x : ℕ) → (seen (record h { store = new })).held x ≡ held x)
@@ -306,7 +311,7 @@ free_act h present snapshot page block p new store c e f was unmarked w pages =
     let held0 : is_held h.store (z - 1) ≡ true = sym (w.same (z - 1) ne) ∙ held1 in
     let q = between h.store page block p z store f l some held0 low high' in
     absurd (let at = q.1 in ne (omega arith))) in
-    again h (goes_to h1 1 (phases.Sweeping page (block + 1))) present snapshot c refl refl (free_whole h.store new a w c.whole) c3
+    again h (goes_to h1 1 (phases.Sweeping page (block + 1))) present snapshot c refl refl refl (free_whole h.store new a w c.whole) c3
 
 -- blocks stay as they are, and pages change
 pub keeps_seen : (h : HeapState) (new : Store) → KeepsBlocks h.store new → SameBlocks (seen h) (seen (record h { store = new }))
@@ -355,7 +360,7 @@ close_act h present snapshot page block new store c e f w =
     let some : 0 < z = omega arith in
     let held0 : is_held h.store (z - 1) ≡ true = sym (w.held (z - 1)) ∙ held_behind h1 z some held in
     absurd (none_left h.store page block z store f some held0 low (omega arith))) in
-    again h (goes_to h1 1 (phases.Sweeping (page + 1) 0)) present snapshot c refl refl (keeps_whole h.store new w c.whole) c2
+    again h (goes_to h1 1 (phases.Sweeping (page + 1) 0)) present snapshot c refl refl refl (keeps_whole h.store new w c.whole) c2
 
 -- the sweep ends
 pub all_before : (h : HeapState) (page block z : ℕ) → length h.store.pages ≤ page → (seen h).held z ≡ true → z < reference_of h.store.pages page block
@@ -387,7 +392,7 @@ sweep_end_act h present snapshot page block c e l = by_sparse (is_sparse h)
     by_sparse true =
         let p = phases.Moving (moves.Pass 0 0 None 0) in
         let c1 = acts m (record m { phase = In_moves; receiving = λ x. is_receiving (page_of h.store.pages x); left = λ x. is_left h.store.pages p x }) (view present) (view snapshot) (collector.Ends_sweep_to_move place _ _ refl before) c0 in
-        again h (goes_to h 1 p) present snapshot c refl refl c.whole (record { at = c1.at; base = c1.base; stage = c1.stage })
+        again h (goes_to h 1 p) present snapshot c refl refl refl c.whole (record { at = c1.at; base = c1.base; stage = c1.stage })
     by_sparse false =
         let c1 = acts m (record m { phase = In_idle }) (view present) (view snapshot) (collector.Ends_sweep place refl before) c0 in
-        again h (goes_to h 1 phases.Idle) present snapshot c refl refl c.whole (record { at = c1.at; base = c1.base; stage = c1.stage })
+        again h (goes_to h 1 phases.Idle) present snapshot c refl refl refl c.whole (record { at = c1.at; base = c1.base; stage = c1.stage })

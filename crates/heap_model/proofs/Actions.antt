@@ -57,6 +57,7 @@ begun_kept h present snapshot c e =
     let c2 = same_stands (collector.begun m) (seen (begun h)) (view present) (view present) (flip_seen h c0.stage.marked) c1 in
     record {
       limits = c.limits;
+      live = c.live;
       row = c.row;
       present_row = c.present_row;
       snapshot_row = c.present_row;

@@ -39,6 +39,7 @@ consistent_agrees h present snapshot c =
     let a = agreed (seen h) (view present) (view snapshot) c.parts.at b in
     record {
       limits = c.limits;
+      live = c.live;
       next = b.next;
       roots = c.present_row;
       root = a.root;

@@ -1,11 +1,11 @@
 -- A change that the heap does keeps what holds of it.
-use Rattle.std.proofs.Common.{◌≡◌, ℕ, ◌+◌, ◌<◌, true, List, length, get_or, set, refl, subst, sym, ◌∙◌, inr, arith}
+use Rattle.std.proofs.Common.{◌≡◌, ℕ, zero, suc, ◌+◌, ◌<◌, ◌≤◌, Bool, true, false, List, inl, length, get_or, set, refl, ap, subst, sym, ◌∙◌, inr, arith}
 use Rattle.std.specs.Prelude.{Option}
 use Rattle.graph_heap.specs.declared.command.Shape.{Shape}
 use Rattle.graph_heap.specs.declared.command.Change.{Change}
 use Rattle.graph_heap.specs.declared.command.Change.TheVariants as changes
 use Rattle.graph_heap.specs.Shape.{fits}
-use Rattle.graph_heap.specs.Graph.{Graph, object_of, changed}
+use Rattle.graph_heap.specs.Graph.{Graph, object_of, nulled, first_slot, changed}
 use Rattle.graph_heap.specs.Reach.{Reaches}
 use Rattle.size_classes.specs.Parts.{cells_of, parts_in}
 use Rattle.heap_model.specs.Block.{with_cell}
@@ -24,14 +24,14 @@ use Rattle.heap_model.specs.Placed.{KeepsPages, IsPlaced}
 use Rattle.heap_model.specs.Marks.{AreClosed}
 use Rattle.heap_model.specs.Standing.{Stands}
 use Rattle.heap_model.specs.Taking.{Takes}
-use Rattle.heap_model.specs.Change.{Records, HasCell, place_of, DoesChange, Does_nothing, Does_root, Does_ref, Does_word, Does_new}
+use Rattle.heap_model.specs.Change.{Records, HasCell, place_of, DoesChange, Does_nothing, Does_root, Does_ref, Does_word, Does_new, Does_join, Does_leave, Clears, Clears_none, Clears_next}
 use Rattle.heap_model.proofs.Cut.{part_at, column_at, part_below, column_below}
 use Rattle.heap_model.proofs.Agreements.{consistent_agrees, part_kept}
-use Rattle.heap_model.proofs.Sameness.{known_root, known_ref}
+use Rattle.heap_model.proofs.Sameness.{known_root, known_ref, length-nulled}
 use Rattle.heap_model.proofs.Shown.{main_copy, ref_shown}
 use Rattle.heap_model.proofs.Written.{cells_sum, column_within, root_written, ref_written, word_written}
 use Rattle.heap_model.proofs.New.{new_written}
-use Rattle.heap_model.proofs.Within.{more_within, root_more, ref_more, word_more, new_more}
+use Rattle.heap_model.proofs.Within.{more_within, root_more, live_more, ref_more, word_more, new_more}
 use Rattle.heap_model.proofs.Placed.{pages_same, place_stays}
 use Rattle.heap_model.proofs.Marks.{taken_placed, taken_closed}
 use Rattle.heap_model.proofs.Taken.{takes_pages, takes_keep, takes_count, sizes_stay}
@@ -83,6 +83,21 @@ stands_root h k p s cell id y w l known r i =
     let c1 = root_written k p s cell y id v.consistent before.1 before.2 known (records_main h k _ y (name_of id) r i) in
     stands_same k (record k { roots = set k.roots cell y }) p s (changed p (changes.Root cell id)) v c1 refl (root_more k cell y)
 
+-- roots that get null, one after the other: each heap on the way stands for the graph heap whose roots
+-- are null so far
+stands_clears : (h : HeapState) (present snapshot : Graph) (first : ℕ) → Stands h present snapshot → (n : ℕ) (k : HeapState) → first + n ≤ length present.roots → Clears h first n k → Stands k (record present { roots = nulled present.roots first n }) snapshot
+stands_clears h p s first w n k l Clears_none = w
+stands_clears h p s first w n k l (Clears_next n0 j k0 c r) =
+    let before : Graph = record p { roots = nulled p.roots first n0 } in
+    let e = length-nulled p.roots first n0 in
+    stands_root j k0 before s (first + n0) 0 0 (stands_clears h p s first w n0 j (omega arith) c) (omega arith) (inl refl) r (record { held = refl; forward = refl; name = refl })
+
+-- who is live
+stands_live : (h : HeapState) (present snapshot : Graph) (a b : List Bool) → Stands h present snapshot → a ≡ b → Stands (record h { live = a }) (record present { live = b }) snapshot
+stands_live h p s a b w e =
+    let c = w.consistent in
+    stands_same h (record h { live = a }) p s (record p { live = b }) w (record { limits = c.limits; live = e; row = c.row; present_row = c.present_row; snapshot_row = c.snapshot_row; cells = c.cells; whole = c.whole; parts = c.parts }) refl (live_more h a)
+
 -- a reference cell
 stands_ref : (h k : HeapState) (present snapshot : Graph) (id i value address y : ℕ) (new : Store) → Stands h present snapshot → Reaches present id → i < length (object_of present.objects id).refs → IsKnown present value
     → HasCell h present id i address → Records h (get_or (node_of h.store address).cells (place_of present id i) 0) k → IsMain (seen h) y (name_of value)
@@ -133,3 +148,7 @@ stands_changed h after p s c w f (Does_ref id i value address y k new at r main 
 stands_changed h after p s c w f (Does_word id i word address new at writes) =
     stands_same h (record h { store = new }) p s (changed p (changes.Word id i word)) w (word_written h p s new address id i word w.consistent f.0 f.2 at writes) writes.pages (word_more h new address (place_of p id i) word writes)
 stands_changed h after p s c w f (Does_new cell id shape k new at r makes takes) = stands_new h k p s cell id shape new at w f.0 f.1 f.2 r makes takes
+stands_changed h after p s c w f (Does_join m) = stands_live h p s (set h.live m true) (set p.live m true) w (ap (λ z. set z m true) w.consistent.live)
+stands_changed h after p s c w f (Does_leave m k clears) =
+    let v = stands_clears h p s (first_slot p.limits m) w p.limits.slots k f clears in
+    stands_live k (record p { roots = nulled p.roots (first_slot p.limits m) p.limits.slots }) s (set k.live m false) (set p.live m false) v (ap (λ z. set z m false) v.consistent.live)

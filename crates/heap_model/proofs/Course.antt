@@ -38,6 +38,8 @@ changed-limits g (changes.Root cell id) = refl
 changed-limits g (changes.Ref id i v) = refl
 changed-limits g (changes.Word id i v) = refl
 changed-limits g (changes.New cell id shape) = refl
+changed-limits g (changes.Join m) = refl
+changed-limits g (changes.Leave m) = refl
 
 -- what a command changes is there
 pub founded : (g : Graph) (room : Bool) (m : ℕ) (c : Command) → length g.roots ≡ root_cells g.limits → IsFounded g (change_by room g m c)

@@ -1,10 +1,10 @@
 -- A command does the same to two graph heaps that can't be told apart.
 use Rattle.std.proofs.Common.{◌≡◌, ◌≢◌, ℕ, ◌+◌, ◌-◌, ◌*◌, ◌<◌, ◌≤◌, Bool, true, false, List, length, get_or, refl, ap, subst, sym, ◌∙◌, arith, inl, inr, ◌==◌, ◌&&◌, if◌then◌else◌, nat_lt, Option, Some, None, Result, Ok, Err}
-use Rattle.std.specs.Prelude.{slice_get, slice_index}
+use Rattle.std.specs.Prelude.{slice_get, slice_index, slice_index_or}
 use Rattle.std.proofs.Math.Path.{fun_ext}
 use Rattle.std.proofs.lemmas.List.{get_or_past}
 use Rattle.std.proofs.lemmas.Nat.{mul-add-lt}
-use Rattle.std.proofs.Math.Nat.{mul_comm}
+use Rattle.std.proofs.Math.Nat.{mul_comm, mul-le-mul_right}
 use Rattle.std.proofs.lemmas.Option.{slice_get-get_or, slice_get_within, get_or_from_slice_get}
 use Rattle.graph_heap.specs.declared.command.Shape.{Shape}
 use Rattle.graph_heap.specs.declared.command.Command.{Command}
@@ -19,7 +19,7 @@ use Rattle.graph_heap.specs.declared.command.Change.TheVariants as changes
 use Rattle.graph_heap.specs.Shape.{fits, takes_refs, takes_words}
 use Rattle.graph_heap.specs.Graph.{Object, Graph, no_object, object_of, root_cells, changed}
 use Rattle.graph_heap.specs.Reach.{Reaches}
-use Rattle.graph_heap.specs.Effect.{◌>>=◌, slot_at, static_at, found, object_at, ref_cell, word_cell, ref_at, word_at, fitting, next_identity, with_room, effect_of, settled, reply_of, next_of}
+use Rattle.graph_heap.specs.Effect.{◌>>=◌, slot_at, static_at, found, object_at, ref_cell, word_cell, ref_at, word_at, fitting, next_identity, with_room, deed_of, is_join, admits, admitted, effect_of, settled, reply_of, next_of}
 use Rattle.heap_model.specs.State.{HeapState}
 use Rattle.heap_model.specs.Agreement.{Agrees}
 use Rattle.heap_model.specs.Written.{IsKnown}
@@ -91,11 +91,13 @@ effect_by room l roots next at m (commands.Describe a) = do
   x ← slot_at l m a
   o ← at x
   Ok (replies.Described (slice_index roots x) o.shape, changes.Nothing)
+effect_by room l roots next at m commands.Join = Ok (replies.Done, changes.Join m)
+effect_by room l roots next at m commands.Leave = Ok (replies.Done, changes.Leave m)
 
 abbrev named : Graph → ℕ → Result Object Refusal
 named g a = object_at g.objects (slice_index g.roots a)
 
-effect_is : (room : Bool) (g : Graph) (m : ℕ) (c : Command) → effect_of room g m c ≡ effect_by room g.limits g.roots (next_identity g) (λ a. named g a) m c
+effect_is : (room : Bool) (g : Graph) (m : ℕ) (c : Command) → deed_of room g m c ≡ effect_by room g.limits g.roots (next_identity g) (λ a. named g a) m c
 effect_is room g m (commands.New dst shape) = refl
 effect_is room g m (commands.Load dst obj i) = refl
 effect_is room g m (commands.Store obj i src) = refl
@@ -110,6 +112,8 @@ effect_is room g m (commands.StoreStatic k src) = refl
 effect_is room g m (commands.CompareStatic k expect new) = refl
 effect_is room g m (commands.Same a b) = refl
 effect_is room g m (commands.Describe a) = refl
+effect_is room g m commands.Join = refl
+effect_is room g m commands.Leave = refl
 
 -- a root that isn't null stands in the row, and names what can be reached
 root_within : (g : Graph) (a : ℕ) → get_or g.roots a 0 ≢ 0 → a < length g.roots
@@ -146,13 +150,26 @@ named_same h f g p q a = by_size (nat_lt a (length f.roots)) refl ∙ ap (λ z. 
 abbrev next_by : ℕ → Limits → Result ℕ Refusal
 next_by n l = if nat_lt n l.identities then Ok (n + 1) else Err refusals.IdentitiesSpent
 
-pub same_effect : (h : HeapState) (f g : Graph) (room : Bool) (m : ℕ) (c : Command) → Agrees h f → Agrees h g → effect_of room f m c ≡ effect_of room g m c
-same_effect h f g room m c p q =
+same_deed : (h : HeapState) (f g : Graph) (room : Bool) (m : ℕ) (c : Command) → Agrees h f → Agrees h g → deed_of room f m c ≡ deed_of room g m c
+same_deed h f g room m c p q =
     let a = told h f g p q in
     let at : (λ x. named f x) ≡ (λ x. named g x) = fun_ext (named_same h f g p q) in
     let next : next_identity f ≡ next_identity g = ap (λ n. next_by n f.limits) a.count ∙ ap (λ l. next_by (length g.objects) l) a.limits in
     effect_is room f m c ∙ ap (λ l. effect_by room l f.roots (next_identity f) (λ x. named f x) m c) a.limits ∙ ap (λ r. effect_by room g.limits r (next_identity f) (λ x. named f x) m c) a.roots
     ∙ ap (λ n. effect_by room g.limits g.roots n (λ x. named f x) m c) next ∙ ap (λ z. effect_by room g.limits g.roots (next_identity g) z m c) at ∙ sym (effect_is room g m c)
+
+-- the admission looks at the limits and at who is live
+abbrev admitted_by : Limits → List Bool → ℕ → Command → Result Bool Refusal
+admitted_by l live m c = if nat_lt m l.mutators then admits (slice_index_or live m false) (is_join c) else Err refusals.BadSlot
+
+same_admitted : (h : HeapState) (f g : Graph) (m : ℕ) (c : Command) → Agrees h f → Agrees h g → admitted f m c ≡ admitted g m c
+same_admitted h f g m c p q = let a = told h f g p q in ap (λ l. admitted_by l f.live m c) a.limits ∙ ap (λ z. admitted_by g.limits z m c) a.live
+
+abbrev let_in : Result Bool Refusal → Result (Reply × Change) Refusal → Result (Reply × Change) Refusal
+let_in a d = a >>= λ ok. d
+
+pub same_effect : (h : HeapState) (f g : Graph) (room : Bool) (m : ℕ) (c : Command) → Agrees h f → Agrees h g → effect_of room f m c ≡ effect_of room g m c
+same_effect h f g room m c p q = ap (λ z. let_in z (deed_of room f m c)) (same_admitted h f g m c p q) ∙ ap (λ z. let_in (admitted g m c) z) (same_deed h f g room m c p q)
 
 -- what was taken before a step succeeded
 bind_ok : {A B : Type 0} (r : Result A Refusal) (f : A → Result B Refusal) (y : B) → (r >>= f) ≡ Ok y → (x : A) × (r ≡ Ok x) × (f x ≡ Ok y)
@@ -272,26 +289,29 @@ taken g y x e w = let same : y ≡ x = ok_part y x e in subst (λ z. IsFounded g
     ok_part : (y x : Reply × Change) → Gives (Ok y) x → y ≡ x
     ok_part y x e = cc
 
-pub effect_founded : (g : Graph) (room : Bool) (m : ℕ) (c : Command) (x : Reply × Change) → length g.roots ≡ root_cells g.limits → effect_of room g m c ≡ Ok x → IsFounded g (change_in x)
-effect_founded g room m (commands.New dst shape) x row e =
+slots_low : (l : Limits) (m : ℕ) → m < l.mutators → m * l.slots + l.slots ≤ root_cells l
+slots_low l m low = let above : m + 1 ≤ l.mutators = omega arith in let e : (m + 1) * l.slots ≤ l.mutators * l.slots = mul-le-mul_right l.slots above in let f : (m + 1) * l.slots ≡ m * l.slots + l.slots = grind arith in omega arith
+
+deed_founded : (g : Graph) (room : Bool) (m : ℕ) (c : Command) (x : Reply × Change) → length g.roots ≡ root_cells g.limits → m < g.limits.mutators → deed_of room g m c ≡ Ok x → IsFounded g (change_in x)
+deed_founded g room m (commands.New dst shape) x row low e =
     let d = bind_ok (slot_at g.limits m dst) _ x e in
     let f = bind_ok (fitting shape) _ x d.2 in
     let i = bind_ok (next_identity g) _ x f.2 in
     let r = bind_ok (with_room room) _ x i.2 in
     taken g (replies.Made i.0, changes.New d.0 i.0 shape) x r.2 (subst (λ z. d.0 < z) (sym row) (slot_low g.limits m dst d.0 d.1), next_is g i.0 i.1, fitting_fits shape f.0 f.1)
-effect_founded g room m (commands.Load dst obj i) x row e =
+deed_founded g room m (commands.Load dst obj i) x row low e =
     let d = bind_ok (slot_at g.limits m dst) _ x e in
     let a = bind_ok (slot_at g.limits m obj) _ x d.2 in
     let v = bind_ok (ref_at g.objects (slice_index g.roots a.0) i) _ x a.2 in
     let w = ref_founded g a.0 i v.0 (subst (λ z. a.0 < z) (sym row) (slot_low g.limits m obj a.0 a.1)) v.1 in
     taken g (replies.Ref v.0, changes.Root d.0 v.0) x v.2 (subst (λ z. d.0 < z) (sym row) (slot_low g.limits m dst d.0 d.1), w.3)
-effect_founded g room m (commands.Store obj i src) x row e =
+deed_founded g room m (commands.Store obj i src) x row low e =
     let a = bind_ok (slot_at g.limits m obj) _ x e in
     let s = bind_ok (slot_at g.limits m src) _ x a.2 in
     let v = bind_ok (ref_at g.objects (slice_index g.roots a.0) i) _ x s.2 in
     let w = ref_founded g a.0 i v.0 (subst (λ z. a.0 < z) (sym row) (slot_low g.limits m obj a.0 a.1)) v.1 in
     taken g (replies.Done, changes.Ref (slice_index g.roots a.0) i (slice_index g.roots s.0)) x v.2 (w.0, w.1, w.2, known_root g s.0 (subst (λ z. s.0 < z) (sym row) (slot_low g.limits m src s.0 s.1)))
-effect_founded g room m (commands.CompareStore obj i expect new) x row e =
+deed_founded g room m (commands.CompareStore obj i expect new) x row low e =
     let a = bind_ok (slot_at g.limits m obj) _ x e in
     let q = bind_ok (slot_at g.limits m expect) _ x a.2 in
     let n = bind_ok (slot_at g.limits m new) _ x q.2 in
@@ -304,15 +324,15 @@ effect_founded g room m (commands.CompareStore obj i expect new) x row e =
         → Gives (if b then Ok (replies.Stored, changes.Ref (slice_index g.roots a) i (slice_index g.roots n)) else Ok (replies.Kept v, changes.Nothing)) x → IsFounded g (change_in x)
     by_test a n v true w k e = taken g (replies.Stored, changes.Ref (slice_index g.roots a) i (slice_index g.roots n)) x e (w.0, w.1, w.2, k)
     by_test a n v false w k e = taken g (replies.Kept v, changes.Nothing) x e tt
-effect_founded g room m (commands.Get obj i) x row e =
+deed_founded g room m (commands.Get obj i) x row low e =
     let a = bind_ok (slot_at g.limits m obj) _ x e in
     let v = bind_ok (word_at g.objects (slice_index g.roots a.0) i) _ x a.2 in
     taken g (replies.Word v.0, changes.Nothing) x v.2 tt
-effect_founded g room m (commands.Put obj i word) x row e =
+deed_founded g room m (commands.Put obj i word) x row low e =
     let a = bind_ok (slot_at g.limits m obj) _ x e in
     let v = bind_ok (word_at g.objects (slice_index g.roots a.0) i) _ x a.2 in
     taken g (replies.Done, changes.Word (slice_index g.roots a.0) i word) x v.2 (word_founded g a.0 i v.0 (subst (λ z. a.0 < z) (sym row) (slot_low g.limits m obj a.0 a.1)) v.1)
-effect_founded g room m (commands.ComparePut obj i old new) x row e =
+deed_founded g room m (commands.ComparePut obj i old new) x row low e =
     let a = bind_ok (slot_at g.limits m obj) _ x e in
     let v = bind_ok (word_at g.objects (slice_index g.roots a.0) i) _ x a.2 in
     let w = word_founded g a.0 i v.0 (subst (λ z. a.0 < z) (sym row) (slot_low g.limits m obj a.0 a.1)) v.1 in
@@ -322,22 +342,22 @@ effect_founded g room m (commands.ComparePut obj i old new) x row e =
         → Gives (if b then Ok (replies.Stored, changes.Word (slice_index g.roots a) i new) else Ok (replies.KeptWord v, changes.Nothing)) x → IsFounded g (change_in x)
     by_test a v true w e = taken g (replies.Stored, changes.Word (slice_index g.roots a) i new) x e w
     by_test a v false w e = taken g (replies.KeptWord v, changes.Nothing) x e tt
-effect_founded g room m (commands.Copy dst src) x row e =
+deed_founded g room m (commands.Copy dst src) x row low e =
     let d = bind_ok (slot_at g.limits m dst) _ x e in
     let s = bind_ok (slot_at g.limits m src) _ x d.2 in
     taken g (replies.Done, changes.Root d.0 (slice_index g.roots s.0)) x s.2 (subst (λ z. d.0 < z) (sym row) (slot_low g.limits m dst d.0 d.1), known_root g s.0 (subst (λ z. s.0 < z) (sym row) (slot_low g.limits m src s.0 s.1)))
-effect_founded g room m (commands.Clear dst) x row e =
+deed_founded g room m (commands.Clear dst) x row low e =
     let d = bind_ok (slot_at g.limits m dst) _ x e in
     taken g (replies.Done, changes.Root d.0 0) x d.2 (subst (λ z. d.0 < z) (sym row) (slot_low g.limits m dst d.0 d.1), inl refl)
-effect_founded g room m (commands.LoadStatic dst k) x row e =
+deed_founded g room m (commands.LoadStatic dst k) x row low e =
     let d = bind_ok (slot_at g.limits m dst) _ x e in
     let s = bind_ok (static_at g.limits k) _ x d.2 in
     taken g (replies.Ref (slice_index g.roots s.0), changes.Root d.0 (slice_index g.roots s.0)) x s.2 (subst (λ z. d.0 < z) (sym row) (slot_low g.limits m dst d.0 d.1), known_root g s.0 (subst (λ z. s.0 < z) (sym row) (static_low g.limits k s.0 s.1)))
-effect_founded g room m (commands.StoreStatic k src) x row e =
+deed_founded g room m (commands.StoreStatic k src) x row low e =
     let s = bind_ok (slot_at g.limits m src) _ x e in
     let d = bind_ok (static_at g.limits k) _ x s.2 in
     taken g (replies.Done, changes.Root d.0 (slice_index g.roots s.0)) x d.2 (subst (λ z. d.0 < z) (sym row) (static_low g.limits k d.0 d.1), known_root g s.0 (subst (λ z. s.0 < z) (sym row) (slot_low g.limits m src s.0 s.1)))
-effect_founded g room m (commands.CompareStatic k expect new) x row e =
+deed_founded g room m (commands.CompareStatic k expect new) x row low e =
     let q = bind_ok (slot_at g.limits m expect) _ x e in
     let n = bind_ok (slot_at g.limits m new) _ x q.2 in
     let d = bind_ok (static_at g.limits k) _ x n.2 in
@@ -347,14 +367,26 @@ effect_founded g room m (commands.CompareStatic k expect new) x row e =
         → Gives (if b then Ok (replies.Stored, changes.Root d (slice_index g.roots n)) else Ok (replies.Kept (slice_index g.roots d), changes.Nothing)) x → IsFounded g (change_in x)
     by_test d n true l k e = taken g (replies.Stored, changes.Root d (slice_index g.roots n)) x e (l, k)
     by_test d n false l k e = taken g (replies.Kept (slice_index g.roots d), changes.Nothing) x e tt
-effect_founded g room m (commands.Same a b) x row e =
+deed_founded g room m (commands.Same a b) x row low e =
     let p = bind_ok (slot_at g.limits m a) _ x e in
     let q = bind_ok (slot_at g.limits m b) _ x p.2 in
     taken g (replies.Is (slice_index g.roots p.0 == slice_index g.roots q.0), changes.Nothing) x q.2 tt
-effect_founded g room m (commands.Describe a) x row e =
+deed_founded g room m (commands.Describe a) x row low e =
     let p = bind_ok (slot_at g.limits m a) _ x e in
     let o = bind_ok (object_at g.objects (slice_index g.roots p.0)) _ x p.2 in
     taken g (replies.Described (slice_index g.roots p.0) o.0.shape, changes.Nothing) x o.2 tt
+deed_founded g room m commands.Join x row low e = taken g (replies.Done, changes.Join m) x e tt
+deed_founded g room m commands.Leave x row low e = taken g (replies.Done, changes.Leave m) x e (subst (λ z. m * g.limits.slots + g.limits.slots ≤ z) (sym row) (slots_low g.limits m low))
+
+admitted_low : (g : Graph) (m : ℕ) (c : Command) (ok : Bool) → admitted g m c ≡ Ok ok → m < g.limits.mutators
+admitted_low g m c ok e = by_test (nat_lt m g.limits.mutators) refl e
+  where
+    by_test : (b : Bool) → nat_lt m g.limits.mutators ≡ b → (if b then admits (slice_index_or g.live m false) (is_join c) else Err refusals.BadSlot) ≡ Ok ok → m < g.limits.mutators
+    by_test true t e = grind arith
+    by_test false t e = absurd (cc)
+
+pub effect_founded : (g : Graph) (room : Bool) (m : ℕ) (c : Command) (x : Reply × Change) → length g.roots ≡ root_cells g.limits → effect_of room g m c ≡ Ok x → IsFounded g (change_in x)
+effect_founded g room m c x row e = let a = bind_ok (admitted g m c) _ x e in deed_founded g room m c x row (admitted_low g m c a.0 a.1) a.2
 
 settled_founded : (g : Graph) (r : Result (Reply × Change) Refusal) → ((x : Reply × Change) → r ≡ Ok x → IsFounded g (change_in x)) → IsFounded g (change_in (settled r))
 settled_founded g (Ok x) w = w x refl

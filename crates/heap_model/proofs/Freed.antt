@@ -17,7 +17,7 @@ use Rattle.heap_model.proofs.Cut.{count_some}
 use Rattle.heap_model.proofs.Agreements.{part_kept}
 use Rattle.heap_model.proofs.Rest.{kept_identity, kept_held}
 use Rattle.heap_model.proofs.Course.{founded, present_row, enters_present, begins_present, collects_present, does_course}
-use Rattle.heap_model.proofs.Sameness.{known_ref, known_reaches, after_root, after_put, after_new, reach_some}
+use Rattle.heap_model.proofs.Sameness.{known_ref, known_reaches, after_root, after_put, after_new, after_live, after_leave, reach_some}
 
 -- what can be reached is kept
 pub reached_kept : (h : HeapState) (present snapshot : Graph) → Consistent h present snapshot → (id : ℕ) → Reaches present id → IsKept present snapshot id
@@ -53,6 +53,8 @@ reached_back g (changes.New j new shape) w id r = elim (after_new g j shape w.0 
   | inl k ↦ known_back g id k (reach_some _ id r)
   | inr e ↦ inr (omega arith)
 ]
+reached_back g (changes.Join m) w id r = known_back g id (after_live g _ id r) (reach_some _ id r)
+reached_back g (changes.Leave m) w id r = known_back g id (after_leave g m w id r) (reach_some _ id r)
 
 -- no object goes
 append_more : (xs : List Object) (o : Object) → length xs ≤ length (xs ++ o ∷ [])
@@ -64,6 +66,8 @@ objects_stay g (changes.Root j v) = omega arith
 objects_stay g (changes.Ref a i v) = let e = length-put g.objects a (with_ref (object_of g.objects a) i v) in omega arith
 objects_stay g (changes.Word a i word) = let e = length-put g.objects a (with_word (object_of g.objects a) i word) in omega arith
 objects_stay g (changes.New j new shape) = append_more g.objects (new_object shape)
+objects_stay g (changes.Join m) = omega arith
+objects_stay g (changes.Leave m) = omega arith
 
 -- each event
 record Back (f g : Graph) : Type 0 where

@@ -2,12 +2,12 @@
 use Rattle.std.proofs.Common.{◌≡◌, ◌≢◌, ℕ, ◌+◌, Bool, true, false, List, length, set, refl, ap, sym, ◌∙◌, arith, length-set, ◌==◌}
 use Rattle.graph_heap.specs.declared.command.Shape.{Shape}
 use Rattle.graph_heap.specs.declared.command.Change.{Change}
-use Rattle.graph_heap.specs.Graph.{Graph}
+use Rattle.graph_heap.specs.Graph.{Graph, first_slot}
 use Rattle.size_classes.specs.Parts.{cells_of, parts_in}
 use Rattle.heap_model.specs.Store.{Store, is_held}
 use Rattle.heap_model.specs.State.{HeapState}
 use Rattle.heap_model.specs.Making.{Making, Nothing_made, Part_made, Piece_linked}
-use Rattle.heap_model.specs.Change.{DoesChange, Does_nothing, Does_root, Does_ref, Does_word, Does_new}
+use Rattle.heap_model.specs.Change.{DoesChange, Does_nothing, Does_root, Does_ref, Does_word, Does_new, Does_join, Does_leave, Clears, Clears_none, Clears_next}
 use Rattle.heap_model.specs.Left.{LeavesCycle}
 use Rattle.heap_model.proofs.Seen.{held_pages}
 use Rattle.heap_model.proofs.Moved.{same_number}
@@ -52,6 +52,25 @@ same_left h new e = record {
   grey = λ x g. g;
 }
 
+-- one after the other
+left_then : (h j k : HeapState) → LeavesCycle h j → LeavesCycle j k → LeavesCycle h k
+left_then h j k a b = record {
+  phase = b.phase ∙ a.phase;
+  units = b.units ∙ a.units;
+  limit = b.limit ∙ a.limit;
+  sense = b.sense ∙ a.sense;
+  pages = pages_then h.store.pages j.store.pages k.store.pages a.pages b.pages;
+  held = λ x l. b.held x (a.held x l);
+  grey = λ x g. b.grey x (a.grey x g);
+}
+
+clears_left : (h : HeapState) (first n : ℕ) (k : HeapState) → Clears h first n k → LeavesCycle h k
+clears_left h first n k Clears_none = same_left h h.store refl
+clears_left h first n k (Clears_next n0 j k0 c r) = left_then h j k (clears_left h first n0 j c) (written_left j k0 k0.store (set k0.roots (first + n0) 0) (records_stay j k0 _ r) refl (length-set k0.roots (first + n0) 0))
+
+live_left : (h : HeapState) (live : List Bool) → LeavesCycle h (record h { live = live })
+live_left h live = record { phase = refl; units = refl; limit = refl; sense = refl; pages = same_pages h.store.pages h.store.pages refl; held = λ b l. l; grey = λ x g. g }
+
 pub change_left : (h after : HeapState) (g : Graph) (c : Change) → DoesChange h g c after → LeavesCycle h after
 change_left h after g c Does_nothing = same_left h h.store refl
 change_left h after g c (Does_root cell id y k r i) = written_left h k k.store (set k.roots cell y) (records_stay h k _ r) refl (length-set k.roots cell y)
@@ -70,3 +89,5 @@ change_left h after g c (Does_new cell id shape k new at r makes takes) =
       held = λ b l. making_held k.store shape k.sense k.next at _ _ new makes b (held_pages h.store k.store b s.pages ∙ l);
       grey = s.grey;
     }
+change_left h after g c (Does_join m) = live_left h (set h.live m true)
+change_left h after g c (Does_leave m k clears) = left_then h k after (clears_left h (first_slot g.limits m) g.limits.slots k clears) (live_left k (set k.live m false))

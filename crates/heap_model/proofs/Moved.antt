@@ -71,7 +71,7 @@ pub pass_on_act : (h : HeapState) (present snapshot : Graph) (class page : ℕ) 
 pass_on_act h present snapshot class page best chosen class' page' best' c at =
     let c0 = at_pass h class page best chosen (view present) (view snapshot) at c.parts in
     let c1 = moves_on (seen h) h.store.pages h.store.pages (moves.Pass class page best chosen) (moves.Pass class' page' best' chosen) h.grey (view present) (view snapshot) c0 (λ x r. r) (λ x q. q) in
-    again h (goes_to h 1 (phases.Moving (moves.Pass class' page' best' chosen))) present snapshot c refl refl c.whole c1
+    again h (goes_to h 1 (phases.Moving (moves.Pass class' page' best' chosen))) present snapshot c refl refl refl c.whole c1
 
 pub chosen_stays : (pages : List (Option Page)) (class : ℕ) (c : Candidate) (p : Page) → is_chosen pages class (Some c) ≡ true → page_at pages c.page ≡ Some p → p.leaving ≡ false
 chosen_stays pages class c p e at = let q : is_choosable class (page_at pages c.page) ≡ true = first_true _ _ e in by_leaving p.leaving refl (subst (λ z. is_choosable class z ≡ true) at q)
@@ -103,7 +103,7 @@ choose_act h present snapshot class page best chosen c p new k at good there w p
     let at' : (x : ℕ) → page_of new.pages x ≡ (if (x - 1) / 2048 == c.page then v else page_of old x) = λ x. ap (λ z. page_at z ((x - 1) / 2048)) pages ∙ set_page old c.page ((x - 1) / 2048) v within in
     let c2 = moves_on (seen h1) old new.pages (moves.Pass class page best chosen) (moves.Emptying class c.page 0 (chosen + 1)) h.grey (view present) (view snapshot) c1
     (λ x r. receiving_on x ((x - 1) / 2048 == c.page) refl (at' x) r) (λ x q. left_on x ((x - 1) / 2048 == c.page) refl (at' x) stays q) in
-    again h (goes_to h1 1 (phases.Moving (moves.Emptying class c.page 0 (chosen + 1)))) present snapshot k refl refl (keeps_whole h.store new w k.whole) c2
+    again h (goes_to h1 1 (phases.Moving (moves.Emptying class c.page 0 (chosen + 1)))) present snapshot k refl refl refl (keeps_whole h.store new w k.whole) c2
   where
     receiving_on : (x : ℕ) (b : Bool) → ((x - 1) / 2048 == c.page) ≡ b → page_of new.pages x ≡ (if b then Some (record p { leaving = true }) else page_of h.store.pages x) → is_receiving (page_of h.store.pages x) ≡ true → is_receiving (page_of new.pages x) ≡ true
     receiving_on x true t e r =
@@ -123,10 +123,10 @@ choose_act h present snapshot class page best chosen c p new k at good there w p
 pub moving_end_act : (h : HeapState) (present snapshot : Graph) → Consistent h present snapshot → MovingDone h → Consistent (goes_to h 1 phases.Idle) present snapshot
 moving_end_act h present snapshot c (No_class page best chosen e) =
     let c0 = at_phase h (phases.Moving (moves.Pass 38 page best chosen)) (view present) (view snapshot) e c.parts in
-    again h (goes_to h 1 phases.Idle) present snapshot c refl refl c.whole (record { at = c0.at; base = c0.base; stage = c0.stage.0 })
+    again h (goes_to h 1 phases.Idle) present snapshot c refl refl refl c.whole (record { at = c0.at; base = c0.base; stage = c0.stage.0 })
 moving_end_act h present snapshot c (No_page class page block chosen p e at done all) =
     let c0 = at_phase h (phases.Moving (moves.Emptying class page block chosen)) (view present) (view snapshot) e c.parts in
-    again h (goes_to h 1 phases.Idle) present snapshot c refl refl c.whole (record { at = c0.at; base = c0.base; stage = c0.stage.0 })
+    again h (goes_to h 1 phases.Idle) present snapshot c refl refl refl c.whole (record { at = c0.at; base = c0.base; stage = c0.stage.0 })
 
 -- a block is moved
 move_field : {A : Type 0} (none : A) (f : Node → A) (old new : Store) (a b : ℕ) → MovesBlock old new a b → ((n : Node) (v : ℕ) → f (with_forward n v) ≡ f n) → (z : ℕ) → (if z == b + 1 then true else (if z == 0 then true else is_held old (z - 1))) ≡ true
@@ -268,7 +268,7 @@ move_act h present snapshot class page block chosen i to j p q new store c e at_
     (λ z r. left_on z ((z - 1) / 2048 == page) refl ((z - 1) / 2048 == to) refl (at_new z) new_page r)) c0 in
     let m1 : Collector = record m { heap = move (seen h) x y; receiving = λ z. is_receiving (page_of new.pages z); left = λ z. is_left new.pages now z } in
     let c2 = same_stands m1 (seen h1) (view present) (view snapshot) (move_seen h new a b w) c1 in
-    again h (goes_to h1 cost now) present snapshot c refl refl (move_whole h.store new a b w held_a c.whole) (record { at = c2.at; base = c2.base; stage = c2.stage })
+    again h (goes_to h1 cost now) present snapshot c refl refl refl (move_whole h.store new a b w held_a c.whole) (record { at = c2.at; base = c2.base; stage = c2.stage })
   where
     is_here : {r b : Bool} (pages : List (Option Page)) (x : ℕ) → (x - 1) / 2048 ≡ page → r ≡ b → (if (x - 1) / 2048 == page then r else is_leaving (page_of pages x)) ≡ b
     is_here pages x s t = let f : ((x - 1) / 2048 == page) ≡ true = at_number ((x - 1) / 2048) page s in rw f t

@@ -67,6 +67,7 @@ new_written h present snapshot new at j shape c f l rec making place =
     let c3 = place_kept (seen h1) h.store.pages new.pages h.phase h.grey (view (appended present shape)) (view snapshot) place c2 in
     let k1 : Consistent h1 (appended present shape) snapshot = record {
       limits = c.limits;
+      live = c.live;
       row = c.row;
       present_row = c.present_row;
       snapshot_row = c.snapshot_row;

@@ -96,6 +96,7 @@ opening_stands h o =
     } in
     record {
       limits = refl;
+      live = o.live;
       row = row;
       present_row = row';
       snapshot_row = row';

@@ -30,7 +30,7 @@ module _ (h : HeapState) (new : Store) (links : Relinks h.store new) where
   stands_relinked p s w = record {
     pages = subst ArePages (sym links.pages) w.pages;
     some = subst (λ n. 0 < n) (sym relinked_count) w.some;
-    consistent = again h after p s w.consistent refl refl (keeps_whole h.store new links.blocks w.consistent.whole) coherent;
+    consistent = again h after p s w.consistent refl refl refl (keeps_whole h.store new links.blocks w.consistent.whole) coherent;
     within = more_within h after (cell_more h new (seen h) links.pages (λ x. refl) (λ x. refl) (keeps_seen h new links.blocks)) w.within;
     placed = subst (λ pages. IsPlaced pages h.phase) (sym links.pages) w.placed;
     closed = subst (λ pages. AreClosed pages h.phase) (sym links.pages) w.closed;

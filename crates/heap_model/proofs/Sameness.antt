@@ -5,9 +5,9 @@ use Rattle.graph_heap.specs.declared.command.Change.{Change}
 use Rattle.graph_heap.specs.declared.command.Shape.{Shape}
 use Rattle.std.proofs.lemmas.Grind.{length_at_push}
 use Rattle.graph_heap.specs.Shape.{ref_cells, word_cells}
-use Rattle.std.proofs.Common.{◌≡◌, ℕ, zero, suc, ◌+◌, ◌<◌, ◌⊎◌, inl, inr, length, get_or, refl, ap, subst, sym, ◌∙◌, arith, ◌≢◌, Bool, true, false, [], ◌∷◌, ◌++◌, set, if◌then◌else◌, length-set, ◌≤◌, ◌==◌}
+use Rattle.std.proofs.Common.{◌≡◌, List, ℕ, zero, suc, ◌+◌, ◌<◌, ◌⊎◌, inl, inr, length, get_or, refl, ap, subst, sym, ◌∙◌, arith, ◌≢◌, Bool, true, false, [], ◌∷◌, ◌++◌, set, if◌then◌else◌, length-set, ◌≤◌, ◌==◌}
 use Rattle.std.proofs.lemmas.List.{ext_get_or}
-use Rattle.graph_heap.specs.Graph.{Object, Graph, object_of, put_object, with_ref, with_word, new_object, changed}
+use Rattle.graph_heap.specs.Graph.{Object, Graph, nulled, first_slot, object_of, put_object, with_ref, with_word, new_object, changed}
 use Rattle.graph_heap.specs.Reach.{Path, Reaches}
 use Rattle.heap_model.specs.Core.{Name, Reach}
 use Rattle.heap_model.specs.Agree.{Reads}
@@ -58,6 +58,7 @@ object_same h f g p q id r =
 pub told : (h : HeapState) (f g : Graph) → Agrees h f → Agrees h g → IsAlike f g
 told h f g p q = record {
   limits = sym p.limits ∙ q.limits;
+  live = sym p.live ∙ q.live;
   count = let a = p.next in let b = q.next in omega arith;
   roots = let al : Alike (length h.roots) (view f) (view g) = alike (seen h) (view f) (view g) (by_parts h f p) (by_parts h g q) in
       ext_get_or 0 f.roots g.roots (sym p.roots ∙ q.roots) (λ j l. name_same _ _ (al.root j (subst (λ z. j < z) (sym p.roots) l)));
@@ -110,12 +111,13 @@ alike_back f g a id r = known_reaches f id (reaches_induction g (λ z. IsKnown f
     (λ from i k l. let e = object_known f g a from k in subst (λ (z : Object). IsKnown f (get_or z.refs i 0)) e (known_ref f from i k (subst (λ (z : Object). i < length z.refs) (sym e) l))) id r) (unfold Reaches in r.0)
 
 pub alike_sym : (f g : Graph) → IsAlike f g → IsAlike g f
-alike_sym f g a = record { limits = sym a.limits; count = sym a.count; roots = sym a.roots; object = λ id r. sym (a.object id (alike_back f g a id r)) }
+alike_sym f g a = record { limits = sym a.limits; live = sym a.live; count = sym a.count; roots = sym a.roots; object = λ id r. sym (a.object id (alike_back f g a id r)) }
 
 -- a heap that agrees with one agrees with the other
 pub agrees_alike : (h : HeapState) (f g : Graph) → Agrees h f → IsAlike f g → Agrees h g
 agrees_alike h f g p a = record {
   limits = p.limits ∙ a.limits;
+  live = p.live ∙ a.live;
   next = p.next ∙ ap (λ z. z + 1) a.count;
   roots = p.roots ∙ ap length a.roots;
   root = λ j l. subst (λ z. Reads (seen h) (get_or h.roots j 0) (name_of (get_or z j 0))) a.roots (p.root j l);
@@ -175,6 +177,27 @@ after_new f j shape l = reaches_induction (changed f (changes.New j (length f.ob
         let known : IsKnown f from = elim q [ inl k ↦ k | inr s ↦ absurd (let ne : from ≢ length f.objects + 1 = grind arith in ne s) ] in
         inl (subst (λ (z : Object). IsKnown f (get_or z.refs i 0)) (sym there) (known_ref f from i known (subst (λ (z : Object). i < length z.refs) there b)))
 
+-- who is live says nothing of what can be reached
+pub after_live : (f : Graph) (live : List Bool) (id : ℕ) → Reaches (record f { live = live }) id → IsKnown f id
+after_live f live = reaches_induction (record f { live = live }) (λ z. IsKnown f z) (known_root f) (known_ref f)
+
+-- roots that get null, one after the other
+pub length-nulled : (roots : List ℕ) (first n : ℕ) → length (nulled roots first n) ≡ length roots
+length-nulled roots first zero = refl
+length-nulled roots first (suc n) = length-set (nulled roots first n) (first + n) 0 ∙ length-nulled roots first n
+
+pub after_nulled : (f : Graph) (first n : ℕ) → first + n ≤ length f.roots → (id : ℕ) → Reaches (record f { roots = nulled f.roots first n }) id → IsKnown f id
+after_nulled f first zero l id r = inr r
+after_nulled f first (suc n) l id r =
+    let before : Graph = record f { roots = nulled f.roots first n } in
+    let e = length-nulled f.roots first n in
+    elim (after_root before (first + n) 0 (omega arith) (inl refl) id r) [ inl z ↦ inl z | inr q ↦ after_nulled f first n (omega arith) id q ]
+
+pub after_leave : (f : Graph) (m : ℕ) → first_slot f.limits m + f.limits.slots ≤ length f.roots → (id : ℕ) → Reaches (changed f (changes.Leave m)) id → IsKnown f id
+after_leave f m l id r =
+    let before : Graph = record f { roots = nulled f.roots (first_slot f.limits m) f.limits.slots } in
+    elim (after_live before (set f.live m false) id r) [ inl z ↦ inl z | inr q ↦ after_nulled f (first_slot f.limits m) f.limits.slots l id q ]
+
 -- objects that are put alike
 put_alike : (f g : Graph) (id : ℕ) (o p : Object) → IsAlike f g → 0 < id → id ≤ length f.objects → o ≡ p → (k : ℕ) → IsKnown f k → object_of (put_object f.objects id o) k ≡ object_of (put_object g.objects id p) k
 put_alike f g id o p a some l e k q = by_here (k == id) refl
@@ -190,6 +213,7 @@ alike_put : (f g : Graph) (id : ℕ) (o p : Object) → IsAlike f g → 0 < id �
     → IsAlike (record f { objects = put_object f.objects id o }) (record g { objects = put_object g.objects id p })
 alike_put f g id o p a some l e known = record {
   limits = a.limits;
+  live = a.live;
   count = length-put f.objects id o ∙ a.count ∙ sym (length-put g.objects id p);
   roots = a.roots;
   object = λ k r. put_alike f g id o p a some l e k (known k r);
@@ -204,6 +228,7 @@ pub alike_changed : (f g : Graph) (c : Change) → IsAlike f g → IsFounded f c
 alike_changed f g changes.Nothing a w = a
 alike_changed f g (changes.Root j v) a w = record {
   limits = a.limits;
+  live = a.live;
   count = a.count;
   roots = ap (λ z. set z j v) a.roots;
   object = λ id r. object_known f g a id (after_root f j v w.0 w.1 id r);
@@ -225,6 +250,7 @@ alike_changed f g (changes.New j id shape) a w =
     let count : length f.objects + 1 ≡ length g.objects + 1 = ap (λ z. z + 1) a.count in
     record {
       limits = a.limits;
+      live = a.live;
       count = (length_at_push f.objects (new_object shape)).1 ∙ count ∙ sym (length_at_push g.objects (new_object shape)).1;
       roots = ap (λ z. set z j id) a.roots;
       object = λ k r. object-append f.objects (new_object shape) k
@@ -235,6 +261,20 @@ alike_changed f g (changes.New j id shape) a w =
     by_new : (k : ℕ) (t : Bool) → (k == length f.objects + 1) ≡ t → (IsKnown f k) ⊎ (k ≡ length f.objects + 1) → (if t then new_object shape else object_of f.objects k) ≡ (if t then new_object shape else object_of g.objects k)
     by_new k true e q = refl
     by_new k false e q = elim q [ inl n ↦ object_known f g a k n | inr s ↦ absurd (let ne : k ≢ length f.objects + 1 = grind arith in ne s) ]
+alike_changed f g (changes.Join m) a w = record {
+  limits = a.limits;
+  live = ap (λ z. set z m true) a.live;
+  count = a.count;
+  roots = a.roots;
+  object = λ id r. object_known f g a id (after_live f (set f.live m true) id r);
+}
+alike_changed f g (changes.Leave m) a w = record {
+  limits = a.limits;
+  live = ap (λ z. set z m false) a.live;
+  count = a.count;
+  roots = ap (λ z. nulled z (first_slot f.limits m) f.limits.slots) a.roots ∙ ap (λ l. nulled g.roots (first_slot l m) l.slots) a.limits;
+  object = λ id r. object_known f g a id (after_leave f m w id r);
+}
 
 -- For every graph heap: where the heap goes on to agree with one, it agrees with each other.
 pub each_changed : (h after : HeapState) (f g : Graph) (c : Change) → Agrees h f → Agrees h g → IsFounded f c → Agrees after (changed f c) → Agrees after (changed g c)

@@ -1,11 +1,11 @@
 -- No event changes the settings of a heap.
 use Rattle.std.proofs.Common.{◌≡◌, ℕ, ◌+◌, length, refl, ap, ◌∙◌, length-set}
 use Rattle.graph_heap.specs.declared.command.Change.{Change}
-use Rattle.graph_heap.specs.Graph.{Graph}
+use Rattle.graph_heap.specs.Graph.{Graph, first_slot}
 use Rattle.size_classes.specs.Parts.{cells_of, parts_in}
 use Rattle.heap_model.specs.State.{HeapState}
 use Rattle.heap_model.specs.Action.{Action, Chain, Nothing_done, Then, Shades, Was_marked, Is_marked, Scans_root, Ends_roots, Scans_header, Scans_cell, Ends_marking, Frees_block, Passes_block, Closes_page, Ends_sweep, Looks_at_page, Chooses_page, Chooses_none, Moves_block, Ends_moving}
-use Rattle.heap_model.specs.Change.{Records, Records_nothing, Records_main, DoesChange, Does_nothing, Does_root, Does_ref, Does_word, Does_new}
+use Rattle.heap_model.specs.Change.{Records, Records_nothing, Records_main, DoesChange, Does_nothing, Does_root, Does_ref, Does_word, Does_new, Does_join, Does_leave, Clears, Clears_none, Clears_next}
 use Rattle.heap_model.specs.Event.{Course, Event, Command_done, Cycle_begun, Cycle_on, Quantum_done, Quantum_refused, present_of, room_for, change_by, Does}
 use Rattle.heap_model.specs.Settings.{HeapSettings, settings_of}
 use Rattle.heap_model.proofs.Relinked.{relinked_settings}
@@ -58,12 +58,18 @@ chain_settings h after units (Then u cost j k linked chain links a) =
     let i : HeapState = record j { store = linked } in
     action_settings i k cost a ∙ relinked_settings j linked links ∙ chain_settings h j u chain
 
+clears_settings : (h : HeapState) (first n : ℕ) (k : HeapState) → Clears h first n k → settings_of k ≡ settings_of h
+clears_settings h first n k Clears_none = refl
+clears_settings h first n k (Clears_next n0 j k0 c r) = records_settings j k0 _ r ∙ clears_settings h first n0 j c
+
 pub change_settings : (h after : HeapState) (g : Graph) (c : Change) → DoesChange h g c after → settings_of after ≡ settings_of h
 change_settings h after g c Does_nothing = refl
 change_settings h after g c (Does_root cell id y k r main) = records_settings h k _ r
 change_settings h after g c (Does_ref id i value address y k new at r main writes) = ap (with_pages (others k)) (ap length writes.pages) ∙ records_settings h k _ r
 change_settings h after g c (Does_word id i word address new at writes) = ap (with_pages (others h)) (ap length writes.pages)
 change_settings h after g c (Does_new cell id shape k new at r makes takes) = ap (with_pages (others k)) (takes_count (cells_of shape) at k.store.pages (parts_in (cells_of shape)) new.pages takes) ∙ records_settings h k _ r
+change_settings h after g c (Does_join m) = refl
+change_settings h after g c (Does_leave m k clears) = clears_settings h (first_slot g.limits m) g.limits.slots k clears
 
 pub does_settings : (r : Course) (e : Event) (new : Course) → Does r e new → settings_of new.heap ≡ settings_of r.heap
 does_settings r (Command_done m c reply) new d = change_settings r.heap new.heap (present_of r) (change_by (room_for r.heap c) (present_of r) m c) d.change

@@ -14,7 +14,7 @@ use Rattle.heap_model.proofs.Edits.{shade}
 use Rattle.heap_model.proofs.Barrier.{shades}
 use Rattle.heap_model.proofs.Written.{records-progress}
 use Rattle.heap_model.proofs.Agreements.{known_kept}
-use Rattle.heap_model.proofs.Acting.{again, shaded_already, colour_seen, shaded_state, shades_limits, shades_roots, shades_whole}
+use Rattle.heap_model.proofs.Acting.{again, shaded_already, colour_seen, shaded_state, shades_limits, shades_live, shades_roots, shades_whole}
 
 -- a shade shows the same blocks, one of them marked
 pub shade_seen : (h k : HeapState) (x : ℕ) → Shades h x k → SameBlocks (shade (seen h) x) (seen k)
@@ -30,7 +30,7 @@ pub shade_kept : (h after : HeapState) (present snapshot : Graph) (x v : ℕ) �
 shade_kept h k present snapshot x v c r known main sh =
     let c1 = shades (collector_of h) (view present) (view snapshot) x (name_of v) c.parts (records-progress h.store.pages h.phase ∙ r) (known_kept h present snapshot c v known) main in
     let c2 = shaded_state h k x h.phase (view present) (view snapshot) sh c1 in
-    again h k present snapshot c (shades_limits h k x sh) (ap length (shades_roots h k x sh)) (shades_whole h k x sh c.whole)
+    again h k present snapshot c (shades_limits h k x sh) (shades_live h k x sh) (ap length (shades_roots h k x sh)) (shades_whole h k x sh c.whole)
     (subst (λ z. Coherent (collector_by (seen k) k.store.pages z k.grey) (view present) (view snapshot)) (sym (shades_phase h k x sh)) c2)
 
 -- main copies stay main copies

@@ -1,5 +1,5 @@
 -- What mutators do takes no work away.
-use Rattle.std.proofs.Common.{◌≡◌, ◌≢◌, ℕ, ◌+◌, ◌-◌, ◌*◌, ◌/◌, ◌<◌, ◌≤◌, inl, inr, true, length, set, refl, ap, subst, sym, ◌∙◌, arith, length-set}
+use Rattle.std.proofs.Common.{Bool, List, ◌≡◌, ◌≢◌, ℕ, ◌+◌, ◌-◌, ◌*◌, ◌/◌, ◌<◌, ◌≤◌, inl, inr, true, length, set, refl, ap, subst, sym, ◌∙◌, arith, length-set}
 use Rattle.std.proofs.lemmas.Bool.{cases_Bool, cases_eq}
 use Rattle.graph_heap.specs.declared.command.Shape.{Shape}
 use Rattle.graph_heap.specs.Shape.{fits}
@@ -46,6 +46,20 @@ more_within h after w i = subst (λ z. IsWithin after z) (sym w.phase) (by_phase
         let a = w.units in let r = w.roots in let p = w.pages in let d = w.defrag in let m = w.moving in let b = v.0 in let f = v.2 in
         let e : (chosen + class) * length h.store.pages ≡ (chosen + class) * length after.store.pages = ap (λ z. (chosen + class) * z) (sym p) in
         (omega arith, v.1, omega arith)
+
+-- who is live is no work
+pub live_more : (h : HeapState) (live : List Bool) → DoesMore h (record h { live = live })
+unfolding marking_work moving_work
+live_more h live = record {
+  units = refl;
+  phase = refl;
+  defrag = refl;
+  roots = refl;
+  pages = refl;
+  grey = λ n. n;
+  marking = total_same (work (collector_of h)) (work (collector_of (record h { live = live }))) (arena_words h + 1) (λ x. unfold work in refl);
+  moving = total_same (gone (seen h) (size_behind h)) (gone (seen (record h { live = live })) (size_behind h)) (arena_words h + 1) (λ x. unfold gone in refl);
+}
 
 -- a root is written
 pub root_more : (h : HeapState) (j y : ℕ) → DoesMore h (record h { roots = set h.roots j y })

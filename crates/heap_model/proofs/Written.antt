@@ -48,6 +48,7 @@ root_kept h present snapshot j y v c l r k i =
     let l' : j < length present.roots = subst (λ z. j < z) c.present_row l in
     record {
       limits = c.limits;
+      live = c.live;
       row = length-set h.roots j y ∙ c.row;
       present_row = length-set h.roots j y ∙ c.present_row ∙ sym (length-set present.roots j v);
       snapshot_row = length-set h.roots j y ∙ c.snapshot_row;
@@ -104,6 +105,7 @@ word_written h present snapshot new a id k word c r l i w =
     let c3 = subst (λ z. Coherent (record m { heap = seen h' }) z (view snapshot)) (sym (view-word present id k word some given)) c2 in
     record {
       limits = c.limits;
+      live = c.live;
       row = c.row;
       present_row = c.present_row;
       snapshot_row = c.snapshot_row;
@@ -165,6 +167,7 @@ ref_written h present snapshot new a y id i v c r l ix rec kv iy w =
     let c3 = subst (λ z. Coherent (record m { heap = seen h' }) z (view snapshot)) (sym (view-ref present id i v some given l)) c2 in
     record {
       limits = c.limits;
+      live = c.live;
       row = c.row;
       present_row = c.present_row;
       snapshot_row = c.snapshot_row;

@@ -51,9 +51,10 @@ module _ (r new : Course) (budget units : ℕ) (phase : Phase) (w : IsCourse r) 
   ]
 
 pub quantum_paced : (r new : Course) (budget : ℕ) (s : Spent) (p q : PacerView) → IsCourse r → Collects r budget s.units s.phase new → (s.phase ≡ phases.Idle) ⊎ (budget < s.units + 256) → p.ended + cycles_on r.heap.phase ≡ p.begun
-    → q.begun ≡ p.begun → q.spent ≡ p.spent + s.units → q.ended ≡ p.ended + (cycles_on r.heap.phase - cycles_on s.phase) → IsPaced p budget s q
-quantum_paced r new budget s p q w c left on begun spent ended = record {
+    → q.begun ≡ p.begun → q.quanta ≡ p.quanta + 1 → q.spent ≡ p.spent + s.units → q.ended ≡ p.ended + (cycles_on r.heap.phase - cycles_on s.phase) → IsPaced p budget s q
+quantum_paced r new budget s p q w c left on begun quanta spent ended = record {
   begun = begun;
+  quanta = quanta;
   spent = spent;
   rests = λ all. elim (idle_or r.heap.phase) [
     | inl i ↦ (let n = quantum_rests r new budget s.units s.phase w c i.0 in let e = i.1 in (n.0, n.1, omega arith))

@@ -19,11 +19,11 @@ cycles_on phases.Idle = 0
 cycles_on _ = 1
 
 -- What the lock keeps: there is a mutator, the heap is sound, each entry of the history was counted as a call, a chain of
--- events with the cycles begun and the units spent leads to the heap, and each cycle that was begun has
+-- events with the cycles begun, the quanta done and the units spent leads to the heap, and each cycle that was begun has
 -- ended or is on.
 pub record IsKept (settings : HeapSettings) (v : LockedView) : Type 0 where
   pub some : 0 < settings.limits.mutators
   pub sound : IsSound settings v.course
   pub counted : length v.course.history ≡ v.calls
-  pub led : IsLed v.course v.begun v.spent
+  pub led : IsLed v.course v.begun v.quanta v.spent
   pub cycles : v.ended + cycles_on v.course.heap.phase ≡ v.begun

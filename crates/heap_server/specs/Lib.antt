@@ -5,3 +5,5 @@ pub mod Paced
 pub mod Seats
 pub mod Seen
 pub mod Played
+pub mod Names
+pub mod Opened

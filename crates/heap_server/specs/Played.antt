@@ -6,7 +6,7 @@ use Rattle.graph_heap.specs.declared.command.Entry.{Entry}
 use Rattle.heap_model.specs.Event.{IsBudget}
 use Rattle.heap_model.specs.Led.{IsLed}
 use Rattle.heap_model.specs.Settings.{HeapSettings}
-use Rattle.heap_server.specs.Views.{SeatView}
+use Rattle.heap_server.specs.Views.{PacerView, SeatView}
 use Rattle.heap_server.specs.Seats.{mutators_of, upto}
 use Rattle.heap_server.specs.Seen.{mine, commands_of}
 use Rattle.heap_server.specs.Kept.{IsSound}
@@ -45,19 +45,20 @@ pub record HavePlayed (mutators : ℕ) (scripts : List (List Command)) (seats : 
   pub played : AllZip HasPlayed (take (length scripts) seats) scripts
   pub rest : All (λ s. s.calls ≡ 0) (drop (length scripts) seats)
 
--- Budgets were used, all up to the first that no quantum may have: at least one unit of each was spent, and
--- no more than all. For each budget at most one cycle was begun.
-pub record IsCollected (budgets : List ℕ) (used cycles units : ℕ) : Type 0 where
+-- Budgets were used, all up to the first that no quantum may have, each for one quantum: at least one unit of each was
+-- spent, and no more than all. For each budget at most one cycle was begun.
+pub record IsCollected (budgets : List ℕ) (used : ℕ) (p : PacerView) : Type 0 where
   pub within : used ≤ length budgets
   pub allowed : All IsBudget (take used budgets)
   pub stops : used < length budgets → ¬ IsBudget (slice_index budgets used)
-  pub begun : cycles ≤ length budgets
-  pub least : used ≤ units
-  pub most : units ≤ sum (take used budgets)
+  pub done : p.quanta ≡ used
+  pub begun : p.begun ≤ length budgets
+  pub least : used ≤ p.spent
+  pub most : p.spent ≤ sum (take used budgets)
 
 -- What came of scripts and budgets, at a new heap of these settings: it is sound; each entry of its history is
 -- counted once, as one that a script has done; of no script more is done than it has; where the place word isn't
--- torn, what was done is the fronts of the scripts; and the cycles and units that led to the heap are those of the
+-- torn, what was done is the fronts of the scripts; and the cycles, quanta and units that led to the heap are those of the
 -- budgets used. All is done where nothing is left and the word isn't torn, and then the history is a merge of the
 -- scripts.
 pub record IsOutcome (settings : HeapSettings) (scripts : List (List Command)) (budgets : List ℕ) (o : Outcome) : Type 0 where
@@ -65,7 +66,7 @@ pub record IsOutcome (settings : HeapSettings) (scripts : List (List Command)) (
   pub counted : length o.recorded.course.history ≡ sum o.done.items
   pub within : AllZip (λ n most. n ≤ most) o.done.items (map length scripts)
   pub fronts : o.torn ≡ false → HasFronts o.recorded.course.history scripts o.done.items
-  pub led : IsLed o.recorded.course o.tally.begun o.tally.spent
-  pub collected : IsCollected budgets o.used o.tally.begun o.tally.spent
+  pub led : IsLed o.recorded.course o.tally.numbers.begun o.tally.numbers.quanta o.tally.numbers.spent
+  pub collected : IsCollected budgets o.used o.tally.numbers
   pub all : o.all ≡ true ↔ (o.torn ≡ false) × (o.done.items ≡ map length scripts) × (o.used ≡ length budgets)
   pub merge : o.all ≡ true → IsMerge o.recorded.course.history scripts

@@ -10,25 +10,27 @@ pub record SeatView : Type 0 where
   pub calls : ℕ
   pub seen : List Entry
 
--- how many cycles the pacer has begun and seen end, and the units that it has spent
+-- how many cycles the pacer has begun and seen end, how many quanta it has done, and the units that it has spent
 pub record PacerView : Type 0 where
   pub begun : ℕ
   pub ended : ℕ
+  pub quanta : ℕ
   pub spent : ℕ
 
--- The locked heap with its history, for how many more entries memory is kept ready, and the totals of the four
--- books: calls made, cycles begun, cycles ended, units spent.
+-- The locked heap with its history, for how many more entries memory is kept ready, and the totals of the five
+-- books: calls made, cycles begun, cycles ended, quanta done, units spent.
 pub record LockedView : Type 0 where
   pub course : Course
   pub room : ℕ
   pub calls : ℕ
   pub begun : ℕ
   pub ended : ℕ
+  pub quanta : ℕ
   pub spent : ℕ
 
 abbrev pub locked_of : {N : Type 0} → Inside N → LockedView
-locked_of l = record { course = l.recorded.course; room = l.ready; calls = l.calls.total; begun = l.begun.total; ended = l.ended.total; spent = l.units.total }
+locked_of l = record { course = l.recorded.course; room = l.ready; calls = l.calls.total; begun = l.begun.total; ended = l.ended.total; quanta = l.quanta.total; spent = l.units.total }
 
 -- what the pacer shows where its numbers are the totals of the books
 abbrev pub pacer_of : LockedView → PacerView
-pacer_of v = record { begun = v.begun; ended = v.ended; spent = v.spent }
+pacer_of v = record { begun = v.begun; ended = v.ended; quanta = v.quanta; spent = v.spent }

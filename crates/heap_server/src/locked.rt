@@ -13,7 +13,7 @@ ghost use Rattle.heap_server.specs.Seen.{Extends, FaultTells};
 ghost use Rattle.heap_server.specs.declared.fault.ServerFault.TheVariants as faults;
 
 use crate::fault::ServerFault;
-use crate::naming::{Begun, Calls, Ended, Naming, Units};
+use crate::naming::{Begun, Calls, Ended, Naming, Quanta, Units};
 use crate::place::{Front, Next, Place};
 use graph_heap::{Command, NoMemory};
 use heap_model::phase::Phase;
@@ -59,12 +59,13 @@ impl<N: Naming> Seat<N> {
     }
 }
 
-/// The collector's place at a server. Contracts see how many cycles were begun, how many have ended, and
-/// the units that were spent.
+/// The collector's place at a server. Contracts see how many cycles were begun, how many have ended, how many
+/// quanta were done, and the units that were spent.
 #[derive(Drop)]
 pub struct Pacer<N: Naming> {
     pub(crate) begun: Share<Begun<N>>,
     pub(crate) ended: Share<Ended<N>>,
+    pub(crate) quanta: Share<Quanta<N>>,
     pub(crate) units: Share<Units<N>>,
 }
 
@@ -74,13 +75,13 @@ impl<N: Naming> Model for Pacer<N> {
 
     ghost Value = { PacerView };
 
-    ghost view = { λ p. record { begun = p.begun.amount; ended = p.ended.amount; spent = p.units.amount } };
+    ghost view = { λ p. record { begun = p.begun.amount; ended = p.ended.amount; quanta = p.quanta.amount; spent = p.units.amount } };
 
-    ghost invariant = { λ p. (p.begun.parts ≡ 1) × (p.ended.parts ≡ 1) × (p.units.parts ≡ 1) };
+    ghost invariant = { λ p. (p.begun.parts ≡ 1) × (p.ended.parts ≡ 1) × (p.quanta.parts ≡ 1) × (p.units.parts ≡ 1) };
 }
 
 /// What lies under the lock: a heap with its history, for how many more entries memory is kept ready, and the
-/// books of calls made, cycles begun, cycles ended and units spent. The history is always legal and a beginning
+/// books of calls made, cycles begun, cycles ended, quanta done and units spent. The history is always legal and a beginning
 /// of the log that the place word counts, the heap agrees with the graph heap to which it leads, and the books
 /// count the events that led there.
 #[derive(Drop)]
@@ -91,6 +92,7 @@ pub struct Locked<N: Naming> {
     pub(crate) calls: Book<Calls<N>>,
     pub(crate) begun: Book<Begun<N>>,
     pub(crate) ended: Book<Ended<N>>,
+    pub(crate) quanta: Book<Quanta<N>>,
     pub(crate) units: Book<Units<N>>,
 }
 
@@ -103,7 +105,7 @@ impl<N: Naming> Model for Locked<N> {
 
     ghost view = { locked_of };
 
-    ghost invariant = { λ l. IsKept N.settings (locked_of l) × (l.front ≡ l.recorded.course.history) × (l.ready ≤ l.recorded.room) };
+    ghost invariant = { λ l. IsKept N.names.settings (locked_of l) × (l.front ≡ l.recorded.course.history) × (l.ready ≤ l.recorded.room) };
 }
 
 impl<N: Naming> Locked<N> {
@@ -112,7 +114,7 @@ impl<N: Naming> Locked<N> {
     /// The heap with its history.
     pub fn recorded(&self) -> &Recorded
         ensures recorded { result.now.course ≡ self.now.course }
-        ensures kept { IsKept N.settings self.now }
+        ensures kept { IsKept N.names.settings self.now }
     {
         &self.recorded
     }
@@ -156,7 +158,7 @@ impl<N: Naming> Locked<N> {
         ensures entry { IfOk result (λ r. (r.entry.mutator ≡ seat.old.mutator) × (r.entry.command ≡ command)) }
         ensures place { IfOk result (λ r. r.place ≡ length self.old.course.history) }
         ensures seat { OnOk result (seat.new ≡ record seat.old { calls = seat.old.calls + 1; seen = self.new.course.history }) }
-        ensures legal { OnOk result (IsLegal (opening N.settings.limits) seat.new.seen) }
+        ensures legal { OnOk result (IsLegal (opening N.names.settings.limits) seat.new.seen) }
         ensures ends { IfOk result (λ r. Extends seat.old.seen seat.new.seen r.place r.entry) }
         ensures books { OnOk result (self.new ≡ record self.old { course = self.new.course; room = self.new.room; calls = self.old.calls + 1 }) }
         ensures seen { IsPrefix seat.old.seen seat.new.seen }
@@ -192,6 +194,7 @@ impl<N: Naming> Locked<N> {
     {
         self.begun.audit(&mut pacer.begun);
         self.ended.audit(&mut pacer.ended);
+        self.quanta.audit(&mut pacer.quanta);
         self.units.audit(&mut pacer.units);
         self.recorded.begin()?;
         self.begun.add(&mut pacer.begun, 1);
@@ -204,14 +207,16 @@ impl<N: Naming> Locked<N> {
         ensures was { pacer.old ≡ pacer_of self.old }
         ensures range { IsOk result ↔ IsBudget budget }
         ensures paced { IfOk result (λ s. IsPaced pacer.old budget s pacer.new) }
-        ensures books { OnOk result ((self.new ≡ record self.old { course = self.new.course; ended = self.new.ended; spent = self.new.spent }) × (pacer.new ≡ pacer_of self.new)) }
+        ensures books { OnOk result ((self.new ≡ record self.old { course = self.new.course; ended = self.new.ended; quanta = self.old.quanta + 1; spent = self.new.spent }) × (pacer.new ≡ pacer_of self.new)) }
         ensures err { OnErr result ((self.new ≡ self.old) × (pacer.new ≡ pacer.old)) }
     {
         self.begun.audit(&mut pacer.begun);
         self.ended.audit(&mut pacer.ended);
+        self.quanta.audit(&mut pacer.quanta);
         self.units.audit(&mut pacer.units);
         let on = cycles_on(self.recorded.heap().phase());
         let spent = self.recorded.quantum(budget)?;
+        self.quanta.add(&mut pacer.quanta, 1);
         self.units.add(&mut pacer.units, u64::from(spent.units));
         self.ended
             .add(&mut pacer.ended, on - cycles_on(spent.phase));

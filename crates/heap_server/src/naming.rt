@@ -1,42 +1,20 @@
 //! The ledgers of a server: what names them, and how they are opened.
-ghost use Rattle.std.specs.Prelude.{◌≡◌, ℕ};
-ghost use Rattle.heap_model.specs.Settings.{HeapSettings};
+ghost use Rattle.std.specs.Prelude.{◌≡◌};
 
 use crate::place::Opened;
 use size_classes::Config;
 use std::marker::{Brand, PhantomData};
 use std::sync::ledger::{Blank, Ledger};
 
-/// Which server it is: the settings of its heap, the names of its ledgers, and the book of its entries. Each
-/// call of a program picks them.
+/// Which server it is: its names. Each call of a program picks them.
 pub trait Naming {
-    ghost use Rattle.logbook.specs.Pages.{Book};
+    ghost use Rattle.heap_server.specs.Names.{Names};
 
-    ghost settings: { HeapSettings };
-
-    ghost calls: { ℕ };
-
-    ghost begun: { ℕ };
-
-    ghost ended: { ℕ };
-
-    ghost units: { ℕ };
-
-    ghost book: { Book };
+    ghost names: { Names };
 }
 
 impl Naming for Brand {
-    ghost settings = { record { limits = record { mutators = 1; slots = 1; statics = 0; identities = 1 }; pages = 1; defrag_below = 0; defrag_pages = 0 } };
-
-    ghost calls = { 0 };
-
-    ghost begun = { 0 };
-
-    ghost ended = { 0 };
-
-    ghost units = { 0 };
-
-    ghost book = { record { number = 0; log_name = 0; cells_name = 0 } };
+    ghost names = { record { settings = record { limits = record { mutators = 1; slots = 1; statics = 0; identities = 1; live = 1 }; pages = 1; defrag_below = 0; defrag_pages = 0 }; calls = 0; begun = 0; ended = 0; quanta = 0; units = 0; book = record { number = 0; log_name = 0; cells_name = 0 } } };
 }
 
 /// Names the ledger of calls, which has a part for each mutator.
@@ -45,9 +23,9 @@ pub struct Calls<N: Naming> {
 }
 
 impl<N: Naming> Ledger for Calls<N> {
-    ghost name = { N.calls };
+    ghost name = { N.names.calls };
 
-    ghost parts = { N.settings.limits.mutators };
+    ghost parts = { N.names.settings.limits.mutators };
 }
 
 /// Names the ledger of cycles begun.
@@ -56,7 +34,7 @@ pub struct Begun<N: Naming> {
 }
 
 impl<N: Naming> Ledger for Begun<N> {
-    ghost name = { N.begun };
+    ghost name = { N.names.begun };
 
     ghost parts = { 1 };
 }
@@ -67,7 +45,18 @@ pub struct Ended<N: Naming> {
 }
 
 impl<N: Naming> Ledger for Ended<N> {
-    ghost name = { N.ended };
+    ghost name = { N.names.ended };
+
+    ghost parts = { 1 };
+}
+
+/// Names the ledger of quanta done.
+pub struct Quanta<N: Naming> {
+    of: PhantomData<N>,
+}
+
+impl<N: Naming> Ledger for Quanta<N> {
+    ghost name = { N.names.quanta };
 
     ghost parts = { 1 };
 }
@@ -78,7 +67,7 @@ pub struct Units<N: Naming> {
 }
 
 impl<N: Naming> Ledger for Units<N> {
-    ghost name = { N.units };
+    ghost name = { N.names.units };
 
     ghost parts = { 1 };
 }
@@ -90,11 +79,13 @@ pub struct Opening {
     pub calls: Blank,
     pub begun: Blank,
     pub ended: Blank,
+    pub quanta: Blank,
     pub units: Blank,
     pub place: Opened,
     ghost calls_parts: { calls.parts ≡ config.mutators },
     ghost begun_parts: { begun.parts ≡ 1 },
     ghost ended_parts: { ended.parts ≡ 1 },
+    ghost quanta_parts: { quanta.parts ≡ 1 },
     ghost units_parts: { units.parts ≡ 1 },
 }
 
@@ -108,6 +99,7 @@ impl Opening {
             calls: Blank::new(u64::from(config.mutators)),
             begun: Blank::new(1),
             ended: Blank::new(1),
+            quanta: Blank::new(1),
             units: Blank::new(1),
             place: Opened::new(),
         }

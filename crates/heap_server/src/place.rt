@@ -138,7 +138,7 @@ impl Opened {
 
     /// The word under a name, and a front that has seen nothing.
     pub fn named<N: Naming>(self) -> (Place<N>, Front<N>)
-        requires { self.seen.book ≡ N.book }
+        requires { self.seen.book ≡ N.names.book }
         ensures { result.1 ≡ [] }
     {
         let Opened { word, seen } = self;
@@ -160,7 +160,7 @@ impl Opened {
 pub struct Place<N: Naming> {
     word: Word<Entry, u64, Law>,
     of: PhantomData<N>,
-    ghost word_is: { word ≡ word_of N.book },
+    ghost word_is: { word ≡ word_of N.names.book },
 }
 
 /// A beginning of the running history that was seen. It takes no bytes: contracts see its entries.
@@ -178,7 +178,7 @@ impl<N: Naming> Model for Front<N> {
 
     ghost view = { λ f. f.seen.log };
 
-    ghost invariant = { λ f. f.seen.book ≡ N.book };
+    ghost invariant = { λ f. f.seen.book ≡ N.names.book };
 }
 
 impl<N: Naming> Front<N> {

@@ -2,6 +2,7 @@
 ghost use Rattle.std.specs.Prelude.{◌≡◌, ◌↔◌, ◌≤◌, true, false, length, map, take, IfOk, vec_len, vec_capacity};
 ghost use denote.Param.Send.{IsSync, IsSend};
 ghost use Rattle.heap_model.specs.Settings.{settings_by};
+ghost use Rattle.heap_server.specs.Opened.{names_of};
 ghost use Rattle.heap_server.specs.Views.{PacerView};
 ghost use Rattle.heap_server.specs.Seats.{new_seats};
 ghost use Rattle.heap_server.specs.Played.{HavePlayed, IsCollected, IsOutcome};
@@ -68,13 +69,9 @@ fn played<N: Naming + Send + Sync, G: Gate + Sync, R: Threads + Wait + Sync>(
     budgets: &[u32],
     gate: &G,
 ) -> Result<Outcome, NoMemory>
-    requires calls { (opening.calls.name ≡ N.calls) × (settings_by opening.config ≡ N.settings) }
-    requires begun { opening.begun.name ≡ N.begun }
-    requires ended { opening.ended.name ≡ N.ended }
-    requires units { opening.units.name ≡ N.units }
-    requires book { opening.place.seen.book ≡ N.book }
-    requires fits { length scripts.now ≤ N.settings.limits.mutators }
-    ensures { IfOk result (IsOutcome N.settings (map (λ s. s.items) scripts.now) budgets.now) }
+    requires names { names_of opening ≡ N.names }
+    requires fits { length scripts.now ≤ N.names.settings.limits.mutators }
+    ensures { IfOk result (IsOutcome N.names.settings (map (λ s. s.items) scripts.now) budgets.now) }
 {
     let number = scripts.len() as u32;
     let (server, seats, pacer) = Server::<N>::new(alloc, opening)?;
@@ -84,16 +81,16 @@ fn played<N: Naming + Send + Sync, G: Gate + Sync, R: Threads + Wait + Sync>(
     let ((used, pacer), seats) = thread::join(
         rt,
         move || -> (usize, Pacer<N>)
-            requires { pacer ≡ record { begun = 0; ended = 0; spent = 0 } }
-            ensures { IsCollected budgets.entry.now result.0 result.1.begun result.1.spent }
+            requires { pacer ≡ record { begun = 0; ended = 0; quanta = 0; spent = 0 } }
+            ensures { IsCollected budgets.entry.now result.0 result.1 }
         {
             let mut pacer = pacer;
             let used = collect(rt, shared, gate, number, budgets, &mut pacer);
             (used, pacer)
         },
         move || -> Vec<Seat<N>>
-            requires { IsSync R.row × IsSync G.row × IsSend N.row × IsSync N.row × (length scripts.now ≤ vec_len seats) × (seats.items ≡ new_seats N.settings.limits.mutators) }
-            ensures { HavePlayed N.settings.limits.mutators (map (λ s. s.items) scripts.entry.now) result.items }
+            requires { IsSync R.row × IsSync G.row × IsSend N.row × IsSync N.row × (length scripts.now ≤ vec_len seats) × (seats.items ≡ new_seats N.names.settings.limits.mutators) }
+            ensures { HavePlayed N.names.settings.limits.mutators (map (λ s. s.items) scripts.entry.now) result.items }
         { play_seats(rt, shared, gate, scripts, seats) },
     );
     Ok(settled(server, seats, pacer, scripts, budgets, used, done))
@@ -111,11 +108,11 @@ fn settled<N: Naming>(
 ) -> Outcome
     ghost numbers: { PacerView }
     requires pacer { pacer ≡ numbers }
-    requires fits { length scripts.now ≤ N.settings.limits.mutators }
-    requires played { HavePlayed N.settings.limits.mutators (map (λ s. s.items) scripts.now) seats.items }
-    requires collected { IsCollected budgets.now used numbers.begun numbers.spent }
+    requires fits { length scripts.now ≤ N.names.settings.limits.mutators }
+    requires played { HavePlayed N.names.settings.limits.mutators (map (λ s. s.items) scripts.now) seats.items }
+    requires collected { IsCollected budgets.now used numbers }
     requires room { (vec_len done ≡ 0) × (length scripts.now ≤ vec_capacity done) }
-    ensures { IsOutcome N.settings (map (λ s. s.items) scripts.now) budgets.now result }
+    ensures { IsOutcome N.names.settings (map (λ s. s.items) scripts.now) budgets.now result }
 {
     count_calls(seats.as_slice(), scripts.len(), &mut done);
     let whole = is_whole(scripts, done.as_slice());

@@ -4,10 +4,10 @@ ghost use mathlib.Core.List.{IsPrefix};
 ghost use Rattle.std.specs.List.{sum_by};
 ghost use Rattle.graph_heap.specs.Graph.{opening};
 ghost use Rattle.graph_heap.specs.History.{IsLegal};
-ghost use Rattle.heap_model.specs.Settings.{settings_by};
 ghost use Rattle.heap_model.specs.Event.{IsBudget};
 ghost use Rattle.heap_model.specs.Led.{IsLed};
 ghost use Rattle.heap_server.specs.Kept.{IsSound};
+ghost use Rattle.heap_server.specs.Opened.{names_of};
 ghost use Rattle.heap_server.specs.Paced.{IsPaced};
 ghost use Rattle.heap_server.specs.Seats.{new_seats, mutators_of, upto};
 ghost use Rattle.heap_server.specs.Seen.{EachKnown, Extends, FaultShows, IsKnown, OneBegins, WasTold};
@@ -38,21 +38,18 @@ impl<N: Naming> Server<N> {
         alloc: Global,
         opening: Opening,
     ) -> Result<(Server<N>, Vec<Seat<N>>, Pacer<N>), NoMemory>
-        requires calls { (opening.calls.name ≡ N.calls) × (settings_by opening.config ≡ N.settings) }
-        requires begun { opening.begun.name ≡ N.begun }
-        requires ended { opening.ended.name ≡ N.ended }
-        requires units { opening.units.name ≡ N.units }
-        requires book { opening.place.seen.book ≡ N.book }
-        ensures seats { IfOk result (λ r. r.1.items ≡ new_seats N.settings.limits.mutators) }
-        ensures mutators { IfOk result (λ r. mutators_of r.1.items ≡ upto N.settings.limits.mutators) }
-        ensures len { IfOk result (λ r. vec_len r.1 ≡ N.settings.limits.mutators) }
-        ensures pacer { IfOk result (λ r. r.2 ≡ record { begun = 0; ended = 0; spent = 0 }) }
+        requires names { names_of opening ≡ N.names }
+        ensures seats { IfOk result (λ r. r.1.items ≡ new_seats N.names.settings.limits.mutators) }
+        ensures mutators { IfOk result (λ r. mutators_of r.1.items ≡ upto N.names.settings.limits.mutators) }
+        ensures len { IfOk result (λ r. vec_len r.1 ≡ N.names.settings.limits.mutators) }
+        ensures pacer { IfOk result (λ r. r.2 ≡ record { begun = 0; ended = 0; quanta = 0; spent = 0 }) }
     {
         let Opening {
             config,
             calls,
             begun,
             ended,
+            quanta,
             units,
             place,
         } = opening;
@@ -61,6 +58,7 @@ impl<N: Naming> Server<N> {
         let (calls, shares) = calls.open();
         let (begun, my_begun) = begun.open();
         let (ended, my_ended) = ended.open();
+        let (quanta, my_quanta) = quanta.open();
         let (units, my_units) = units.open();
         let seats = seated(alloc, &config, shares, &front)?;
         let locked = Mutex::new(Locked {
@@ -70,11 +68,13 @@ impl<N: Naming> Server<N> {
             calls,
             begun,
             ended,
+            quanta,
             units,
         });
         let pacer = Pacer {
             begun: my_begun,
             ended: my_ended,
+            quanta: my_quanta,
             units: my_units,
         };
         Ok((Server { place, locked }, seats, pacer))
@@ -91,7 +91,7 @@ impl<N: Naming> Server<N> {
     ) -> Result<Receipt, ServerFault>
         ensures entry { IfOk result (λ r. (r.entry.mutator ≡ seat.old.mutator) × (r.entry.command ≡ command)) }
         ensures counted { OnOk result (seat.new ≡ record seat.old { calls = seat.old.calls + 1; seen = seat.new.seen }) }
-        ensures legal { OnOk result (IsLegal (opening N.settings.limits) seat.new.seen) }
+        ensures legal { OnOk result (IsLegal (opening N.names.settings.limits) seat.new.seen) }
         ensures ends { IfOk result (λ r. Extends seat.old.seen seat.new.seen r.place r.entry) }
         ensures seen { IsPrefix seat.old.seen seat.new.seen }
         ensures err { OnErr result (seat.new ≡ record seat.old { seen = seat.new.seen }) }
@@ -142,16 +142,17 @@ impl<N: Naming> Server<N> {
     /// The heap with the history of all calls, and the number of the place word. All that `new` gave comes back:
     /// every seat, in any order, and the pacer. It waits for nobody.
     pub fn close(self, seats: Vec<Seat<N>>, mut pacer: Pacer<N>) -> (Recorded, u64)
-        requires { IsPermutation (mutators_of seats.items) (upto N.settings.limits.mutators) }
-        ensures sound { IsSound N.settings result.0.course }
+        requires { IsPermutation (mutators_of seats.items) (upto N.names.settings.limits.mutators) }
+        ensures sound { IsSound N.names.settings result.0.course }
         ensures counted { length result.0.course.history ≡ sum_by (λ s. s.calls) seats.items }
-        ensures led { IsLed result.0.course pacer.begun pacer.spent }
+        ensures led { IsLed result.0.course pacer.begun pacer.quanta pacer.spent }
         ensures begins { All (λ s. OneBegins result.0.course.history s.seen) seats.items }
         ensures told { result.1 ≡ length result.0.course.history → All (WasTold result.0.course.history) seats.items }
     {
         let Server { place, locked } = self;
         let mut locked = locked.into_inner();
         locked.begun.audit(&mut pacer.begun);
+        locked.quanta.audit(&mut pacer.quanta);
         locked.units.audit(&mut pacer.units);
         let mut seen = locked.front.again();
         locked.calls.audit(&mut gathered(seats, &mut seen));

@@ -1,17 +1,16 @@
 //! The numbers of a pacer, for proofs alone.
-ghost use Rattle.std.specs.Prelude.{◌≡◌, ℕ};
+ghost use Rattle.std.specs.Prelude.{◌≡◌};
 ghost use Rattle.std.specs.Borrow.{ftrue};
 ghost use Rattle.heap_server.specs.Views.{PacerView};
 
 use std::marker::{Model, PhantomData};
 
-/// How many cycles a pacer has begun, and the units that it has spent. It takes no memory: only contracts
-/// read it.
+/// The numbers of a pacer: the cycles begun and ended, the quanta done and the units spent. It takes no memory:
+/// only contracts read it.
 #[derive(Drop)]
 pub struct Tally {
     marker: PhantomData<u8>,
-    pub ghost begun: { ℕ },
-    pub ghost spent: { ℕ },
+    pub ghost numbers: { PacerView },
 }
 
 impl Model for Tally {
@@ -22,7 +21,7 @@ impl Tally {
     /// The numbers of a pacer.
     pub(crate) fn new() -> Tally
         ghost pacer: { PacerView }
-        ensures { (result.begun ≡ pacer.begun) × (result.spent ≡ pacer.spent) }
+        ensures { result.numbers ≡ pacer }
     {
         Tally {
             marker: PhantomData,

@@ -1,17 +1,18 @@
 //! Servers, called from one thread and from many. Replies and units are worked out by hand.
 ghost use Rattle.std.specs.Prelude.{◌≡◌};
-ghost use Rattle.heap_model.specs.Settings.{settings_by};
+ghost use Rattle.heap_server.specs.Opened.{names_of};
 
 use super::*;
 use graph_heap::{Command, Refusal, Reply, Shape};
 use heap_model::phase::Phase;
 use size_classes::{Config, Settings};
-use std::alloc::Global;
+use std::alloc::{AllocGlobal, Global};
 use std::marker::Brand;
 use std::process::Abort;
 use std::sync::Wait;
 
 mod crowd;
+mod joining;
 mod meeting;
 mod playing;
 mod rows;
@@ -28,6 +29,7 @@ const FOUR_PAGES: Settings = Settings {
     collector_ticks: 10,
     mutator_ticks: 12,
     rate: 100,
+    live: 2,
 };
 
 /// The configuration of settings.
@@ -52,19 +54,29 @@ fn call<N: Naming, R: Wait + Abort>(
     Ok(receipt.entry().reply)
 }
 
-/// Reserves room for six calls, and makes them: a race for the static, from each of two seats.
-fn six_calls<N: Naming, R: Wait + Abort>(
+/// A server of a heap for two mutators, with its seats.
+fn two_seats<N: Naming, R: Abort + AllocGlobal>(
     rt: &R,
-    alloc: Global,
+    opening: Opening,
+) -> Result<(Server<N>, Seat<N>, Seat<N>), ServerFault>
+    requires names { names_of opening ≡ N.names }
+{
+    let (server, mut seats, _pacer) = Server::<N>::new(rt.alloc(), opening)?;
+    let (Some(second), Some(first)) = (seats.pop(), seats.pop()) else {
+        panic!(rt; "there are two seats");
+    };
+    Ok((server, first, second))
+}
+
+/// Reserves room for six calls, and makes them: a race for the static, from each of two seats.
+fn six_calls<N: Naming, R: Wait + Abort + AllocGlobal>(
+    rt: &R,
     opening: Opening,
 ) -> Result<(), ServerFault>
-    requires calls { (opening.calls.name ≡ N.calls) × (settings_by opening.config ≡ N.settings) }
-    requires begun { opening.begun.name ≡ N.begun }
-    requires ended { opening.ended.name ≡ N.ended }
-    requires units { opening.units.name ≡ N.units }
-    requires book { opening.place.seen.book ≡ N.book }
+    requires names { names_of opening ≡ N.names }
 {
-    let (server, mut seats, _pacer) = Server::<N>::new(alloc, opening)?;
+    let (server, first, second) = two_seats::<N, _>(rt, opening)?;
+    let mut seats = [first, second];
     server.reserve_history(6, rt)?;
     for number in 0..3usize {
         for seat in &mut seats {
@@ -80,5 +92,5 @@ fn six_calls<N: Naming, R: Wait + Abort>(
 #[test]
 fn reserved_calls_are_sure(rt: HostRuntime) -> Result<(), ServerFault> {
     let config = config_of(&rt, &FOUR_PAGES);
-    six_calls::<Brand, _>(&rt, rt.alloc(), Opening::new(&config))
+    six_calls::<Brand, _>(&rt, Opening::new(&config))
 }

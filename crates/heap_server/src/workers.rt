@@ -45,8 +45,8 @@ pub fn collect<N: Naming, G: Gate, R: Wait>(
     budgets: &[u32],
     pacer: &mut Pacer<N>,
 ) -> usize
-    requires { pacer.old ≡ record { begun = 0; ended = 0; spent = 0 } }
-    ensures { IsCollected budgets.now result pacer.new.begun pacer.new.spent }
+    requires { pacer.old ≡ record { begun = 0; ended = 0; quanta = 0; spent = 0 } }
+    ensures { IsCollected budgets.now result pacer.new }
 {
     let mut used = 0;
     for budget in budgets {
@@ -96,8 +96,8 @@ pub fn play_seats<N: Naming + Send + Sync, G: Gate + Sync, R: Threads + Wait + S
     mut seats: Vec<Seat<N>>,
 ) -> Vec<Seat<N>>
     requires count { length scripts.now ≤ vec_len seats }
-    requires new { seats.items ≡ new_seats N.settings.limits.mutators }
-    ensures { HavePlayed N.settings.limits.mutators (map (λ s. s.items) scripts.now) result.items }
+    requires new { seats.items ≡ new_seats N.names.settings.limits.mutators }
+    ensures { HavePlayed N.names.settings.limits.mutators (map (λ s. s.items) scripts.now) result.items }
 {
     let (playing, _) = seats.as_mut_slice().split_at_mut(scripts.len());
     play_scripts(rt, server, gate, scripts, playing);

@@ -6,13 +6,14 @@ use size_classes::{Config, Settings};
 use std::alloc::Global;
 use std::process::Abort;
 use std::test::Fail;
-use trace::{FailAt, Line, MemorySink, read_line};
+use trace::{FailAt, Line, MemorySink, Version, read_line};
 
 const FOUR_PAGES: Settings = Settings {
     pages: 4,
     mutators: 2,
     slots: 4,
     statics: 1,
+    live: 2,
     ..Settings::DEFAULTS
 };
 
@@ -21,6 +22,7 @@ const TWO_PAGES: Settings = Settings {
     mutators: 1,
     slots: 2,
     statics: 0,
+    live: 1,
     ..FOUR_PAGES
 };
 
@@ -33,7 +35,7 @@ fn heap(rt: &(impl Abort + AllocGlobal), settings: &Settings) -> Result<Heap, No
 
 /// Does a line of a trace.
 fn play(heap: &mut Heap, line: &str) {
-    match read_line(line.as_bytes()) {
+    match read_line(Version::Second, line.as_bytes()) {
         Some(Line::Command { mutator, command }) => {
             heap.step(mutator, command);
         }

@@ -1,9 +1,11 @@
 -- A change done: the heap stands for the graph heap after it, and for each that it agreed with.
-use Rattle.std.proofs.Common.{◌≡◌, ℕ, ◌+◌, ◌<◌, ◌^◌, Bool, true, false, ◌==◌, if◌then◌else◌, length, ap, ◌∙◌, sym, subst, refl, inl, inr}
+use Rattle.std.proofs.Common.{◌≡◌, ℕ, ◌+◌, ◌*◌, ◌<◌, ◌≤◌, ◌^◌, Bool, true, false, ◌==◌, if◌then◌else◌, length, ap, ◌∙◌, sym, subst, refl, inl, inr, arith}
+use Rattle.std.proofs.Math.Nat.{mul-le-mul_right}
 use Rattle.graph_heap.specs.declared.command.Change.{Change}
 use Rattle.graph_heap.specs.declared.command.Change.TheVariants as changes
+use Rattle.graph_heap.specs.declared.command.Limits.{Limits}
 use Rattle.graph_heap.specs.Shape.{fits}
-use Rattle.graph_heap.specs.Graph.{Graph, Object, object_of, changed, with_ref, with_word, new_object}
+use Rattle.graph_heap.specs.Graph.{Graph, first_slot, root_cells, Object, object_of, changed, with_ref, with_word, new_object}
 use Rattle.heap_model.specs.State.{HeapState}
 use Rattle.heap_model.specs.Standing.{Stands}
 use Rattle.heap_model.specs.Agreement.{Agrees}
@@ -41,14 +43,27 @@ fits_changed g (changes.New cell id shape) f w = λ k. by_last k (k == length g.
     by_last : (k : ℕ) (b : Bool) → (k == length g.objects + 1) ≡ b → fits (object_of (changed g (changes.New cell id shape)).objects k).shape ≡ true
     by_last k true e = ap (λ (o : Object). fits o.shape) (object-append g.objects (new_object shape) k ∙ ap (λ t. if t then new_object shape else object_of g.objects k) e) ∙ f.2
     by_last k false e = ap (λ (o : Object). fits o.shape) (object-append g.objects (new_object shape) k ∙ ap (λ t. if t then new_object shape else object_of g.objects k) e) ∙ w k
+fits_changed g (changes.Join m) f w = w
+fits_changed g (changes.Leave m) f w = w
+
+-- the slots of a mutator are in the row
+pub leave_within : (h : HeapState) (m : ℕ) → length h.roots ≡ root_cells h.limits → m < h.limits.mutators → first_slot h.limits m + h.limits.slots ≤ length h.roots
+leave_within h m row low =
+    let above : m + 1 ≤ h.limits.mutators = omega arith in
+    let e : (m + 1) * h.limits.slots ≤ h.limits.mutators * h.limits.slots = mul-le-mul_right h.limits.slots above in
+    let f : (m + 1) * h.limits.slots ≡ m * h.limits.slots + h.limits.slots = grind arith in
+    omega arith
 
 -- the change of a planned write is one of what is there
-pub founded : (h : HeapState) (g : Graph) → Agrees h g → (c : Change) (w : Write) → IsPlanned h g c w → IsFounded g c
-founded h g a c writes.Nothing p = subst (λ (x : Change). IsFounded g x) (sym p) tt
-founded h g a c (writes.Root cell x) p = subst (λ (x : Change). IsFounded g x) (sym p.1) (subst (λ n. cell < n) a.roots p.2, p.3)
-founded h g a c (writes.Ref at x) p = subst (λ (x : Change). IsFounded g x) (sym p.3) (p.4.0, (a.given p.0 p.4.0).below, p.4.1.below, p.5)
-founded h g a c (writes.Word at word) p = subst (λ (x : Change). IsFounded g x) (sym p.2) (p.3.0, (a.given p.0 p.3.0).below, p.3.1.below)
-founded h g a c (writes.New cell shape) p = subst (λ (x : Change). IsFounded g x) (sym p.0) (subst (λ n. cell < n) a.roots p.1, a.next, p.3)
+pub founded : (h : HeapState) (g : Graph) → Agrees h g → length h.roots ≡ root_cells h.limits → (c : Change) (w : Write) → IsPlanned h g c w → IsFounded g c
+founded h g a row c writes.Nothing p = subst (λ (x : Change). IsFounded g x) (sym p) tt
+founded h g a row c (writes.Root cell x) p = subst (λ (x : Change). IsFounded g x) (sym p.1) (subst (λ n. cell < n) a.roots p.2, p.3)
+founded h g a row c (writes.Ref at x) p = subst (λ (x : Change). IsFounded g x) (sym p.3) (p.4.0, (a.given p.0 p.4.0).below, p.4.1.below, p.5)
+founded h g a row c (writes.Word at word) p = subst (λ (x : Change). IsFounded g x) (sym p.2) (p.3.0, (a.given p.0 p.3.0).below, p.3.1.below)
+founded h g a row c (writes.New cell shape) p = subst (λ (x : Change). IsFounded g x) (sym p.0) (subst (λ n. cell < n) a.roots p.1, a.next, p.3)
+founded h g a row c (writes.Join m) p = subst (λ (x : Change). IsFounded g x) (sym p.0) tt
+founded h g a row c (writes.Leave m) p =
+    subst (λ (x : Change). IsFounded g x) (sym p.0) (subst (λ n. first_slot g.limits m + g.limits.slots ≤ n) a.roots (subst (λ (l : Limits). first_slot l m + l.slots ≤ length h.roots) a.limits (leave_within h m row p.1)))
 
 -- what is planned for one graph heap is for each that can't be told from it
 known_alike : (f g : Graph) → IsAlike f g → (id : ℕ) → IsKnown f id → IsKnown g id
@@ -62,6 +77,8 @@ planned_alike h f g a c (writes.Ref at x) p =
 planned_alike h f g a c (writes.Word at word) p =
     (p.0, p.1, p.2, (alike_back g f (alike_sym f g a) p.0 p.3.0, subst (λ (o : Object). IsWordCell h o p.0 p.1 at) (a.object p.0 p.3.0) p.3.1))
 planned_alike h f g a c (writes.New cell shape) p = p
+planned_alike h f g a c (writes.Join m) p = p
+planned_alike h f g a c (writes.Leave m) p = p
 
 module _ (h after : HeapState) (w : IsHeap h) (c : Change) (is_founded : IsFounded w.present c) (does : DoesChange h w.present c after) where
   stands_after : Stands after (changed w.present c) w.snapshot

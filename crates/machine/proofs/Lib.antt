@@ -5,6 +5,7 @@ pub mod Doing
 pub mod Effects
 pub mod Finding
 pub mod Headline
+pub mod Live
 pub mod Planning
 pub mod Plans
 pub mod Reached

@@ -4,7 +4,7 @@ use Rattle.graph_heap.specs.declared.command.Command.{Command}
 use Rattle.graph_heap.specs.declared.command.Reply.{Reply}
 use Rattle.graph_heap.specs.declared.command.Change.TheVariants as changes
 use Rattle.graph_heap.specs.Graph.{Graph}
-use Rattle.graph_heap.specs.Effect.{slot_at, static_at, effect_of}
+use Rattle.graph_heap.specs.Effect.{slot_at, static_at, deed_of}
 use Rattle.heap_model.specs.State.{HeapState}
 use Rattle.nodes.specs.declared.nodes.Referent.{Referent}
 use Rattle.machine.specs.declared.plan.Planned.{Planned}
@@ -12,7 +12,7 @@ use Rattle.machine.specs.declared.plan.Cell.{Cell}
 use Rattle.machine.specs.declared.plan.Write.TheVariants as writes
 use Rattle.machine.specs.Reading.{Names, FindsRef, FindsWord}
 use Rattle.heap_model.specs.Event.{room_for}
-use Rattle.machine.specs.Plan.{PlansFor}
+use Rattle.machine.specs.Plan.{PlansBy}
 
 -- what is known of the fields h, of the value t
 module _ {h t : HeapState} (is : h ≡ t) where
@@ -27,19 +27,19 @@ module _ {h t : HeapState} (is : h ≡ t) where
 
 module _ (h : HeapState) (g : Graph) (m : ℕ) (c : Command) where
   -- a reply alone
-  pub reply_plans : (reply : Reply) (p : Planned) → p ≡ record { reply = reply; write = writes.Nothing } → effect_of (room_for h c) g m c ≡ Ok (reply, changes.Nothing) → PlansFor h g m c (Ok p)
-  reply_plans reply p e effect = subst (λ (q : Planned). PlansFor h g m c (Ok q)) (sym e) (changes.Nothing, effect, refl)
+  pub reply_plans : (reply : Reply) (p : Planned) → p ≡ record { reply = reply; write = writes.Nothing } → deed_of (room_for h c) g m c ≡ Ok (reply, changes.Nothing) → PlansBy h g (deed_of (room_for h c) g m c) (Ok p)
+  reply_plans reply p e effect = subst (λ (q : Planned). PlansBy h g (deed_of (room_for h c) g m c) (Ok q)) (sym e) (changes.Nothing, effect, refl)
 
   -- a write of a root
-  pub root_plans : (reply : Reply) (d id : ℕ) (r : Referent) → effect_of (room_for h c) g m c ≡ Ok (reply, changes.Root d id) → d < length h.roots → Names h g id r
-      → PlansFor h g m c (Ok (record { reply = reply; write = writes.Root d r.reference }))
+  pub root_plans : (reply : Reply) (d id : ℕ) (r : Referent) → deed_of (room_for h c) g m c ≡ Ok (reply, changes.Root d id) → d < length h.roots → Names h g id r
+      → PlansBy h g (deed_of (room_for h c) g m c) (Ok (record { reply = reply; write = writes.Root d r.reference }))
   root_plans reply d id r effect below n = (changes.Root d id, effect, (id, refl, below, n.known, n.main))
 
   -- a write of a reference cell
-  pub ref_plans : (reply : Reply) (id i value : ℕ) (at : Cell) (r : Referent) → effect_of (room_for h c) g m c ≡ Ok (reply, changes.Ref id i value) → FindsRef h g id i (Ok at) → Names h g value r
-      → PlansFor h g m c (Ok (record { reply = reply; write = writes.Ref at r.reference }))
+  pub ref_plans : (reply : Reply) (id i value : ℕ) (at : Cell) (r : Referent) → deed_of (room_for h c) g m c ≡ Ok (reply, changes.Ref id i value) → FindsRef h g id i (Ok at) → Names h g value r
+      → PlansBy h g (deed_of (room_for h c) g m c) (Ok (record { reply = reply; write = writes.Ref at r.reference }))
   ref_plans reply id i value at r effect found n = (changes.Ref id i value, effect, (id, i, value, refl, found.1, n.known, n.main))
 
   -- a write of a word cell
-  pub word_plans : (reply : Reply) (id i word : ℕ) (at : Cell) → effect_of (room_for h c) g m c ≡ Ok (reply, changes.Word id i word) → FindsWord h g id i (Ok at) → PlansFor h g m c (Ok (record { reply = reply; write = writes.Word at word }))
+  pub word_plans : (reply : Reply) (id i word : ℕ) (at : Cell) → deed_of (room_for h c) g m c ≡ Ok (reply, changes.Word id i word) → FindsWord h g id i (Ok at) → PlansBy h g (deed_of (room_for h c) g m c) (Ok (record { reply = reply; write = writes.Word at word }))
   word_plans reply id i word at effect found = (changes.Word id i word, effect, (id, i, refl, found.1))

@@ -1,14 +1,14 @@
 -- A command that writes has a mutator.
-use Rattle.std.proofs.Common.{◌≡◌, ℕ, ◌*◌, ◌+◌, ◌<◌, ◌⊎◌, inl, inr, Bool, true, false, ◌&&◌, nat_lt, if◌then◌else◌, Result, Ok, Err, refl, ap, ◌∙◌, sym, subst, arith}
+use Rattle.std.proofs.Common.{◌≡◌, ℕ, ◌<◌, ◌⊎◌, inl, inr, Bool, true, false, nat_lt, if◌then◌else◌, List, Result, Ok, Err, refl, ap, ◌∙◌, sym, subst, arith}
+use Rattle.std.specs.Prelude.{slice_index_or}
 use Rattle.graph_heap.specs.declared.command.Change.{Change}
 use Rattle.graph_heap.specs.declared.command.Change.TheVariants as changes
 use Rattle.graph_heap.specs.declared.command.Command.{Command}
-use Rattle.graph_heap.specs.declared.command.Command.TheVariants as commands
 use Rattle.graph_heap.specs.declared.command.Limits.{Limits}
 use Rattle.graph_heap.specs.declared.command.Refusal.{Refusal}
 use Rattle.graph_heap.specs.declared.command.Refusal.TheVariants as refusals
 use Rattle.graph_heap.specs.declared.command.Reply.{Reply}
-use Rattle.graph_heap.specs.Effect.{◌>>=◌, effect_of, settled, slot_at}
+use Rattle.graph_heap.specs.Effect.{◌>>=◌, admits, admitted_to, deed_of, effect_of, is_join, settled}
 use Rattle.graph_heap.specs.Graph.{Graph}
 use Rattle.heap_model.specs.Agreement.{Agrees}
 use Rattle.heap_model.specs.Event.{room_for}
@@ -19,29 +19,16 @@ use Rattle.machine.proofs.Doing.{present_agrees}
 use Rattle.machine.specs.declared.plan.Write.{Write}
 use Rattle.machine.specs.declared.plan.Write.TheVariants as writes
 
--- each command names a slot first, and that is one of a mutator that there is
-slot_first : {B : Type 0} (l : Limits) (m s : ℕ) (f : ℕ → Result B Refusal) (o : B) → (slot_at l m s >>= f) ≡ Ok o → m < l.mutators
-slot_first {B} l m s f o e = by_case (nat_lt m l.mutators) refl e
+-- a mutator that is admitted is one that there is
+let_in : {B : Type 0} (l : Limits) (live : List Bool) (m : ℕ) (joins : Bool) (f : Bool → Result B Refusal) (o : B) → (admitted_to l live m joins >>= f) ≡ Ok o → m < l.mutators
+let_in {B} l live m joins f o e = by_case (nat_lt m l.mutators) refl e
   where
-    by_case : (b : Bool) → nat_lt m l.mutators ≡ b → ((if b && nat_lt s l.slots then Ok (m * l.slots + s) else Err refusals.BadSlot) >>= f) ≡ Ok o → m < l.mutators
+    by_case : (b : Bool) → nat_lt m l.mutators ≡ b → ((if b then admits (slice_index_or live m false) joins else Err refusals.BadSlot) >>= f) ≡ Ok o → m < l.mutators
     by_case true t e = grind (arith, t)
     by_case false t e = absurd (cc)
 
 known_mutator : (room : Bool) (g : Graph) (m : ℕ) (c : Command) (o : Reply × Change) → effect_of room g m c ≡ Ok o → m < g.limits.mutators
-known_mutator room g m (commands.New dst shape) o e = slot_first g.limits m dst _ o e
-known_mutator room g m (commands.Load dst obj i) o e = slot_first g.limits m dst _ o e
-known_mutator room g m (commands.Store obj i src) o e = slot_first g.limits m obj _ o e
-known_mutator room g m (commands.CompareStore obj i expect new) o e = slot_first g.limits m obj _ o e
-known_mutator room g m (commands.Get obj i) o e = slot_first g.limits m obj _ o e
-known_mutator room g m (commands.Put obj i word) o e = slot_first g.limits m obj _ o e
-known_mutator room g m (commands.ComparePut obj i old new) o e = slot_first g.limits m obj _ o e
-known_mutator room g m (commands.Copy dst src) o e = slot_first g.limits m dst _ o e
-known_mutator room g m (commands.Clear dst) o e = slot_first g.limits m dst _ o e
-known_mutator room g m (commands.LoadStatic dst k) o e = slot_first g.limits m dst _ o e
-known_mutator room g m (commands.StoreStatic k src) o e = slot_first g.limits m src _ o e
-known_mutator room g m (commands.CompareStatic k expect new) o e = slot_first g.limits m expect _ o e
-known_mutator room g m (commands.Same a b) o e = slot_first g.limits m a _ o e
-known_mutator room g m (commands.Describe a) o e = slot_first g.limits m a _ o e
+known_mutator room g m c o e = let_in g.limits g.live m (is_join c) (λ ok. deed_of room g m c) o e
 
 -- what is refused changes nothing
 writes_or : (g : Graph) (m : ℕ) (r : Result (Reply × Change) Refusal) (reply : Reply) (change : Change) → ((o : Reply × Change) → r ≡ Ok o → m < g.limits.mutators) → settled r ≡ (reply, change) → (change ≡ changes.Nothing) ⊎ (m < g.limits.mutators)
@@ -60,6 +47,8 @@ writer_of h g m c reply change w agrees e planned = elim (writes_or g m (effect_
     nothing (writes.Ref at x) none p = absurd (let z : changes.Nothing ≡ changes.Ref p.0 p.1 p.2 = sym none ∙ p.3 in cc)
     nothing (writes.Word at word) none p = absurd (let z : changes.Nothing ≡ changes.Word p.0 p.1 word = sym none ∙ p.2 in cc)
     nothing (writes.New cell shape) none p = absurd (let z : changes.Nothing ≡ changes.New cell h.next shape = sym none ∙ p.0 in cc)
+    nothing (writes.Join m) none p = absurd (let z : changes.Nothing ≡ changes.Join m = sym none ∙ p.0 in cc)
+    nothing (writes.Leave m) none p = absurd (let z : changes.Nothing ≡ changes.Leave m = sym none ∙ p.0 in cc)
 
 -- the mutator of a write
 pub writer_is : (h : HeapState) → IsHeap h → (m : ℕ) (w : Write) → (w ≡ writes.Nothing → ⊥) → IsWriter h m w → m < h.limits.mutators

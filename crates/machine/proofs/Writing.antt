@@ -3,17 +3,18 @@ use Rattle.std.proofs.Common.{◌≡◌, ℕ, ◌+◌, ◌<◌, ◌∷◌, ◌++
 use Rattle.graph_heap.specs.declared.command.Shape.{Shape}
 use Rattle.graph_heap.specs.declared.command.Change.{Change}
 use Rattle.graph_heap.specs.declared.command.Change.TheVariants as changes
-use Rattle.graph_heap.specs.Graph.{Graph}
+use Rattle.graph_heap.specs.Graph.{Graph, first_slot}
 use Rattle.size_classes.specs.Parts.{cells_of, parts_in}
 use Rattle.heap_model.specs.Block.{with_cell}
 use Rattle.heap_model.specs.Store.{Store, node_of, Writes}
 use Rattle.heap_model.specs.State.{HeapState, seen}
 use Rattle.heap_model.specs.Written.{records}
 use Rattle.heap_model.proofs.Left.{change_left}
-use Rattle.raw_heap.specs.Grey.{buffer_of, with_buffer}
+use Rattle.heap_model.proofs.Recorded.{records_stay}
+use Rattle.raw_heap.specs.Grey.{GreySet, buffer_of, with_buffer}
 use Rattle.satb_barrier.specs.Recording.{with_room, shades, buffers_after}
-use Rattle.machine.specs.Buffers.{buffers_by}
-use Rattle.heap_model.specs.Change.{DoesChange, Does_nothing, Does_root, Does_ref, Does_word, Does_new, Records, Records_nothing, Records_main}
+use Rattle.machine.specs.Buffers.{AreBuffersBy}
+use Rattle.heap_model.specs.Change.{DoesChange, Does_nothing, Does_root, Does_ref, Does_word, Does_new, Does_join, Does_leave, Clears, Clears_none, Clears_next, Records, Records_nothing, Records_main}
 use Rattle.heap_model.specs.Making.{MakesObject}
 use Rattle.heap_model.specs.Taking.{Takes}
 use Rattle.heap_model.specs.Settings.{HeapSettings}
@@ -39,13 +40,13 @@ module _ (h t : HeapState) (is : h ≡ t) (w : IsHeap h) (write : Write) where
     pub stays_heap : CanPerform t write → IsHeap after
     stays_heap can =
         let p = planned_now can in let b = present_agrees h w in
-        heap_after h after w p.0 (founded h w.present b p.0 write p.1) (does w.present p.0 b p.1)
+        heap_after h after w p.0 (founded h w.present b w.stands.consistent.row p.0 write p.1) (does w.present p.0 b p.1)
 
     performed : Performs h write after
     performed g c a p =
         let b = present_agrees h w in
         let q = planned_alike h g w.present (told h g w.present a b) c write p in
-        (does g c a p, agrees_after h after w c (founded h w.present b c write q) (does w.present c b q) g a)
+        (does g c a p, agrees_after h after w c (founded h w.present b w.stands.consistent.row c write q) (does w.present c b q) g a)
 
     pub performs : Performs t write after
     performs = subst (λ (x : HeapState). Performs x write after) is performed
@@ -85,14 +86,24 @@ records_grey : (h k : HeapState) (x : ℕ) → Records h x k → records h.phase
 records_grey h k x (Records_nothing e) off = refl
 records_grey h k x (Records_main l on sh) off = absurd (let z : true ≡ false = sym on ∙ off in cc)
 
+clears_phase : (h : HeapState) (first n : ℕ) (k : HeapState) → Clears h first n k → k.phase ≡ h.phase
+clears_phase h first n k Clears_none = refl
+clears_phase h first n k (Clears_next n0 j k0 c r) = (records_stay j k0 _ r).phase ∙ clears_phase h first n0 j c
+
+clears_grey : (h : HeapState) (first n : ℕ) (k : HeapState) → Clears h first n k → records h.phase ≡ false → k.grey ≡ h.grey
+clears_grey h first n k Clears_none off = refl
+clears_grey h first n k (Clears_next n0 j k0 c r) off = records_grey j k0 _ r (ap records (clears_phase h first n0 j c) ∙ off) ∙ clears_grey h first n0 j c off
+
 grey_left : (h after : HeapState) (g : Graph) (c : Change) → DoesChange h g c after → records h.phase ≡ false → after.grey ≡ h.grey
 grey_left h after g c Does_nothing off = refl
 grey_left h after g c (Does_root cell id y k r main) off = records_grey h k _ r off
 grey_left h after g c (Does_ref id i value address y k new at r main writes) off = records_grey h k _ r off
 grey_left h after g c (Does_word id i word address new at writes) off = refl
 grey_left h after g c (Does_new cell id shape k new at r makes takes) off = records_grey h k _ r off
+grey_left h after g c (Does_join m) off = refl
+grey_left h after g c (Does_leave m k clears) off = clears_grey h (first_slot g.limits m) g.limits.slots k clears off
 
-count_after : (a : RawHeap) (m x : ℕ) → length (buffers_after a m x) ≡ length a.grey.buffers
+pub count_after : (a : RawHeap) (m x : ℕ) → length (buffers_after a m x) ≡ length a.grey.buffers
 count_after a m x = by_case (shades a x)
   where
     by_case : (b : Bool) → length (if b then (with_buffer a.grey m (with_room (buffer_of a.grey m) ++ (seen (state_of a)).forward x ∷ [])).buffers else a.grey.buffers) ≡ length a.grey.buffers
@@ -113,9 +124,11 @@ written_heap a b w write can does count =
     }
 
 -- how many buffers there are
-pub count_by : (a : RawHeap) (m : ℕ) (write : Write) → length (buffers_by a m write) ≡ length a.grey.buffers
-count_by a m writes.Nothing = refl
-count_by a m (writes.Root cell x) = count_after a m (get_or a.roots.cells cell 0)
-count_by a m (writes.Ref at x) = count_after a m (get_or (node_of a.nodes at.block).cells at.index 0)
-count_by a m (writes.Word at word) = refl
-count_by a m (writes.New cell shape) = count_after a m (get_or a.roots.cells cell 0)
+pub count_by : (a : RawHeap) (m : ℕ) (write : Write) (grey : GreySet) → AreBuffersBy a m write grey → length grey.buffers ≡ length a.grey.buffers
+count_by a m writes.Nothing grey e = ap length e
+count_by a m (writes.Root cell x) grey e = ap length e ∙ count_after a m (get_or a.roots.cells cell 0)
+count_by a m (writes.Ref at x) grey e = ap length e ∙ count_after a m (get_or (node_of a.nodes at.block).cells at.index 0)
+count_by a m (writes.Word at word) grey e = ap length e
+count_by a m (writes.New cell shape) grey e = ap length e ∙ count_after a m (get_or a.roots.cells cell 0)
+count_by a m (writes.Join n) grey e = ap length e
+count_by a m (writes.Leave n) grey own = own.0

@@ -2,11 +2,12 @@
 use Rattle.std.specs.Prelude.{◌≡◌, ℕ, ◌^◌, ◌<◌, ◌⊎◌, true, length, Result, Ok, Err}
 use Rattle.graph_heap.specs.declared.command.Command.{Command}
 use Rattle.graph_heap.specs.declared.command.Refusal.{Refusal}
+use Rattle.graph_heap.specs.declared.command.Reply.{Reply}
 use Rattle.graph_heap.specs.declared.command.Change.{Change}
 use Rattle.graph_heap.specs.declared.command.Change.TheVariants as changes
 use Rattle.graph_heap.specs.Shape.{fits}
 use Rattle.graph_heap.specs.Graph.{Graph, changed}
-use Rattle.graph_heap.specs.Effect.{effect_of, settled}
+use Rattle.graph_heap.specs.Effect.{deed_of, effect_of, settled}
 use Rattle.size_classes.specs.Need.{needed}
 use Rattle.heap_model.specs.Pages.{has_room}
 use Rattle.heap_model.specs.Agree.{IsMain}
@@ -22,22 +23,29 @@ use Rattle.machine.specs.declared.plan.Write.{Write}
 use Rattle.machine.specs.declared.plan.Write.TheVariants as writes
 
 -- The write is that of a change of the graph heap: a root or a reference cell gets null or what is known,
--- by the reference of its main copy; a word cell gets the word; or an object is made, for whose parts there
--- is room.
+-- by the reference of its main copy; a word cell gets the word; an object is made, for whose parts there
+-- is room; or a mutator that there is joins or leaves.
 abbrev pub IsPlanned : HeapState → Graph → Change → Write → Type 0
 IsPlanned h g c writes.Nothing = c ≡ changes.Nothing
 IsPlanned h g c (writes.Root cell x) = (id : ℕ) × (c ≡ changes.Root cell id) × (cell < length h.roots) × IsKnown g id × IsMain (seen h) x (name_of id)
 IsPlanned h g c (writes.Ref at x) = (id : ℕ) × (i : ℕ) × (value : ℕ) × (c ≡ changes.Ref id i value) × IsRefPlace h g id i at × IsKnown g value × IsMain (seen h) x (name_of value)
 IsPlanned h g c (writes.Word at word) = (id : ℕ) × (i : ℕ) × (c ≡ changes.Word id i word) × IsWordPlace h g id i at
 IsPlanned h g c (writes.New cell shape) = (c ≡ changes.New cell h.next shape) × (cell < length h.roots) × (h.next < 2 ^ 63) × (fits shape ≡ true) × (has_room h.store.pages (needed shape) ≡ true)
+IsPlanned h g c (writes.Join m) = (c ≡ changes.Join m) × (m < h.limits.mutators)
+IsPlanned h g c (writes.Leave m) = (c ≡ changes.Leave m) × (m < h.limits.mutators)
 
--- the plan is what the graph heap does, for each graph heap with which the heap agrees
-abbrev pub PlansFor : HeapState → Graph → ℕ → Command → Result Planned Refusal → Type 0
-PlansFor h g m c (Ok p) = (change : Change) × (effect_of (room_for h c) g m c ≡ Ok (p.reply, change)) × IsPlanned h g change p.write
-PlansFor h g m c (Err e) = effect_of (room_for h c) g m c ≡ Err e
+-- the plan of what the graph heap does
+abbrev pub PlansBy : HeapState → Graph → Result (Reply × Change) Refusal → Result Planned Refusal → Type 0
+PlansBy h g done (Ok p) = (change : Change) × (done ≡ Ok (p.reply, change)) × IsPlanned h g change p.write
+PlansBy h g done (Err e) = done ≡ Err e
 
+-- the plan of a command, for each graph heap with which the heap agrees
 abbrev pub Plans : HeapState → ℕ → Command → Result Planned Refusal → Type 0
-Plans h m c result = (g : Graph) → Agrees h g → PlansFor h g m c result
+Plans h m c result = (g : Graph) → Agrees h g → PlansBy h g (effect_of (room_for h c) g m c) result
+
+-- the same, of a command that is admitted
+abbrev pub Deeds : HeapState → ℕ → Command → Result Planned Refusal → Type 0
+Deeds h m c result = (g : Graph) → Agrees h g → PlansBy h g (deed_of (room_for h c) g m c) result
 
 -- the same, where a refusal is a reply
 abbrev pub IsPlan : HeapState → ℕ → Command → Planned → Type 0

@@ -1,5 +1,5 @@
 //! The heap.
-ghost use Rattle.std.specs.Prelude.{◌≡◌, length, IfOk};
+ghost use Rattle.std.specs.Prelude.{◌≡◌, ◌<◌, length, IfOk};
 ghost use Rattle.graph_heap.specs.Graph.{Graph};
 ghost use Rattle.graph_heap.specs.Effect.{reply_of, next_of};
 ghost use Rattle.heap_model.specs.Opening.{IsOpening};
@@ -7,7 +7,7 @@ ghost use Rattle.heap_model.specs.Settings.{settings_of, settings_by};
 ghost use Rattle.heap_model.specs.Agreement.{Agrees};
 ghost use Rattle.heap_model.specs.Change.{DoesChange};
 ghost use Rattle.heap_model.specs.Event.{change_by, room_for};
-ghost use Rattle.machine.specs.Plan.{Plans, IsPlan, IsWriter, CanPerform, Performs};
+ghost use Rattle.machine.specs.Plan.{Plans, Deeds, IsPlan, IsWriter, CanPerform, Performs};
 
 use crate::plan::{Planned, Write};
 use graph_heap::{Command, NoMemory, Refusal, Reply};
@@ -42,8 +42,8 @@ impl Model for Heap {
 }
 
 impl Heap {
-    /// A heap of free pages, with null roots and no object, and memory for all that it will ever hold.
-    /// Only want of memory is refused.
+    /// A heap of free pages, with null roots and no object, where the first `live` mutators are live, and
+    /// with memory for all that it will ever hold. Only want of memory is refused.
     pub fn new(alloc: Global, config: &Config) -> Result<Heap, NoMemory>
         ensures opening { IfOk result IsOpening }
         ensures settings { IfOk result (λ h. settings_of h ≡ settings_by config.now) }
@@ -76,9 +76,18 @@ impl Heap {
         }
     }
 
-    /// What a command does where nothing refuses it.
+    /// What a command does where nothing refuses it. The test of its mutator stands before all else.
     fn plan_command(&self, mutator: u32, command: &Command) -> Result<Planned, Refusal>
         ensures { Plans self.now mutator command.now result }
+    {
+        self.raw.roots.admit(mutator, command.is_join())?;
+        self.plan_deed(mutator, command)
+    }
+
+    /// What a command that is admitted does where nothing refuses it.
+    fn plan_deed(&self, mutator: u32, command: &Command) -> Result<Planned, Refusal>
+        requires { mutator < self.now.limits.mutators }
+        ensures { Deeds self.now mutator command.now result }
     {
         match *command {
             Command::New { dst, shape } => self.plan_new(mutator, dst, shape),
@@ -104,6 +113,8 @@ impl Heap {
             }
             Command::Same { a, b } => self.plan_same(mutator, a, b),
             Command::Describe { a } => self.plan_describe(mutator, a),
+            Command::Join => Ok(self.plan_join(mutator)),
+            Command::Leave => Ok(self.plan_leave(mutator)),
         }
     }
 

@@ -34,6 +34,10 @@ pub enum Write {
     Word { at: Cell, word: u64 },
     /// An object is made, and a root gets its reference.
     New { cell: usize, shape: Shape },
+    /// A mutator comes to be live.
+    Join { mutator: u32 },
+    /// The slots of a mutator get null, one after the other, and it is live no more.
+    Leave { mutator: u32 },
 }
 
 /// Where a cell of an object stands: in a block, a main copy of a part of the object, by its number

@@ -9,6 +9,7 @@ mod between;
 mod buffers;
 mod collecting;
 mod drawing;
+mod live;
 mod many_pages;
 mod memory;
 mod mixing;
@@ -23,6 +24,7 @@ const ONE_PAGE: Settings = Settings {
 const MANY_SLOTS: Settings = Settings {
     pages: 4,
     mutators: 2,
+    live: 2,
     slots: 256,
     ..ONE_PAGE
 };

@@ -1,9 +1,14 @@
 -- How a run ends.
 use Rattle.std.proofs.Common.{◌≡◌, ap}
-use Rattle.std.specs.Prelude.{Result, Ok, Err}
+use Rattle.std.specs.Prelude.{Result, Ok, Err, OnOk}
 use Rattle.std.specs.Result.{IsErrAnd}
 
 -- a result that is this error
 pub failed_so : {A E : Type 0} (r : Result A E) (why : E) → IsErrAnd r (λ e. e ≡ why) → r ≡ Err why
 failed_so (Ok x) why h = elim h [ ]
 failed_so (Err e) why h = ap Err h
+
+-- what follows from what holds of an answer that is no error
+pub ok_so : {A E : Type 0} (r : Result A E) (P Q : Type 0) → (P → Q) → OnOk r P → OnOk r Q
+ok_so (Ok x) P Q f h = f h
+ok_so (Err e) P Q f h = tt

@@ -1,29 +1,28 @@
 -- What each subcommand reads and writes.
-use Rattle.std.specs.Prelude.{◌≡◌, ℕ, ◌*◌, Bool, true, false, ◌⊎◌, List, [], ◌∷◌, ◌++◌, map, replicate, Option, Some, None, Result, Ok, Err, Vec, codes, decimal}
-use Rattle.std.specs.declared.alloc.Global.{Global}
+use Rattle.std.specs.Prelude.{◌≡◌, ℕ, ◌*◌, Bool, true, false, ◌⊎◌, List, [], ◌∷◌, ◌++◌, map, replicate, Option, Some, None, Result, Ok, Err, codes, decimal}
 use Rattle.size_classes.specs.declared.config.Config.{Config}
 use Rattle.size_classes.specs.Config.{limits_of}
-use Rattle.graph_heap.specs.declared.command.Command.{Command}
 use Rattle.graph_heap.specs.Graph.{Graph, opening}
 use Rattle.heap_model.specs.State.{HeapState}
 use Rattle.heap_model.specs.Opening.{IsOpening}
 use Rattle.quanta.specs.Timetable as timetables
 use Rattle.quanta.specs.Timetable.{Timetable}
 use Rattle.trace.specs.declared.fault.TextFault.{TextFault}
+use Rattle.trace.specs.declared.version.Version.{Version}
 use Rattle.trace.specs.Streams.{Given, Taken, GrowsByPart}
 use Rattle.command_line.specs.declared.job.Job.{Job}
 use Rattle.command_line.specs.declared.job.Job.TheVariants.{Play, Check, Threads, Inspect, Mmu}
 use Rattle.transcripts.specs.declared.histories.Checked.{Checked}
 use Rattle.transcripts.specs.declared.histories.Checked.TheVariants.{Good, Wrong}
 use Rattle.transcripts.specs.Histories.{EntriesChecked}
-use Rattle.transcripts.specs.Scripts.{ScriptsRead}
+use Rattle.transcripts.specs.Scripts.{ReadScripts, ScriptsRead}
 use Rattle.heap_server.specs.declared.play.Outcome.{Outcome}
 use Rattle.heap_model.specs.Settings.{settings_of, settings_by}
 use Rattle.heap_server.specs.Played.{IsOutcome}
 use Rattle.player.specs.declared.style.Style.{Style}
 use Rattle.player.specs.declared.style.Style.TheVariants.{Replies, Entries, Nothing}
 use Rattle.player.specs.Player.{PlayerState}
-use Rattle.player.specs.Playing.{Stage, stage, Played, PlayedFirst, written_of}
+use Rattle.player.specs.Playing.{Stage, stage, Played, PlayedFirst, text_written}
 use Rattle.inspector.specs.Report.{report_of}
 use Rattle.metronome.specs.declared.fault.Ending.{Ending}
 use Rattle.metronome.specs.declared.fault.Ending.TheVariants.{Done, WrongReply}
@@ -103,26 +102,26 @@ abbrev pub finish : Bool → Result Ending RunFault
 finish true = Ok Done
 finish false = Err NotComplete
 
--- The history of a play was written, or a part of it where a write failed.
-abbrev pub HistoryWritten : Outcome → Taken → Result Ending RunFault → Type 0
-HistoryWritten outcome taken result =
-    ((result ≡ finish outcome.all) × (taken.after ≡ taken.before ++ written_of Entries outcome.recorded.course.history))
-    ⊎ ((result ≡ Err Write) × GrowsByPart taken.before taken.after (written_of Entries outcome.recorded.course.history))
+-- The history of a play was written, with the version that the scripts told, or a part of it where a write failed.
+abbrev pub HistoryWritten : Version → Outcome → Taken → Result Ending RunFault → Type 0
+HistoryWritten version outcome taken result =
+    ((result ≡ finish outcome.all) × (taken.after ≡ taken.before ++ text_written Entries version outcome.recorded.course.history))
+    ⊎ ((result ≡ Err Write) × GrowsByPart taken.before taken.after (text_written Entries version outcome.recorded.course.history))
 
 -- what came of scripts, as they were read
-abbrev pub RunBehind : ℕ → ℕ → Config → Result (Vec (Vec Command Global) Global) TextFault → Taken → Result Ending RunFault → Type 0
+abbrev pub RunBehind : ℕ → ℕ → Config → Result ReadScripts TextFault → Taken → Result Ending RunFault → Type 0
 -- threads ran them beside so many quanta of a budget, and the history was written, which is a merge of the scripts
 -- where all was done; or memory was refused, and nothing was
-RunBehind turns budget config (Ok scripts) taken result =
+RunBehind turns budget config (Ok read) taken result =
     ((result ≡ Err NoMemory) × (taken.after ≡ taken.before))
-    ⊎ ((outcome : Outcome) × IsOutcome (settings_by config) (map (λ s. s.items) scripts.items) (replicate turns budget) outcome × HistoryWritten outcome taken result)
+    ⊎ ((outcome : Outcome) × IsOutcome (settings_by config) (map (λ s. s.items) read.1.items) (replicate turns budget) outcome × HistoryWritten read.0 outcome taken result)
 -- a fault ended the reading: nothing was run or written
 RunBehind turns budget config (Err why) taken result = (result ≡ Err (of_text why)) × (taken.after ≡ taken.before)
 
 -- Scripts were read, run, and their history written.
 abbrev pub ScriptsRun : ℕ → ℕ → Config → Given → Taken → Result Ending RunFault → Type 0
 ScriptsRun turns budget config given taken result =
-    (how : Result (Vec (Vec Command Global) Global) TextFault) × ScriptsRead given config.mutators how × RunBehind turns budget config how taken result
+    (how : Result ReadScripts TextFault) × ScriptsRead given config.mutators how × RunBehind turns budget config how taken result
 
 -- what is written of windows after a play
 abbrev pub ToldBehind : Result (Unit {0}) TextFault → Config → Timetable → List ℕ → Taken → Result Ending RunFault → Type 0

@@ -3,7 +3,7 @@ ghost use Rattle.std.specs.Prelude.{◌≡◌, ◌≤◌, ◌++◌, length, map,
 ghost use Rattle.heap_model.specs.Settings.{settings_by};
 ghost use Rattle.trace.specs.Streams.{GrowsByPart, given_by, taken_by};
 ghost use Rattle.player.specs.declared.style.Style.TheVariants.{Entries};
-ghost use Rattle.player.specs.Playing.{stage, written_of};
+ghost use Rattle.player.specs.Playing.{stage, written_of, written_version, text_written};
 ghost use Rattle.heap_server.specs.Played.{IsOutcome};
 ghost use Rattle.metronome.specs.Jobs.{TracePlayed, PlayedUpTo, HeapInspected, HistoryChecked, ScriptsRun, WindowsMeasured, verdict, told_of, finish};
 ghost use Rattle.metronome.specs.Windows.{IsWindowLine, AllTold, FirstTold};
@@ -19,7 +19,7 @@ use size_classes::Config;
 use std::alloc::{AllocError, Global};
 use std::sync::Wait;
 use std::thread::Threads;
-use trace::{Sink, Source, TextFault, WriteFailed, end_line, write_all, write_entry};
+use trace::{Sink, Source, TextFault, Version, WriteFailed, end_line, write_all, write_entry};
 use transcripts::{Checked, check_entries, read_scripts};
 
 /// Plays a trace, and writes what the style says of each command.
@@ -112,9 +112,9 @@ pub fn threads_job<S: Source, K: Sink, T: Threads + Wait + Sync>(
 ) -> Result<Ending, RunFault>
     ensures { ScriptsRun turns budget config.now (given_by S.given S.ended source.old source.new) (taken_by K.taken sink.old sink.new) result }
 {
-    let scripts = read_scripts(alloc, source, &config.limits())?;
+    let (version, scripts) = read_scripts(alloc, source, &config.limits())?;
     let outcome = run_scripts(rt, alloc, config, scripts.as_slice(), turns, budget)?;
-    write_history(sink, outcome.recorded.history())?;
+    write_history(sink, version, outcome.recorded.history())?;
     finished(outcome.all)
 }
 
@@ -129,8 +129,32 @@ fn finished(all: bool) -> Result<Ending, RunFault>
     }
 }
 
+/// Writes a history: the line that tells the version, where it has to be told, and a line for each entry.
+fn write_history<K: Sink>(
+    sink: &mut K,
+    version: Version,
+    history: &[Entry],
+) -> Result<(), WriteFailed>
+    ensures ok { OnOk result (K.taken sink.new ≡ K.taken sink.old ++ text_written Entries version history.now) }
+    ensures err { OnErr result (GrowsByPart (K.taken sink.old) (K.taken sink.new) (text_written Entries version history.now)) }
+{
+    write_version(sink, version)?;
+    write_entries(sink, history)
+}
+
+/// Writes the line that tells the second version. The first is told by no line.
+fn write_version<K: Sink>(sink: &mut K, version: Version) -> Result<(), WriteFailed>
+    ensures ok { OnOk result (K.taken sink.new ≡ K.taken sink.old ++ written_version version Entries) }
+    ensures err { OnErr result (GrowsByPart (K.taken sink.old) (K.taken sink.new) (written_version version Entries)) }
+{
+    match version {
+        Version::First => Ok(()),
+        Version::Second => write_all(sink, b"version 2\n"),
+    }
+}
+
 /// Writes a line for each entry.
-fn write_history<K: Sink>(sink: &mut K, history: &[Entry]) -> Result<(), WriteFailed>
+fn write_entries<K: Sink>(sink: &mut K, history: &[Entry]) -> Result<(), WriteFailed>
     ensures ok { OnOk result (K.taken sink.new ≡ K.taken sink.old ++ written_of Entries history.now) }
     ensures err { OnErr result (GrowsByPart (K.taken sink.old) (K.taken sink.new) (written_of Entries history.now)) }
 {

@@ -12,6 +12,7 @@ mod cutting;
 mod edges;
 mod failing;
 mod faults;
+mod joining;
 mod many;
 mod memory;
 mod playing;

@@ -8,13 +8,14 @@ use Rattle.trace.specs.declared.line.Line.TheVariants as lines
 use Rattle.trace.specs.declared.fault.LineFault.TheVariants.{TooLong, NotEnded, NotAnEvent, NotACommand, NoSuchMutator, NotAnEntry, ClockSpent}
 use Rattle.trace.specs.declared.fault.TextFault.{TextFault}
 use Rattle.trace.specs.declared.fault.TextFault.TheVariants.{Line as At_line, Read, Write, NoMemory}
+use Rattle.trace.specs.declared.version.Version.{Version}
 use Rattle.trace.specs.GoneOver.{LinesDone, NextLine, Ends, reads_failed, writes_failed}
 use Rattle.trace.specs.LineReader.{Lines}
 use Rattle.trace.specs.Streams.{Given, GrowsByPart}
 use Rattle.trace.proofs.GoingOver.{SoFar}
 use Rattle.player.specs.declared.style.Style.{Style}
 use Rattle.player.specs.Player.{PlayerState, entries_in}
-use Rattle.player.specs.Playing.{Stage, stage, PlaysText, Stops, StopsText, CutShort, Played, PlayedFirst, written_of}
+use Rattle.player.specs.Playing.{Stage, stage, TellsVersionOf, PlaysText, Stops, StopsText, CutShort, Played, PlayedFirst, text_written}
 use Rattle.player.specs.Closing.{Closes}
 use Rattle.player.proofs.Lines.{played, lines_written}
 
@@ -65,44 +66,45 @@ left style NoMemory (lines.Quantum b) number mid new s = elim s [ ]
 left style NoMemory (lines.Tick n) number mid new s = (s.1, inr (s.0, refl))
 
 -- the same of an end
-abbrev LeftBehind : Style → ℕ → Stage → List ℕ → Stage → Type 0
-LeftBehind style count mid rest new =
-    (new.taken ≡ mid.taken) × ((new.player ≡ mid.player) ⊎ NextLine (λ line. StopsText style NoMemory line (count + 1) mid (stage new.player mid.taken)) rest)
+abbrev LeftBehind : Style → Version → ℕ → Stage → List ℕ → Stage → Type 0
+LeftBehind style version count mid rest new =
+    (new.taken ≡ mid.taken) × ((new.player ≡ mid.player) ⊎ NextLine (λ line. StopsText style version NoMemory line (count + 1) mid (stage new.player mid.taken)) rest)
 
-same_left : (style : Style) (count : ℕ) (mid : Stage) (rest : List ℕ) (new : Stage) → new ≡ mid → LeftBehind style count mid rest new
-same_left style count mid rest new e = (ap (λ (s : Stage). s.taken) e, inl (ap (λ (s : Stage). s.player) e))
+same_left : (style : Style) (version : Version) (count : ℕ) (mid : Stage) (rest : List ℕ) (new : Stage) → new ≡ mid → LeftBehind style version count mid rest new
+same_left style version count mid rest new e = (ap (λ (s : Stage). s.taken) e, inl (ap (λ (s : Stage). s.player) e))
 
-at_line : (style : Style) (count : ℕ) (mid : Stage) (rest text more : List ℕ) (line : Line) (new : Stage) → (NextLine (λ l. StopsText style NoMemory l (count + 1) mid (stage new.player mid.taken)) rest → LeftBehind style count mid rest new)
-    → (Stops style NoMemory line (count + 1) mid (stage new.player mid.taken) → NextLine (λ l. StopsText style NoMemory l (count + 1) mid (stage new.player mid.taken)) rest) → Left style line (count + 1) mid new → LeftBehind style count mid rest new
-at_line style count mid rest text more line new all next (e, inl same) = (e, inl same)
-at_line style count mid rest text more line new all next (e, inr stops) = (e, inr (next stops))
+at_line : (style : Style) (version : Version) (count : ℕ) (mid : Stage) (rest text more : List ℕ) (line : Line) (new : Stage) → (NextLine (λ l. StopsText style version NoMemory l (count + 1) mid (stage new.player mid.taken)) rest → LeftBehind style version count mid rest new)
+    → (Stops style NoMemory line (count + 1) mid (stage new.player mid.taken) → NextLine (λ l. StopsText style version NoMemory l (count + 1) mid (stage new.player mid.taken)) rest) → Left style line (count + 1) mid new → LeftBehind style version count mid rest new
+at_line style version count mid rest text more line new all next (e, inl same) = (e, inl same)
+at_line style version count mid rest text more line new all next (e, inr stops) = (e, inr (next stops))
 
-left_behind : (style : Style) (count : ℕ) (mid : Stage) (rest : List ℕ) (ended : Bool) (new : Stage) (result : Result (Unit {0}) TextFault) → Ends (StopsText style) count mid rest ended new result → LeftBehind style count mid rest new
-left_behind style count mid rest ended new (Ok all) e = same_left style count mid rest new e.2
-left_behind style count mid rest ended new (Err fault) (inl e) = same_left style count mid rest new e.1
-left_behind style count mid rest ended new (Err fault) (inr (text, more, whole, is, inl none)) = same_left style count mid rest new none.2
-left_behind style count mid rest ended new (Err fault) (inr (text, more, whole, is, inr (line, spells, stops))) =
-    at_line style count mid rest text more line new (λ next. ((left style fault line (count + 1) mid new stops).0, inr next)) (λ s. (text, more, whole, is, inr (line, spells, s))) (left style fault line (count + 1) mid new stops)
+left_behind : (style : Style) (version : Version) (count : ℕ) (mid : Stage) (rest : List ℕ) (ended : Bool) (new : Stage) (result : Result (Unit {0}) TextFault) → Ends (StopsText style version) count mid rest ended new result → LeftBehind style version count mid rest new
+left_behind style version count mid rest ended new (Ok all) e = same_left style version count mid rest new e.2
+left_behind style version count mid rest ended new (Err fault) (inl e) = same_left style version count mid rest new e.1
+left_behind style version count mid rest ended new (Err fault) (inr (text, more, whole, is, inl none)) = same_left style version count mid rest new none.3
+left_behind style version count mid rest ended new (Err fault) (inr (text, more, whole, is, inr (line, spells, stops))) =
+    at_line style version count mid rest text more line new (λ next. ((left style fault line (count + 1) mid new stops).0, inr next)) (λ s. (text, more, whole, is, inr (line, spells, s))) (left style fault line (count + 1) mid new stops)
 
 module _ (style : Style) (given : Given) (old : Stage) (player : PlayerState) (taken taken' waiting : List ℕ) (low : length old.taken ≤ length taken) where
   -- a write of what waits failed after the end
-  pub cuts : (count : ℕ) (events : List Event) (mid : Stage) (rest : List ℕ) (ended : Result (Unit {0}) TextFault) → mid.taken ≡ old.taken ++ written_of style (entries_in events) → (ended ≡ Err Write → waiting ≡ []) → GrowsByPart taken taken' waiting
-      → Ends (StopsText style) count mid rest given.ended (stage player (taken ++ waiting)) ended ⊎ ((ended ≡ Err Write) × CutShort style count events mid rest old (stage player (taken ++ waiting))) → CutShort style count events mid rest old (stage player taken')
-  cuts count events mid rest ended written none g (inl e) =
-      let l = left_behind style count mid rest given.ended (stage player (taken ++ waiting)) ended e in
-      (part_of old.taken (written_of style (entries_in events)) taken taken' waiting (l.0 ∙ written) low g, l.1)
-  cuts count events mid rest ended written none g (inr e) = absurd (no_part taken taken' waiting (none e.0) g)
+  pub cuts : (version : Version) (count : ℕ) (events : List Event) (mid : Stage) (rest : List ℕ) (ended : Result (Unit {0}) TextFault) → mid.taken ≡ old.taken ++ text_written style version (entries_in events) → (ended ≡ Err Write → waiting ≡ []) → GrowsByPart taken taken' waiting
+      → Ends (StopsText style version) count mid rest given.ended (stage player (taken ++ waiting)) ended ⊎ ((ended ≡ Err Write) × CutShort style version count events mid rest old (stage player (taken ++ waiting))) → CutShort style version count events mid rest old (stage player taken')
+  cuts version count events mid rest ended written none g (inl e) =
+      let l = left_behind style version count mid rest given.ended (stage player (taken ++ waiting)) ended e in
+      (part_of old.taken (text_written style version (entries_in events)) taken taken' waiting (l.0 ∙ written) low g, l.1)
+  cuts version count events mid rest ended written none g (inr e) = absurd (no_part taken taken' waiting (none e.0) g)
 
   abbrev pub cut_short : (ended : Result (Unit {0}) TextFault) → (ended ≡ Err Write → waiting ≡ []) → GrowsByPart taken taken' waiting → Played style given old (stage player (taken ++ waiting)) ended → Played style given old (stage player taken') (Err Write)
   cut_short ended none g p = record {
     over = record {
       lines = p.over.lines;
+      version = p.over.version;
       events = p.over.events;
       mid = p.over.mid;
       rest = p.over.rest;
       read = p.over.read;
       done = p.over.done;
-      ends = inr (refl, cuts (length p.over.lines) p.over.events p.over.mid p.over.rest ended p.written none g p.over.ends);
+      ends = inr (refl, cuts p.over.version (length p.over.lines) p.over.events p.over.mid p.over.rest ended p.written none g p.over.ends);
     };
     runs = p.runs;
     grows = p.grows;
@@ -128,26 +130,28 @@ pub write_counts : (r : Result (Unit {0}) TextFault) → r ≡ Err Write → 0 <
 write_counts r e = rw e (omega arith)
 
 -- the lines so far, of whose text a part is written
-abbrev pub cut_after : (style : Style) (given : Given) (old : Stage) (player : PlayerState) (taken waiting : List ℕ) (reader : Lines) (so : SoFar (PlaysText style) given old (stage player (taken ++ waiting)) reader) (taken' : List ℕ) → length old.taken ≤ length taken
+abbrev pub cut_after : (style : Style) (given : Given) (old : Stage) (player : PlayerState) (taken waiting : List ℕ) (reader : Lines) (version : Version) (so : SoFar (TellsVersionOf style) (PlaysText style) given old (stage player (taken ++ waiting)) reader version) (taken' : List ℕ) → length old.taken ≤ length taken
     → GrowsByPart taken taken' waiting → Played style given old (stage player taken') (Err Write)
-cut_after style given old player taken waiting reader so taken' low g =
+cut_after style given old player taken waiting reader version so taken' low g =
     let mid = stage player (taken ++ waiting) in
     played style given old (stage player taken') (Err Write) (record {
       lines = so.lines;
+      version = version;
       events = so.events;
       mid = mid;
       rest = reader.kept;
       read = so.read;
       done = so.done;
-      ends = inr (refl, (part_of old.taken (written_of style (entries_in so.events)) taken taken' waiting (lines_written style old mid so.lines so.events so.done) low g, inl refl));
+      ends = inr (refl, (part_of old.taken (text_written style version (entries_in so.events)) taken taken' waiting (lines_written style old mid so.lines version so.events so.done) low g, inl refl));
     })
 
 -- the lines so far, where the same text is written or waits
-abbrev pub moved : (style : Style) {given : Given} {old : Stage} {player : PlayerState} {reader : Lines} (taken taken' : List ℕ) (so : SoFar (PlaysText style) given old (stage player taken) reader) → taken' ≡ taken → SoFar (PlaysText style) given old (stage player taken') reader
-moved style {given} {old} {player} {reader} taken taken' so e = record {
+abbrev pub moved : (style : Style) {given : Given} {old : Stage} {player : PlayerState} {reader : Lines} {version : Version} (taken taken' : List ℕ) (so : SoFar (TellsVersionOf style) (PlaysText style) given old (stage player taken) reader version) → taken' ≡ taken
+    → SoFar (TellsVersionOf style) (PlaysText style) given old (stage player taken') reader version
+moved style {given} {old} {player} {reader} {version} taken taken' so e = record {
   lines = so.lines;
   events = so.events;
   read = so.read;
-  done = subst (λ t. LinesDone (PlaysText style) old so.lines so.events (stage player t)) (sym e) so.done;
+  done = subst (λ t. LinesDone (TellsVersionOf style) (PlaysText style) old so.lines version so.events (stage player t)) (sym e) so.done;
   counted = so.counted;
 }

@@ -1,5 +1,5 @@
 -- What lines do, one after the other.
-use Rattle.std.proofs.Common.{◌≡◌, ℕ, ◌+◌, inl, List, [], ◌∷◌, ◌++◌, append_assoc, append-nil, ap, ◌∙◌, sym, refl}
+use Rattle.std.proofs.Common.{◌≡◌, ℕ, ◌+◌, inl, inr, List, [], ◌∷◌, ◌++◌, length, length-append, arith, append_assoc, append-nil, ap, ◌∙◌, sym, subst, refl}
 use Rattle.std.specs.Prelude.{◌⊎◌, Result, Err}
 use Rattle.std.proofs.lemmas.Grind.{flat_map-append}
 use Rattle.graph_heap.specs.declared.command.Entry.{Entry}
@@ -9,11 +9,13 @@ use Rattle.trace.specs.declared.line.Line.{Line}
 use Rattle.trace.specs.declared.line.Line.TheVariants as lines
 use Rattle.trace.specs.declared.fault.TextFault.{TextFault}
 use Rattle.trace.specs.declared.fault.TextFault.TheVariants.{Write}
+use Rattle.trace.specs.declared.version.Version.{Version}
+use Rattle.trace.specs.declared.version.Version.TheVariants.{Second}
 use Rattle.trace.specs.GoneOver.{LinesDone, No_lines, One_line_more, GoneOver, Ends}
 use Rattle.trace.specs.Streams.{Given}
 use Rattle.player.specs.Player.{PlayerState, QuantaDue, None_yet, One_more, DoesLine, Skips, Commands, Begins, Goes_on, Spends, Ticks, entries_in}
 use Rattle.player.specs.declared.style.Style.{Style}
-use Rattle.player.specs.Playing.{Stage, PlaysText, StopsText, CutShort, Played, written_line, written_of}
+use Rattle.player.specs.Playing.{Stage, TellsVersionOf, PlaysText, StopsText, CutShort, Played, written_line, written_of, written_version, text_written}
 
 -- the entries of more events, and what is written of them
 pub entries_more : (es fs : List Event) → entries_in (es ++ fs) ≡ entries_in es ++ entries_in fs
@@ -45,10 +47,13 @@ line_runs p line es q (Goes_on d) = (p.course, d, refl)
 line_runs p line es q (Spends budget units phase course d) = (course, d, refl)
 line_runs p line es q (Ticks n fs r small w none) = due_runs (p.timetable.clock + n) p es r w
 
-pub lines_run : (style : Style) (old new : Stage) (ls : List (List ℕ)) (es : List Event) → LinesDone (PlaysText style) old ls es new → Runs old.player.course es new.player.course
-lines_run style old new ls es No_lines = refl
-lines_run style old new ls es (One_line_more ls' es' more text mid new' d does) =
-    runs_then es' more old.player.course mid.player.course new'.player.course (lines_run style old mid ls' es' d) (line_runs mid.player does.0 more new'.player does.2.0)
+pub lines_run : (style : Style) (old new : Stage) (ls : List (List ℕ)) (version : Version) (es : List Event) → LinesDone (TellsVersionOf style) (PlaysText style) old ls version es new → Runs old.player.course es new.player.course
+lines_run style old new ls version es No_lines = refl
+lines_run style old new ls version es (One_line_more ls' before version' es' more text mid new' d (inl told)) =
+    let e : es' ≡ es' ++ more = sym (append-nil es') ∙ ap (λ l. es' ++ l) (sym told.2) in
+    subst (λ l. Runs old.player.course l new'.player.course) e (subst (λ (p : PlayerState). Runs old.player.course es' p.course) (sym told.3.0) (lines_run style old mid ls' before es' d))
+lines_run style old new ls version es (One_line_more ls' before version' es' more text mid new' d (inr does)) =
+    runs_then es' more old.player.course mid.player.course new'.player.course (lines_run style old mid ls' before es' d) (line_runs mid.player does.1.0 more new'.player does.1.2.0)
 
 -- the history grows by the entries
 pub history_grows : (es : List Event) (r new : Course) → Runs r es new → new.history ≡ r.history ++ entries_in es
@@ -60,21 +65,39 @@ history_grows (Cycle_on ∷ es) r new w = history_grows es w.0 new w.2 ∙ ap (�
 history_grows (Quantum_done budget units phase ∷ es) r new w = history_grows es w.0 new w.2 ∙ ap (λ h. h ++ entries_in es) w.1.history
 history_grows (Quantum_refused budget ∷ es) r new w = history_grows es w.0 new w.2 ∙ ap (λ (x : Course). x.history ++ entries_in es) w.1.1
 
-pub written_more : (style : Style) (taken taken' taken'' : List ℕ) (es fs : List Event) → taken' ≡ taken ++ written_of style (entries_in es) → taken'' ≡ taken' ++ written_of style (entries_in fs) → taken'' ≡ taken ++ written_of style (entries_in (es ++ fs))
-written_more style taken taken' taken'' es fs old new =
-    new ∙ ap (λ t. t ++ written_of style (entries_in fs)) old ∙ append_assoc taken (written_of style (entries_in es)) (written_of style (entries_in fs))
-    ∙ ap (λ t. taken ++ t) (sym (text_more style (entries_in es) (entries_in fs)) ∙ ap (written_of style) (sym (entries_more es fs)))
+written_more : (style : Style) (version : Version) (taken taken' taken'' : List ℕ) (es fs : List Event) → taken' ≡ taken ++ text_written style version (entries_in es) → taken'' ≡ taken' ++ written_of style (entries_in fs)
+    → taken'' ≡ taken ++ text_written style version (entries_in (es ++ fs))
+written_more style version taken taken' taken'' es fs old new =
+    let told = written_version version style in
+    new ∙ ap (λ t. t ++ written_of style (entries_in fs)) old ∙ append_assoc taken (told ++ written_of style (entries_in es)) (written_of style (entries_in fs))
+    ∙ ap (λ t. taken ++ t) (append_assoc told (written_of style (entries_in es)) (written_of style (entries_in fs)) ∙ ap (λ t. told ++ t) (sym (text_more style (entries_in es) (entries_in fs)) ∙ ap (written_of style) (sym (entries_more es fs))))
+
+-- before the first line nothing is done
+none_done : (style : Style) (old new : Stage) (ls : List (List ℕ)) (version : Version) (es : List Event) → LinesDone (TellsVersionOf style) (PlaysText style) old ls version es new → length ls ≡ 0 → (es ≡ []) × (new.taken ≡ old.taken)
+none_done style old new ls version es No_lines none = (refl, refl)
+none_done style old new ls version es (One_line_more ls' before version' es' more text mid new' d goes) none = absurd (omega (arith, none, length-append ls' (text ∷ [])))
+
+-- the line that tells the version is written first
+told_written : (style : Style) (version : Version) (taken taken' taken'' : List ℕ) (es : List Event) → version ≡ Second → es ≡ [] → taken' ≡ taken → taken'' ≡ taken' ++ written_version Second style → taken'' ≡ taken ++ text_written style version (entries_in es)
+told_written style version taken taken' taken'' es is none same new =
+    let told = written_version Second style in
+    new ∙ ap (λ t. t ++ told) same ∙ ap (λ t. taken ++ t) (sym (append-nil told)) ∙ ap (λ l. taken ++ text_written style Second (entries_in l)) (sym none) ∙ ap (λ v. taken ++ text_written style v (entries_in es)) (sym is)
 
 -- what is written of the lines
-pub lines_written : (style : Style) (old new : Stage) (ls : List (List ℕ)) (es : List Event) → LinesDone (PlaysText style) old ls es new → new.taken ≡ old.taken ++ written_of style (entries_in es)
-lines_written style old new ls es No_lines = sym (append-nil old.taken)
-lines_written style old new ls es (One_line_more ls' es' more text mid new' d does) = written_more style old.taken mid.taken new'.taken es' more (lines_written style old mid ls' es' d) does.2.1
+pub lines_written : (style : Style) (old new : Stage) (ls : List (List ℕ)) (version : Version) (es : List Event) → LinesDone (TellsVersionOf style) (PlaysText style) old ls version es new → new.taken ≡ old.taken ++ text_written style version (entries_in es)
+lines_written style old new ls version es No_lines = sym (append-nil old.taken)
+lines_written style old new ls version es (One_line_more ls' before version' es' more text mid new' d (inl told)) =
+    let n = none_done style old mid ls' before es' d (omega (arith, told.0.0)) in
+    told_written style version' old.taken mid.taken new'.taken (es' ++ more) told.1 (ap (λ l. l ++ more) n.0 ∙ told.2) n.1 told.3.1
+lines_written style old new ls version es (One_line_more ls' before version' es' more text mid new' d (inr does)) =
+    subst (λ v. new'.taken ≡ old.taken ++ text_written style v (entries_in (es' ++ more))) (sym does.0)
+    (written_more style before old.taken mid.taken new'.taken es' more (lines_written style old mid ls' before es' d) does.1.2.1)
 
-abbrev pub played : (style : Style) (given : Given) (old new : Stage) (result : Result (Unit {0}) TextFault) → GoneOver (PlaysText style) given old (λ count events mid rest. Ends (StopsText style) count mid rest given.ended new result ⊎ ((result ≡ Err Write) × CutShort style count events mid rest old new))
+abbrev pub played : (style : Style) (given : Given) (old new : Stage) (result : Result (Unit {0}) TextFault) → GoneOver (TellsVersionOf style) (PlaysText style) given old (λ version count events mid rest. Ends (StopsText style version) count mid rest given.ended new result ⊎ ((result ≡ Err Write) × CutShort style version count events mid rest old new))
     → Played style given old new result
 played style given old new result over =
-    let runs = lines_run style old over.mid over.lines over.events over.done in
-    record { over = over; runs = runs; grows = history_grows over.events old.player.course over.mid.player.course runs; written = lines_written style old over.mid over.lines over.events over.done }
+    let runs = lines_run style old over.mid over.lines over.version over.events over.done in
+    record { over = over; runs = runs; grows = history_grows over.events old.player.course over.mid.player.course runs; written = lines_written style old over.mid over.lines over.version over.events over.done }
 
 -- ticks write nothing
 tick_entries : (p : PlayerState) (line : Line) (es : List Event) (q : PlayerState) (n : ℕ) → DoesLine p line es q → line ≡ lines.Tick n → entries_in es ≡ []
@@ -89,6 +112,6 @@ pub tick_written : (style : Style) (taken : List ℕ) (p q : PlayerState) (n : �
 tick_written style taken p q n es d = sym (append-nil taken) ∙ ap (λ t. taken ++ written_of style t) (sym (tick_entries p (lines.Tick n) es q n d refl))
 
 -- an end is an end where no write fails
-abbrev pub ends_so : {style : Style} {given : Given} {old new : Stage} {result : Result (Unit {0}) TextFault} → GoneOver (PlaysText style) given old (λ count events mid rest. Ends (StopsText style) count mid rest given.ended new result) → Played style given old new result
+abbrev pub ends_so : {style : Style} {given : Given} {old new : Stage} {result : Result (Unit {0}) TextFault} → GoneOver (TellsVersionOf style) (PlaysText style) given old (λ version count events mid rest. Ends (StopsText style version) count mid rest given.ended new result) → Played style given old new result
 ends_so {style} {given} {old} {new} {result} over =
-    played style given old new result (record { lines = over.lines; events = over.events; mid = over.mid; rest = over.rest; read = over.read; done = over.done; ends = inl over.ends })
+    played style given old new result (record { lines = over.lines; version = over.version; events = over.events; mid = over.mid; rest = over.rest; read = over.read; done = over.done; ends = inl over.ends })

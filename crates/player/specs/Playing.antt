@@ -1,6 +1,7 @@
 -- What it is to play a trace.
-use Rattle.std.specs.Prelude.{◌≡◌, ℕ, ◌+◌, ◌<◌, ◌≤◌, Bool, true, not, IsTrue, ◌⊎◌, List, [], ◌∷◌, ◌++◌, length, Some, Result, Ok, Err}
+use Rattle.std.specs.Prelude.{◌≡◌, ℕ, ◌+◌, ◌<◌, ◌≤◌, Bool, true, not, ◌&&◌, IsTrue, ◌⊎◌, List, [], ◌∷◌, ◌++◌, length, Some, Result, Ok, Err}
 use Rattle.std.specs.List.{flat_map, count_by}
+use Rattle.std.specs.Str.{bytes_eq}
 use Rattle.graph_heap.specs.declared.command.Command.{Command}
 use Rattle.graph_heap.specs.declared.command.Reply.{Reply}
 use Rattle.graph_heap.specs.declared.command.Entry.{Entry}
@@ -9,8 +10,10 @@ use Rattle.trace.specs.declared.line.Line.TheVariants as lines
 use Rattle.trace.specs.declared.fault.LineFault.TheVariants.{NotAnEvent, ClockSpent}
 use Rattle.trace.specs.declared.fault.TextFault.{TextFault}
 use Rattle.trace.specs.declared.fault.TextFault.TheVariants.{Line as At_line, Write, NoMemory}
-use Rattle.trace.specs.GoneOver.{GoneOver, NextLine, Ends}
-use Rattle.trace.specs.Spelling.{Spells, is_skipped, reply_text, entry_line}
+use Rattle.trace.specs.declared.version.Version.{Version}
+use Rattle.trace.specs.declared.version.Version.TheVariants.{Second}
+use Rattle.trace.specs.GoneOver.{Goes, GoneOver, NextLine, Ends}
+use Rattle.trace.specs.Spelling.{version_line, TellsVersion, Spells, is_skipped, reply_text, entry_line}
 use Rattle.trace.specs.Streams.{Given, GrowsByPart}
 use Rattle.heap_model.specs.Event.{Event, Command_done, Runs}
 use Rattle.quanta.specs.declared.schedule.TheConstants.{CLOCK_LIMIT}
@@ -36,12 +39,25 @@ written_line Nothing e = []
 abbrev pub written_of : Style → List Entry → List ℕ
 written_of style entries = flat_map (written_line style) entries
 
+-- what is written of the line that tells the version: in a history it is the first line too
+abbrev pub written_version : Version → Style → List ℕ
+written_version Second Entries = version_line ++ 10 ∷ []
+written_version version style = []
+
+-- all that is written of a text of a version
+abbrev pub text_written : Style → Version → List Entry → List ℕ
+text_written style version entries = written_version version style ++ written_of style entries
+
+-- the line that tells the version is written, and does nothing else
+abbrev pub TellsVersionOf : Style → Stage → Stage → Type 0
+TellsVersionOf style old new = (new.player ≡ old.player) × (new.taken ≡ old.taken ++ written_version Second style)
+
 -- What a line does: its events, and what is written of their entries.
 abbrev pub Plays : Style → Line → Stage → List Event → Stage → Type 0
 Plays style line old events new = DoesLine old.player line events new.player × (new.taken ≡ old.taken ++ written_of style (entries_in events))
 
-abbrev pub PlaysText : Style → List ℕ → Stage → List Event → Stage → Type 0
-PlaysText style text old events new = (line : Line) × Spells text line × Plays style line old events new
+abbrev pub PlaysText : Style → Version → List ℕ → Stage → List Event → Stage → Type 0
+PlaysText style version text old events new = (line : Line) × Spells version text line × Plays style line old events new
 
 -- What a fault at a line of this number is.
 abbrev pub Stops : Style → TextFault → Line → ℕ → Stage → Stage → Type 0
@@ -54,30 +70,30 @@ Stops style NoMemory (lines.Tick n) number old new =
     ((es : List Event) × (due : ℕ) × QuantaDue (old.player.timetable.clock + n) old.player es new.player × (new.player.timetable.due ≡ Some due) × (due < old.player.timetable.clock + n)) × (new.taken ≡ old.taken)
 Stops style fault line number old new = ⊥
 
--- the same of its text, of which no event may be a spelling
-abbrev pub StopsText : Style → TextFault → List ℕ → ℕ → Stage → Stage → Type 0
-StopsText style fault text number old new =
-    ((fault ≡ At_line number NotAnEvent) × ((x : Line) → Spells text x → ⊥) × (new ≡ old))
-    ⊎ ((line : Line) × Spells text line × Stops style fault line number old new)
+-- the same of its text, of which no event may be a spelling, and which then doesn't tell the version
+abbrev pub StopsText : Style → Version → TextFault → List ℕ → ℕ → Stage → Stage → Type 0
+StopsText style version fault text number old new =
+    ((fault ≡ At_line number NotAnEvent) × ((x : Line) → Spells version text x → ⊥) × (¬ TellsVersion number text) × (new ≡ old))
+    ⊎ ((line : Line) × Spells version text line × Stops style fault line number old new)
 
 -- A write failed: after these lines no further one was done, or memory was refused for the next, too. Of their
 -- text, which ends with that of the last command, a beginning was written, and not all of it.
-abbrev pub CutShort : Style → ℕ → List Event → Stage → List ℕ → Stage → Stage → Type 0
-CutShort style count events mid rest old new =
-    GrowsByPart old.taken new.taken (written_of style (entries_in events))
-    × ((new.player ≡ mid.player) ⊎ NextLine (λ line. StopsText style NoMemory line (count + 1) mid (stage new.player mid.taken)) rest)
+abbrev pub CutShort : Style → Version → ℕ → List Event → Stage → List ℕ → Stage → Stage → Type 0
+CutShort style version count events mid rest old new =
+    GrowsByPart old.taken new.taken (text_written style version (entries_in events))
+    × ((new.player ≡ mid.player) ⊎ NextLine (λ line. StopsText style version NoMemory line (count + 1) mid (stage new.player mid.taken)) rest)
 
 -- What was played of an input: the lines that were done did these events, one after the other, what is
 -- written of their entries is written, and it ended so. Where a write failed, mid has all of that text.
 pub record Played (style : Style) (given : Given) (old new : Stage) (result : Result (Unit {0}) TextFault) : Type 0 where
-  pub over : GoneOver (PlaysText style) given old (λ count events mid rest. Ends (StopsText style) count mid rest given.ended new result ⊎ ((result ≡ Err Write) × CutShort style count events mid rest old new))
+  pub over : GoneOver (TellsVersionOf style) (PlaysText style) given old (λ version count events mid rest. Ends (StopsText style version) count mid rest given.ended new result ⊎ ((result ≡ Err Write) × CutShort style version count events mid rest old new))
   pub runs : Runs old.player.course over.events over.mid.player.course
   pub grows : over.mid.player.course.history ≡ old.player.course.history ++ entries_in over.events
-  pub written : over.mid.taken ≡ old.taken ++ written_of style (entries_in over.events)
+  pub written : over.mid.taken ≡ old.taken ++ text_written style over.version (entries_in over.events)
 
--- the line of an event: it isn't skipped
+-- the line of an event: it isn't skipped, and doesn't tell the version
 abbrev pub is_event : List ℕ → Bool
-is_event text = not (is_skipped text)
+is_event text = not (is_skipped text) && not (bytes_eq text version_line)
 
 -- the last of the lines, if there is one, is that of an event
 abbrev pub EndAtEvent : List (List ℕ) → Type 0
@@ -93,13 +109,14 @@ PlayedFirst n style given old new result =
     ⊎ ((seen : List ℕ) × (more : List ℕ) × (first : Played style (record given { after = seen; ended = true }) old new result)
     × (given.after ≡ seen ++ more) × (length more ≤ 65536) × (first.over.rest ≡ []) × (count_by is_event first.over.lines ≡ n) × EndAtEvent first.over.lines × ((result ≡ Ok tt) ⊎ (result ≡ Err Write)))
 
--- What came of a command, and of a line.
+-- What came of a command; and of a line, with the version before it and after it.
 abbrev pub CommandDone : Style → ℕ → Command → Stage → Stage → Result (Unit {0}) TextFault → Type 0
 CommandDone style m c old new (Ok done) =
     (reply : Reply) × DoesLine old.player (lines.Command m c) (Command_done m c reply ∷ []) new.player × (new.taken ≡ old.taken ++ written_line style (record { mutator = m; command = c; reply = reply }))
 CommandDone style m c old new (Err NoMemory) = (new.player ≡ old.player) × (new.taken ≡ old.taken)
 CommandDone style m c old new (Err fault) = ⊥
 
-abbrev pub LinePlayed : Style → List ℕ → ℕ → Stage → Stage → Result Bool TextFault → Type 0
-LinePlayed style text number old new (Ok event) = (es : List Event) × PlaysText style text old es new × (event ≡ is_event text)
-LinePlayed style text number old new (Err fault) = StopsText style fault text number old new
+abbrev pub LinePlayed : Style → List ℕ → ℕ → Version → Version → Stage → Stage → Result Bool TextFault → Type 0
+LinePlayed style text number version next old new (Ok event) =
+    (es : List Event) × Goes (TellsVersionOf style) (PlaysText style) number text version old es next new × (event ≡ is_event text)
+LinePlayed style text number version next old new (Err fault) = StopsText style version fault text number old new

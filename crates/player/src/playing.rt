@@ -8,7 +8,7 @@ ghost use Rattle.player.specs.Closing.{Closes};
 use crate::line::play_line;
 use crate::player::Player;
 use crate::style::Style;
-use trace::{LineReader, Sink, Source, TextFault, WriteBuffer};
+use trace::{LineReader, Sink, Source, TextFault, Version, WriteBuffer};
 
 /// Writes what waits once lines have come to an end. Where that fails, it is what the play ends with.
 fn close<K: Sink>(
@@ -44,8 +44,16 @@ fn play_lines<S: Source, K: Sink>(
     ensures input { reads_failed result ≡ 0 → Stays (S.input source.old) (S.input source.new) }
 {
     let mut reader = LineReader::new();
+    let mut version = Version::First;
     while reader.next_line_once_written(waiting, source, sink)? {
-        play_line(reader.line(), reader.number(), waiting, player, style)?;
+        play_line(
+            reader.line(),
+            reader.number(),
+            &mut version,
+            waiting,
+            player,
+            style,
+        )?;
     }
     Ok(())
 }
@@ -90,9 +98,17 @@ fn play_first_lines<S: Source, K: Sink>(
     ensures input { reads_failed result ≡ 0 → Stays (S.input source.old) (S.input source.new) }
 {
     let mut reader = LineReader::new();
+    let mut version = Version::First;
     let mut left = n;
     while left > 0 && reader.next_line_once_written(waiting, source, sink)? {
-        if play_line(reader.line(), reader.number(), waiting, player, style)? {
+        if play_line(
+            reader.line(),
+            reader.number(),
+            &mut version,
+            waiting,
+            player,
+            style,
+        )? {
             left -= 1;
         }
     }

@@ -1,6 +1,7 @@
 //! Runs worked out by hand.
 mod collecting;
 mod first;
+mod versions;
 mod waiting;
 
 use super::*;
@@ -16,6 +17,7 @@ const FOUR_PAGES: Settings = Settings {
     mutators: 2,
     slots: 4,
     statics: 1,
+    live: 2,
     ..Settings::DEFAULTS
 };
 
@@ -24,6 +26,7 @@ const ONE_PAGE: Settings = Settings {
     mutators: 1,
     slots: 9,
     statics: 0,
+    live: 1,
     ..FOUR_PAGES
 };
 

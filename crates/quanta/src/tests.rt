@@ -4,6 +4,7 @@ ghost use Rattle.std.specs.Prelude.{◌≤◌};
 use super::*;
 use graph_heap::NoMemory;
 use size_classes::{Config, Settings};
+use std::alloc::Global;
 use std::test::Fail;
 
 const SETTINGS: Settings = Settings {
@@ -11,6 +12,12 @@ const SETTINGS: Settings = Settings {
     slots: 2,
     ..Settings::DEFAULTS
 };
+
+/// The schedule of a new heap.
+fn opened(alloc: Global) -> Result<Schedule, Fail> {
+    let config = Config::check(&SETTINGS)?;
+    Ok(Schedule::new(alloc, &config))
+}
 
 /// Places the quantum that is due below a time, if one is.
 fn place_due(schedule: &mut Schedule, until: u64) -> Result<bool, NoMemory>
@@ -30,8 +37,7 @@ const fn interval(start: u64, end: u64) -> Interval {
 
 #[test]
 fn a_cycle_goes_on(rt: HostRuntime) -> Result<(), Fail> {
-    let config = Config::check(&SETTINGS)?;
-    let mut schedule = Schedule::new(rt.alloc(), &config);
+    let mut schedule = opened(rt.alloc())?;
     schedule.start_cycle();
     for due in [0, 22, 44] {
         assert!(rt; schedule.next_quantum(due).is_none());
@@ -48,8 +54,7 @@ fn a_cycle_goes_on(rt: HostRuntime) -> Result<(), Fail> {
 
 #[test]
 fn cycles_begin_and_end(rt: HostRuntime) -> Result<(), Fail> {
-    let config = Config::check(&SETTINGS)?;
-    let mut schedule = Schedule::new(rt.alloc(), &config);
+    let mut schedule = opened(rt.alloc())?;
     schedule.start_cycle();
     assert!(rt; place_due(&mut schedule, 5)?);
     schedule.end_cycle();
@@ -68,8 +73,7 @@ fn cycles_begin_and_end(rt: HostRuntime) -> Result<(), Fail> {
 
 #[test]
 fn the_clock_ends(rt: HostRuntime) -> Result<(), Fail> {
-    let config = Config::check(&SETTINGS)?;
-    let mut schedule = Schedule::new(rt.alloc(), &config);
+    let mut schedule = opened(rt.alloc())?;
     assert!(rt; schedule.advance(CLOCK_LIMIT + 1) == Err(ClockSpent));
     assert!(rt; schedule.now() == 0);
     schedule.advance(CLOCK_LIMIT)?;

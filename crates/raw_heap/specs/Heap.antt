@@ -16,6 +16,7 @@ state_of a = record {
   defrag_pages = a.config.defrag_pages;
   store = a.nodes;
   roots = a.roots.cells;
+  live = a.roots.live;
   next = a.next;
   phase = a.phase;
   units = a.units;

@@ -1,21 +1,23 @@
 //! Slots and statics in one row.
 ghost use Rattle.std.specs.Prelude.{◌≡◌, ◌<◌, ◌≤◌, ◌^◌, length, replicate, slice_index, slice_set, IfOk};
-ghost use Rattle.graph_heap.specs.Graph.{root_cells};
-ghost use Rattle.graph_heap.specs.Effect.{slot_at, static_at};
+ghost use Rattle.graph_heap.specs.Graph.{root_cells, live_first};
+ghost use Rattle.graph_heap.specs.Effect.{slot_at, static_at, admitted_to};
 ghost use Rattle.size_classes.specs.Config.{limits_of};
 ghost use Rattle.roots.specs.Used.{used_in};
 
-use graph_heap::{Limits, NoMemory, Refusal};
+use graph_heap::{Limits, NoMemory, Refusal, admit, live_row, set_live};
 use size_classes::Config;
 use std::alloc::Global;
 use std::marker::Model;
 
 /// The root cells of a heap: mutator by mutator slot by slot, and then the statics. Each holds a
-/// reference, 0 for null. Contracts see the limits and the cells.
+/// reference, 0 for null. Beside them, which mutators are live. Contracts see the limits, the cells and
+/// who is live.
 #[derive(Drop)]
 pub struct Roots {
     limits: Limits,
     cells: Vec<u64>,
+    live: Vec<bool>,
 }
 
 impl Model for Roots {
@@ -23,21 +25,25 @@ impl Model for Roots {
 
     ghost Value = { Row };
 
-    ghost view = { λ r. record { limits = r.limits; cells = r.cells.items } };
+    ghost view = { λ r. record { limits = r.limits; cells = r.cells.items; live = r.live.items } };
 
-    ghost invariant = { λ r. IsRow (record { limits = r.limits; cells = r.cells.items }) };
+    ghost invariant = { λ r. IsRow (record { limits = r.limits; cells = r.cells.items; live = r.live.items }) };
 }
 
 impl Roots {
-    /// Null roots. Only want of memory is refused.
+    /// Null roots, where the first `live` mutators are live. Only want of memory is refused.
     pub fn new(alloc: Global, config: &Config) -> Result<Roots, NoMemory>
         ensures limits { IfOk result (λ r. r.limits ≡ limits_of config.now) }
         ensures cells { IfOk result (λ r. r.cells ≡ replicate (root_cells r.limits) 0) }
+        ensures live { IfOk result (λ r. r.live ≡ live_first r.limits) }
     {
         let cells = vec![in alloc; 0; config.root_cells() as usize]?;
+        let limits = config.limits();
+        let live = live_row(alloc, &limits)?;
         Ok(Roots {
-            limits: config.limits(),
+            limits,
             cells,
+            live,
         })
     }
 
@@ -47,6 +53,23 @@ impl Roots {
         ensures identities { result.identities < 2 ^ 63 }
     {
         self.limits
+    }
+
+    /// Whether a mutator may ask: for Join (`joins`) it has to be one that isn't live, and for all else
+    /// one that is. Refused: BadSlot where there is no such mutator, NotLive, AlreadyLive, in this order.
+    pub fn admit(&self, mutator: u32, joins: bool) -> Result<bool, Refusal>
+        ensures admitted { result ≡ admitted_to self.now.limits self.now.live mutator joins }
+        ensures below { IfOk result (λ ok. mutator < self.now.limits.mutators) }
+    {
+        admit(&self.limits, self.live.as_slice(), mutator, joins)
+    }
+
+    /// Says whether a mutator is live; the others stay.
+    pub fn set_live(&mut self, mutator: u32, live: bool)
+        requires { mutator < self.old.limits.mutators }
+        ensures { self.new ≡ record self.old { live = slice_set self.old.live mutator live } }
+    {
+        set_live(self.live.as_mut_slice(), mutator, live);
     }
 
     /// Where a slot of a mutator stands.

@@ -7,6 +7,7 @@ use size_classes::{Config, Settings};
 fn slots_come_before_statics(rt: HostRuntime) -> Result<(), NoMemory> {
     let settings = Settings {
         mutators: 2,
+        live: 2,
         slots: 4,
         statics: 1,
         ..Settings::DEFAULTS
@@ -30,5 +31,29 @@ fn slots_come_before_statics(rt: HostRuntime) -> Result<(), NoMemory> {
     assert_eq!(rt; roots.used(), 1);
     assert_eq!(rt; roots.get(7), 0);
     assert_eq!(rt; roots.limits().slots, 4);
+    Ok(())
+}
+
+#[test]
+fn mutators_join_and_leave(rt: HostRuntime) -> Result<(), NoMemory> {
+    let settings = Settings {
+        mutators: 3,
+        live: 2,
+        ..Settings::DEFAULTS
+    };
+    let Ok(config) = Config::check(&settings) else {
+        panic!(rt; "the settings are good");
+    };
+    let mut roots = Roots::new(rt.alloc(), &config)?;
+    assert_eq!(rt; roots.admit(1, false), Ok(true));
+    assert_eq!(rt; roots.admit(1, true), Err(Refusal::AlreadyLive));
+    assert_eq!(rt; roots.admit(2, false), Err(Refusal::NotLive));
+    assert_eq!(rt; roots.admit(2, true), Ok(true));
+    assert_eq!(rt; roots.admit(3, true), Err(Refusal::BadSlot));
+    roots.set_live(2, true);
+    roots.set_live(1, false);
+    assert_eq!(rt; roots.admit(2, true), Err(Refusal::AlreadyLive));
+    assert_eq!(rt; roots.admit(1, false), Err(Refusal::NotLive));
+    assert_eq!(rt; roots.admit(0, false), Ok(true));
     Ok(())
 }

@@ -1,5 +1,5 @@
 -- A main copy that is shaded.
-use Rattle.std.proofs.Common.{◌≡◌, ◌≢◌, ℕ, ◌-◌, ◌*◌, ◌<◌, Bool, true, false, ◌==◌, ◌||◌, length, ap, ◌∙◌, sym, subst, refl, arith}
+use Rattle.std.proofs.Common.{◌≡◌, ◌≢◌, ℕ, ◌-◌, ◌*◌, ◌<◌, Bool, true, false, ◌==◌, ◌||◌, List, [], ◌∷◌, ◌++◌, length, ap, ◌∙◌, sym, subst, refl, arith}
 use Rattle.heap_model.specs.Action.{Relinks, Shades, Is_marked}
 use Rattle.heap_model.specs.Block.{Node, with_colour}
 use Rattle.heap_model.specs.Collector.{contains}
@@ -9,11 +9,13 @@ use Rattle.heap_model.specs.Store.{Store, Writes, is_held, node_of}
 use Rattle.heap_model.proofs.Seen.{held_pages}
 use Rattle.nodes.specs.Links.{KeepsLinks}
 use Rattle.raw_heap.specs.declared.heap.RawHeap.{RawHeap}
-use Rattle.raw_heap.specs.Grey.{GreySet, grey_in, inserted}
+use Rattle.raw_heap.specs.Grey.{GreySet, grey_in, inserted, buffer_of, with_buffer}
 use Rattle.raw_heap.specs.Heap.{state_of}
+use Rattle.raw_heap.specs.Held.{AreHeld}
 use Rattle.raw_heap.proofs.Keeping.{grey_kept, relinked_writes, writes_relinked}
 use Rattle.raw_heap.proofs.Sorting.{inserted_between, contains-inserted}
-use Rattle.satb_barrier.proofs.Listing.{are_grey_by}
+use Rattle.raw_heap.proofs.Standing.{still}
+use Rattle.satb_barrier.proofs.Listing.{are_grey_by, mutator_within, own_record}
 
 -- the heap a, the heap mid whose blocks were threaded anew, and the main copy's colour written in that
 module _ (a mid : RawHeap) (w : AreGrey (state_of a)) (links : Relinks a.nodes mid.nodes) (same : grey_in mid.nodes mid.grey ≡ grey_in a.nodes a.grey) (rest : mid ≡ record a { nodes = mid.nodes; grey = mid.grey }) (x : ℕ)
@@ -68,3 +70,17 @@ module _ (a mid : RawHeap) (w : AreGrey (state_of a)) (links : Relinks a.nodes m
       by_case : (b : Bool) → (x == y) ≡ b → (b || contains (grey_in a.nodes a.grey) y) ≡ true → is_held new (y - 1) ≡ true
       by_case true e c = let q : x ≡ y = grind (arith, e) in subst (λ k. is_held new (k - 1) ≡ true) q held_here
       by_case false e c = held_new (y - 1) (w.held y c)
+
+-- a record: room was made in the mutator's buffer, and the main copy was coloured and went into it
+pub recorded : (a mid : RawHeap) (m x : ℕ) (items : List ℕ) → AreGrey (state_of a) → Relinks a.nodes mid.nodes → grey_in mid.nodes mid.grey ≡ grey_in a.nodes a.grey
+    → mid ≡ record a { nodes = mid.nodes; grey = record (with_buffer a.grey m items) { first = mid.grey.first } } → m < length a.grey.buffers
+    → (x ≢ 0 → is_held a.nodes (x - 1) ≡ true) → (seen (state_of a)).marked x ≡ false
+    → (new : Store) → Writes mid.nodes new (x - 1) (with_colour (node_of mid.nodes (x - 1)) mid.sense) → KeepsLinks mid.nodes new
+    → (after : GreySet) → after ≡ with_buffer mid.grey m (buffer_of mid.grey m ++ x ∷ [])
+    → Shades (state_of a) x (state_of (record mid { nodes = new; grey = after })) × AreHeld (record mid { nodes = new; grey = after })
+recorded a mid m x items w links same made within held unmarked new written keeps after pushed =
+    let rest : mid ≡ record a { nodes = mid.nodes; grey = mid.grey } = made ∙ ap (λ g. record a { nodes = mid.nodes; grey = g }) (sym (ap (λ (y : RawHeap). y.grey) made)) in
+    let more = own_record new mid.grey after m x (mutator_within a mid m items made within) pushed ∙ ap (λ xs. inserted x xs) (kept a mid w links same rest x held unmarked new written keeps) in (
+      subst (λ (y : RawHeap). Shades (state_of a) x (state_of (record y { nodes = new; grey = after }))) (sym rest) (shades a mid w links same rest x held unmarked new written keeps new still after more),
+      (λ y some e. are_held a mid w links same rest x held unmarked new written keeps after more y e),
+    )

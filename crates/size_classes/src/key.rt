@@ -1,6 +1,6 @@
 //! The keys of the configuration.
 ghost use Rattle.std.specs.Prelude.{◌≡◌, pos};
-ghost use Rattle.size_classes.specs.Keys.{row_of, is_allowed};
+ghost use Rattle.size_classes.specs.Keys.{name_of, row_of, is_allowed};
 
 use crate::config::MOST_PAGES;
 use crate::settings::Settings;
@@ -19,13 +19,13 @@ pub enum Key {
     CollectorTicks,
     MutatorTicks,
     Rate,
+    /// Its range and its default come from the file's own `mutators`.
+    Live,
 }
 
 /// What a file may say of a key.
 #[derive(Clone, Copy)]
 pub struct Row {
-    /// The name by which the file gives it.
-    pub name: &'static str,
     pub least: i64,
     pub greatest: i64,
     /// Its value in a file that doesn't name it, or None where a file has to.
@@ -33,11 +33,10 @@ pub struct Row {
 }
 
 impl Row {
-    fn new(name: &'static str, least: i64, greatest: i64, default: Option<i64>) -> Row
-        ensures { result ≡ record { name = name.entry; least = least; greatest = greatest; default = default } }
+    fn new(least: i64, greatest: i64, default: Option<i64>) -> Row
+        ensures { result ≡ record { least = least; greatest = greatest; default = default } }
     {
         Row {
-            name,
             least,
             greatest,
             default,
@@ -47,7 +46,7 @@ impl Row {
 
 impl Key {
     /// The keys, in the order in which they are looked at.
-    pub const ALL: [Key; 10] = [
+    pub const ALL: [Key; 11] = [
         Key::Pages,
         Key::Mutators,
         Key::Slots,
@@ -58,44 +57,64 @@ impl Key {
         Key::CollectorTicks,
         Key::MutatorTicks,
         Key::Rate,
+        Key::Live,
     ];
 
-    /// What a file may say of it.
-    pub fn row(self) -> Row
-        ensures name { result.name.now ≡ (row_of self).name }
-        ensures least { result.least ≡ pos (row_of self).least }
-        ensures greatest { result.greatest ≡ pos (row_of self).greatest }
-        ensures default { result.default ≡ (row_of self).default }
+    /// The name by which a file gives it.
+    pub fn name(self) -> &'static str
+        ensures { result.now ≡ name_of self }
+    {
+        match self {
+            Key::Pages => "pages",
+            Key::Mutators => "mutators",
+            Key::Slots => "slots",
+            Key::Statics => "statics",
+            Key::Identities => "identities",
+            Key::DefragBelow => "defrag_below",
+            Key::DefragPages => "defrag_pages",
+            Key::CollectorTicks => "collector_ticks",
+            Key::MutatorTicks => "mutator_ticks",
+            Key::Rate => "rate",
+            Key::Live => "live",
+        }
+    }
+
+    /// What a file may say of it, where `mutators` is the file's number of mutators.
+    pub fn row(self, mutators: i64) -> Row
+        ensures least { result.least ≡ pos (row_of mutators self).least }
+        ensures greatest { result.greatest ≡ (row_of mutators self).greatest }
+        ensures default { result.default ≡ (row_of mutators self).default }
     {
         let pages = MOST_PAGES as i64;
         let most = 1000000;
         let base = Settings::DEFAULTS;
         match self {
-            Key::Pages => Row::new("pages", 1, pages, None),
-            Key::Mutators => Row::new("mutators", 1, 64, None),
-            Key::Slots => Row::new("slots", 1, 256, None),
-            Key::Statics => Row::new("statics", 0, 256, Some(base.statics)),
-            Key::Identities => Row::new("identities", 1, i64::MAX, Some(base.identities)),
-            Key::DefragBelow => Row::new("defrag_below", 0, pages + 1, Some(base.defrag_below)),
-            Key::DefragPages => Row::new("defrag_pages", 0, pages, Some(base.defrag_pages)),
-            Key::CollectorTicks => Row::new("collector_ticks", 1, most, Some(base.collector_ticks)),
-            Key::MutatorTicks => Row::new("mutator_ticks", 1, most, Some(base.mutator_ticks)),
-            Key::Rate => Row::new("rate", 1, most, Some(base.rate)),
+            Key::Pages => Row::new(1, pages, None),
+            Key::Mutators => Row::new(1, 64, None),
+            Key::Slots => Row::new(1, 256, None),
+            Key::Statics => Row::new(0, 256, Some(base.statics)),
+            Key::Identities => Row::new(1, i64::MAX, Some(base.identities)),
+            Key::DefragBelow => Row::new(0, pages + 1, Some(base.defrag_below)),
+            Key::DefragPages => Row::new(0, pages, Some(base.defrag_pages)),
+            Key::CollectorTicks => Row::new(1, most, Some(base.collector_ticks)),
+            Key::MutatorTicks => Row::new(1, most, Some(base.mutator_ticks)),
+            Key::Rate => Row::new(1, most, Some(base.rate)),
+            Key::Live => Row::new(0, mutators, Some(mutators)),
         }
     }
 
-    /// Whether a value is in its range.
+    /// Whether a value is in its range, where there are so many mutators.
     #[tactic(auto, unfolding(crate::specs::Keys::is_between))]
-    pub fn allows(self, value: i64) -> bool
-        ensures { result ≡ is_allowed self value }
+    pub fn allows(self, mutators: i64, value: i64) -> bool
+        ensures { result ≡ is_allowed mutators self value }
     {
-        let row = self.row();
+        let row = self.row(mutators);
         row.least <= value && value <= row.greatest
     }
 }
 
 impl fmt::Display for Key {
     fn fmt<W: fmt::Write>(&self, f: &mut fmt::Formatter<W>) -> fmt::Result {
-        f.write_str(self.row().name)
+        f.write_str(self.name())
     }
 }

@@ -53,7 +53,7 @@ fn settings_are_checked(rt: HostRuntime) {
     assert!(rt;
         config.cycle_limit() == 18565 && config.root_cells() == 12 && config.budget() == 1000
     );
-    assert!(rt; config.limits().slots == 12);
+    assert!(rt; config.limits().slots == 12 && config.limits().live == 1);
     let no_page = Settings {
         pages: 0,
         ..SETTINGS
@@ -64,6 +64,23 @@ fn settings_are_checked(rt: HostRuntime) {
         ..SETTINGS
     };
     assert!(rt; Config::check(&short) == Err(ConfigFault::BudgetOutOfRange));
+}
+
+#[test]
+fn no_more_are_live_than_there_are(rt: HostRuntime) {
+    let outside = Err(ConfigFault::OutOfRange(Key::Live));
+    for (mutators, live, is_good) in [(1, 0, true), (4, 4, true), (4, 5, false), (4, -1, false)] {
+        let settings = Settings {
+            mutators,
+            live,
+            ..SETTINGS
+        };
+        let answer = Config::check(&settings);
+        assert!(rt; answer.is_ok() == is_good, "{live} of {mutators}");
+        assert!(rt; is_good || answer == outside, "{live} of {mutators}");
+    }
+    let row = Key::Live.row(7);
+    assert!(rt; row.least == 0 && row.greatest == 7 && row.default == Some(7));
 }
 
 #[test]

@@ -2,7 +2,9 @@
 use Rattle.std.proofs.Common.{Bool, true, false, ◌≡◌, ℕ, ◌+◌, ◌≤◌, inl, inr, List, [], ◌∷◌, ◌++◌, length, arith, length-append, append_assoc, append-nil, ap, ◌∙◌, sym, subst, refl}
 use Rattle.std.specs.Prelude.{IsTrue, Result, Ok, Err, Option, Some, None}
 use Rattle.trace.specs.declared.fault.TextFault.{TextFault}
-use Rattle.trace.specs.GoneOver.{LinesRead, LinesDone, No_lines, One_line_more, GoneOver, NoLine, NextLine, Ends}
+use Rattle.trace.specs.declared.version.Version.{Version}
+use Rattle.trace.specs.declared.version.Version.TheVariants.{First}
+use Rattle.trace.specs.GoneOver.{LinesRead, Goes, LinesDone, No_lines, One_line_more, GoneOver, NoLine, NextLine, Ends}
 use Rattle.trace.specs.LineReader.{Lines, text_by, Says, lines_by}
 use Rattle.trace.specs.Streams.{Given, IsLine, Comes, Stays, text_of}
 use Rattle.trace.proofs.Cutting.{one_more}
@@ -42,17 +44,17 @@ line_more given after kept kept' line ended lines r comes is small = record {
   small = omega (arith, small, length-append line (10 ∷ kept'));
 }
 
-module _ {S E : Type 0} (Does : List ℕ → S → List E → S → Type 0) where
-  -- the lines so far, with what the reader keeps of the bytes after them
-  pub record SoFar (given : Given) (old new : S) (reader : Lines) : Type 0 where
+module _ {S E : Type 0} (Tells : S → S → Type 0) (Does : Version → List ℕ → S → List E → S → Type 0) where
+  -- the lines so far, with what the reader keeps of the bytes after them, and the version of the next
+  pub record SoFar (given : Given) (old new : S) (reader : Lines) (version : Version) : Type 0 where
     pub lines : List (List ℕ)
     pub events : List E
     pub read : LinesRead given lines reader.kept
-    pub done : LinesDone Does old lines events new
+    pub done : LinesDone Tells Does old lines version events new
     pub counted : reader.number ≡ length lines
 
   -- before the first line
-  abbrev pub at_first : (given : List ℕ) (ended : Bool) (old : S) → SoFar (record { before = given; after = given; ended = ended }) old old (record { line = []; kept = []; number = 0 })
+  abbrev pub at_first : (given : List ℕ) (ended : Bool) (old : S) → SoFar (record { before = given; after = given; ended = ended }) old old (record { line = []; kept = []; number = 0 }) First
   at_first given ended old = record {
     lines = [];
     events = [];
@@ -72,16 +74,17 @@ pub record Hands (given : Given) (old new : Lines) (result : Result Bool TextFau
 pub one_line : (number : ℕ) (next : Lines) (b : Bool) → b ≡ true → next.number ≡ number + lines_by (Ok b) → next.number ≡ number + 1
 one_line number next b is e = subst (λ t. next.number ≡ number + lines_by (Ok t)) is e
 
-module _ {S E : Type 0} {Does : List ℕ → S → List E → S → Type 0} {given : Given} {old mid : S} {reader : Lines} (so : SoFar Does given old mid reader) (next : Lines) where
+module _ {S E : Type 0} {Tells : S → S → Type 0} {Does : Version → List ℕ → S → List E → S → Type 0} {given : Given} {old mid : S} {reader : Lines} {version : Version} (so : SoFar Tells Does given old mid reader version) (next : Lines) where
   -- the next call of the reader, after which its source has given these bytes
   abbrev call : List ℕ → Bool → Given
   call after ended = record { before = given.after; after = after; ended = ended }
 
   -- it ends after the lines so far
-  abbrev ends_after : (after rest : List ℕ) (ended : Bool) (End : ℕ → List E → S → List ℕ → Type 0) → Comes given.after after reader.kept rest → length rest ≤ 65536 → End (length so.lines) so.events mid rest
-      → GoneOver Does (later given after ended) old End
+  abbrev ends_after : (after rest : List ℕ) (ended : Bool) (End : Version → ℕ → List E → S → List ℕ → Type 0) → Comes given.after after reader.kept rest → length rest ≤ 65536 → End version (length so.lines) so.events mid rest
+      → GoneOver Tells Does (later given after ended) old End
   ends_after after rest ended End comes small end = record {
     lines = so.lines;
+    version = version;
     events = so.events;
     mid = mid;
     rest = rest;
@@ -92,15 +95,16 @@ module _ {S E : Type 0} {Does : List ℕ → S → List E → S → Type 0} {giv
 
   module _ (after : List ℕ) (ended : Bool) where
     -- there is no next line
-    abbrev pub ends_without : (A : Type 0) (Stops : TextFault → List ℕ → ℕ → S → S → Type 0) (fault : TextFault) → Hands (call after ended) reader next (Err fault)
-        → GoneOver Does (later given after ended) old (λ count events m rest. Ends Stops {A = A} count m rest ended mid (Err fault))
+    abbrev pub ends_without : (A : Type 0) (Stops : Version → TextFault → List ℕ → ℕ → S → S → Type 0) (fault : TextFault) → Hands (call after ended) reader next (Err fault)
+        → GoneOver Tells Does (later given after ended) old (λ v count events m rest. Ends (Stops v) {A = A} count m rest ended mid (Err fault))
     ends_without A Stops fault h =
         let same : next.number ≡ length so.lines = omega (arith, h.number, so.counted) in
         ends_after after next.kept ended _ h.text h.small (inl (subst (λ n. NoLine fault n next.kept ended) same h.says, refl))
 
     module _ (b : Bool) (h : Hands (call after ended) reader next (Ok b)) where
       -- the input has ended
-      abbrev pub ends_over : b ≡ false → (End : ℕ → List E → S → List ℕ → Type 0) → ((rest : List ℕ) → (rest ≡ []) × IsTrue ended → End (length so.lines) so.events mid rest) → GoneOver Does (later given after ended) old End
+      abbrev pub ends_over : b ≡ false → (End : Version → ℕ → List E → S → List ℕ → Type 0) → ((rest : List ℕ) → (rest ≡ []) × IsTrue ended → End version (length so.lines) so.events mid rest)
+          → GoneOver Tells Does (later given after ended) old End
       ends_over is End so_it_ends =
           let e = subst (λ t. Hands (call after ended) reader next (Ok t)) is h in
           ends_after after next.kept ended End e.text e.small (so_it_ends next.kept e.says)
@@ -110,25 +114,26 @@ module _ {S E : Type 0} {Does : List ℕ → S → List E → S → Type 0} {giv
         e = subst (λ t. Hands (call after ended) reader next (Ok t)) is h
 
         -- it ends at the next line
-        abbrev pub ends_in : (P : List ℕ → Type 0) → P line → (End : ℕ → List E → S → List ℕ → Type 0) → (next.number ≡ length so.lines + 1 → (rest : List ℕ) → NextLine P rest → End (length so.lines) so.events mid rest)
-            → GoneOver Does (later given after ended) old End
+        abbrev pub ends_in : (P : List ℕ → Type 0) → P line → (End : Version → ℕ → List E → S → List ℕ → Type 0)
+            → (next.number ≡ length so.lines + 1 → (rest : List ℕ) → NextLine P rest → End version (length so.lines) so.events mid rest) → GoneOver Tells Does (later given after ended) old End
         ends_in P this End so_it_ends =
             let count : next.number ≡ length so.lines + 1 = omega (arith, e.number, so.counted) in
             let rest = next.line ++ 10 ∷ next.kept in
             ends_after after rest ended End e.text e.small (so_it_ends count rest (next.line, next.kept, refl, e.says, subst P same this))
 
         -- the next line comes to a fault
-        abbrev pub ends_at : (A : Type 0) (Stops : TextFault → List ℕ → ℕ → S → S → Type 0) (fault : TextFault) (number : ℕ) (new : S) → number ≡ next.number → Stops fault line number mid new
-            → GoneOver Does (later given after ended) old (λ count events m rest. Ends Stops {A = A} count m rest ended new (Err fault))
+        abbrev pub ends_at : (A : Type 0) (Stops : Version → TextFault → List ℕ → ℕ → S → S → Type 0) (fault : TextFault) (number : ℕ) (new : S) → number ≡ next.number → Stops version fault line number mid new
+            → GoneOver Tells Does (later given after ended) old (λ v count events m rest. Ends (Stops v) {A = A} count m rest ended new (Err fault))
         ends_at A Stops fault number new at stops =
-            ends_in (λ l. Stops fault l number mid new) stops _ (λ count rest is_next. inr (subst (λ n. NextLine (λ l. Stops fault l n mid new) rest) (at ∙ count) is_next))
+            ends_in (λ l. Stops version fault l number mid new) stops _ (λ count rest is_next. inr (subst (λ n. NextLine (λ l. Stops version fault l n mid new) rest) (at ∙ count) is_next))
 
         -- a line more is done
-        abbrev pub goes_on : (new : S) (events : List E) → Does line mid events new → SoFar Does (later given after ended) old new next
-        goes_on new events does = record {
+        abbrev pub goes_on : (new : S) (following : Version) (events : List E) (number : ℕ) → number ≡ next.number → Goes Tells Does number line version mid events following new
+            → SoFar Tells Does (later given after ended) old new next following
+        goes_on new following events number at goes = record {
           lines = so.lines ++ next.line ∷ [];
           events = so.events ++ events;
           read = line_more given after reader.kept next.kept next.line ended so.lines so.read e.text e.says e.small;
-          done = One_line_more so.lines so.events events next.line mid new so.done (subst (λ l. Does l mid events new) same does);
+          done = One_line_more so.lines version following so.events events next.line mid new so.done (subst (λ n. Goes Tells Does n next.line version mid events following new) (omega (arith, at, e.number, so.counted)) (subst (λ l. Goes Tells Does number l version mid events following new) same goes));
           counted = omega (arith, e.number, so.counted, length-append so.lines (next.line ∷ []));
         }

@@ -1,15 +1,18 @@
 -- Reading a command is exact.
-use Rattle.std.proofs.Common.{◌≡◌, ℕ, ◌^◌, ◌<◌, inl, inr, true, List, ◌∷◌, ◌++◌, length, take, drop, Some, Option, ap, ◌∙◌, refl}
+use Rattle.std.proofs.Common.{◌≡◌, ℕ, ◌^◌, ◌<◌, inl, inr, true, List, ◌∷◌, ◌++◌, length, take, drop, Some, None, Option, ap, ◌∙◌, refl}
 use Rattle.std.specs.Prelude.{decimal, codes}
 use Rattle.std.specs.Str.{bytes_eq}
+use Rattle.std.proofs.lemmas.Slice.Eq.{bytes_eq-Decides}
 use Rattle.graph_heap.specs.declared.command.Shape.{Shape}
 use Rattle.graph_heap.specs.declared.command.Shape.TheVariants.{Plain, RefArray, WordArray}
 use Rattle.graph_heap.specs.declared.command.Command.{Command}
 use Rattle.graph_heap.specs.declared.command.Command.TheVariants as commands
 use Rattle.trace.specs.declared.keyword.Keyword.{Keyword}
 use Rattle.trace.specs.declared.keyword.Keyword.TheVariants as keywords
-use Rattle.trace.specs.Spelling.{two, shape_text, keyword_text, command_text, command_line, ShapeFits, CommandFits}
-use Rattle.trace.specs.Reading.{◌>>=◌, number_in, after_in, likely_at, front_keyword_in, two_in, shape_in, slot_and_shape_in, arguments_in, command_in, mutator_and_command_in}
+use Rattle.trace.specs.declared.version.Version.{Version}
+use Rattle.trace.specs.declared.version.Version.TheVariants.{First, Second}
+use Rattle.trace.specs.Spelling.{two, shape_text, keyword_text, command_text, command_line, ShapeFits, CommandFits, IsOf}
+use Rattle.trace.specs.Reading.{◌>>=◌, number_in, after_in, likely_at, front_keyword_in, two_in, shape_in, slot_and_shape_in, likely_keyword, arguments_in, bare_in, keyword_or, command_in, mutator_and_command_in}
 use Rattle.trace.proofs.Keywords.{likely_is}
 use Rattle.trace.proofs.Exact.{bind_parts, told, chosen, behind_is, after_in-Some, after_in-spelled, Exact, narrow, wide, exact_number, exact_front, exact_two, exact_three, exact_four}
 
@@ -46,68 +49,99 @@ exact_slot_and_shape : Exact slot_and_shape_in (λ p. decimal p.0 ++ 32 ∷ shap
 unfolding slot_and_shape_in
 exact_slot_and_shape = exact_front 32 narrow shape_in shape_text ShapeFits exact_shape
 
+-- the text of a command that a version has
+abbrev SpellsCommand : Version → List ℕ → Command → Type 0
+SpellsCommand version bytes c = (bytes ≡ command_text c) × CommandFits c × IsOf c version
+
 -- what a reader gives, made into a command
-made : {A : Type 0} (read : List ℕ → Option A) (text : A → List ℕ) (Fits : A → Type 0) → Exact read text Fits → (k : Keyword) (f : A → Command) → ((x : A) → Fits x → (keyword_text k ++ 32 ∷ text x ≡ command_text (f x)) × CommandFits (f x))
-    → (rest : List ℕ) (c : Command) → (read rest >>= λ x. Some (f x)) ≡ Some c → (keyword_text k ++ 32 ∷ rest ≡ command_text c) × CommandFits c
-made read text Fits exact k f is rest c e = bind_parts (read rest) _ c e (λ x ex e1.
+made : {A : Type 0} (version : Version) (read : List ℕ → Option A) (text : A → List ℕ) (Fits : A → Type 0) → Exact read text Fits → (k : Keyword) (f : A → Command) → ((x : A) → Fits x → SpellsCommand version (keyword_text k ++ 32 ∷ text x) (f x))
+    → (rest : List ℕ) (c : Command) → (read rest >>= λ x. Some (f x)) ≡ Some c → SpellsCommand version (keyword_text k ++ 32 ∷ rest) c
+made version read text Fits exact k f is rest c e = bind_parts (read rest) _ c e (λ x ex e1.
     let r = exact.found rest x ex in
     let t = is x r.1 in
-    told (λ d. (keyword_text k ++ 32 ∷ rest ≡ command_text d) × CommandFits d) (f x) c (ap (λ l. keyword_text k ++ 32 ∷ l) r.0 ∙ t.0, t.1) e1)
+    told (SpellsCommand version (keyword_text k ++ 32 ∷ rest)) (f x) c (ap (λ l. keyword_text k ++ 32 ∷ l) r.0 ∙ t.0, t.1, t.2) e1)
 
-arguments_found : (k : Keyword) (rest : List ℕ) (c : Command) → arguments_in k rest ≡ Some c → (keyword_text k ++ 32 ∷ rest ≡ command_text c) × CommandFits c
+arguments_found : (version : Version) (k : Keyword) (rest : List ℕ) (c : Command) → arguments_in k rest ≡ Some c → SpellsCommand version (keyword_text k ++ 32 ∷ rest) c
 unfolding arguments_in
-arguments_found keywords.New = made _ _ _ exact_slot_and_shape keywords.New (λ n. commands.New n.0 n.1) (λ n f. (refl, f))
-arguments_found keywords.Load = made _ _ _ (exact_three 32 32 32 narrow narrow narrow) keywords.Load (λ n. commands.Load n.0 n.1.0 n.1.1) (λ n f. (refl, (f.0, f.1.0, f.1.1)))
-arguments_found keywords.Store = made _ _ _ (exact_three 32 32 32 narrow narrow narrow) keywords.Store (λ n. commands.Store n.0 n.1.0 n.1.1) (λ n f. (refl, (f.0, f.1.0, f.1.1)))
-arguments_found keywords.CompareStore = made _ _ _ (exact_four 32 32 32 32 narrow narrow narrow narrow) keywords.CompareStore (λ n. commands.CompareStore n.0 n.1.0 n.1.1.0 n.1.1.1) (λ n f. (refl, (f.0, f.1.0, f.1.1.0, f.1.1.1)))
-arguments_found keywords.Get = made _ _ _ (exact_two 32 32 narrow narrow) keywords.Get (λ n. commands.Get n.0 n.1) (λ n f. (refl, f))
-arguments_found keywords.Put = made _ _ _ (exact_three 32 32 64 narrow narrow wide) keywords.Put (λ n. commands.Put n.0 n.1.0 n.1.1) (λ n f. (refl, (f.0, f.1.0, f.1.1)))
-arguments_found keywords.ComparePut = made _ _ _ (exact_four 32 32 64 64 narrow narrow wide wide) keywords.ComparePut (λ n. commands.ComparePut n.0 n.1.0 n.1.1.0 n.1.1.1) (λ n f. (refl, (f.0, f.1.0, f.1.1.0, f.1.1.1)))
-arguments_found keywords.Copy = made _ _ _ (exact_two 32 32 narrow narrow) keywords.Copy (λ n. commands.Copy n.0 n.1) (λ n f. (refl, f))
-arguments_found keywords.Clear = made _ _ _ (exact_number 32 narrow) keywords.Clear (λ n. commands.Clear n) (λ n f. (refl, f))
-arguments_found keywords.LoadStatic = made _ _ _ (exact_two 32 32 narrow narrow) keywords.LoadStatic (λ n. commands.LoadStatic n.0 n.1) (λ n f. (refl, f))
-arguments_found keywords.StoreStatic = made _ _ _ (exact_two 32 32 narrow narrow) keywords.StoreStatic (λ n. commands.StoreStatic n.0 n.1) (λ n f. (refl, f))
-arguments_found keywords.CompareStatic = made _ _ _ (exact_three 32 32 32 narrow narrow narrow) keywords.CompareStatic (λ n. commands.CompareStatic n.0 n.1.0 n.1.1) (λ n f. (refl, (f.0, f.1.0, f.1.1)))
-arguments_found keywords.Same = made _ _ _ (exact_two 32 32 narrow narrow) keywords.Same (λ n. commands.Same n.0 n.1) (λ n f. (refl, f))
-arguments_found keywords.Describe = made _ _ _ (exact_number 32 narrow) keywords.Describe (λ n. commands.Describe n) (λ n f. (refl, f))
+arguments_found version keywords.New = made version _ _ _ exact_slot_and_shape keywords.New (λ n. commands.New n.0 n.1) (λ n f. (refl, f, tt))
+arguments_found version keywords.Load = made version _ _ _ (exact_three 32 32 32 narrow narrow narrow) keywords.Load (λ n. commands.Load n.0 n.1.0 n.1.1) (λ n f. (refl, (f.0, f.1.0, f.1.1), tt))
+arguments_found version keywords.Store = made version _ _ _ (exact_three 32 32 32 narrow narrow narrow) keywords.Store (λ n. commands.Store n.0 n.1.0 n.1.1) (λ n f. (refl, (f.0, f.1.0, f.1.1), tt))
+arguments_found version keywords.CompareStore = made version _ _ _ (exact_four 32 32 32 32 narrow narrow narrow narrow) keywords.CompareStore (λ n. commands.CompareStore n.0 n.1.0 n.1.1.0 n.1.1.1) (λ n f. (refl, (f.0, f.1.0, f.1.1.0, f.1.1.1), tt))
+arguments_found version keywords.Get = made version _ _ _ (exact_two 32 32 narrow narrow) keywords.Get (λ n. commands.Get n.0 n.1) (λ n f. (refl, f, tt))
+arguments_found version keywords.Put = made version _ _ _ (exact_three 32 32 64 narrow narrow wide) keywords.Put (λ n. commands.Put n.0 n.1.0 n.1.1) (λ n f. (refl, (f.0, f.1.0, f.1.1), tt))
+arguments_found version keywords.ComparePut = made version _ _ _ (exact_four 32 32 64 64 narrow narrow wide wide) keywords.ComparePut (λ n. commands.ComparePut n.0 n.1.0 n.1.1.0 n.1.1.1) (λ n f. (refl, (f.0, f.1.0, f.1.1.0, f.1.1.1), tt))
+arguments_found version keywords.Copy = made version _ _ _ (exact_two 32 32 narrow narrow) keywords.Copy (λ n. commands.Copy n.0 n.1) (λ n f. (refl, f, tt))
+arguments_found version keywords.Clear = made version _ _ _ (exact_number 32 narrow) keywords.Clear (λ n. commands.Clear n) (λ n f. (refl, f, tt))
+arguments_found version keywords.LoadStatic = made version _ _ _ (exact_two 32 32 narrow narrow) keywords.LoadStatic (λ n. commands.LoadStatic n.0 n.1) (λ n f. (refl, f, tt))
+arguments_found version keywords.StoreStatic = made version _ _ _ (exact_two 32 32 narrow narrow) keywords.StoreStatic (λ n. commands.StoreStatic n.0 n.1) (λ n f. (refl, f, tt))
+arguments_found version keywords.CompareStatic = made version _ _ _ (exact_three 32 32 32 narrow narrow narrow) keywords.CompareStatic (λ n. commands.CompareStatic n.0 n.1.0 n.1.1) (λ n f. (refl, (f.0, f.1.0, f.1.1), tt))
+arguments_found version keywords.Same = made version _ _ _ (exact_two 32 32 narrow narrow) keywords.Same (λ n. commands.Same n.0 n.1) (λ n f. (refl, f, tt))
+arguments_found version keywords.Describe = made version _ _ _ (exact_number 32 narrow) keywords.Describe (λ n. commands.Describe n) (λ n f. (refl, f, tt))
 
 -- a command is read again, given what reads its arguments
-again : {A : Type 0} (read : List ℕ → Option A) (text : A → List ℕ) (Fits : A → Type 0) → Exact read text Fits → (k : Keyword) (f : A → Command) → ((bytes : List ℕ) → arguments_in k bytes ≡ (read bytes >>= λ y. Some (f y)))
-    → (x : A) → Fits x → command_in (keyword_text k ++ 32 ∷ text x) ≡ Some (f x)
+again : {A : Type 0} (version : Version) (read : List ℕ → Option A) (text : A → List ℕ) (Fits : A → Type 0) → Exact read text Fits → (k : Keyword) (f : A → Command) → ((bytes : List ℕ) → arguments_in k bytes ≡ (read bytes >>= λ y. Some (f y)))
+    → (x : A) → Fits x → command_in version (keyword_text k ++ 32 ∷ text x) ≡ Some (f x)
 unfolding command_in front_keyword_in
-again read text Fits exact k f is x h =
+again version read text Fits exact k f is x h =
     rw (likely_is k (text x), after_in-spelled (keyword_text k) (32 ∷ text x), after_in-spelled (codes " ") (text x)) (is (text x) ∙ ap (λ o. o >>= λ y. Some (f y)) (exact.only x h))
 
-command_found : (bytes : List ℕ) (c : Command) → command_in bytes ≡ Some c → (bytes ≡ command_text c) × CommandFits c
+-- a word alone
+bare_found : (version : Version) (bytes : List ℕ) (c : Command) → bare_in version bytes ≡ Some c → SpellsCommand version bytes c
+unfolding bare_in
+bare_found First bytes c e = absurd (cc)
+bare_found Second bytes c e = elim (chosen (bytes_eq bytes (codes "join")) _ _ c e) [
+  | inl h ↦ told (SpellsCommand Second bytes) commands.Join c ((bytes_eq-Decides bytes (codes "join")).0 h.0, tt, tt) h.1
+  | inr r ↦ elim (chosen (bytes_eq bytes (codes "leave")) _ _ c r.1) [
+    | inl h ↦ told (SpellsCommand Second bytes) commands.Leave c ((bytes_eq-Decides bytes (codes "leave")).0 h.0, tt, tt) h.1
+    | inr r ↦ absurd (cc r.1)
+  ]
+]
+
+-- either a keyword was read or a word alone
+either : {P : Type 0} (o : Option (Keyword × List ℕ)) (bare : Option Command) (c : Command) → keyword_or o bare ≡ Some c → ((p : Keyword × List ℕ) → o ≡ Some p → arguments_in p.0 p.1 ≡ Some c → P) → (bare ≡ Some c → P) → P
+either None bare c e f g = g e
+either (Some p) bare c e f g = f p refl e
+
+command_found : (version : Version) (bytes : List ℕ) (c : Command) → command_in version bytes ≡ Some c → SpellsCommand version bytes c
 unfolding command_in front_keyword_in
-command_found bytes c e =
-    bind_parts (front_keyword_in bytes) _ c e (λ p ep e1.
+command_found version bytes c e =
+    either (front_keyword_in bytes) (bare_in version bytes) c e
+    (λ p ep e1.
     bind_parts (after_in (keyword_text (likely_at bytes)) bytes) _ p ep (λ word ew e2. bind_parts (after_in (codes " ") word) _ p e2 (λ rest er e3.
     let parts : bytes ≡ keyword_text (likely_at bytes) ++ 32 ∷ rest = after_in-Some (keyword_text (likely_at bytes)) bytes word ew ∙ ap (λ l. keyword_text (likely_at bytes) ++ l) (after_in-Some (codes " ") word rest er) in
     let whole = told (λ (q : Keyword × List ℕ). bytes ≡ keyword_text q.0 ++ 32 ∷ q.1) (likely_at bytes, rest) p parts e3 in
-    let r = arguments_found p.0 p.1 c e1 in
-    (whole ∙ r.0, r.1))))
+    let r = arguments_found version p.0 p.1 c e1 in
+    (whole ∙ r.0, r.1, r.2))))
+    (bare_found version bytes c)
 
-command_only : (c : Command) → CommandFits c → command_in (command_text c) ≡ Some c
-unfolding arguments_in
-command_only (commands.New dst shape) f = again _ _ _ exact_slot_and_shape keywords.New (λ n. commands.New n.0 n.1) (λ bytes. refl) (dst, shape) f
-command_only (commands.Load dst obj i) f = again _ _ _ (exact_three 32 32 32 narrow narrow narrow) keywords.Load (λ n. commands.Load n.0 n.1.0 n.1.1) (λ bytes. refl) (dst, (obj, i)) (f.0, (f.1, f.2))
-command_only (commands.Store obj i src) f = again _ _ _ (exact_three 32 32 32 narrow narrow narrow) keywords.Store (λ n. commands.Store n.0 n.1.0 n.1.1) (λ bytes. refl) (obj, (i, src)) (f.0, (f.1, f.2))
-command_only (commands.CompareStore obj i expect new) f = again _ _ _ (exact_four 32 32 32 32 narrow narrow narrow narrow) keywords.CompareStore (λ n. commands.CompareStore n.0 n.1.0 n.1.1.0 n.1.1.1) (λ bytes. refl) (obj, (i, (expect, new))) (f.0, (f.1, (f.2, f.3)))
-command_only (commands.Get obj i) f = again _ _ _ (exact_two 32 32 narrow narrow) keywords.Get (λ n. commands.Get n.0 n.1) (λ bytes. refl) (obj, i) f
-command_only (commands.Put obj i word) f = again _ _ _ (exact_three 32 32 64 narrow narrow wide) keywords.Put (λ n. commands.Put n.0 n.1.0 n.1.1) (λ bytes. refl) (obj, (i, word)) (f.0, (f.1, f.2))
-command_only (commands.ComparePut obj i old new) f = again _ _ _ (exact_four 32 32 64 64 narrow narrow wide wide) keywords.ComparePut (λ n. commands.ComparePut n.0 n.1.0 n.1.1.0 n.1.1.1) (λ bytes. refl) (obj, (i, (old, new))) (f.0, (f.1, (f.2, f.3)))
-command_only (commands.Copy dst src) f = again _ _ _ (exact_two 32 32 narrow narrow) keywords.Copy (λ n. commands.Copy n.0 n.1) (λ bytes. refl) (dst, src) f
-command_only (commands.Clear dst) f = again _ _ _ (exact_number 32 narrow) keywords.Clear (λ n. commands.Clear n) (λ bytes. refl) dst f
-command_only (commands.LoadStatic dst k) f = again _ _ _ (exact_two 32 32 narrow narrow) keywords.LoadStatic (λ n. commands.LoadStatic n.0 n.1) (λ bytes. refl) (dst, k) f
-command_only (commands.StoreStatic k src) f = again _ _ _ (exact_two 32 32 narrow narrow) keywords.StoreStatic (λ n. commands.StoreStatic n.0 n.1) (λ bytes. refl) (k, src) f
-command_only (commands.CompareStatic k expect new) f = again _ _ _ (exact_three 32 32 32 narrow narrow narrow) keywords.CompareStatic (λ n. commands.CompareStatic n.0 n.1.0 n.1.1) (λ bytes. refl) (k, (expect, new)) (f.0, (f.1, f.2))
-command_only (commands.Same a b) f = again _ _ _ (exact_two 32 32 narrow narrow) keywords.Same (λ n. commands.Same n.0 n.1) (λ bytes. refl) (a, b) f
-command_only (commands.Describe a) f = again _ _ _ (exact_number 32 narrow) keywords.Describe (λ n. commands.Describe n) (λ bytes. refl) a f
+command_only : (version : Version) (c : Command) → CommandFits c → IsOf c version → command_in version (command_text c) ≡ Some c
+unfolding arguments_in command_in front_keyword_in likely_keyword after_in bare_in
+command_only version (commands.New dst shape) f is = again version _ _ _ exact_slot_and_shape keywords.New (λ n. commands.New n.0 n.1) (λ bytes. refl) (dst, shape) f
+command_only version (commands.Load dst obj i) f is = again version _ _ _ (exact_three 32 32 32 narrow narrow narrow) keywords.Load (λ n. commands.Load n.0 n.1.0 n.1.1) (λ bytes. refl) (dst, (obj, i)) (f.0, (f.1, f.2))
+command_only version (commands.Store obj i src) f is = again version _ _ _ (exact_three 32 32 32 narrow narrow narrow) keywords.Store (λ n. commands.Store n.0 n.1.0 n.1.1) (λ bytes. refl) (obj, (i, src)) (f.0, (f.1, f.2))
+command_only version (commands.CompareStore obj i expect new) f is = again version _ _ _ (exact_four 32 32 32 32 narrow narrow narrow narrow) keywords.CompareStore (λ n. commands.CompareStore n.0 n.1.0 n.1.1.0 n.1.1.1) (λ bytes. refl) (obj, (i, (expect, new))) (f.0, (f.1, (f.2, f.3)))
+command_only version (commands.Get obj i) f is = again version _ _ _ (exact_two 32 32 narrow narrow) keywords.Get (λ n. commands.Get n.0 n.1) (λ bytes. refl) (obj, i) f
+command_only version (commands.Put obj i word) f is = again version _ _ _ (exact_three 32 32 64 narrow narrow wide) keywords.Put (λ n. commands.Put n.0 n.1.0 n.1.1) (λ bytes. refl) (obj, (i, word)) (f.0, (f.1, f.2))
+command_only version (commands.ComparePut obj i old new) f is = again version _ _ _ (exact_four 32 32 64 64 narrow narrow wide wide) keywords.ComparePut (λ n. commands.ComparePut n.0 n.1.0 n.1.1.0 n.1.1.1) (λ bytes. refl) (obj, (i, (old, new))) (f.0, (f.1, (f.2, f.3)))
+command_only version (commands.Copy dst src) f is = again version _ _ _ (exact_two 32 32 narrow narrow) keywords.Copy (λ n. commands.Copy n.0 n.1) (λ bytes. refl) (dst, src) f
+command_only version (commands.Clear dst) f is = again version _ _ _ (exact_number 32 narrow) keywords.Clear (λ n. commands.Clear n) (λ bytes. refl) dst f
+command_only version (commands.LoadStatic dst k) f is = again version _ _ _ (exact_two 32 32 narrow narrow) keywords.LoadStatic (λ n. commands.LoadStatic n.0 n.1) (λ bytes. refl) (dst, k) f
+command_only version (commands.StoreStatic k src) f is = again version _ _ _ (exact_two 32 32 narrow narrow) keywords.StoreStatic (λ n. commands.StoreStatic n.0 n.1) (λ bytes. refl) (k, src) f
+command_only version (commands.CompareStatic k expect new) f is = again version _ _ _ (exact_three 32 32 32 narrow narrow narrow) keywords.CompareStatic (λ n. commands.CompareStatic n.0 n.1.0 n.1.1) (λ bytes. refl) (k, (expect, new)) (f.0, (f.1, f.2))
+command_only version (commands.Same a b) f is = again version _ _ _ (exact_two 32 32 narrow narrow) keywords.Same (λ n. commands.Same n.0 n.1) (λ bytes. refl) (a, b) f
+command_only version (commands.Describe a) f is = again version _ _ _ (exact_number 32 narrow) keywords.Describe (λ n. commands.Describe n) (λ bytes. refl) a f
+command_only First commands.Join f is = absurd is
+command_only First commands.Leave f is = absurd is
+command_only Second commands.Join f is = refl
+command_only Second commands.Leave f is = refl
 
-pub exact_command : Exact command_in command_text CommandFits
-exact_command = record { found = command_found; only = command_only }
+-- the numbers of a command fit, and a version has it
+abbrev pub FitsIn : Version → Command → Type 0
+FitsIn version c = CommandFits c × IsOf c version
 
-pub exact_mutator_and_command : Exact mutator_and_command_in (λ p. command_line p.0 p.1) (λ p. (p.0 < 2 ^ 32) × CommandFits p.1)
+pub exact_command : (version : Version) → Exact (command_in version) command_text (FitsIn version)
+exact_command version = record { found = λ bytes c e. let r = command_found version bytes c e in (r.0, (r.1, r.2)); only = λ c f. command_only version c f.0 f.1 }
+
+pub exact_mutator_and_command : (version : Version) → Exact (mutator_and_command_in version) (λ p. command_line p.0 p.1) (λ p. (p.0 < 2 ^ 32) × FitsIn version p.1)
 unfolding mutator_and_command_in
-exact_mutator_and_command = exact_front 32 narrow command_in command_text CommandFits exact_command
+exact_mutator_and_command version = exact_front 32 narrow (command_in version) command_text (FitsIn version) (exact_command version)

@@ -15,7 +15,8 @@ use Rattle.graph_heap.specs.declared.command.Command.TheVariants as commands
 use Rattle.graph_heap.specs.declared.command.Entry.{Entry}
 use Rattle.trace.specs.declared.entry.EntryLine.{EntryLine}
 use Rattle.trace.specs.declared.entry.EntryLine.TheVariants as lines
-use Rattle.trace.specs.Spelling.{two, three, four, shape_text, command_text, command_line, reply_text, entry_line, ShapeFits, CommandFits, ReplyFits, is_skipped, SpellsEntry}
+use Rattle.trace.specs.declared.version.Version.{Version}
+use Rattle.trace.specs.Spelling.{two, three, four, shape_text, command_text, command_line, reply_text, entry_line, ShapeFits, CommandFits, IsOf, ReplyFits, is_skipped, SpellsEntry}
 use Rattle.trace.specs.Reading.{◌>>=◌, cut_at, mutator_and_command_in, reply_in, before_blank_in, after_in, arrow_in, entry_in, entry_line_in}
 use Rattle.trace.proofs.Exact.{bind_parts, told, chosen, Lacks, free, lacks, plain, narrow, cut_at-Some, cut_at-spelled, after_in-Some, after_in-spelled}
 use Rattle.trace.proofs.ReadCommands.{exact_mutator_and_command}
@@ -52,13 +53,13 @@ arrow_only : (front back : List ℕ) → Lacks 61 (front ++ 32 ∷ []) → arrow
 unfolding arrow_in
 arrow_only front back none = rw (← sides front back) (rw (cut_at-spelled 61 (front ++ 32 ∷ []) (codes "> " ++ back) none, before_blank-spelled front, after_in-spelled (codes "> ") back) refl)
 
-entry_found : (bytes : List ℕ) (x : Entry) → entry_in bytes ≡ Some x → SpellsEntry bytes (lines.Entry x)
+entry_found : (version : Version) (bytes : List ℕ) (x : Entry) → entry_in version bytes ≡ Some x → SpellsEntry version bytes (lines.Entry x)
 unfolding entry_in
-entry_found bytes x e = bind_parts (arrow_in bytes) _ x e (λ c ec e1. bind_parts (mutator_and_command_in c.0) _ x e1 (λ a ea e2. bind_parts (reply_in c.1) _ x e2 (λ r er e3.
-    let f = exact_mutator_and_command.found c.0 a ea in
+entry_found version bytes x e = bind_parts (arrow_in bytes) _ x e (λ c ec e1. bind_parts (mutator_and_command_in version c.0) _ x e1 (λ a ea e2. bind_parts (reply_in c.1) _ x e2 (λ r er e3.
+    let f = (exact_mutator_and_command version).found c.0 a ea in
     let g = exact_reply.found c.1 r er in
-    told (λ y. SpellsEntry bytes (lines.Entry y)) (record { mutator = a.0; command = a.1; reply = r }) x
-    (arrow_found bytes c ec ∙ ap (λ l. (l ++ codes " => ") ++ c.1) f.0 ∙ ap (λ l. (command_line a.0 a.1 ++ codes " => ") ++ l) g.0, f.1.0, f.1.1, g.1) e3)))
+    told (λ y. SpellsEntry version bytes (lines.Entry y)) (record { mutator = a.0; command = a.1; reply = r }) x
+    (arrow_found bytes c ec ∙ ap (λ l. (l ++ codes " => ") ++ c.1) f.0 ∙ ap (λ l. (command_line a.0 a.1 ++ codes " => ") ++ l) g.0, f.1.0, f.1.1.0, g.1, f.1.1.1) e3)))
 
 -- no = stands in a command
 lacks_both : (x y : List ℕ) → Lacks 61 x → Lacks 61 y → Lacks 61 (x ++ y)
@@ -106,26 +107,28 @@ command_lacks (commands.StoreStatic k src) f = worded (codes "storestatic ") (tw
 command_lacks (commands.CompareStatic k expect new) f = worded (codes "casstatic ") (three k expect new) refl (three_lack k expect new (narrow k f.0) (narrow expect f.1) (narrow new f.2))
 command_lacks (commands.Same a b) f = worded (codes "same ") (two a b) refl (two_lack a b (narrow a f.0) (narrow b f.1))
 command_lacks (commands.Describe a) f = worded (codes "describe ") (decimal a) refl (digits a (narrow a f))
+command_lacks commands.Join f = lacks 61 (codes "join") refl
+command_lacks commands.Leave f = lacks 61 (codes "leave") refl
 
 line_lacks : (m : ℕ) (c : Command) → m < 2 ^ 32 → CommandFits c → Lacks 61 (command_line m c ++ 32 ∷ [])
 line_lacks m c h f = lacks_both (command_line m c) (32 ∷ []) (behind m (command_text c) (narrow m h) (command_lacks c f)) (lacks 61 (32 ∷ []) refl)
 
-entry_only : (x : Entry) → x.mutator < 2 ^ 32 → CommandFits x.command → ReplyFits x.reply → entry_in (entry_line x) ≡ Some x
+entry_only : (version : Version) (x : Entry) → x.mutator < 2 ^ 32 → CommandFits x.command → ReplyFits x.reply → IsOf x.command version → entry_in version (entry_line x) ≡ Some x
 unfolding entry_in
-entry_only x h f g = rw (arrow_only (command_line x.mutator x.command) (reply_text x.reply) (line_lacks x.mutator x.command h f), exact_mutator_and_command.only (x.mutator, x.command) (h, f), exact_reply.only x.reply g) refl
+entry_only version x h f g is = rw (arrow_only (command_line x.mutator x.command) (reply_text x.reply) (line_lacks x.mutator x.command h f), (exact_mutator_and_command version).only (x.mutator, x.command) (h, (f, is)), exact_reply.only x.reply g) refl
 
-line_found : (bytes : List ℕ) (l : EntryLine) → entry_line_in bytes ≡ Some l → SpellsEntry bytes l
+line_found : (version : Version) (bytes : List ℕ) (l : EntryLine) → entry_line_in version bytes ≡ Some l → SpellsEntry version bytes l
 unfolding entry_line_in
-line_found bytes l e = elim (chosen (is_skipped bytes) _ _ l e) [
-  | inl h ↦ told (SpellsEntry bytes) lines.Skip l h.0 h.1
-  | inr r ↦ bind_parts (entry_in bytes) _ l r.1 (λ x ex e1. told (SpellsEntry bytes) (lines.Entry x) l (entry_found bytes x ex) e1)
+line_found version bytes l e = elim (chosen (is_skipped bytes) _ _ l e) [
+  | inl h ↦ told (SpellsEntry version bytes) lines.Skip l h.0 h.1
+  | inr r ↦ bind_parts (entry_in version bytes) _ l r.1 (λ x ex e1. told (SpellsEntry version bytes) (lines.Entry x) l (entry_found version bytes x ex) e1)
 ]
 
 -- a line that begins with a digit is an entry or nothing
-by_digit : (front rest : List ℕ) → 0 < length front → 48 ≤ get_or front 0 0 → entry_line_in (front ++ rest) ≡ (entry_in (front ++ rest) >>= λ x. Some (lines.Entry x))
+by_digit : (version : Version) (front rest : List ℕ) → 0 < length front → 48 ≤ get_or front 0 0 → entry_line_in version (front ++ rest) ≡ (entry_in version (front ++ rest) >>= λ x. Some (lines.Entry x))
 unfolding entry_line_in
-by_digit [] rest some low = absurd (omega (arith, some))
-by_digit (b ∷ bs) rest some low = let other : eqb b 35 ≡ false = ne_eqb b 35 (λ e. omega arith) in rw other refl
+by_digit version [] rest some low = absurd (omega (arith, some))
+by_digit version (b ∷ bs) rest some low = let other : eqb b 35 ≡ false = ne_eqb b 35 (λ e. omega arith) in rw other refl
 
 own : IsNumeralModel (AllDigits 10) (digits_value 10)
 own = numerals_by_value (AllDigits 10) tells_digits
@@ -139,20 +142,20 @@ regrouped x =
     append_assoc (command_line x.mutator x.command) (codes " => ") (reply_text x.reply)
     ∙ append_assoc (decimal x.mutator) (32 ∷ command_text x.command) (codes " => " ++ reply_text x.reply)
 
-line_only : (bytes : List ℕ) (l : EntryLine) → SpellsEntry bytes l → entry_line_in bytes ≡ Some l
+line_only : (version : Version) (bytes : List ℕ) (l : EntryLine) → SpellsEntry version bytes l → entry_line_in version bytes ≡ Some l
 unfolding entry_line_in
-line_only bytes lines.Skip h = rw h refl
-line_only bytes (lines.Entry x) h =
+line_only version bytes lines.Skip h = rw h refl
+line_only version bytes (lines.Entry x) h =
     let small = narrow x.mutator h.1 in
     let d = digit_at (decimal x.mutator) 0 (digits_decimal own x.mutator small) (decimal_nonempty x.mutator small) in
-    ap entry_line_in h.0
-    ∙ ap entry_line_in (regrouped x)
-    ∙ by_digit (decimal x.mutator) (tail x) (decimal_nonempty x.mutator small) d.0
-    ∙ ap (λ o. o >>= λ y. Some (lines.Entry y)) (ap entry_in (sym (regrouped x)) ∙ entry_only x h.1 h.2 h.3)
+    ap (entry_line_in version) h.0
+    ∙ ap (entry_line_in version) (regrouped x)
+    ∙ by_digit version (decimal x.mutator) (tail x) (decimal_nonempty x.mutator small) d.0
+    ∙ ap (λ o. o >>= λ y. Some (lines.Entry y)) (ap (entry_in version) (sym (regrouped x)) ∙ entry_only version x h.1 h.2 h.3 h.4)
 
-pub read_found : (bytes : List ℕ) (o : Option EntryLine) → o ≡ entry_line_in bytes → IfSome o (SpellsEntry bytes)
-read_found bytes None e = tt
-read_found bytes (Some l) e = line_found bytes l (sym e)
+pub read_found : (version : Version) (bytes : List ℕ) (o : Option EntryLine) → o ≡ entry_line_in version bytes → IfSome o (SpellsEntry version bytes)
+read_found version bytes None e = tt
+read_found version bytes (Some l) e = line_found version bytes l (sym e)
 
-pub read_only : (bytes : List ℕ) (o : Option EntryLine) → o ≡ entry_line_in bytes → (l : EntryLine) → SpellsEntry bytes l → o ≡ Some l
-read_only bytes o e l h = e ∙ line_only bytes l h
+pub read_only : (version : Version) (bytes : List ℕ) (o : Option EntryLine) → o ≡ entry_line_in version bytes → (l : EntryLine) → SpellsEntry version bytes l → o ≡ Some l
+read_only version bytes o e l h = e ∙ line_only version bytes l h

@@ -32,6 +32,8 @@ refusal_only refusals.TooLarge = (refl, omega arith)
 refusal_only refusals.IdentitiesSpent = (refl, omega arith)
 refusal_only refusals.NoSpace = (refl, omega arith)
 refusal_only refusals.BadStatic = (refl, omega arith)
+refusal_only refusals.NotLive = (refl, omega arith)
+refusal_only refusals.AlreadyLive = (refl, omega arith)
 
 word_found : (bytes : List ℕ) (w : ReplyWord) → reply_word_in bytes ≡ Some w → bytes ≡ reply_word_text w
 unfolding reply_word_in

@@ -1,8 +1,11 @@
--- What it is to go over the lines of an input, one after the other.
+-- What it is to go over the lines of an input, one after the other, of which the first may tell their version.
 use Rattle.std.specs.Prelude.{◌≡◌, ℕ, ◌+◌, ◌<◌, ◌≤◌, Bool, IsTrue, ◌⊎◌, List, [], ◌∷◌, ◌++◌, length, take, Result, Ok, Err}
 use Rattle.trace.specs.declared.fault.LineFault.TheVariants.{TooLong, NotEnded}
 use Rattle.trace.specs.declared.fault.TextFault.{TextFault}
 use Rattle.trace.specs.declared.fault.TextFault.TheVariants.{Line as At_line, Read, Write, NoMemory}
+use Rattle.trace.specs.declared.version.Version.{Version}
+use Rattle.trace.specs.declared.version.Version.TheVariants.{First, Second}
+use Rattle.trace.specs.Spelling.{TellsVersion}
 use Rattle.trace.specs.Streams.{Given, IsLine, NoLf, Splits}
 
 -- The bytes that a source gave are these lines and a rest, of at most a buffer.
@@ -28,23 +31,30 @@ NoLine NoMemory count rest ended = ⊥
 abbrev pub NextLine : (List ℕ → Type 0) → List ℕ → Type 0
 NextLine Is rest = (line : List ℕ) × (more : List ℕ) × (rest ≡ line ++ 10 ∷ more) × IsLine line × Is line
 
--- Does line old events new: what a line does to a state, and the events of it.
-module _ {S E : Type 0} (Does : List ℕ → S → List E → S → Type 0) where
-  -- the lines, one after the other, do these events
-  pub data LinesDone (old : S) : List (List ℕ) → List E → S → Type 0 where
-    No_lines : LinesDone old [] [] old
-    One_line_more : (lines : List (List ℕ)) (events more : List E) (line : List ℕ) (mid new : S) → LinesDone old lines events mid → Does line mid more new → LinesDone old (lines ++ line ∷ []) (events ++ more) new
+-- Tells old new: what the line that tells the version does to a state. Does version line old events new: what
+-- a line of a version does to a state, and the events of it.
+module _ {S E : Type 0} (Tells : S → S → Type 0) (Does : Version → List ℕ → S → List E → S → Type 0) where
+  -- what a line of this number does: it tells the version of the next, or it is a line of the version
+  abbrev pub Goes : ℕ → List ℕ → Version → S → List E → Version → S → Type 0
+  Goes number line version old events next new = (TellsVersion number line × (next ≡ Second) × (events ≡ []) × Tells old new) ⊎ ((next ≡ version) × Does version line old events new)
+
+  -- the lines, one after the other, do these events, and the next is of this version
+  pub data LinesDone (old : S) : List (List ℕ) → Version → List E → S → Type 0 where
+    No_lines : LinesDone old [] First [] old
+    One_line_more : (lines : List (List ℕ)) (version next : Version) (events more : List E) (line : List ℕ) (mid new : S) → LinesDone old lines version events mid → Goes (length lines + 1) line version mid more next new
+        → LinesDone old (lines ++ line ∷ []) next (events ++ more) new
 
   -- What was done of an input: the bytes that it gave are these lines and a rest, and the lines did these
-  -- events. Ends says what the number of lines, the events, the state after them and the rest are.
-  pub record GoneOver (given : Given) (old : S) (Ends : ℕ → List E → S → List ℕ → Type 0) : Type 0 where
+  -- events. Ends says what the version, the number of lines, the events, the state after them and the rest are.
+  pub record GoneOver (given : Given) (old : S) (Ends : Version → ℕ → List E → S → List ℕ → Type 0) : Type 0 where
     pub lines : List (List ℕ)
+    pub version : Version
     pub events : List E
     pub mid : S
     pub rest : List ℕ
     pub read : LinesRead given lines rest
-    pub done : LinesDone old lines events mid
-    pub ends : Ends (length lines) events mid rest
+    pub done : LinesDone old lines version events mid
+    pub ends : Ends version (length lines) events mid rest
 
 -- Stops fault line number old new: at the line of this number, a fault comes, and leaves this state.
 module _ {S : Type 0} (Stops : TextFault → List ℕ → ℕ → S → S → Type 0) where

@@ -22,6 +22,8 @@ use Rattle.trace.specs.declared.keyword.Keyword.{Keyword}
 use Rattle.trace.specs.declared.keyword.Keyword.TheVariants as keywords
 use Rattle.trace.specs.declared.line.Line.{Line}
 use Rattle.trace.specs.declared.line.Line.TheVariants as lines
+use Rattle.trace.specs.declared.version.Version.{Version}
+use Rattle.trace.specs.declared.version.Version.TheVariants.{First, Second}
 
 infixl 10 ◌>>=◌
 abbrev pub ◌>>=◌ : {A B : Type 0} → Option A → (A → Option B) → Option B
@@ -115,15 +117,25 @@ arguments_in keywords.CompareStatic bytes = three_in 32 32 32 bytes >>= λ n. So
 arguments_in keywords.Same bytes = two_in 32 32 bytes >>= λ n. Some (commands.Same n.0 n.1)
 arguments_in keywords.Describe bytes = number_in 32 bytes >>= λ n. Some (commands.Describe n)
 
+-- a command that is a word alone
+unfoldable pub bare_in : Version → List ℕ → Option Command
+bare_in First bytes = None
+bare_in Second bytes =
+    if bytes_eq bytes (codes "join") then Some commands.Join else
+    if bytes_eq bytes (codes "leave") then Some commands.Leave else None
+
+-- what stands after a keyword, where there is one
+abbrev pub keyword_or : Option (Keyword × List ℕ) → Option Command → Option Command
+keyword_or None bare = bare
+keyword_or (Some c) bare = arguments_in c.0 c.1
+
 -- a command
-unfoldable pub command_in : List ℕ → Option Command
-command_in bytes = do
-  c ← front_keyword_in bytes
-  arguments_in c.0 c.1
+unfoldable pub command_in : Version → List ℕ → Option Command
+command_in version bytes = keyword_or (front_keyword_in bytes) (bare_in version bytes)
 
 -- a command of a mutator
-unfoldable pub mutator_and_command_in : List ℕ → Option (ℕ × Command)
-mutator_and_command_in = number_then 32 command_in
+unfoldable pub mutator_and_command_in : Version → List ℕ → Option (ℕ × Command)
+mutator_and_command_in version = number_then 32 (command_in version)
 
 -- a line for the collector
 unfoldable pub collector_in : List ℕ → Option Line
@@ -134,16 +146,16 @@ collector_in bytes = if bytes_eq bytes (codes "begin") then Some lines.Begin els
       if bytes_eq c.0 (codes "tick") && (nat_le 1 n && nat_le n CLOCK_LIMIT) then Some (lines.Tick n) else None)
 
 -- a line that isn't skipped, by its first byte: a digit, or something else
-abbrev pub event_in : List ℕ → Option Line
-event_in [] = collector_in []
-event_in (first ∷ rest) = if nat_le 48 first && nat_le first 57 then mutator_and_command_in (first ∷ rest) >>= (λ a. Some (lines.Command a.0 a.1)) else collector_in (first ∷ rest)
+abbrev pub event_in : Version → List ℕ → Option Line
+event_in version [] = collector_in []
+event_in version (first ∷ rest) = if nat_le 48 first && nat_le first 57 then mutator_and_command_in version (first ∷ rest) >>= (λ a. Some (lines.Command a.0 a.1)) else collector_in (first ∷ rest)
 
-unfoldable pub line_in : List ℕ → Option Line
-line_in bytes = if is_skipped bytes then Some lines.Skip else event_in bytes
+unfoldable pub line_in : Version → List ℕ → Option Line
+line_in version bytes = if is_skipped bytes then Some lines.Skip else event_in version bytes
 
 -- a refusal by its number
 abbrev pub all_refusals : List Refusal
-all_refusals = refusals.BadSlot ∷ refusals.NullSlot ∷ refusals.BadIndex ∷ refusals.WrongKind ∷ refusals.TooLarge ∷ refusals.IdentitiesSpent ∷ refusals.NoSpace ∷ refusals.BadStatic ∷ []
+all_refusals = refusals.BadSlot ∷ refusals.NullSlot ∷ refusals.BadIndex ∷ refusals.WrongKind ∷ refusals.TooLarge ∷ refusals.IdentitiesSpent ∷ refusals.NoSpace ∷ refusals.BadStatic ∷ refusals.NotLive ∷ refusals.AlreadyLive ∷ []
 
 unfoldable pub refusal_in : ℕ → Option Refusal
 refusal_in n = find (λ r. refusal_number r == n) all_refusals
@@ -197,13 +209,13 @@ arrow_in bytes = do
   Some (front, back)
 
 -- an entry
-unfoldable pub entry_in : List ℕ → Option Entry
-entry_in bytes = do
+unfoldable pub entry_in : Version → List ℕ → Option Entry
+entry_in version bytes = do
   c ← arrow_in bytes
-  a ← mutator_and_command_in c.0
+  a ← mutator_and_command_in version c.0
   r ← reply_in c.1
   Some (record { mutator = a.0; command = a.1; reply = r })
 
 -- a line of a history
-unfoldable pub entry_line_in : List ℕ → Option EntryLine
-entry_line_in bytes = if is_skipped bytes then Some entry_lines.Skip else (entry_in bytes >>= λ e. Some (entry_lines.Entry e))
+unfoldable pub entry_line_in : Version → List ℕ → Option EntryLine
+entry_line_in version bytes = if is_skipped bytes then Some entry_lines.Skip else (entry_in version bytes >>= λ e. Some (entry_lines.Entry e))

@@ -1,4 +1,5 @@
--- The grammar of traces and histories: how commands, lines, replies and entries are spelled.
+-- The grammar of traces and histories: how commands, lines, replies and entries are spelled, and which
+-- of them a version has.
 use Rattle.std.specs.Prelude.{◌≡◌, ℕ, ◌^◌, ◌<◌, ◌≤◌, ◌==◌, Bool, true, false, IsTrue, List, [], ◌∷◌, ◌++◌, codes, decimal}
 use Rattle.graph_heap.specs.declared.command.Shape.{Shape}
 use Rattle.graph_heap.specs.declared.command.Shape.TheVariants.{Plain, RefArray, WordArray}
@@ -17,6 +18,16 @@ use Rattle.trace.specs.declared.replies.ReplyWord.{ReplyWord}
 use Rattle.trace.specs.declared.replies.ReplyWord.TheVariants as words
 use Rattle.trace.specs.declared.line.Line.{Line}
 use Rattle.trace.specs.declared.line.Line.TheVariants as lines
+use Rattle.trace.specs.declared.version.Version.{Version}
+use Rattle.trace.specs.declared.version.Version.TheVariants.{First}
+
+-- the line that tells the second version, as the first of a text
+abbrev pub version_line : List ℕ
+version_line = codes "version 2"
+
+-- a line, by its number from 1, tells the version of those after it
+abbrev pub TellsVersion : ℕ → List ℕ → Type 0
+TellsVersion number line = (number ≡ 1) × (line ≡ version_line)
 
 -- numbers in decimal, without leading zeros, each parted from the next by one blank (byte 32)
 abbrev pub two : ℕ → ℕ → List ℕ
@@ -67,6 +78,8 @@ command_text (commands.StoreStatic k src) = keyword_text keywords.StoreStatic ++
 command_text (commands.CompareStatic k expect new) = keyword_text keywords.CompareStatic ++ 32 ∷ three k expect new
 command_text (commands.Same a b) = keyword_text keywords.Same ++ 32 ∷ two a b
 command_text (commands.Describe a) = keyword_text keywords.Describe ++ 32 ∷ decimal a
+command_text commands.Join = codes "join"
+command_text commands.Leave = codes "leave"
 
 -- a command of a mutator
 abbrev pub command_line : ℕ → Command → List ℕ
@@ -94,19 +107,27 @@ CommandFits (commands.StoreStatic k src) = (k < 2 ^ 32) × (src < 2 ^ 32)
 CommandFits (commands.CompareStatic k expect new) = (k < 2 ^ 32) × (expect < 2 ^ 32) × (new < 2 ^ 32)
 CommandFits (commands.Same a b) = (a < 2 ^ 32) × (b < 2 ^ 32)
 CommandFits (commands.Describe a) = a < 2 ^ 32
+CommandFits commands.Join = Unit {0}
+CommandFits commands.Leave = Unit {0}
+
+-- the commands of a version: in the first no mutator joins or leaves
+abbrev pub IsOf : Command → Version → Type 0
+IsOf commands.Join First = ⊥
+IsOf commands.Leave First = ⊥
+IsOf command version = Unit {0}
 
 -- a skipped line: an empty one, or one whose first byte is # (byte 35), whatever follows
 abbrev pub is_skipped : List ℕ → Bool
 is_skipped [] = true
 is_skipped (first ∷ rest) = first == 35
 
--- The bytes are a spelling of the line. All but the skipped lines have one spelling each.
-abbrev pub Spells : List ℕ → Line → Type 0
-Spells bytes lines.Skip = IsTrue (is_skipped bytes)
-Spells bytes (lines.Command mutator command) = (bytes ≡ command_line mutator command) × (mutator < 2 ^ 32) × CommandFits command
-Spells bytes lines.Begin = bytes ≡ codes "begin"
-Spells bytes (lines.Quantum budget) = (bytes ≡ codes "quantum " ++ decimal budget) × (256 ≤ budget) × (budget ≤ 1000000)
-Spells bytes (lines.Tick ticks) = (bytes ≡ codes "tick " ++ decimal ticks) × (1 ≤ ticks) × (ticks ≤ CLOCK_LIMIT)
+-- In a version the bytes are a spelling of the line. All but the skipped lines have one spelling each.
+abbrev pub Spells : Version → List ℕ → Line → Type 0
+Spells version bytes lines.Skip = IsTrue (is_skipped bytes)
+Spells version bytes (lines.Command mutator command) = (bytes ≡ command_line mutator command) × (mutator < 2 ^ 32) × CommandFits command × IsOf command version
+Spells version bytes lines.Begin = bytes ≡ codes "begin"
+Spells version bytes (lines.Quantum budget) = (bytes ≡ codes "quantum " ++ decimal budget) × (256 ≤ budget) × (budget ≤ 1000000)
+Spells version bytes (lines.Tick ticks) = (bytes ≡ codes "tick " ++ decimal ticks) × (1 ≤ ticks) × (ticks ≤ CLOCK_LIMIT)
 
 -- the word with which a reply of several words begins
 abbrev pub reply_word_text : ReplyWord → List ℕ
@@ -149,7 +170,7 @@ ReplyFits (replies.Is b) = Unit {0}
 ReplyFits (replies.Described id shape) = (id < 2 ^ 64) × ShapeFits shape
 ReplyFits (replies.Refused refusal) = Unit {0}
 
--- The bytes are a spelling of the line of a history. Each entry has one spelling.
-abbrev pub SpellsEntry : List ℕ → EntryLine → Type 0
-SpellsEntry bytes entry_lines.Skip = IsTrue (is_skipped bytes)
-SpellsEntry bytes (entry_lines.Entry e) = (bytes ≡ entry_line e) × (e.mutator < 2 ^ 32) × CommandFits e.command × ReplyFits e.reply
+-- In a version the bytes are a spelling of the line of a history. Each entry has one spelling.
+abbrev pub SpellsEntry : Version → List ℕ → EntryLine → Type 0
+SpellsEntry version bytes entry_lines.Skip = IsTrue (is_skipped bytes)
+SpellsEntry version bytes (entry_lines.Entry e) = (bytes ≡ entry_line e) × (e.mutator < 2 ^ 32) × CommandFits e.command × ReplyFits e.reply × IsOf e.command version

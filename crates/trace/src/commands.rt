@@ -1,9 +1,10 @@
 //! Reading commands.
 ghost use Rattle.std.specs.Prelude.{◌≡◌};
-ghost use Rattle.trace.specs.Reading.{shape_in, slot_and_shape_in, arguments_in, command_in, mutator_and_command_in};
+ghost use Rattle.trace.specs.Reading.{shape_in, slot_and_shape_in, arguments_in, bare_in, command_in, mutator_and_command_in};
 
 use crate::field::{field, four, number, numbers_and_word, numbers_and_words, three, two};
 use crate::keyword::Keyword;
+use crate::version::Version;
 use graph_heap::{Command, Shape};
 
 /// A shape.
@@ -78,21 +79,42 @@ fn arguments(keyword: Keyword, bytes: &[u8]) -> Option<Command>
     }
 }
 
+/// A command that is a word alone.
+#[tactic(auto, unfolding(crate::specs::Reading::bare_in))]
+fn bare(version: Version, bytes: &[u8]) -> Option<Command>
+    ensures { result ≡ bare_in version bytes.now }
+{
+    match version {
+        Version::First => None,
+        Version::Second => {
+            if bytes == b"join".as_slice() {
+                Some(Command::Join)
+            } else if bytes == b"leave".as_slice() {
+                Some(Command::Leave)
+            } else {
+                None
+            }
+        }
+    }
+}
+
 /// A command.
 #[tactic(auto, unfolding(crate::specs::Reading::command_in))]
-fn command(bytes: &[u8]) -> Option<Command>
-    ensures { result ≡ command_in bytes.now }
+fn command(version: Version, bytes: &[u8]) -> Option<Command>
+    ensures { result ≡ command_in version bytes.now }
 {
-    let (keyword, rest) = Keyword::front(bytes)?;
-    arguments(keyword, rest)
+    match Keyword::front(bytes) {
+        Some((keyword, rest)) => arguments(keyword, rest),
+        None => bare(version, bytes),
+    }
 }
 
 /// A command, after the number of its mutator.
 #[tactic(auto, unfolding(crate::specs::Reading::mutator_and_command_in))]
-pub(crate) fn mutator_and_command(bytes: &[u8]) -> Option<(u32, Command)>
-    ensures { result ≡ mutator_and_command_in bytes.now }
+pub(crate) fn mutator_and_command(version: Version, bytes: &[u8]) -> Option<(u32, Command)>
+    ensures { result ≡ mutator_and_command_in version bytes.now }
 {
     let (mutator, rest) = field(bytes)?;
-    let command = command(rest)?;
+    let command = command(version, rest)?;
     Some((mutator, command))
 }

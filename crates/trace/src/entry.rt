@@ -8,6 +8,7 @@ use crate::commands::mutator_and_command;
 use crate::field::{after, cut};
 use crate::line::is_skipped;
 use crate::replies::reply;
+use crate::version::Version;
 use graph_heap::Entry;
 
 /// What a line of a history says.
@@ -40,11 +41,11 @@ fn arrow(bytes: &[u8]) -> Option<(&[u8], &[u8])>
 
 /// An entry.
 #[tactic(auto, unfolding(crate::specs::Reading::entry_in))]
-fn entry(bytes: &[u8]) -> Option<Entry>
-    ensures { result ≡ entry_in bytes.now }
+fn entry(version: Version, bytes: &[u8]) -> Option<Entry>
+    ensures { result ≡ entry_in version bytes.now }
 {
     let (front, back) = arrow(bytes)?;
-    let (mutator, command) = mutator_and_command(front)?;
+    let (mutator, command) = mutator_and_command(version, front)?;
     let reply = reply(back)?;
     Some(Entry {
         mutator,
@@ -54,22 +55,22 @@ fn entry(bytes: &[u8]) -> Option<Entry>
 }
 
 #[tactic(auto, unfolding(crate::specs::Reading::entry_line_in))]
-fn meaning(bytes: &[u8]) -> Option<EntryLine>
-    ensures { result ≡ entry_line_in bytes.now }
+fn meaning(version: Version, bytes: &[u8]) -> Option<EntryLine>
+    ensures { result ≡ entry_line_in version bytes.now }
 {
     if is_skipped(bytes) {
         return Some(EntryLine::Skip);
     }
-    let e = entry(bytes)?;
+    let e = entry(version, bytes)?;
     Some(EntryLine::Entry(e))
 }
 
-/// Reads a line of a history, without its LF.
-pub fn read_entry(bytes: &[u8]) -> Option<EntryLine>
+/// Reads a line of a history of a version, without its LF. The line that tells the version isn't read here.
+pub fn read_entry(version: Version, bytes: &[u8]) -> Option<EntryLine>
     // What is read is spelled so, each byte of it.
-    ensures found { IfSome result (λ line. SpellsEntry bytes.now line) }
+    ensures found { IfSome result (λ line. SpellsEntry version bytes.now line) }
     // What is spelled so is read. So there is nothing to read only where no line is spelled so.
-    ensures only { (line : EntryLine) → SpellsEntry bytes.now line → result ≡ Some line }
+    ensures only { (line : EntryLine) → SpellsEntry version bytes.now line → result ≡ Some line }
 {
-    meaning(bytes)
+    meaning(version, bytes)
 }

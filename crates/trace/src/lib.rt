@@ -18,6 +18,7 @@ pub mod source;
 pub mod standard;
 mod text;
 mod transcript;
+mod version;
 pub mod write;
 pub mod write_buffer;
 
@@ -32,6 +33,7 @@ pub use sink::{Sink, WriteFailed, write_all};
 pub use source::{ReadFailed, Source};
 pub use standard::{ReadSource, WriteSink};
 pub use text::{end_line, put, put_named};
+pub use version::{Version, tells_version, version_line};
 pub use write::{write_command, write_entry, write_reply};
 pub use write_buffer::WriteBuffer;
 

@@ -6,6 +6,7 @@ ghost use Rattle.trace.specs.Reading.{collector_in, line_in};
 
 use crate::commands::mutator_and_command;
 use crate::field::{cut, word};
+use crate::version::Version;
 use graph_heap::Command;
 use quanta::CLOCK_LIMIT;
 
@@ -51,27 +52,27 @@ pub fn is_skipped(bytes: &[u8]) -> bool
 }
 
 #[tactic(auto, unfolding(crate::specs::Reading::line_in))]
-fn meaning(bytes: &[u8]) -> Option<Line>
-    ensures { result ≡ line_in bytes.now }
+fn meaning(version: Version, bytes: &[u8]) -> Option<Line>
+    ensures { result ≡ line_in version bytes.now }
 {
     if is_skipped(bytes) {
         return Some(Line::Skip);
     }
     match bytes {
         [b'0'..=b'9', ..] => {
-            let (mutator, command) = mutator_and_command(bytes)?;
+            let (mutator, command) = mutator_and_command(version, bytes)?;
             Some(Line::Command { mutator, command })
         }
         _ => collector_line(bytes),
     }
 }
 
-/// Reads a line of a trace, without its LF.
-pub fn read_line(bytes: &[u8]) -> Option<Line>
+/// Reads a line of a trace of a version, without its LF. The line that tells the version isn't read here.
+pub fn read_line(version: Version, bytes: &[u8]) -> Option<Line>
     // What is read is spelled so, each byte of it.
-    ensures found { IfSome result (λ line. Spells bytes.now line) }
+    ensures found { IfSome result (λ line. Spells version bytes.now line) }
     // What is spelled so is read. So there is nothing to read only where no line is spelled so.
-    ensures only { (line : Line) → Spells bytes.now line → result ≡ Some line }
+    ensures only { (line : Line) → Spells version bytes.now line → result ≡ Some line }
 {
-    meaning(bytes)
+    meaning(version, bytes)
 }

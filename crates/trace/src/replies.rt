@@ -55,7 +55,7 @@ impl ReplyWord {
 }
 
 /// The refusals in the order of their numbers.
-const REFUSALS: [Refusal; 8] = [
+const REFUSALS: [Refusal; 10] = [
     Refusal::BadSlot,
     Refusal::NullSlot,
     Refusal::BadIndex,
@@ -64,6 +64,8 @@ const REFUSALS: [Refusal; 8] = [
     Refusal::IdentitiesSpent,
     Refusal::NoSpace,
     Refusal::BadStatic,
+    Refusal::NotLive,
+    Refusal::AlreadyLive,
 ];
 
 /// The refusal of a number.

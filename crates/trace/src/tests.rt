@@ -5,6 +5,8 @@ use std::io::{self, Read, Write};
 use std::process::Abort;
 use std::test::Fail;
 
+const VERSIONS: [Version; 2] = [Version::First, Version::Second];
+
 /// Lines that are no commands, and the ends of the ranges of numbers.
 const LINES: [(&str, Line); 7] = [
     ("", Line::Skip),
@@ -121,17 +123,40 @@ const COMMANDS: [(&str, u32, Command); 17] = [
 
 #[test]
 fn each_line_is_read(rt: HostRuntime) {
-    for (text, line) in LINES {
-        assert_eq!(rt; read_line(text.as_bytes()), Some(line), "{text}");
+    for version in VERSIONS {
+        for (text, line) in LINES {
+            assert_eq!(rt; read_line(version, text.as_bytes()), Some(line), "{text}");
+        }
+        for (text, mutator, command) in COMMANDS {
+            let line = Line::Command { mutator, command };
+            assert_eq!(rt; read_line(version, text.as_bytes()), Some(line), "{text}");
+        }
     }
-    for (text, mutator, command) in COMMANDS {
+}
+
+/// The commands that the second version alone has.
+const COMMANDS_OF_SECOND: [(&str, u32, Command); 4] = [
+    ("0 join", 0, Command::Join),
+    ("4294967295 join", 4294967295, Command::Join),
+    ("0 leave", 0, Command::Leave),
+    ("7 leave", 7, Command::Leave),
+];
+
+#[test]
+fn mutators_join_and_leave_in_the_second_version(rt: HostRuntime) {
+    for (text, mutator, command) in COMMANDS_OF_SECOND {
         let line = Line::Command { mutator, command };
-        assert_eq!(rt; read_line(text.as_bytes()), Some(line), "{text}");
+        assert_eq!(rt;
+            read_line(Version::Second, text.as_bytes()),
+            Some(line),
+            "{text}"
+        );
+        assert_eq!(rt; read_line(Version::First, text.as_bytes()), None, "{text}");
     }
 }
 
 /// Lines that aren't of the grammar.
-const OTHER_LINES: [&str; 31] = [
+const OTHER_LINES: [&str; 42] = [
     "01 clear 0",
     "00 clear 0",
     "+1 clear 0",
@@ -163,12 +188,25 @@ const OTHER_LINES: [&str; 31] = [
     "tick 0",
     "tick 1099511627777",
     " ",
+    "version 2",
+    "0 version 2",
+    "join",
+    "0 join ",
+    "0 join 1",
+    "0  join",
+    "0 Join",
+    "00 join",
+    "0 leaves",
+    "0 leav",
+    "4294967296 leave",
 ];
 
 #[test]
 fn other_lines_are_refused(rt: HostRuntime) {
     for text in OTHER_LINES {
-        assert_eq!(rt; read_line(text.as_bytes()), None, "{text}");
+        for version in VERSIONS {
+            assert_eq!(rt; read_line(version, text.as_bytes()), None, "{text}");
+        }
     }
 }
 
@@ -199,6 +237,8 @@ fn each_reply_is_written(rt: HostRuntime) {
         ),
         (Reply::Refused(Refusal::NoSpace), "refused 7"),
         (Reply::Refused(Refusal::BadStatic), "refused 8"),
+        (Reply::Refused(Refusal::NotLive), "refused 14"),
+        (Reply::Refused(Refusal::AlreadyLive), "refused 15"),
     ];
     for (reply, text) in replies {
         let mut out = [b'x'; 256];
@@ -211,7 +251,7 @@ fn each_reply_is_written(rt: HostRuntime) {
 /// What is written of a line is the line, and is read again.
 fn comes_back(rt: &impl Abort, text: &str) {
     let mut out = [0; 256];
-    match read_line(text.as_bytes()) {
+    match read_line(Version::Second, text.as_bytes()) {
         Some(Line::Command { mutator, command }) => {
             let end = write_command(mutator, &command, &mut out, 0);
             assert_eq!(rt; &out[..end], text.as_bytes(), "{text}");
@@ -239,6 +279,8 @@ fn each_command_is_written(rt: HostRuntime) {
         "0 casstatic 1 2 3",
         "0 same 1 2",
         "0 describe 1",
+        "0 join",
+        "4294967295 leave",
     ];
     for text in lines {
         comes_back(&rt, text);
@@ -251,7 +293,7 @@ const NEW: Command = Command::New {
 };
 
 /// Entries of mutator 0.
-const ENTRIES: [(&str, Command, Reply); 5] = [
+const ENTRIES: [(&str, Command, Reply); 7] = [
     ("0 new 1 plain 0 0 => made 2", NEW, Reply::Made(2)),
     (
         "0 new 1 plain 0 0 => refused 7",
@@ -269,10 +311,20 @@ const ENTRIES: [(&str, Command, Reply); 5] = [
         Command::Describe { a: 7 },
         Reply::Described(8, Shape::WordArray(252)),
     ),
+    (
+        "0 clear 2 => refused 14",
+        Command::Clear { dst: 2 },
+        Reply::Refused(Refusal::NotLive),
+    ),
+    (
+        "0 clear 2 => refused 15",
+        Command::Clear { dst: 2 },
+        Reply::Refused(Refusal::AlreadyLive),
+    ),
 ];
 
 /// Lines that aren't of a history.
-const OTHER_ENTRIES: [&str; 13] = [
+const OTHER_ENTRIES: [&str; 21] = [
     "0 clear 0",
     "begin",
     "0 clear 0 =>  done",
@@ -286,6 +338,14 @@ const OTHER_ENTRIES: [&str; 13] = [
     "0 clear 0 => made 18446744073709551616",
     "0 clear 0 => is true",
     "0 clear 0 => done => done",
+    "0 clear 0 => refused 13",
+    "0 clear 0 => refused 16",
+    "0 clear 0 => refused 014",
+    "0 clear 0 => refused 1 4",
+    "0 join",
+    "0 join=> done",
+    "0 join  => done",
+    "version 2",
 ];
 
 #[test]
@@ -299,21 +359,60 @@ fn entries_are_written_and_read(rt: HostRuntime) {
         let mut out = [0; 256];
         let end = write_entry(&entry, &mut out);
         assert_eq!(rt; &out[..end], text.as_bytes(), "{text}");
+        for version in VERSIONS {
+            assert_eq!(rt;
+                read_entry(version, text.as_bytes()),
+                Some(EntryLine::Entry(entry)),
+                "{text}"
+            );
+        }
+    }
+}
+
+/// Entries of mutator 3 that the second version alone has.
+const ENTRIES_OF_SECOND: [(&str, Command, Reply); 3] = [
+    ("3 join => done", Command::Join, Reply::Done),
+    (
+        "3 join => refused 15",
+        Command::Join,
+        Reply::Refused(Refusal::AlreadyLive),
+    ),
+    (
+        "3 leave => refused 14",
+        Command::Leave,
+        Reply::Refused(Refusal::NotLive),
+    ),
+];
+
+#[test]
+fn entries_of_the_second_version(rt: HostRuntime) {
+    for (text, command, reply) in ENTRIES_OF_SECOND {
+        let entry = Entry {
+            mutator: 3,
+            command,
+            reply,
+        };
+        let mut out = [0; 256];
+        let end = write_entry(&entry, &mut out);
+        assert_eq!(rt; &out[..end], text.as_bytes(), "{text}");
         assert_eq!(rt;
-            read_entry(text.as_bytes()),
+            read_entry(Version::Second, text.as_bytes()),
             Some(EntryLine::Entry(entry)),
             "{text}"
         );
+        assert_eq!(rt; read_entry(Version::First, text.as_bytes()), None, "{text}");
     }
 }
 
 #[test]
 fn other_entries_are_refused(rt: HostRuntime) {
-    for text in OTHER_ENTRIES {
-        assert_eq!(rt; read_entry(text.as_bytes()), None, "{text}");
+    for version in VERSIONS {
+        for text in OTHER_ENTRIES {
+            assert_eq!(rt; read_entry(version, text.as_bytes()), None, "{text}");
+        }
+        assert_eq!(rt; read_entry(version, b""), Some(EntryLine::Skip));
+        assert_eq!(rt; read_entry(version, b"#0 clear 0"), Some(EntryLine::Skip));
     }
-    assert_eq!(rt; read_entry(b""), Some(EntryLine::Skip));
-    assert_eq!(rt; read_entry(b"#0 clear 0"), Some(EntryLine::Skip));
 }
 
 /// The first thousand lines of a source, each with a slash after it, and why there is no next one.
@@ -353,6 +452,47 @@ fn lines_are_cut(rt: HostRuntime) -> Result<(), Fail> {
     Ok(())
 }
 
+/// Which of a source's lines, at most three, tell the version.
+fn tellers_of<S: Source>(source: &mut S) -> [bool; 3] {
+    let mut reader = LineReader::new();
+    let mut tells = [false; 3];
+    for i in 0..3usize {
+        if reader.next_line(source) == Ok(true) {
+            tells[i] = tells_version(reader.number(), reader.line());
+        }
+    }
+    tells
+}
+
+fn tellers(text: &str) -> [bool; 3] {
+    tellers_of(&mut MemorySource::new(text.as_bytes()))
+}
+
+#[test]
+fn the_first_line_tells_the_version(rt: HostRuntime) {
+    assert_eq!(rt;
+        tellers("version 2\nversion 2\n0 join\n"),
+        [true, false, false]
+    );
+    assert_eq!(rt; tellers("\nversion 2\n"), [false, false, false]);
+    assert_eq!(rt; tellers("#\n\nversion 2\n"), [false, false, false]);
+    for text in [
+        "version 1\n",
+        "version 2 \n",
+        " version 2\n",
+        "version 2\r\n",
+        "Version 2\n",
+        "version 02\n",
+        "version 2",
+        "",
+    ] {
+        assert_eq!(rt; tellers(text), [false, false, false], "{text}");
+    }
+    assert!(rt; tells_version(1, version_line()));
+    assert!(rt; !tells_version(0, version_line()));
+    assert!(rt; !tells_version(2, version_line()));
+}
+
 #[test]
 fn a_line_has_256_bytes(rt: HostRuntime) -> Result<(), Fail> {
     let alloc = rt.alloc();
@@ -363,7 +503,7 @@ fn a_line_has_256_bytes(rt: HostRuntime) -> Result<(), Fail> {
     let (lines, why) = lines_of(alloc, &mut MemorySource::new(&text))?;
     let line = lines.strip_suffix(b"/".as_slice()).ok_or("no line")?;
     assert_eq!(rt; line.len(), 256);
-    assert_eq!(rt; read_line(line), Some(Line::Skip));
+    assert_eq!(rt; read_line(Version::First, line), Some(Line::Skip));
     assert_eq!(rt; why, None);
     let mut text = vec![in alloc; b'#'; 257]?;
     text.push(b'\n')?;

@@ -105,6 +105,8 @@ fn put_command(out: &mut [u8], at: usize, command: &Command) -> usize
         ),
         Command::Same { a, b } => put_two(out, at, Keyword::Same.text(), [a, b]),
         Command::Describe { a } => put_one(out, at, Keyword::Describe.text(), a as u64),
+        Command::Join => put(out, at, b"join"),
+        Command::Leave => put(out, at, b"leave"),
     }
 }
 

@@ -1,6 +1,6 @@
 -- Scripts, line after line.
-use Rattle.std.proofs.Common.{zero, suc, Bool, true, false, ◌≡◌, ℕ, ◌+◌, ◌<◌, ◌==◌, eqb, if◌then◌else◌, List, [], ◌∷◌, ◌++◌, length, set, get_or, map, replicate, arith, append-nil, ap, ◌∙◌, sym, subst, refl}
-use Rattle.std.specs.Prelude.{IsTrue, Option, Some, None, Vec}
+use Rattle.std.proofs.Common.{zero, suc, Bool, true, false, ◌≡◌, ℕ, ◌+◌, ◌<◌, ◌==◌, eqb, if◌then◌else◌, List, [], ◌∷◌, ◌++◌, inl, inr, length, set, get_or, map, replicate, arith, append-nil, ap, ◌∙◌, sym, subst, refl}
+use Rattle.std.specs.Prelude.{IsTrue, Option, Some, None, Vec, vec_len, Ok}
 use Rattle.std.specs.List.{range_with_len}
 use Rattle.std.specs.declared.alloc.Global.{Global}
 use Rattle.std.proofs.lemmas.List.{ext_get_or, map-append, map-set, length-set, get_or-set_same, get_or-set_other, get_or-map, replicate_more}
@@ -9,8 +9,10 @@ use Rattle.std.proofs.lemmas.Bool.{eqb-true, eqb-false}
 use Rattle.graph_heap.specs.declared.command.Command.{Command}
 use Rattle.trace.specs.declared.line.Line.{Line}
 use Rattle.trace.specs.declared.line.Line.TheVariants as lines
+use Rattle.trace.specs.declared.version.Version.{Version}
+use Rattle.trace.specs.GoneOver.{Goes}
 use Rattle.trace.specs.Spelling.{Spells, is_skipped}
-use Rattle.transcripts.specs.Scripts.{IsOfScripts, script_of, scripts_of, one_more, with_line}
+use Rattle.transcripts.specs.Scripts.{IsOfScripts, script_of, scripts_of, one_more, with_line, AsksNothing, DoesScript, lists_in, LineAdded}
 
 -- a mutator's commands in two parts
 in_parts : (b : Bool) (c : Command) (whole front back : List Command) → whole ≡ front ++ back → (if b then c ∷ whole else whole) ≡ (if b then c ∷ front else front) ++ back
@@ -70,7 +72,7 @@ scripts_put n ls m c within =
     ∙ ap (λ (t : List Command). if eqb m k then new else t) (sym (get_or-map-range_with_len g 0 n k k [] below zero_on))
     ∙ sym (put_at (scripts_of n ls) m k new (eqb m k) refl small))
 
-pub scripts_more : (n : ℕ) (ls : List Line) (line : Line) → IsOfScripts n line → scripts_of n (ls ++ line ∷ []) ≡ with_line (scripts_of n ls) line
+scripts_more : (n : ℕ) (ls : List Line) (line : Line) → IsOfScripts n line → scripts_of n (ls ++ line ∷ []) ≡ with_line (scripts_of n ls) line
 scripts_more n ls lines.Skip is = scripts_skip n ls
 scripts_more n ls (lines.Command m c) is = scripts_put n ls m c is
 scripts_more n ls lines.Begin is = absurd is
@@ -85,10 +87,6 @@ none_yet a (suc n) = ap (λ (l : List (List Command)). [] ∷ l) (none_yet (a + 
 pub empty_scripts : (n : ℕ) → replicate n [] ≡ scripts_of n []
 empty_scripts n = none_yet 0 n
 
--- the scripts as they lie in vectors
-abbrev pub Scripts : Type 0
-Scripts = Vec (Vec Command Global) Global
-
 abbrev commands_in : Vec Command Global → List Command
 commands_in script = script.items
 
@@ -101,9 +99,18 @@ pub lists_push : (xs : List (Vec Command Global)) (v : Vec Command Global) (n : 
 lists_push xs v n e is = map-append commands_in xs (v ∷ []) ∙ ap (λ (s : List Command). map commands_in xs ++ s ∷ []) is ∙ ap (λ l. l ++ [] ∷ []) e ∙ replicate_more n []
 
 -- a line that spells neither a skipped line nor a command
-pub not_command : (text : List ℕ) (line : Line) → (line ≡ lines.Skip → ⊥) → ((m : ℕ) (c : Command) → line ≡ lines.Command m c → ⊥) → ((x : Line) → Spells text x → Some line ≡ Some x)
-    → (¬ IsTrue (is_skipped text)) × ((m : ℕ) (c : Command) → Spells text (lines.Command m c) → ⊥)
-not_command text line skip command only = (λ s. skip (let e = only lines.Skip s in cc), λ m c s. command m c (let e = only (lines.Command m c) s in cc))
+pub not_command : (version : Version) (text : List ℕ) (line : Line) → (line ≡ lines.Skip → ⊥) → ((m : ℕ) (c : Command) → line ≡ lines.Command m c → ⊥) → ((x : Line) → Spells version text x → Some line ≡ Some x)
+    → (¬ IsTrue (is_skipped text)) × ((m : ℕ) (c : Command) → Spells version text (lines.Command m c) → ⊥)
+not_command version text line skip command only = (λ s. skip (let e = only lines.Skip s in cc), λ m c s. command m c (let e = only (lines.Command m c) s in cc))
 
-pub no_line : (text : List ℕ) → ((x : Line) → Spells text x → ◌≡◌ {A = Option Line} None (Some x)) → (¬ IsTrue (is_skipped text)) × ((m : ℕ) (c : Command) → Spells text (lines.Command m c) → ⊥)
-no_line text only = (λ s. let e = only lines.Skip s in cc, λ m c s. let e = only (lines.Command m c) s in cc)
+pub no_line : (version : Version) (text : List ℕ) → ((x : Line) → Spells version text x → ◌≡◌ {A = Option Line} None (Some x)) → (¬ IsTrue (is_skipped text)) × ((m : ℕ) (c : Command) → Spells version text (lines.Command m c) → ⊥)
+no_line version text only = (λ s. let e = only lines.Skip s in cc, λ m c s. let e = only (lines.Command m c) s in cc)
+
+-- what a line of an input does to the scripts
+pub line_goes : (number : ℕ) (text : List ℕ) (version next : Version) (mutators : ℕ) (old new : Vec (Vec Command Global) Global) → vec_len old ≡ mutators → LineAdded text number version next old new (Ok tt)
+    → (spelled : List Line) × Goes AsksNothing (DoesScript mutators) number text version tt spelled next tt × ((ls : List Line) → lists_in old ≡ scripts_of mutators ls → lists_in new ≡ scripts_of mutators (ls ++ spelled))
+line_goes number text version next mutators old new len (inl told) =
+    ([], inl (told.0, told.1, refl, tt), λ ls e. told.2 ∙ e ∙ ap (scripts_of mutators) (sym (append-nil ls)))
+line_goes number text version next mutators old new len (inr (same, (line, does, lists))) =
+    let below = subst (λ n. IsOfScripts n line) len does.1 in
+    (line ∷ [], inr (same, (does.0, below)), λ ls e. lists ∙ ap (λ s. with_line s line) e ∙ sym (scripts_more mutators ls line below))

@@ -9,8 +9,10 @@ use Rattle.trace.specs.declared.fault.TextFault.{TextFault}
 use Rattle.trace.specs.declared.fault.TextFault.TheVariants.{Line as At_line, NoMemory}
 use Rattle.trace.specs.declared.line.Line.{Line}
 use Rattle.trace.specs.declared.line.Line.TheVariants as lines
+use Rattle.trace.specs.declared.version.Version.{Version}
+use Rattle.trace.specs.declared.version.Version.TheVariants.{Second}
 use Rattle.trace.specs.GoneOver.{GoneOver, Ends}
-use Rattle.trace.specs.Spelling.{Spells, is_skipped}
+use Rattle.trace.specs.Spelling.{TellsVersion, Spells, is_skipped}
 use Rattle.trace.specs.Streams.{Given}
 
 -- A line of scripts is skipped, or is a command of one of so many mutators.
@@ -19,9 +21,13 @@ IsOfScripts mutators lines.Skip = Unit {0}
 IsOfScripts mutators (lines.Command m c) = m < mutators
 IsOfScripts mutators line = ⊥
 
-abbrev pub DoesScript : ℕ → List ℕ → Unit {0} → List Line → Unit {0} → Type 0
-DoesScript mutators text old (line ∷ []) new = Spells text line × IsOfScripts mutators line
-DoesScript mutators text old spelled new = ⊥
+abbrev pub DoesScript : ℕ → Version → List ℕ → Unit {0} → List Line → Unit {0} → Type 0
+DoesScript mutators version text old (line ∷ []) new = Spells version text line × IsOfScripts mutators line
+DoesScript mutators version text old spelled new = ⊥
+
+-- the line that tells the version asks for nothing
+abbrev pub AsksNothing : Unit {0} → Unit {0} → Type 0
+AsksNothing old new = Unit {0}
 
 -- the commands of a mutator, in the order of their lines
 abbrev pub script_of : List Line → ℕ → List Command
@@ -39,28 +45,32 @@ lists_in scripts = map (λ (script : Vec Command Global). script.items) scripts.
 
 -- what is wrong with a line, in scripts: it is neither skipped nor a command, or its mutator isn't below
 -- the number of mutators
-abbrev pub ScriptLineIs : ℕ → LineFault → List ℕ → Type 0
-ScriptLineIs mutators faults.NotACommand text = (¬ IsTrue (is_skipped text)) × ((m : ℕ) (c : Command) → Spells text (lines.Command m c) → ⊥)
-ScriptLineIs mutators faults.NoSuchMutator text = (m : ℕ) × (c : Command) × Spells text (lines.Command m c) × (mutators ≤ m)
-ScriptLineIs mutators fault text = ⊥
+abbrev pub ScriptLineIs : ℕ → Version → LineFault → List ℕ → Type 0
+ScriptLineIs mutators version faults.NotACommand text = (¬ IsTrue (is_skipped text)) × ((m : ℕ) (c : Command) → Spells version text (lines.Command m c) → ⊥)
+ScriptLineIs mutators version faults.NoSuchMutator text = (m : ℕ) × (c : Command) × Spells version text (lines.Command m c) × (mutators ≤ m)
+ScriptLineIs mutators version fault text = ⊥
 
 -- a line that spells a command of one of so many mutators
-abbrev pub IsCommand : ℕ → List ℕ → Type 0
-IsCommand mutators text = (m : ℕ) × (c : Command) × Spells text (lines.Command m c) × (m < mutators)
+abbrev pub IsCommand : ℕ → Version → List ℕ → Type 0
+IsCommand mutators version text = (m : ℕ) × (c : Command) × Spells version text (lines.Command m c) × (m < mutators)
 
--- a fault at a line: the line is refused, or memory was at a command
-abbrev pub ScriptStops : ℕ → TextFault → List ℕ → ℕ → Unit {0} → Unit {0} → Type 0
-ScriptStops mutators (At_line k fault) text number old new = (k ≡ number) × ScriptLineIs mutators fault text
-ScriptStops mutators NoMemory text number old new = IsCommand mutators text
-ScriptStops mutators fault text number old new = ⊥
+-- a fault at a line: the line doesn't tell the version and is refused, or memory was at a command
+abbrev pub ScriptStops : ℕ → Version → TextFault → List ℕ → ℕ → Unit {0} → Unit {0} → Type 0
+ScriptStops mutators version (At_line k fault) text number old new = (k ≡ number) × ScriptLineIs mutators version fault text × (¬ TellsVersion number text)
+ScriptStops mutators version NoMemory text number old new = IsCommand mutators version text
+ScriptStops mutators version fault text number old new = ⊥
+
+-- what is answered of scripts: their version, and the commands of each mutator
+abbrev pub ReadScripts : Type 0
+ReadScripts = Version × Vec (Vec Command Global) Global
 
 -- Scripts of so many mutators, as the lines of an input are.
-pub record AreScripts (given : Given) (mutators : ℕ) (result : Result (Vec (Vec Command Global) Global) TextFault) : Type 0 where
-  pub over : GoneOver (DoesScript mutators) given tt (λ count spelled mid rest. Ends (ScriptStops mutators) count mid rest given.ended tt result)
-  pub are : IfOk result (λ scripts. lists_in scripts ≡ scripts_of mutators over.events)
+pub record AreScripts (given : Given) (mutators : ℕ) (result : Result ReadScripts TextFault) : Type 0 where
+  pub over : GoneOver AsksNothing (DoesScript mutators) given tt (λ version count spelled mid rest. Ends (ScriptStops mutators version) count mid rest given.ended tt result)
+  pub are : IfOk result (λ read. (read.0 ≡ over.version) × (lists_in read.1 ≡ scripts_of mutators over.events))
 
 -- What was read of an input; or memory was refused before anything was read.
-abbrev pub ScriptsRead : Given → ℕ → Result (Vec (Vec Command Global) Global) TextFault → Type 0
+abbrev pub ScriptsRead : Given → ℕ → Result ReadScripts TextFault → Type 0
 ScriptsRead given mutators result = ((result ≡ Err NoMemory) × (given.after ≡ given.before)) ⊎ AreScripts given mutators result
 
 -- what a line asks for
@@ -77,7 +87,10 @@ abbrev pub with_line : List (List Command) → Line → List (List Command)
 with_line scripts (lines.Command m c) = one_more scripts m c
 with_line scripts line = scripts
 
--- What came of one line.
-abbrev pub LineAdded : List ℕ → ℕ → Vec (Vec Command Global) Global → Vec (Vec Command Global) Global → Result (Unit {0}) TextFault → Type 0
-LineAdded text number old new (Ok done) = (line : Line) × DoesScript (vec_len old) text tt (line ∷ []) tt × (lists_in new ≡ with_line (lists_in old) line)
-LineAdded text number old new (Err fault) = ScriptStops (vec_len old) fault text number tt tt
+-- What came of one line, with the version before it and after it: it tells that of the next, or asks for
+-- something.
+abbrev pub LineAdded : List ℕ → ℕ → Version → Version → Vec (Vec Command Global) Global → Vec (Vec Command Global) Global → Result (Unit {0}) TextFault → Type 0
+LineAdded text number version next old new (Ok done) =
+    (TellsVersion number text × (next ≡ Second) × (lists_in new ≡ lists_in old))
+    ⊎ ((next ≡ version) × ((line : Line) × DoesScript (vec_len old) version text tt (line ∷ []) tt × (lists_in new ≡ with_line (lists_in old) line)))
+LineAdded text number version next old new (Err fault) = ScriptStops (vec_len old) version fault text number tt tt

@@ -5,7 +5,9 @@ ghost use Rattle.trace.specs.Streams.{Stays, given_by};
 ghost use Rattle.transcripts.specs.Histories.{LineChecked, EntriesChecked};
 
 use graph_heap::Reference;
-use trace::{EntryLine, LineFault, LineReader, Source, TextFault, read_entry};
+use trace::{
+    EntryLine, LineFault, LineReader, Source, TextFault, Version, read_entry, tells_version,
+};
 
 /// What became of a history that was checked.
 #[derive(Clone, Copy, Debug, PartialEq, Eq)]
@@ -19,7 +21,7 @@ pub enum Checked {
 /// What became of one line.
 #[derive(Clone, Copy)]
 enum Outcome {
-    /// It has no entry.
+    /// It has no entry. It may tell the version.
     Skipped,
     /// Its entry is a step, and is done.
     Done,
@@ -27,11 +29,20 @@ enum Outcome {
     Wrong,
 }
 
-/// Checks one line, and does its entry if that is a step.
-fn check_line(bytes: &[u8], number: u64, reference: &mut Reference) -> Result<Outcome, TextFault>
-    ensures { LineChecked bytes.now number reference.old reference.new result }
+/// Checks one line, and does its entry if that is a step. Keeps the version of the next.
+fn check_line(
+    bytes: &[u8],
+    number: u64,
+    version: &mut Version,
+    reference: &mut Reference,
+) -> Result<Outcome, TextFault>
+    ensures { LineChecked bytes.now number version.old version.new reference.old reference.new result }
 {
-    let Some(line) = read_entry(bytes) else {
+    if tells_version(number, bytes) {
+        *version = Version::Second;
+        return Ok(Outcome::Skipped);
+    }
+    let Some(line) = read_entry(*version, bytes) else {
         return Err(TextFault::Line(number, LineFault::NotAnEntry));
     };
     let EntryLine::Entry(entry) = line else {
@@ -44,7 +55,7 @@ fn check_line(bytes: &[u8], number: u64, reference: &mut Reference) -> Result<Ou
     }
 }
 
-/// Plays the entries of a source's lines on a graph heap, from where that stands: to the source's end, or
+/// Plays the entries of a source's lines, of which the first may tell their version, on a graph heap, from where that stands: to the source's end, or
 /// to the first entry that isn't a step, and then no line after it is looked at. The graph heap is left
 /// as it is after the entries before.
 pub fn check_entries<S: Source>(
@@ -56,9 +67,10 @@ pub fn check_entries<S: Source>(
     ensures input { reads_failed result ≡ 0 → Stays (S.input source.old) (S.input source.new) }
 {
     let mut reader = LineReader::new();
+    let mut version = Version::First;
     let mut good = 0;
     while reader.next_line(source)? {
-        match check_line(reader.line(), reader.number(), reference)? {
+        match check_line(reader.line(), reader.number(), &mut version, reference)? {
             Outcome::Skipped => {}
             Outcome::Done => good += 1,
             Outcome::Wrong => return Ok(Checked::Wrong(reader.number())),

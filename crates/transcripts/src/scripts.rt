@@ -7,15 +7,19 @@ ghost use Rattle.transcripts.specs.Scripts.{line_of, lists_in, one_more, IsOfScr
 
 use graph_heap::{Command, Limits, NoMemory};
 use std::alloc::Global;
-use trace::{Line, LineFault, LineReader, Source, TextFault, read_line};
+use trace::{Line, LineFault, LineReader, Source, TextFault, Version, read_line, tells_version};
 
 /// What a line of scripts says: nothing, or a command and whose it is.
-fn script_line(bytes: &[u8], mutators: usize) -> Result<Option<(u32, Command)>, LineFault>
-    ensures spells { IfOk result (λ asked. Spells bytes.now (line_of asked)) }
+fn script_line(
+    version: Version,
+    bytes: &[u8],
+    mutators: usize,
+) -> Result<Option<(u32, Command)>, LineFault>
+    ensures spells { IfOk result (λ asked. Spells version bytes.now (line_of asked)) }
     ensures below { IfOk result (λ asked. IsOfScripts mutators (line_of asked)) }
-    ensures refused { IfErr result (λ fault. ScriptLineIs mutators fault bytes.now) }
+    ensures refused { IfErr result (λ fault. ScriptLineIs mutators version fault bytes.now) }
 {
-    let Some(line) = read_line(bytes) else {
+    let Some(line) = read_line(version, bytes) else {
         return Err(LineFault::NotACommand);
     };
     match line {
@@ -41,12 +45,21 @@ fn add(scripts: &mut Vec<Vec<Command>>, mutator: usize, command: Command) -> Res
     Ok(())
 }
 
-/// Does what a line of scripts says.
-fn add_line(bytes: &[u8], number: u64, scripts: &mut Vec<Vec<Command>>) -> Result<(), TextFault>
-    ensures done { LineAdded bytes.now number scripts.old scripts.new result }
+/// Does what a line of scripts says. Keeps the version of the next.
+fn add_line(
+    bytes: &[u8],
+    number: u64,
+    version: &mut Version,
+    scripts: &mut Vec<Vec<Command>>,
+) -> Result<(), TextFault>
+    ensures done { LineAdded bytes.now number version.old version.new scripts.old scripts.new result }
     ensures len { vec_len scripts.new ≡ vec_len scripts.old }
 {
-    match script_line(bytes, scripts.len()) {
+    if tells_version(number, bytes) {
+        *version = Version::Second;
+        return Ok(());
+    }
+    match script_line(*version, bytes, scripts.len()) {
         Ok(None) => Ok(()),
         Ok(Some((mutator, command))) => Ok(add(scripts, mutator as usize, command)?),
         Err(fault) => Err(TextFault::Line(number, fault)),
@@ -65,22 +78,23 @@ fn empty(alloc: Global, mutators: u32) -> Result<Vec<Vec<Command>>, NoMemory>
     Ok(scripts)
 }
 
-/// Reads the scripts that a source's lines are, to its end: for each mutator its commands, in the order of
-/// their lines.
+/// Reads the scripts that a source's lines are, to its end: the version, which the first line may tell, and
+/// for each mutator its commands, in the order of their lines.
 pub fn read_scripts<S: Source>(
     alloc: Global,
     source: &mut S,
     limits: &Limits,
-) -> Result<Vec<Vec<Command>>, TextFault>
+) -> Result<(Version, Vec<Vec<Command>>), TextFault>
     ensures read { ScriptsRead (given_by S.given S.ended source.old source.new) limits.now.mutators result }
-    ensures len { IfOk result (λ scripts. vec_len scripts ≡ limits.now.mutators) }
+    ensures len { IfOk result (λ read. vec_len read.1 ≡ limits.now.mutators) }
     ensures reads { S.failures source.new ≡ S.failures source.old + reads_failed result }
     ensures input { reads_failed result ≡ 0 → Stays (S.input source.old) (S.input source.new) }
 {
     let mut scripts = empty(alloc, limits.mutators)?;
     let mut reader = LineReader::new();
+    let mut version = Version::First;
     while reader.next_line(source)? {
-        add_line(reader.line(), reader.number(), &mut scripts)?;
+        add_line(reader.line(), reader.number(), &mut version, &mut scripts)?;
     }
-    Ok(scripts)
+    Ok((version, scripts))
 }

@@ -4,13 +4,14 @@ use graph_heap::{Command, Limits, NoMemory, Reference, Shape};
 use std::alloc::Global;
 use std::process::Abort;
 use std::test::Fail;
-use trace::{FailAt, LineFault, MemorySource, ReadSource, Source, TextFault};
+use trace::{FailAt, LineFault, MemorySource, ReadSource, Source, TextFault, Version};
 
 const LIMITS: Limits = Limits {
     mutators: 2,
     slots: 4,
     statics: 1,
     identities: 9223372036854775807,
+    live: 2,
 };
 
 /// Reads scripts, and compares the fault.
@@ -58,7 +59,8 @@ fn commands_stand_in_their_mutators_scripts(rt: HostRuntime) -> Result<(), Fail>
     let text =
         "# two mutators\n1 new 0 words 3\n0 clear 1\n\n1 clear 2\n#\n0 clear 3\n0 same 0 1\n1 describe 0\n";
     let mut source = MemorySource::new(text.as_bytes());
-    let scripts = read_scripts(rt.alloc(), &mut source, &LIMITS)?;
+    let (version, scripts) = read_scripts(rt.alloc(), &mut source, &LIMITS)?;
+    assert_eq!(rt; version, Version::First);
     assert_eq!(rt; scripts.len(), 2);
     let first = [
         Command::Clear { dst: 1 },
@@ -79,10 +81,28 @@ fn commands_stand_in_their_mutators_scripts(rt: HostRuntime) -> Result<(), Fail>
 }
 
 #[test]
+fn scripts_of_the_second_version_join_and_leave(rt: HostRuntime) -> Result<(), Fail> {
+    let mut source = MemorySource::new(
+        b"version 2\n1 leave\n0 clear 1\n# again\n1 join\n0 leave\n",
+    );
+    let (version, scripts) = read_scripts(rt.alloc(), &mut source, &LIMITS)?;
+    assert_eq!(rt; version, Version::Second);
+    let first = [Command::Clear { dst: 1 }, Command::Leave];
+    assert!(rt; scripts[0].as_slice() == first.as_slice());
+    assert!(rt; scripts[1].as_slice() == [Command::Leave, Command::Join].as_slice());
+    let mut source = MemorySource::new(b"version 2\n");
+    let (version, scripts) = read_scripts(rt.alloc(), &mut source, &LIMITS)?;
+    assert_eq!(rt; version, Version::Second);
+    assert!(rt; scripts[0].is_empty() && scripts[1].is_empty());
+    Ok(())
+}
+
+#[test]
 fn no_lines_are_empty_scripts(rt: HostRuntime) -> Result<(), Fail> {
     for text in ["", "\n", "# nothing\n\n"] {
         let mut source = MemorySource::new(text.as_bytes());
-        let scripts = read_scripts(rt.alloc(), &mut source, &LIMITS)?;
+        let (version, scripts) = read_scripts(rt.alloc(), &mut source, &LIMITS)?;
+        assert_eq!(rt; version, Version::First, "{text}");
         assert_eq!(rt; scripts.len(), 2, "{text}");
         assert!(rt; scripts[0].is_empty() && scripts[1].is_empty(), "{text}");
     }
@@ -106,6 +126,14 @@ fn lines_of_scripts_are_refused(rt: HostRuntime) -> Result<(), Fail> {
         ("0 clear 0\n2 clear 0", 2, LineFault::NotEnded),
         ("#", 1, LineFault::NotEnded),
         ("2 clear 0\nbegin\n", 1, LineFault::NoSuchMutator),
+        ("0 join\n", 1, LineFault::NotACommand),
+        ("0 clear 0\n1 leave\n", 2, LineFault::NotACommand),
+        ("\nversion 2\n0 join\n", 2, LineFault::NotACommand),
+        ("version 2\nversion 2\n", 2, LineFault::NotACommand),
+        ("version 2\n0 join\n2 leave\n", 3, LineFault::NoSuchMutator),
+        ("version 2\nbegin\n", 2, LineFault::NotACommand),
+        ("version 1\n", 1, LineFault::NotACommand),
+        ("version 2", 1, LineFault::NotEnded),
     ];
     for (text, number, fault) in faults {
         refuse(&rt, text, number, fault)?;
@@ -130,7 +158,7 @@ fn long_lines_are_refused(rt: HostRuntime) -> Result<(), Fail> {
     refuse(&rt, &long, 2, LineFault::TooLong)?;
     let fits = comment_of(rt.alloc(), 256)?;
     let mut source = MemorySource::new(fits.as_bytes());
-    let scripts = read_scripts(rt.alloc(), &mut source, &LIMITS)?;
+    let (_, scripts) = read_scripts(rt.alloc(), &mut source, &LIMITS)?;
     assert!(rt; scripts[0].as_slice() == [Command::Clear { dst: 0 }].as_slice());
     Ok(())
 }
@@ -174,6 +202,18 @@ fn histories_are_checked(rt: HostRuntime) -> Result<(), Fail> {
         ),
         ("0 clear 0 => stored\nno entry\n", Checked::Wrong(1)),
         ("0 clear 0 => stored\nnot ended", Checked::Wrong(1)),
+        ("version 2\n", Checked::Good(0)),
+        (
+            "version 2\n0 leave => done\n0 clear 0 => refused 14\n1 join => refused 15\n\
+            0 join => done\n0 clear 0 => done\n",
+            Checked::Good(5),
+        ),
+        (
+            "version 2\n# a comment\n0 leave => done\n0 clear 0 => done\n",
+            Checked::Wrong(4),
+        ),
+        ("0 clear 0 => refused 14\n", Checked::Wrong(1)),
+        ("version 2\n0 join => done\n", Checked::Wrong(2)),
     ];
     for (text, checked) in runs {
         check(&rt, text, Ok(checked))?;
@@ -192,6 +232,11 @@ fn lines_of_histories_are_refused(rt: HostRuntime) -> Result<(), Fail> {
             2,
             LineFault::NotEnded,
         ),
+        ("0 leave => done\n", 1, LineFault::NotAnEntry),
+        ("\nversion 2\n0 leave => done\n", 2, LineFault::NotAnEntry),
+        ("version 2\nversion 2\n", 2, LineFault::NotAnEntry),
+        ("version 2\n0 leave\n", 2, LineFault::NotAnEntry),
+        ("version 3\n", 1, LineFault::NotAnEntry),
     ];
     for (text, number, fault) in faults {
         check(&rt, text, Err(TextFault::Line(number, fault)))?;

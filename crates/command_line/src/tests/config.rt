@@ -90,6 +90,31 @@ fn a_key_has_a_range(rt: HostRuntime) -> Result<(), Fail> {
 }
 
 #[test]
+fn no_more_are_live_than_there_are(rt: HostRuntime) -> Result<(), Fail> {
+    let rows = [
+        ("live = 0", ""),
+        ("live = 2", ""),
+        ("live = 3", "live out of range"),
+        ("live = -1", "live out of range"),
+        ("live = 9223372036854775807", "live out of range"),
+        ("live = \"2\"", "live not a whole number"),
+        ("live = 3\nrate = 0", "rate out of range"),
+        ("live = 3\nrate = 25", "live out of range"),
+        ("live = 2\nrate = 25", "budget out of range"),
+    ];
+    expect(&rt, rt.alloc(), KEYS, &rows)?;
+    let rows = [
+        ("mutators = 65\nlive = 66", "mutators out of range"),
+        ("mutators = -5", "mutators out of range"),
+        ("mutators = 2.0\nlive = 1", "mutators not a whole number"),
+        ("live = 1", "mutators missing"),
+        ("mutators = 64\nlive = 64", ""),
+        ("mutators = 64\nlive = 65", "live out of range"),
+    ];
+    expect(&rt, rt.alloc(), "pages = 4\nslots = 4\n", &rows)
+}
+
+#[test]
 fn a_budget_has_a_range(rt: HostRuntime) -> Result<(), Fail> {
     let rows = [
         ("collector_ticks = 1", "budget out of range"),
@@ -135,7 +160,7 @@ fn a_good_file_has_defaults(rt: HostRuntime) -> Result<(), ReadFault> {
     assert!(rt; (pages, mutators, slots, statics, identities) == wanted);
     assert!(rt; config.defrag_below == 0 && config.defrag_pages == 0);
     assert!(rt; config.collector_ticks == 10 && config.mutator_ticks == 12);
-    assert!(rt; config.rate == 100);
+    assert!(rt; config.rate == 100 && config.live == 2);
     Ok(())
 }
 
@@ -143,10 +168,10 @@ fn a_good_file_has_defaults(rt: HostRuntime) -> Result<(), ReadFault> {
 fn a_good_file_has_its_numbers(rt: HostRuntime) -> Result<(), ReadFault> {
     let text =
         "rate = 7\nmutator_ticks = 5\ncollector_ticks = 50\ndefrag_pages = 6\ndefrag_below = 8\n\
-        identities = 9\nstatics = 0x0a\nslots = 11\nmutators = 12\npages = 1_3\n";
+        identities = 9\nstatics = 0x0a\nslots = 11\nlive = 3\nmutators = 12\npages = 1_3\n";
     let config = read_config(rt.alloc(), text.as_bytes())?;
     assert!(rt; config.pages == 13 && config.mutators == 12 && config.slots == 11);
-    assert!(rt; config.statics == 10 && config.identities == 9);
+    assert!(rt; config.statics == 10 && config.identities == 9 && config.live == 3);
     assert!(rt; config.defrag_below == 8 && config.defrag_pages == 6);
     assert!(rt; config.collector_ticks == 50 && config.mutator_ticks == 5 && config.rate == 7);
     Ok(())

@@ -8,6 +8,7 @@ const CROWD: Settings = Settings {
     pages: 8,
     mutators: 64,
     statics: 2,
+    live: 64,
     ..FOUR_PAGES
 };
 

@@ -90,7 +90,7 @@ pub fn played<G: Gate + Sync, R: Threads + Wait + Abort + AllocGlobal + Sync>(
 }
 
 /// The reply to a command of a mutator, by its number in the script.
-fn reply_to(rt: &impl Abort, history: &[Entry], mutator: u32, number: u32) -> Reply {
+pub fn reply_to(rt: &impl Abort, history: &[Entry], mutator: u32, number: u32) -> Reply {
     let mut left = number;
     for entry in history {
         if entry.mutator == mutator {

@@ -1,6 +1,6 @@
 //! Objects that fill pages, and a cycle, through one seat and the pacer.
 ghost use Rattle.std.specs.Prelude.{◌≡◌};
-ghost use Rattle.heap_model.specs.Settings.{settings_by};
+ghost use Rattle.heap_server.specs.Opened.{names_of};
 
 use super::*;
 use machine::{BudgetOutOfRange, Busy, Spent};
@@ -10,6 +10,7 @@ const ONE_PAGE: Settings = Settings {
     mutators: 1,
     slots: 9,
     statics: 0,
+    live: 1,
     ..FOUR_PAGES
 };
 
@@ -32,12 +33,12 @@ fn new(dst: u32, shape: Shape) -> Command {
 /// So many large objects are made, in the slots from 0 on, and commands follow with these replies; then a cycle,
 /// and more commands.
 #[derive(Clone, Copy)]
-struct Row<'a> {
-    objects: u32,
-    before: &'a [(Command, Reply)],
+pub struct Row<'a> {
+    pub objects: u32,
+    pub before: &'a [(Command, Reply)],
     /// What each quantum of 256 units spends.
-    spent: &'a [u32],
-    after: &'a [(Command, Reply)],
+    pub spent: &'a [u32],
+    pub after: &'a [(Command, Reply)],
 }
 
 /// Calls commands, and looks at the replies.
@@ -87,11 +88,7 @@ fn follow<N: Naming, R: Wait + Abort>(
     opening: Opening,
     row: &Row,
 ) -> Result<(), ServerFault>
-    requires calls { (opening.calls.name ≡ N.calls) × (settings_by opening.config ≡ N.settings) }
-    requires begun { opening.begun.name ≡ N.begun }
-    requires ended { opening.ended.name ≡ N.ended }
-    requires units { opening.units.name ≡ N.units }
-    requires book { opening.place.seen.book ≡ N.book }
+    requires names { names_of opening ≡ N.names }
 {
     let (server, mut seats, mut pacer) = Server::<N>::new(alloc, opening)?;
     let Some(mut seat) = seats.pop() else {
@@ -107,7 +104,7 @@ fn follow<N: Naming, R: Wait + Abort>(
 }
 
 /// The row, at a server of its own.
-fn follow_row<R: Wait + Abort + AllocGlobal>(
+pub fn follow_row<R: Wait + Abort + AllocGlobal>(
     rt: &R,
     settings: &Settings,
     row: &Row,

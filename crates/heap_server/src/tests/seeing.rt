@@ -1,6 +1,6 @@
 //! What seats have seen, and the place word beside the lock.
 ghost use Rattle.std.specs.Prelude.{◌≡◌};
-ghost use Rattle.heap_model.specs.Settings.{settings_by};
+ghost use Rattle.heap_server.specs.Opened.{names_of};
 
 use super::*;
 use crate::place::Next;
@@ -27,21 +27,13 @@ const COPY: Command = Command::Copy { dst: 1, src: 0 };
 const SAME: Command = Command::Same { a: 0, b: 1 };
 
 /// Three calls of one seat, which the other sees, and one of the other, which the first sees.
-fn seats_see<N: Naming, R: Wait + Abort>(
+fn seats_see<N: Naming, R: Wait + Abort + AllocGlobal>(
     rt: &R,
-    alloc: Global,
     opening: Opening,
 ) -> Result<(), ServerFault>
-    requires calls { (opening.calls.name ≡ N.calls) × (settings_by opening.config ≡ N.settings) }
-    requires begun { opening.begun.name ≡ N.begun }
-    requires ended { opening.ended.name ≡ N.ended }
-    requires units { opening.units.name ≡ N.units }
-    requires book { opening.place.seen.book ≡ N.book }
+    requires names { names_of opening ≡ N.names }
 {
-    let (server, mut seats, _pacer) = Server::<N>::new(alloc, opening)?;
-    let (Some(mut second), Some(mut first)) = (seats.pop(), seats.pop()) else {
-        panic!(rt; "there are two seats");
-    };
+    let (server, mut first, mut second) = two_seats::<N, _>(rt, opening)?;
     assert!(rt; server.place_now(&mut first) == 0);
     assert!(rt; call(rt, &server, &mut second, 0, NEW)? == Reply::Made(1));
     assert!(rt; call(rt, &server, &mut second, 1, COPY)? == Reply::Done);
@@ -55,7 +47,7 @@ fn seats_see<N: Naming, R: Wait + Abort>(
 #[test]
 fn each_sees_the_other(rt: HostRuntime) -> Result<(), ServerFault> {
     let config = config_of(&rt, &FOUR_PAGES);
-    seats_see::<Brand, _>(&rt, rt.alloc(), Opening::new(&config))
+    seats_see::<Brand, _>(&rt, Opening::new(&config))
 }
 
 /// Adds an entry to the log that no call has made.
@@ -69,21 +61,13 @@ fn add_foreign<N: Naming, R: Wait + Abort>(rt: &R, server: &Server<N>, seat: &Se
 }
 
 /// Calls after a foreign exchange: the word is torn, and nothing is done.
-fn calls_are_torn<N: Naming, R: Wait + Abort>(
+fn calls_are_torn<N: Naming, R: Wait + Abort + AllocGlobal>(
     rt: &R,
-    alloc: Global,
     opening: Opening,
 ) -> Result<(), ServerFault>
-    requires calls { (opening.calls.name ≡ N.calls) × (settings_by opening.config ≡ N.settings) }
-    requires begun { opening.begun.name ≡ N.begun }
-    requires ended { opening.ended.name ≡ N.ended }
-    requires units { opening.units.name ≡ N.units }
-    requires book { opening.place.seen.book ≡ N.book }
+    requires names { names_of opening ≡ N.names }
 {
-    let (server, mut seats, _pacer) = Server::<N>::new(alloc, opening)?;
-    let (Some(mut second), Some(mut first)) = (seats.pop(), seats.pop()) else {
-        panic!(rt; "there are two seats");
-    };
+    let (server, mut first, mut second) = two_seats::<N, _>(rt, opening)?;
     call(rt, &server, &mut first, 0, NEW)?;
     add_foreign(rt, &server, &first);
     assert!(rt; server.call(&mut second, NEW, rt).err() == Some(ServerFault::Torn(2)));
@@ -98,7 +82,7 @@ fn calls_are_torn<N: Naming, R: Wait + Abort>(
 fn a_foreign_exchange_is_met(rt: HostRuntime) -> Result<(), ServerFault> {
     let config = config_of(&rt, &FOUR_PAGES);
     assert!(&rt; ServerFault::NoMemory.number() == 9 && ServerFault::Torn(2).number() == 10);
-    calls_are_torn::<Brand, _>(&rt, rt.alloc(), Opening::new(&config))
+    calls_are_torn::<Brand, _>(&rt, Opening::new(&config))
 }
 
 /// What two threads tell each other: that the lock is held, that the word was read, and that one has given up.
@@ -123,21 +107,13 @@ impl Held {
 }
 
 /// The place word is read while another thread holds the lock.
-fn read_beside<N: Naming + Send + Sync, R: Threads + Wait + Abort + Sync>(
+fn read_beside<N: Naming + Send + Sync, R: Threads + Wait + Abort + AllocGlobal + Sync>(
     rt: &R,
-    alloc: Global,
     opening: Opening,
 ) -> Result<(), ServerFault>
-    requires calls { (opening.calls.name ≡ N.calls) × (settings_by opening.config ≡ N.settings) }
-    requires begun { opening.begun.name ≡ N.begun }
-    requires ended { opening.ended.name ≡ N.ended }
-    requires units { opening.units.name ≡ N.units }
-    requires book { opening.place.seen.book ≡ N.book }
+    requires names { names_of opening ≡ N.names }
 {
-    let (server, mut seats, _pacer) = Server::<N>::new(alloc, opening)?;
-    let Some(mut seat) = seats.pop() else {
-        panic!(rt; "there is a seat");
-    };
+    let (server, mut seat, _) = two_seats::<N, _>(rt, opening)?;
     call(rt, &server, &mut seat, 0, NEW)?;
     let flags = Held {
         held: AtomicU64::new(0),
@@ -169,5 +145,5 @@ fn read_beside<N: Naming + Send + Sync, R: Threads + Wait + Abort + Sync>(
 #[test]
 fn a_place_is_read_while_the_lock_is_held(rt: HostRuntime) -> Result<(), ServerFault> {
     let config = config_of(&rt, &FOUR_PAGES);
-    read_beside::<Brand, _>(&rt, rt.alloc(), Opening::new(&config))
+    read_beside::<Brand, _>(&rt, Opening::new(&config))
 }

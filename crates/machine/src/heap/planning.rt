@@ -1,7 +1,7 @@
 //! What each command does: its reply and its one write, by reading alone. The tests stand in the order
 //! of the refusals.
-ghost use Rattle.std.specs.Prelude.{◌≡◌};
-ghost use Rattle.machine.specs.Plan.{Plans};
+ghost use Rattle.std.specs.Prelude.{◌≡◌, ◌<◌, Ok};
+ghost use Rattle.machine.specs.Plan.{Deeds};
 
 use super::Heap;
 use crate::plan::{Planned, Write};
@@ -11,7 +11,7 @@ use size_classes::parts_of;
 impl Heap {
     /// A new object is planned.
     pub(super) fn plan_new(&self, mutator: u32, dst: u32, shape: Shape) -> Result<Planned, Refusal>
-        ensures { Plans self.now mutator (Command.New dst shape) result }
+        ensures { Deeds self.now mutator (Command.New dst shape) result }
     {
         let cell = self.raw.roots.slot(mutator, dst)?;
         let parts = parts_of(&shape).ok_or(Refusal::TooLarge)?;
@@ -35,7 +35,7 @@ impl Heap {
         obj: u32,
         i: u32,
     ) -> Result<Planned, Refusal>
-        ensures { Plans self.now mutator (Command.Load dst obj i) result }
+        ensures { Deeds self.now mutator (Command.Load dst obj i) result }
     {
         let cell = self.raw.roots.slot(mutator, dst)?;
         let root = self.raw.roots.slot(mutator, obj)?;
@@ -58,7 +58,7 @@ impl Heap {
         i: u32,
         src: u32,
     ) -> Result<Planned, Refusal>
-        ensures { Plans self.now mutator (Command.Store obj i src) result }
+        ensures { Deeds self.now mutator (Command.Store obj i src) result }
     {
         let root = self.raw.roots.slot(mutator, obj)?;
         let source = self.raw.roots.slot(mutator, src)?;
@@ -81,7 +81,7 @@ impl Heap {
         expect: u32,
         new: u32,
     ) -> Result<Planned, Refusal>
-        ensures { Plans self.now mutator (Command.CompareStore obj i expect new) result }
+        ensures { Deeds self.now mutator (Command.CompareStore obj i expect new) result }
     {
         let root = self.raw.roots.slot(mutator, obj)?;
         let expected = self.raw.roots.slot(mutator, expect)?;
@@ -102,7 +102,7 @@ impl Heap {
 
     /// A word cell is read.
     pub(super) fn plan_get(&self, mutator: u32, obj: u32, i: u32) -> Result<Planned, Refusal>
-        ensures { Plans self.now mutator (Command.Get obj i) result }
+        ensures { Deeds self.now mutator (Command.Get obj i) result }
     {
         let root = self.raw.roots.slot(mutator, obj)?;
         let at = self.find_word(root, i)?;
@@ -117,7 +117,7 @@ impl Heap {
         i: u32,
         word: u64,
     ) -> Result<Planned, Refusal>
-        ensures { Plans self.now mutator (Command.Put obj i word) result }
+        ensures { Deeds self.now mutator (Command.Put obj i word) result }
     {
         let root = self.raw.roots.slot(mutator, obj)?;
         let at = self.find_word(root, i)?;
@@ -136,7 +136,7 @@ impl Heap {
         old: u64,
         new: u64,
     ) -> Result<Planned, Refusal>
-        ensures { Plans self.now mutator (Command.ComparePut obj i old new) result }
+        ensures { Deeds self.now mutator (Command.ComparePut obj i old new) result }
     {
         let root = self.raw.roots.slot(mutator, obj)?;
         let at = self.find_word(root, i)?;
@@ -152,7 +152,7 @@ impl Heap {
 
     /// A slot gets what another holds.
     pub(super) fn plan_copy(&self, mutator: u32, dst: u32, src: u32) -> Result<Planned, Refusal>
-        ensures { Plans self.now mutator (Command.Copy dst src) result }
+        ensures { Deeds self.now mutator (Command.Copy dst src) result }
     {
         let cell = self.raw.roots.slot(mutator, dst)?;
         let source = self.raw.roots.slot(mutator, src)?;
@@ -167,7 +167,7 @@ impl Heap {
 
     /// A slot gets null.
     pub(super) fn plan_clear(&self, mutator: u32, dst: u32) -> Result<Planned, Refusal>
-        ensures { Plans self.now mutator (Command.Clear dst) result }
+        ensures { Deeds self.now mutator (Command.Clear dst) result }
     {
         let cell = self.raw.roots.slot(mutator, dst)?;
         Ok(Planned {
@@ -183,7 +183,7 @@ impl Heap {
         dst: u32,
         k: u32,
     ) -> Result<Planned, Refusal>
-        ensures { Plans self.now mutator (Command.LoadStatic dst k) result }
+        ensures { Deeds self.now mutator (Command.LoadStatic dst k) result }
     {
         let cell = self.raw.roots.slot(mutator, dst)?;
         let source = self.raw.roots.static_cell(k)?;
@@ -204,7 +204,7 @@ impl Heap {
         k: u32,
         src: u32,
     ) -> Result<Planned, Refusal>
-        ensures { Plans self.now mutator (Command.StoreStatic k src) result }
+        ensures { Deeds self.now mutator (Command.StoreStatic k src) result }
     {
         let source = self.raw.roots.slot(mutator, src)?;
         let cell = self.raw.roots.static_cell(k)?;
@@ -225,7 +225,7 @@ impl Heap {
         expect: u32,
         new: u32,
     ) -> Result<Planned, Refusal>
-        ensures { Plans self.now mutator (Command.CompareStatic k expect new) result }
+        ensures { Deeds self.now mutator (Command.CompareStatic k expect new) result }
     {
         let expected = self.raw.roots.slot(mutator, expect)?;
         let source = self.raw.roots.slot(mutator, new)?;
@@ -245,7 +245,7 @@ impl Heap {
 
     /// Two slots are compared, by the identities that they hold.
     pub(super) fn plan_same(&self, mutator: u32, a: u32, b: u32) -> Result<Planned, Refusal>
-        ensures { Plans self.now mutator (Command.Same a b) result }
+        ensures { Deeds self.now mutator (Command.Same a b) result }
     {
         let first = self.raw.roots.slot(mutator, a)?;
         let second = self.raw.roots.slot(mutator, b)?;
@@ -255,10 +255,31 @@ impl Heap {
 
     /// The identity and the shape of an object are told.
     pub(super) fn plan_describe(&self, mutator: u32, a: u32) -> Result<Planned, Refusal>
-        ensures { Plans self.now mutator (Command.Describe a) result }
+        ensures { Deeds self.now mutator (Command.Describe a) result }
     {
         let root = self.raw.roots.slot(mutator, a)?;
         let found = self.object(root)?;
         Ok(Planned::reply(Reply::Described(found.id, found.shape)))
+    }
+    /// A mutator is to be live.
+    pub(super) fn plan_join(&self, mutator: u32) -> Planned
+        requires { mutator < self.now.limits.mutators }
+        ensures { Deeds self.now mutator Command.Join (Ok result) }
+    {
+        Planned {
+            reply: Reply::Done,
+            write: Write::Join { mutator },
+        }
+    }
+
+    /// A mutator is to be live no more.
+    pub(super) fn plan_leave(&self, mutator: u32) -> Planned
+        requires { mutator < self.now.limits.mutators }
+        ensures { Deeds self.now mutator Command.Leave (Ok result) }
+    {
+        Planned {
+            reply: Reply::Done,
+            write: Write::Leave { mutator },
+        }
     }
 }

@@ -1,9 +1,10 @@
 //! The writes of the heap. Each does one change of the graph heap, after it has recorded what it
 //! overwrites.
-ghost use Rattle.std.specs.Prelude.{◌≡◌, ◌<◌};
+ghost use Rattle.std.specs.Prelude.{◌≡◌, ◌+◌, ◌<◌, ◌≤◌, length};
+ghost use Rattle.heap_model.specs.Change.{Clears};
 ghost use Rattle.raw_heap.specs.Heap.{state_of, IsRawHeap};
 ghost use Rattle.machine.specs.Plan.{CanPerform, DoesEach, IsWriter};
-ghost use Rattle.machine.specs.Buffers.{buffers_by};
+ghost use Rattle.machine.specs.Buffers.{buffers_by, AreBuffersBy, AreOwn};
 
 use crate::plan::{Cell, Write};
 use arraylets::new_object;
@@ -17,7 +18,7 @@ pub fn do_write(heap: &mut RawHeap, mutator: u32, write: &Write)
     requires mutator { IsWriter (state_of heap.old) mutator write.now }
     requires write { CanPerform (state_of heap.old) write.now }
     ensures does { DoesEach (state_of heap.old) write.now (state_of heap.new) }
-    ensures buffers { heap.new.grey.buffers ≡ buffers_by heap.old mutator write.now }
+    ensures buffers { AreBuffersBy heap.old mutator write.now heap.new.grey }
 {
     match *write {
         Write::Nothing => {}
@@ -25,6 +26,8 @@ pub fn do_write(heap: &mut RawHeap, mutator: u32, write: &Write)
         Write::Ref { at, reference } => write_ref(heap, mutator, at, reference),
         Write::Word { at, word } => heap.nodes.set_cell(at.block, at.index, word),
         Write::New { cell, shape } => write_new(heap, mutator, cell, shape),
+        Write::Join { mutator: joiner } => heap.roots.set_live(joiner, true),
+        Write::Leave { mutator: leaver } => write_leave(heap, leaver),
     }
 }
 
@@ -67,4 +70,30 @@ fn write_new(heap: &mut RawHeap, mutator: u32, root: usize, shape: Shape)
     let block = new_object(&mut heap.nodes, shape, heap.sense, heap.next);
     heap.roots.set(root, block as u64 + 1);
     heap.next += 1;
+}
+
+/// So many roots, from one on, get null one after the other, written by a mutator.
+fn null_roots(heap: &mut RawHeap, mutator: u32, first: usize, count: usize)
+    requires heap { IsRawHeap heap.old }
+    requires mutator { mutator < heap.old.roots.limits.mutators }
+    requires within { first + count ≤ length heap.old.roots.cells }
+    ensures heap { IsRawHeap heap.new }
+    ensures clears { Clears (state_of heap.old) first count (state_of heap.new) }
+    ensures buffers { AreOwn mutator heap.old.grey heap.new.grey }
+{
+    for i in 0..count {
+        write_root(heap, mutator, first + i, 0);
+    }
+}
+
+/// The slots of a mutator get null, and it is live no more.
+fn write_leave(heap: &mut RawHeap, mutator: u32)
+    requires heap { IsRawHeap heap.old }
+    requires write { CanPerform (state_of heap.old) (Write.Leave mutator) }
+    ensures does { DoesEach (state_of heap.old) (Write.Leave mutator) (state_of heap.new) }
+    ensures buffers { AreOwn mutator heap.old.grey heap.new.grey }
+{
+    let slots = heap.roots.limits().slots as usize;
+    null_roots(heap, mutator, mutator as usize * slots, slots);
+    heap.roots.set_live(mutator, false);
 }

@@ -6,6 +6,7 @@ use super::*;
 const MANY_MUTATORS: Settings = Settings {
     pages: 16,
     mutators: 64,
+    live: 64,
     slots: 65,
     ..ONE_PAGE
 };

@@ -6,6 +6,7 @@ use super::*;
 const MORE_PAGES: Settings = Settings {
     pages: 66,
     mutators: 3,
+    live: 3,
     slots: 256,
     ..ONE_PAGE
 };

@@ -7,6 +7,7 @@ use heap_model::phase::Phase;
 const EIGHT_PAGES: Settings = Settings {
     pages: 8,
     mutators: 2,
+    live: 2,
     slots: 4,
     statics: 1,
     ..ONE_PAGE
@@ -20,7 +21,7 @@ const ONE_EMPTIED: Settings = Settings {
 };
 
 /// Cycles that leave few free pages empty up to three.
-const THREE_EMPTIED: Settings = Settings {
+pub(super) const THREE_EMPTIED: Settings = Settings {
     pages: 6,
     defrag_below: 5,
     defrag_pages: 3,
@@ -32,11 +33,11 @@ const COMMANDS: u32 = 3000;
 
 /// A linear congruential generator.
 #[derive(Clone, Copy, Debug, PartialEq, Eq)]
-struct Random(u64);
+pub(super) struct Random(pub(super) u64);
 
 impl Random {
     /// The next number, of 31 bits.
-    fn next(&mut self) -> u32 {
+    pub(super) fn next(&mut self) -> u32 {
         let times = self.0.wrapping_mul(6364136223846793005);
         self.0 = times.wrapping_add(1442695040888963407);
         ((self.0 >> 33) & 0x7fff_ffff) as u32
@@ -77,7 +78,7 @@ impl Random {
 }
 
 /// A command of one of 14 kinds, counted from 0. All numbers from 13 on are for a new object.
-fn command_of(kind: usize, random: &mut Random) -> Command {
+pub(super) fn command_of(kind: usize, random: &mut Random) -> Command {
     let (a, b, c) = (random.slot(), random.slot(), random.slot());
     let k = random.next() % 2;
     match kind {

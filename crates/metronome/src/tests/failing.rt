@@ -112,6 +112,7 @@ fn player_of(rt: &(impl Abort + AllocGlobal)) -> Result<Player, NoMemory> {
         slots: 4,
         statics: 1,
         identities: 2,
+        live: 2,
         ..Settings::DEFAULTS
     };
     let Ok(config) = Config::check(&settings) else {

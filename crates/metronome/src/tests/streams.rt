@@ -1,4 +1,6 @@
 //! Readers and writers that fail: the text and the status, and what was written before.
+ghost use Rattle.std.specs.Prelude.{◌≤◌};
+
 use super::*;
 use std::alloc::Global;
 use std::io::{Read, Write};
@@ -76,77 +78,56 @@ impl Opener for TornTexts {
     }
 }
 
-/// A run whose output has room for so many bytes, and what stands there.
-#[derive(Clone, Copy)]
-struct Short {
-    words: &'static [&'static str],
-    text: &'static str,
-    room: usize,
-    output: &'static str,
+/// A run whose output is too short: its first word, and the text that it reads.
+type Short = (&'static str, &'static str);
+
+const REPLIES: Short = ("play", "0 new 0 plain 0 0\n0 describe 0\n");
+
+const WRONG_REPLY: Short = ("check", "0 new 0 plain 0 0 => made 2\n");
+
+const ENTRIES: Short = ("threads", "0 new 0 plain 0 0\n0 describe 0\n");
+
+const REPORT: Short = ("inspect", "");
+
+const WINDOWS: Short = ("mmu", "");
+
+const HELP: Short = ("--help", "");
+
+/// How many words the run has.
+fn count_of(word: &str) -> usize
+    ensures { result ≤ 6 }
+{
+    if word == "--help" {
+        2
+    } else if word == "mmu" {
+        6
+    } else {
+        4
+    }
 }
 
-const REPLIES: Short = Short {
-    words: &["metronome", "play", "config", "text"],
-    text: "0 new 0 plain 0 0\n0 describe 0\n",
-    room: 0,
-    output: "",
-};
-
-const WRONG_REPLY: Short = Short {
-    words: &["metronome", "check", "config", "text"],
-    text: "0 new 0 plain 0 0 => made 2\n",
-    room: 0,
-    output: "",
-};
-
-const ENTRIES: Short = Short {
-    words: &["metronome", "threads", "config", "text"],
-    text: "0 new 0 plain 0 0\n0 describe 0\n",
-    room: 0,
-    output: "",
-};
-
-const REPORT: Short = Short {
-    words: &["metronome", "inspect", "config", "text"],
-    text: "",
-    room: 0,
-    output: "",
-};
-
-const WINDOWS: Short = Short {
-    words: &["metronome", "mmu", "config", "text", "22", "15"],
-    text: "",
-    room: 0,
-    output: "",
-};
-
-const HELP: Short = Short {
-    words: &["metronome", "--help"],
-    text: "",
-    room: 0,
-    output: "",
-};
-
-/// Makes a run whose output is too short.
-fn expect_short<T: Threads + Wait + Sync + Abort + AllocGlobal>(rt: &T, short: &Short) {
+/// Makes a run whose output has room for just what stands there afterwards.
+fn expect_short<T: Threads + Wait + Sync + Abort + AllocGlobal>(rt: &T, short: Short, kept: &str) {
+    let (word, text) = short;
     let alloc = rt.alloc();
     let texts = Texts {
         config: FOUR_PAGES,
-        text: short.text,
+        text,
     };
-    let mut output = Narrow::new(alloc, short.room);
+    let words = ["metronome", word, "config", "text", "22", "15"];
+    let mut output = Narrow::new(alloc, kept.len());
     let mut errors = Vec::new(alloc);
-    let input = short.text.as_bytes();
+    let input = text.as_bytes();
     let status = run(
         rt,
         alloc,
-        short.words,
+        &words[..count_of(word)],
         &texts,
         input,
         &mut output,
         &mut errors,
     );
-    assert_eq!(rt; output.bytes(), short.output.as_bytes());
+    assert_eq!(rt; output.bytes(), kept.as_bytes());
     assert_eq!(rt; errors.as_slice(), b"metronome: cannot write\n".as_slice());
     assert_eq!(rt; status, 5);
 }
@@ -154,7 +135,7 @@ fn expect_short<T: Threads + Wait + Sync + Abort + AllocGlobal>(rt: &T, short: &
 #[test]
 fn a_first_write_fails(rt: HostRuntime) {
     for short in [REPLIES, WRONG_REPLY, ENTRIES, REPORT, WINDOWS, HELP] {
-        expect_short(&rt, &short);
+        expect_short(&rt, short, "");
     }
 }
 
@@ -168,16 +149,8 @@ fn a_later_write_fails(rt: HostRuntime) {
         (REPORT, "phase idle\nunits 0\n"),
         (WINDOWS, "window 22 none\n"),
     ];
-    for (short, output) in rows {
-        let room = output.len();
-        expect_short(
-            &rt,
-            &Short {
-                room,
-                output,
-                ..short
-            },
-        );
+    for (short, kept) in rows {
+        expect_short(&rt, short, kept);
     }
 }
 
@@ -193,14 +166,13 @@ fn expect_torn<T: Threads + Wait + Sync + Abort + AllocGlobal>(
     let config = FOUR_PAGES;
     let texts = Texts { config, text };
     let files = TornTexts { texts, broken };
-    let words = ["metronome", word, "config", "text", "22"];
-    let count = if word == "mmu" { 5 } else { 4 };
+    let words = ["metronome", word, "config", "text", "22", "15"];
     let mut output = Vec::new(alloc);
     let mut errors = Vec::new(alloc);
     let status = run(
         rt,
         alloc,
-        &words[..count],
+        &words[..count_of(word)],
         &files,
         text.as_bytes(),
         &mut output,

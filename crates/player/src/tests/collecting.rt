@@ -71,6 +71,15 @@ fn what_is_overwritten_in_a_root_is_kept(rt: HostRuntime) -> Result<(), Fail> {
 }
 
 #[test]
+fn what_a_mutator_leaves_is_kept_till_the_next_cycle(rt: HostRuntime) -> Result<(), Fail> {
+    let trace = "version 2\n1 new 100 plain 0 1\nbegin\nquantum 300\n1 leave\nquantum 1000\n";
+    expect_units(&rt, &MANY_SLOTS, trace, "made 1\ndone\n", 929)?;
+    let longer =
+        "version 2\n1 new 100 plain 0 1\nbegin\nquantum 300\n1 leave\nquantum 1000\nbegin\nquantum 1000\n";
+    expect_units(&rt, &MANY_SLOTS, longer, "made 1\ndone\n", 928)
+}
+
+#[test]
 fn a_ring_goes_when_its_roots_are_gone(rt: HostRuntime) -> Result<(), Fail> {
     let ring = "0 new 0 plain 1 0\n0 new 1 plain 1 0\n0 store 0 0 1\n0 store 1 0 0\n";
     let written = "made 1\nmade 2\ndone\ndone\ndone\ndone\n";

@@ -14,7 +14,7 @@ use Rattle.heap_server.proofs.Fronted.{has_fronts, fronts_merge}
 use Rattle.heap_server.proofs.play.settled.Goals as goal
 
 pub count_calls-requires-clause-count : goal.count_calls-requires-clause-count
-count_calls-requires-clause-count g c = omega (arith, ap length c.as_slice.ensures.value, seats_count c.args.seats.items g.N.Naming.settings.limits.mutators c.requires.1.1.1.0.all, c.requires.1.1.0)
+count_calls-requires-clause-count g c = omega (arith, ap length c.as_slice.ensures.value, seats_count c.args.seats.items g.N.Naming.names.settings.limits.mutators c.requires.1.1.1.0.all, c.requires.1.1.0)
 
 pub is_whole-whole-requires : goal.is_whole-whole-requires
 is_whole-whole-requires g c = omega (arith, c.count_calls.ensures.len, c.as_slice-2.ensures.len)
@@ -22,16 +22,13 @@ is_whole-whole-requires g c = omega (arith, c.count_calls.ensures.len, c.as_slic
 pub close-recorded-requires : goal.close-recorded-requires
 close-recorded-requires g c = subst (λ (ms : List ℕ). IsPermutation (mutators_of c.args.seats.items) ms) c.requires.1.1.1.0.all (IsPermutation-refl (mutators_of c.args.seats.items))
 
-at_same : (P : ℕ → ℕ → Type 0) {a b c d : ℕ} → a ≡ c → b ≡ d → P c d → P a b
-at_same P {a = a} {d = d} first second held = subst (λ n. P a n) (sym second) (subst (λ n. P n d) (sym first) held)
-
 pub returns : goal.returns
 returns g c =
     let scripts = map (λ s. s.items) c.args.scripts.now in
     let k = length scripts in
     let seats = c.args.seats.items in
     let calls = λ (s : SeatView). s.calls in
-    let n = g.N.Naming.settings.limits.mutators in
+    let n = g.N.Naming.names.settings.limits.mutators in
     let h = c.close-recorded.result.0.course.history in
     let done = c.count_calls.new.done.items in
     let long : k ≡ length c.args.scripts.now = length-map c.args.scripts.now (λ s. s.items) in
@@ -50,8 +47,8 @@ returns g c =
       counted = counted ∙ (sym (sum-map calls (take k seats)) ∙ ap sum (sym counts));
       within = subst (λ (w : List ℕ). AllZip (λ n most. n ≤ most) w (map length scripts)) (sym counts) (played_within (take k seats) scripts played.played);
       fronts = fronts;
-      led = at_same (λ n m. IsLed c.close-recorded.result.0.course n m) c.new.ensures.0 c.new.ensures.1 (subst (λ (p : PacerView). IsLed c.close-recorded.result.0.course p.begun p.spent) c.requires.1.0 c.close-recorded.ensures.led);
-      collected = at_same (λ n m. IsCollected c.args.budgets.now c.args.used n m) c.new.ensures.0 c.new.ensures.1 c.requires.1.1.1.1.0;
+      led = subst (λ (p : PacerView). IsLed c.close-recorded.result.0.course p.begun p.quanta p.spent) (c.requires.1.0 ∙ sym c.new.ensures) c.close-recorded.ensures.led;
+      collected = subst (IsCollected c.args.budgets.now c.args.used) (sym c.new.ensures) c.requires.1.1.1.1.0;
       all = (λ yes. (let b = both.0 yes in (b.0, sym value ∙ whole.0 b.1 ∙ lengths, b.2)), λ b. both.1 (b.0, whole.1 (value ∙ (b.1 ∙ sym lengths)), b.2));
       merge = λ yes. (let b = both.0 yes in fronts_merge h scripts done (fronts b.0) (sym value ∙ whole.0 b.1 ∙ lengths));
     }

@@ -12,11 +12,13 @@ returns-in_default g c =
     let err = c.in_default.ensures in
     let lt = c.loop-budget-test.true in
     let begun : c.quantum.new.pacer.begun ≡ c.begin-on.new.pacer.begun = ap (λ p. p.begun) err.err in
+    let quanta : c.quantum.new.pacer.quanta ≡ c.begin-on.new.pacer.quanta = ap (λ p. p.quanta) err.err in
     let spent : c.quantum.new.pacer.spent ≡ c.begin-on.new.pacer.spent = ap (λ p. p.spent) err.err in
     record {
       within = omega (arith, i.used, lt);
       allowed = i.allowed;
       stops = λ short allowed. let no = err.range.1 (subst (λ (n : ℕ). IsBudget (slice_index c.args.budgets.now n)) i.used allowed) in cc;
+      done = omega (arith, quanta, on.quanta, i.done);
       begun = omega (arith, begun, on.begun, i.begun, i.used, lt);
       least = omega (arith, spent, on.spent, i.least);
       most = omega (arith, spent, on.spent, i.most);
@@ -35,6 +37,7 @@ loop-budget-preserved g c =
     record {
       used = omega (arith, i.used);
       allowed = All-more IsBudget c.args.budgets.now c.loop-budget.used 0 at i.allowed (subst (λ (n : ℕ). IsBudget (slice_index c.args.budgets.now n)) (sym i.used) (ok.range.0 refl));
+      done = omega (arith, spends.3, i.done);
       begun = omega (arith, spends.0, i.begun);
       least = omega (arith, spends.1, i.least);
       most = omega (arith, spends.2, i.most, more, same);

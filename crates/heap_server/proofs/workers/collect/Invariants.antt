@@ -8,6 +8,7 @@ abbrev pub invariant-loop-budget : goal.invariant-loop-budget
 invariant-loop-budget g l = record {
   used : l.used ≡ l.budget-index;
   allowed : All IsBudget (take l.used l.budgets);
+  done : l.pacer.quanta ≡ l.used;
   begun : l.pacer.begun ≤ l.used;
   least : l.used ≤ l.pacer.spent;
   most : l.pacer.spent ≤ sum (take l.used l.budgets);

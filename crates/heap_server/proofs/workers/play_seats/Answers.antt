@@ -9,11 +9,11 @@ use Rattle.heap_server.proofs.workers.play_seats.Goals as goal
 pub play_scripts-requires-clause-fresh : goal.play_scripts-requires-clause-fresh
 play_scripts-requires-clause-fresh g c κs within =
     let split = c.split_at_mut-playing in
-    first_fresh g.N.Naming.settings.limits.mutators split.result.0.now split.result.1.now (sym split.ensures.value ∙ (c.as_mut_slice.ensures.value ∙ c.requires.new))
+    first_fresh g.N.Naming.names.settings.limits.mutators split.result.0.now split.result.1.now (sym split.ensures.value ∙ (c.as_mut_slice.ensures.value ∙ c.requires.new))
 
 pub returns : goal.returns
 returns g c =
-    let n = g.N.Naming.settings.limits.mutators in
+    let n = g.N.Naming.names.settings.limits.mutators in
     let split = c.split_at_mut-playing in
     let front = split.result.0.now in
     let rest = split.result.1.now in

@@ -1,25 +1,25 @@
-use Rattle.std.proofs.Common.{List, ℕ, [], ◌∷◌, ◌++◌, ap, ◌∙◌, subst}
-use Rattle.trace.specs.Streams.{GrowsByPart}
+use Rattle.std.proofs.Common.{◌++◌, append_assoc, ap, ◌∙◌}
 use Rattle.player.specs.declared.style.Style.TheVariants.{Entries}
-use Rattle.player.specs.Playing.{written_line}
-use Rattle.metronome.proofs.Writing.{with_next, with_part, at_end}
-use Rattle.inspector.proofs.Parts.{at_err}
+use Rattle.player.specs.Playing.{written_of, written_version}
+use Rattle.inspector.proofs.Parts.{part_first, part_after, at_err, err_so}
+use Rattle.metronome.proofs.Finishing.{ok_so}
 use Rattle.metronome.proofs.jobs.write_history.Goals as goal
 
-pub returns-in_err-end_line-clause-err : goal.returns-in_err-end_line-clause-err
-returns-in_err-end_line-clause-err g c =
-    let old = g.K.Sink.taken c.args.sink.now in
-    let mid = g.K.Sink.taken c.loop-entry.sink in
-    let new = g.K.Sink.taken c.end_line.new.sink in
-    let Part : List ℕ → Type 0 = λ line. GrowsByPart mid new (line ++ 10 ∷ []) in
+pub returns-in_err-write_version-clause-err : goal.returns-in_err-write_version-clause-err
+returns-in_err-write_version-clause-err g c =
     at_err c.from_residual.result _
-    (with_part (written_line Entries) old mid new c.args.history.now c.loop-entry.entry-index _ c.loop-entry-test.true c.loop-entry.invariant (subst Part c.write_entry-end.ensures.text c.in_err-end_line.ensures.err))
-
-pub loop-entry-preserved : goal.loop-entry-preserved
-loop-entry-preserved g c =
-    let mid = g.K.Sink.taken c.loop-entry.sink in
-    with_next (written_line Entries) (g.K.Sink.taken c.args.sink.now) mid (g.K.Sink.taken c.end_line.new.sink) c.args.history.now c.loop-entry.entry-index _ c.loop-entry-test.true c.loop-entry.invariant
-    (c.in_ok-end_line.ensures.ok ∙ ap (λ t. mid ++ (t ++ 10 ∷ [])) c.write_entry-end.ensures.text)
+    (part_first (g.K.Sink.taken c.args.sink.now) (g.K.Sink.taken c.write_version.new.sink) (written_version c.args.version Entries) (written_of Entries c.args.history.now) c.in_err-write_version.ensures.err)
 
 pub returns-clause-ok : goal.returns-clause-ok
-returns-clause-ok g c = at_end (written_line Entries) (g.K.Sink.taken c.args.sink.now) (g.K.Sink.taken c.loop-entry.sink) c.args.history.now c.loop-entry.entry-index c.loop-entry-test.false c.loop-entry.invariant
+returns-clause-ok g c =
+    let old = g.K.Sink.taken c.args.sink.now in
+    let told = written_version c.args.version Entries in
+    let entries = written_of Entries c.args.history.now in
+    ok_so c.write_entries.result _ _ (λ e. e ∙ ap (λ t. t ++ entries) c.in_ok-write_version.ensures.ok ∙ append_assoc old told entries) c.write_entries.ensures.ok
+
+pub returns-clause-err : goal.returns-clause-err
+returns-clause-err g c =
+    let old = g.K.Sink.taken c.args.sink.now in
+    let mid = g.K.Sink.taken c.write_version.new.sink in
+    let new = g.K.Sink.taken c.write_entries.new.sink in
+    err_so c.write_entries.result _ _ (part_after old mid new (written_version c.args.version Entries) (written_of Entries c.args.history.now) c.in_ok-write_version.ensures.ok) c.write_entries.ensures.err

@@ -1,7 +1,7 @@
 use Rattle.std.proofs.Common.{◌≡◌, ◌++◌, true, false, inl, inr, append-nil, arith, sym, ap, ◌∙◌, refl, Err}
 use Rattle.std.proofs.lemmas.Result.{err_from_is_err_and}
 use Rattle.trace.proofs.GoingOver.{stays_same, stays_on, at_first, goes_on, ends_without, ends_over, ends_at}
-use Rattle.player.specs.Playing.{stage, is_event, PlaysText, StopsText}
+use Rattle.player.specs.Playing.{stage, TellsVersionOf, is_event, PlaysText, StopsText}
 use Rattle.player.proofs.Lines.{ends_so}
 use Rattle.player.proofs.Closing.{either, cut_after, moved}
 use Rattle.player.proofs.First.{first_done, count_more}
@@ -10,7 +10,7 @@ use Rattle.player.proofs.playing.play_first_lines.Goals as goal
 pub loop-left-init : goal.loop-left-init
 loop-left-init g c = rw (c.new-reader.ensures, c.requires, append-nil (g.K.Sink.taken c.args.sink.now)) (record {
   grows = omega arith;
-  done = at_first (PlaysText c.args.style) (g.S.Source.given c.args.source.now) (g.S.Source.ended c.args.source.now) (stage c.args.player.now (g.K.Sink.taken c.args.sink.now));
+  done = at_first (TellsVersionOf c.args.style) (PlaysText c.args.style) (g.S.Source.given c.args.source.now) (g.S.Source.ended c.args.source.now) (stage c.args.player.now (g.K.Sink.taken c.args.sink.now));
   few = omega arith;
   at_end = λ _. inl refl;
   none = λ _. refl;
@@ -33,7 +33,7 @@ returns-in_err-next_line_once_written-clause-played g c =
     (λ is. let w = e.part (ap Err is) in
     let s = e.stays (ap Err is) in
     rw is (rw (s.1, w.1, append-nil (g.K.Sink.taken new.sink))
-    (inl (cut_after c.args.style _ old c.loop-left.player (g.K.Sink.taken c.loop-left.sink) c.loop-left.waiting c.loop-left.reader i.done (g.K.Sink.taken new.sink) i.grows w.0, omega (arith, i.few, c.loop-left-test.true))))))
+    (inl (cut_after c.args.style _ old c.loop-left.player (g.K.Sink.taken c.loop-left.sink) c.loop-left.waiting c.loop-left.reader c.loop-left.version i.done (g.K.Sink.taken new.sink) i.grows w.0, omega (arith, i.few, c.loop-left-test.true))))))
 
 pub returns-in_err-play_line-clause-played : goal.returns-in_err-play_line-clause-played
 returns-in_err-play_line-clause-played g c =
@@ -60,7 +60,7 @@ loop-left-preserved-then-branch-2 g c =
     let so = moved c.args.style _ (g.K.Sink.taken new.sink ++ new.waiting) i.done (e.whole refl) in
     let event : true ≡ is_event c.next_line_once_written.new.self.line = sym c.if-branch-2.true ∙ (d.played (g.K.Sink.taken c.next_line_once_written.new.sink)).2 ∙ ap is_event c.line.ensures in
     record {
-      done = goes_on so new.self _ _ _ (record { text = e.text; says = e.says refl; number = e.number; small = e.small refl }) c.if-branch.true _ c.line.ensures _ (d.played (g.K.Sink.taken new.sink)).0 (d.played (g.K.Sink.taken new.sink)).1;
+      done = goes_on so new.self _ _ _ (record { text = e.text; says = e.says refl; number = e.number; small = e.small refl }) c.if-branch.true _ c.line.ensures _ _ (d.played (g.K.Sink.taken new.sink)).0 _ c.number.ensures (d.played (g.K.Sink.taken new.sink)).1;
       few = omega (arith, count_more so.lines c.next_line_once_written.new.self.line true event, i.few, c.loop-left-test.true);
       at_end = λ _. inr (so.lines, c.next_line_once_written.new.self.line, refl, sym event);
       none = λ zero. absurd (omega (arith, zero, i.few, c.loop-left-test.true));
@@ -81,7 +81,7 @@ loop-left-preserved g c =
     let so = moved c.args.style _ (g.K.Sink.taken new.sink ++ new.waiting) i.done (e.whole refl) in
     let skipped : false ≡ is_event c.next_line_once_written.new.self.line = sym c.if-branch-2.false ∙ (d.played (g.K.Sink.taken c.next_line_once_written.new.sink)).2 ∙ ap is_event c.line.ensures in
     record {
-      done = goes_on so new.self _ _ _ (record { text = e.text; says = e.says refl; number = e.number; small = e.small refl }) c.if-branch.true _ c.line.ensures _ (d.played (g.K.Sink.taken new.sink)).0 (d.played (g.K.Sink.taken new.sink)).1;
+      done = goes_on so new.self _ _ _ (record { text = e.text; says = e.says refl; number = e.number; small = e.small refl }) c.if-branch.true _ c.line.ensures _ _ (d.played (g.K.Sink.taken new.sink)).0 _ c.number.ensures (d.played (g.K.Sink.taken new.sink)).1;
       few = omega (arith, count_more so.lines c.next_line_once_written.new.self.line false skipped, i.few);
       at_end = λ none. absurd (omega (arith, none, c.loop-left-test.true));
       none = λ zero. absurd (omega (arith, zero, i.few, c.loop-left-test.true));

@@ -2,13 +2,13 @@ use Rattle.std.proofs.Common.{◌≡◌, ◌+◌, ◌-◌, ◌≤◌, ◌^◌, �
 use Rattle.std.specs.List.{count_by}
 use Rattle.trace.specs.Streams.{given_by, Stays}
 use Rattle.trace.proofs.GoingOver.{SoFar}
-use Rattle.player.specs.Playing.{stage, PlaysText, is_event, EndAtEvent}
+use Rattle.player.specs.Playing.{stage, TellsVersionOf, PlaysText, is_event, EndAtEvent}
 use Rattle.player.proofs.playing.play_first_lines.Given as goal
 
 -- the lines so far are done, none of them after the nth event, and no read or write has failed
 abbrev pub invariant-loop-left : goal.invariant-loop-left
 invariant-loop-left g l = record {
-  done : SoFar (PlaysText l.style) (given_by g.S.Source.given g.S.Source.ended l.fn.source l.source) (stage l.fn.player (g.K.Sink.taken l.fn.sink)) (stage l.player (g.K.Sink.taken l.sink ++ l.waiting)) l.reader;
+  done : SoFar (TellsVersionOf l.style) (PlaysText l.style) (given_by g.S.Source.given g.S.Source.ended l.fn.source l.source) (stage l.fn.player (g.K.Sink.taken l.fn.sink)) (stage l.player (g.K.Sink.taken l.sink ++ l.waiting)) l.reader l.version;
   grows : length (g.K.Sink.taken l.fn.sink) ≤ length (g.K.Sink.taken l.sink);
   few : l.left + count_by is_event done.lines ≡ l.n;
   at_end : l.left ≡ 0 → EndAtEvent done.lines;

@@ -2,7 +2,7 @@ use Rattle.trace.proofs.ReadEntries.{read_found, read_only}
 use Rattle.trace.proofs.entry.read_entry.Goals as goal
 
 pub returns-clause-found : goal.returns-clause-found
-returns-clause-found c = read_found c.args.bytes.now c.meaning.result c.meaning.ensures
+returns-clause-found c = read_found c.args.version c.args.bytes.now c.meaning.result c.meaning.ensures
 
 pub returns-clause-only : goal.returns-clause-only
-returns-clause-only c = read_only c.args.bytes.now c.meaning.result c.meaning.ensures
+returns-clause-only c = read_only c.args.version c.args.bytes.now c.meaning.result c.meaning.ensures

@@ -3,13 +3,13 @@ use Rattle.std.proofs.lemmas.Result.{err_from_is_err_and}
 use Rattle.std.proofs.lemmas.List.{length_push}
 use Rattle.trace.proofs.GoingOver.{stays_same, stays_on, one_line, at_first, goes_on, ends_without, ends_over, ends_in, ends_at}
 use Rattle.transcripts.specs.declared.histories.Checked.{Checked}
-use Rattle.transcripts.specs.Histories.{DoesEntry, HistoryStops, IsWrong}
+use Rattle.transcripts.specs.Histories.{DoesNothing, DoesEntry, HistoryStops, IsWrong}
 use Rattle.transcripts.proofs.Checking.{checked}
 use Rattle.transcripts.proofs.histories.check_entries.Goals as goal
 
 pub loop-reader-init : goal.loop-reader-init
 loop-reader-init g c = rw c.new-reader.ensures (record {
-  done = at_first DoesEntry (g.S.Source.given c.args.source.now) (g.S.Source.ended c.args.source.now) c.args.reference.now;
+  done = at_first DoesNothing DoesEntry (g.S.Source.given c.args.source.now) (g.S.Source.ended c.args.source.now) c.args.reference.now;
   good = refl;
   few = omega arith;
   behind = omega arith;
@@ -43,7 +43,7 @@ loop-reader-preserved-in-Skipped g c =
     let e = c.in_ok-next_line.ensures in
     let i = c.loop-reader.invariant in
     record {
-      done = goes_on i.done c.next_line.new.self _ _ _ (record { text = e.text; says = e.says; number = e.number; small = e.small }) c.if-branch.true _ c.line.ensures _ [] (rw c.in-Skipped.is at c.in_ok-check_line.ensures);
+      done = goes_on i.done c.next_line.new.self _ _ _ (record { text = e.text; says = e.says; number = e.number; small = e.small }) c.if-branch.true _ c.line.ensures _ _ [] _ c.number.ensures (rw c.in-Skipped.is at c.in_ok-check_line.ensures);
       good = i.good ∙ ap length (sym (append-nil i.done.events));
       few = omega (arith, e.number, i.few);
       behind = e.behind;
@@ -58,7 +58,7 @@ loop-reader-preserved g c =
     let does = rw c.in-Done.is at c.in_ok-check_line.ensures in
     let more = one_line c.loop-reader.reader.number c.next_line.new.self c.in_ok-next_line.field-0 c.if-branch.true e.number in
     record {
-      done = goes_on i.done c.next_line.new.self _ _ _ (record { text = e.text; says = e.says; number = e.number; small = e.small }) c.if-branch.true _ c.line.ensures _ (does.0 ∷ []) does.1;
+      done = goes_on i.done c.next_line.new.self _ _ _ (record { text = e.text; says = e.says; number = e.number; small = e.small }) c.if-branch.true _ c.line.ensures _ _ (does.0 ∷ []) _ c.number.ensures does.1;
       good = ap (λ n. n + 1) i.good ∙ sym (length_push i.done.events does.0);
       few = omega (arith, more, i.few);
       behind = e.behind;
@@ -72,4 +72,4 @@ returns-in-Wrong-clause-checked g c =
     let i = c.loop-reader.invariant in
     let wrong = rw c.in-Wrong.is at c.in_ok-check_line.ensures in
     checked _ _ _ _
-    (ends_in i.done c.next_line.new.self _ _ _ (record { text = e.text; says = e.says; number = e.number; small = e.small }) c.if-branch.true _ c.line.ensures (IsWrong c.loop-reader.reference) wrong.0 _ (λ count rest next. (c.number-in-Wrong.ensures ∙ count, next, wrong.1)))
+    (ends_in i.done c.next_line.new.self _ _ _ (record { text = e.text; says = e.says; number = e.number; small = e.small }) c.if-branch.true _ c.line.ensures (IsWrong c.loop-reader.version c.loop-reader.reference) wrong.0 _ (λ count rest next. (c.number-in-Wrong.ensures ∙ count, next, wrong.1)))

@@ -1,13 +1,13 @@
 use Rattle.std.proofs.Common.{◌≡◌, ◌+◌, ◌-◌, ◌≤◌, ◌^◌, length}
 use Rattle.trace.specs.Streams.{given_by, Stays}
 use Rattle.trace.proofs.GoingOver.{SoFar}
-use Rattle.transcripts.specs.Histories.{DoesEntry}
+use Rattle.transcripts.specs.Histories.{DoesNothing, DoesEntry}
 use Rattle.transcripts.proofs.histories.check_entries.Given as goal
 
 -- the entries of the lines so far are done, and no read has failed
 abbrev pub invariant-loop-reader : goal.invariant-loop-reader
 invariant-loop-reader g l = record {
-  done : SoFar DoesEntry (given_by g.S.Source.given g.S.Source.ended l.fn.source l.source) l.fn.reference l.reference l.reader;
+  done : SoFar DoesNothing DoesEntry (given_by g.S.Source.given g.S.Source.ended l.fn.source l.source) l.fn.reference l.reference l.reader l.version;
   good : l.good ≡ length done.events;
   few : l.good ≤ l.reader.number;
   behind : l.reader.number + length l.reader.kept ≤ length (g.S.Source.given l.source);

@@ -1,8 +1,8 @@
-use Rattle.std.proofs.Common.{[], ◌∷◌, inl, inr, arith, ap, ◌∙◌, sym, subst, refl}
+use Rattle.std.proofs.Common.{inl, inr, arith, ◌∙◌, subst, refl}
 use Rattle.std.proofs.lemmas.Result.{err_from_is_err_and}
 use Rattle.trace.proofs.GoingOver.{stays_same, stays_on, at_first, goes_on, ends_without, ends_over, ends_at}
-use Rattle.transcripts.specs.Scripts.{DoesScript, IsOfScripts, ScriptStops, with_line}
-use Rattle.transcripts.proofs.Listing.{empty_scripts, scripts_more, Scripts}
+use Rattle.transcripts.specs.Scripts.{ReadScripts, AsksNothing, DoesScript, ScriptStops}
+use Rattle.transcripts.proofs.Listing.{empty_scripts, line_goes}
 use Rattle.transcripts.proofs.scripts.read_scripts.Goals as goal
 
 pub returns-in_err-scripts-clause-read : goal.returns-in_err-scripts-clause-read
@@ -12,7 +12,7 @@ returns-in_err-scripts-clause-read g c =
 
 pub loop-scripts-init : goal.loop-scripts-init
 loop-scripts-init g c = rw c.new-reader.ensures (record {
-  done = at_first (DoesScript c.args.limits.now.mutators) (g.S.Source.given c.args.source.now) (g.S.Source.ended c.args.source.now) tt;
+  done = at_first AsksNothing (DoesScript c.args.limits.now.mutators) (g.S.Source.given c.args.source.now) (g.S.Source.ended c.args.source.now) tt;
   are = c.in_ok-scripts.ensures.lists ∙ empty_scripts c.args.limits.now.mutators;
   len = c.in_ok-scripts.ensures.len;
   behind = omega arith;
@@ -25,7 +25,7 @@ returns-in_err-next_line-clause-read g c =
     let p = err_from_is_err_and c.from_residual-in_err-next_line.result c.from_residual-in_err-next_line.ensures.1 in
     let e = c.in_err-next_line.ensures in
     rw (p.1, p.2) (inr (record {
-      over = ends_without c.loop-scripts.invariant.done c.next_line.new.self _ _ Scripts (ScriptStops c.args.limits.now.mutators) _ (record { text = e.text; says = e.says; number = e.number; small = e.small });
+      over = ends_without c.loop-scripts.invariant.done c.next_line.new.self _ _ ReadScripts (ScriptStops c.args.limits.now.mutators) _ (record { text = e.text; says = e.says; number = e.number; small = e.small });
       are = tt;
     }))
 
@@ -34,11 +34,10 @@ loop-scripts-preserved g c =
     let e = c.in_ok-next_line.ensures in
     let d = c.in_ok-add_line.ensures in
     let i = c.loop-scripts.invariant in
-    let line = d.done.0 in
-    let below = subst (λ n. IsOfScripts n line) i.len d.done.1.1 in
+    let went = line_goes c.number.result c.line.result.now c.loop-scripts.version _ c.args.limits.now.mutators c.loop-scripts.scripts c.add_line.new.scripts i.len d.done in
     record {
-      done = goes_on i.done c.next_line.new.self _ _ _ (record { text = e.text; says = e.says; number = e.number; small = e.small }) c.if-branch.true _ c.line.ensures tt (line ∷ []) (d.done.1.0, below);
-      are = d.done.2 ∙ ap (λ s. with_line s line) i.are ∙ sym (scripts_more c.args.limits.now.mutators i.done.events line below);
+      done = goes_on i.done c.next_line.new.self _ _ _ (record { text = e.text; says = e.says; number = e.number; small = e.small }) c.if-branch.true _ c.line.ensures tt _ went.0 _ c.number.ensures went.1;
+      are = went.2 i.done.events i.are;
       len = omega (arith, d.len, i.len);
       behind = e.behind;
       reads = omega (arith, e.cause, i.reads);
@@ -50,9 +49,9 @@ returns-in_err-add_line-clause-read g c =
     let e = c.in_ok-next_line.ensures in
     let i = c.loop-scripts.invariant in
     let p = err_from_is_err_and c.from_residual-in_err-add_line.result c.from_residual-in_err-add_line.ensures.1 in
-    let stops = subst (λ n. ScriptStops n c.in_err-add_line.field-0.0 c.line.result.now c.number.result tt tt) i.len c.in_err-add_line.ensures.done in
+    let stops = subst (λ n. ScriptStops n c.loop-scripts.version c.in_err-add_line.field-0.0 c.line.result.now c.number.result tt tt) i.len c.in_err-add_line.ensures.done in
     rw (p.1, p.2) (inr (record {
-      over = ends_at i.done c.next_line.new.self _ _ _ (record { text = e.text; says = e.says; number = e.number; small = e.small }) c.if-branch.true _ c.line.ensures Scripts (ScriptStops c.args.limits.now.mutators) _ _ tt c.number.ensures stops;
+      over = ends_at i.done c.next_line.new.self _ _ _ (record { text = e.text; says = e.says; number = e.number; small = e.small }) c.if-branch.true _ c.line.ensures ReadScripts (ScriptStops c.args.limits.now.mutators) _ _ tt c.number.ensures stops;
       are = tt;
     }))
 
@@ -62,7 +61,7 @@ returns-clause-read g c =
     let i = c.loop-scripts.invariant in
     inr (record {
       over = ends_over i.done c.next_line.new.self _ _ _ (record { text = e.text; says = e.says; number = e.number; small = e.small }) c.if-branch.false _ (λ rest all. (all.0, all.1, refl));
-      are = i.are;
+      are = (refl, i.are);
     })
 
 pub returns-clause-len : goal.returns-clause-len

@@ -10,7 +10,7 @@ use Rattle.heap_server.proofs.locked.Locked.quantum.Goals as goal
 
 pub overflow_sub-on : goal.overflow_sub-on
 overflow_sub-on g c =
-    let fall = cycles_fall _ _ _ _ _ (led_course _ _ _ c.self.invariant.0.led) c.in_ok-spent.ensures.does in
+    let fall = cycles_fall _ _ _ _ _ (led_course _ _ _ _ c.self.invariant.0.led) c.in_ok-spent.ensures.does in
     let before : c.cycles_on-on.result ≡ cycles_on c.self.inside.recorded.course.heap.phase = c.cycles_on-on.ensures ∙ ap cycles_on (c.phase.ensures.phase ∙ ap (λ (h : HeapState). h.phase) c.heap.ensures.heap) in
     let after = c.cycles_on.ensures in
     omega arith
@@ -20,7 +20,7 @@ invariant_of-self-2 g c =
     let before : c.cycles_on-on.result ≡ cycles_on c.self.inside.recorded.course.heap.phase = c.cycles_on-on.ensures ∙ ap cycles_on (c.phase.ensures.phase ∙ ap (λ (h : HeapState). h.phase) c.heap.ensures.heap) in
     let after = c.cycles_on.ensures in
     let d = c.in_ok-spent.ensures.does in
-    (quantum_kept _ _ _ _ _ _ c.self.invariant.0 d refl c.audit.ensures.total (omega (arith, before, after, c.add-2.ensures.total, c.audit-2.ensures.total)) (omega (arith, c.add.ensures.total, c.audit-3.ensures.total, c.from.ensures)), c.self.invariant.1 ∙ sym d.history, omega (arith, c.self.invariant.2, c.quantum.ensures.room))
+    (quantum_kept _ _ _ _ _ _ c.self.invariant.0 d refl c.audit.ensures.total (omega (arith, before, after, c.add-3.ensures.total, c.audit-2.ensures.total)) (omega (arith, c.add.ensures.total, c.audit-3.ensures.total)) (omega (arith, c.add-2.ensures.total, c.audit-4.ensures.total, c.from.ensures)), c.self.invariant.1 ∙ sym d.history, omega (arith, c.self.invariant.2, c.quantum.ensures.room))
 
 pub returns-clause-paced : goal.returns-clause-paced
 returns-clause-paced g c =
@@ -28,9 +28,9 @@ returns-clause-paced g c =
     let after = c.cycles_on.ensures in
     let begun = c.audit.ensures.whole c.pacer.invariant.0 in
     let ended = c.audit-2.ensures.whole c.pacer.invariant.1 in
-    let new : PacerView = record { begun = c.audit.new.share.amount; ended = c.add-2.new.share.amount; spent = c.add.new.share.amount } in
+    let new : PacerView = record { begun = c.audit.new.share.amount; ended = c.add-3.new.share.amount; quanta = c.add.new.share.amount; spent = c.add-2.new.share.amount } in
     subst (λ (p : PacerView). IsPaced p c.args.budget c.in_ok-spent.spent new) c.pacer.view_is (
-    quantum_paced c.self.inside.recorded.course c.quantum.new.self.course c.args.budget c.in_ok-spent.spent _ new (led_course _ _ _ c.self.invariant.0.led) c.in_ok-spent.ensures.does c.in_ok-spent.ensures.ends
-    (omega (arith, begun, ended, c.self.invariant.0.cycles)) c.audit.ensures.amount (omega (arith, c.add.ensures.amount, c.audit-3.ensures.amount, c.from.ensures))
-    (omega (arith, before, after, c.add-2.ensures.amount, c.audit-2.ensures.amount))
+    quantum_paced c.self.inside.recorded.course c.quantum.new.self.course c.args.budget c.in_ok-spent.spent _ new (led_course _ _ _ _ c.self.invariant.0.led) c.in_ok-spent.ensures.does c.in_ok-spent.ensures.ends
+    (omega (arith, begun, ended, c.self.invariant.0.cycles)) c.audit.ensures.amount (omega (arith, c.add.ensures.amount, c.audit-3.ensures.amount)) (omega (arith, c.add-2.ensures.amount, c.audit-4.ensures.amount, c.from.ensures))
+    (omega (arith, before, after, c.add-3.ensures.amount, c.audit-2.ensures.amount))
     )

@@ -35,7 +35,7 @@ invariant_of-self-2 g c =
     let m = c.seat.inside.mutator in
     let made : Reply → Entry = λ reply. record { mutator = m; command = c.args.command; reply = reply } in
     let history = c.self.inside.recorded.course.history in (
-      call_kept _ _ _ _ _ _ c.self.invariant.0 d (c.add.ensures.total ∙ ap (λ (n : ℕ). n + 1) c.audit.ensures.total) refl refl refl,
+      call_kept _ _ _ _ _ _ c.self.invariant.0 d (c.add.ensures.total ∙ ap (λ (n : ℕ). n + 1) c.audit.ensures.total) refl refl refl refl,
       t.0 ∙ (ap (λ (w : List Entry). w ++ c.of-next.result ∷ []) c.self.invariant.1 ∙ (ap (λ (e : Entry). history ++ e ∷ []) (c.of-next.ensures ∙ ap made (sym d.replies)) ∙ sym d.history)),
       omega (arith, c.self.invariant.2, c.in-Ok.ensures.left),
     )
@@ -58,7 +58,7 @@ returns-clause-legal g c =
     let t = where_done _ _ _ _ (c.if-found-at.false ∙ sym len) c.commit-found.ensures.done in
     let kept = invariant_of-self-2 g c in
     let sound = kept.0.sound in
-    subst (λ (h : List Entry). IsLegal (opening g.N.Naming.settings.limits) h) (sym (t.1 ∙ kept.1)) (subst (λ (s : HeapSettings). IsLegal (opening s.limits) c.call.new.self.course.history) sound.settings_are sound.holds.legal)
+    subst (λ (h : List Entry). IsLegal (opening g.N.Naming.names.settings.limits) h) (sym (t.1 ∙ kept.1)) (subst (λ (s : HeapSettings). IsLegal (opening s.limits) c.call.new.self.course.history) sound.settings_are sound.holds.legal)
 
 -- an entry, by what it has
 entry_of : (e : Entry) (m : ℕ) (c : Command) → e.mutator ≡ m → e.command ≡ c → record { mutator = m; command = c; reply = e.reply } ≡ e

@@ -8,12 +8,12 @@ use Rattle.heap_server.proofs.Closing.{seats_in, known_all, known_grows, each_be
 use Rattle.heap_server.proofs.server.Server.close.Goals as goal
 
 pub gathered-requires : goal.gathered-requires
-gathered-requires g c = omega (arith, seats_in c.args.seats.items g.N.Naming.settings.limits.mutators c.requires, c.locked.invariant.0.some, c.args.seats.ok.0)
+gathered-requires g c = omega (arith, seats_in c.args.seats.items g.N.Naming.names.settings.limits.mutators c.requires, c.locked.invariant.0.some, c.args.seats.ok.0)
 
 pub returns-clause-counted : goal.returns-clause-counted
 returns-clause-counted g c =
-    let parts : c.gathered.result.parts ≡ g.N.Naming.settings.limits.mutators = omega (arith, c.gathered.ensures.parts, c.args.seats.ok.0, seats_in c.args.seats.items g.N.Naming.settings.limits.mutators c.requires) in
-    c.locked.invariant.0.counted ∙ (sym (c.audit-3.ensures.whole parts) ∙ c.gathered.ensures.amount)
+    let parts : c.gathered.result.parts ≡ g.N.Naming.names.settings.limits.mutators = omega (arith, c.gathered.ensures.parts, c.args.seats.ok.0, seats_in c.args.seats.items g.N.Naming.names.settings.limits.mutators c.requires) in
+    c.locked.invariant.0.counted ∙ (sym (c.audit-4.ensures.whole parts) ∙ c.gathered.ensures.amount)
 
 pub returns-clause-begins : goal.returns-clause-begins
 returns-clause-begins g c =
@@ -27,4 +27,4 @@ returns-clause-told g c = λ same.
     let known = known_all c.args.seats.items c.gathered.new.front c.gathered.ensures.known in
     let begins : IsPrefix h log = prefix_trans h c.gathered.new.front log (subst (λ (t : List Entry). IsPrefix t c.gathered.new.front) (c.again-seen.ensures ∙ c.locked.invariant.1) c.gathered.ensures.grows) c.observe-found.ensures.grows in
     let whole : h ≡ log = prefix_whole h log begins (omega (arith, same, c.observe-found.ensures.found)) in
-    counted_told c.args.seats.items h g.N.Naming.settings.limits.mutators (subst (λ (t : List Entry). All (IsKnown t) c.args.seats.items) (sym whole) (known_grows c.args.seats.items c.gathered.new.front log c.observe-found.ensures.grows known)) c.requires (returns-clause-counted g c)
+    counted_told c.args.seats.items h g.N.Naming.names.settings.limits.mutators (subst (λ (t : List Entry). All (IsKnown t) c.args.seats.items) (sym whole) (known_grows c.args.seats.items c.gathered.new.front log c.observe-found.ensures.grows known)) c.requires (returns-clause-counted g c)

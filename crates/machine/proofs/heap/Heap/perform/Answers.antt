@@ -1,4 +1,4 @@
-use Rattle.std.proofs.Common.{length, ap, ◌∙◌, sym, subst}
+use Rattle.std.proofs.Common.{sym, subst}
 use Rattle.heap_model.specs.State.{HeapState}
 use Rattle.machine.specs.Plan.{CanPerform, IsWriter}
 use Rattle.raw_heap.specs.Heap.{state_of}
@@ -13,7 +13,7 @@ do_write-requires-clause-mutator c = subst (λ (x : HeapState). IsWriter x c.arg
 
 pub invariant_of-self : goal.invariant_of-self
 invariant_of-self c =
-    written_heap c.self.inside.raw c.do_write.new.heap c.self.invariant c.args.write.now (subst (λ (x : HeapState). CanPerform x c.args.write.now) (sym c.self.view_is) c.requires.write) c.do_write.ensures.does (ap length c.do_write.ensures.buffers ∙ count_by c.self.inside.raw c.args.mutator c.args.write.now)
+    written_heap c.self.inside.raw c.do_write.new.heap c.self.invariant c.args.write.now (subst (λ (x : HeapState). CanPerform x c.args.write.now) (sym c.self.view_is) c.requires.write) c.do_write.ensures.does (count_by c.self.inside.raw c.args.mutator c.args.write.now c.do_write.new.heap.grey c.do_write.ensures.buffers)
 
 pub returns : goal.returns
 returns c = performs _ _ c.self.view_is c.self.invariant.heap c.args.write.now (state_of c.do_write.new.heap) c.do_write.ensures.does

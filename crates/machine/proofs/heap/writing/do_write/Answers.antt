@@ -1,4 +1,4 @@
-use Rattle.std.proofs.Common.{◌≡◌, length, ◌∙◌, sym, subst, ap}
+use Rattle.std.proofs.Common.{◌≡◌, true, length, set, ◌∙◌, sym, subst, ap}
 use Rattle.graph_heap.specs.declared.command.Change.{Change}
 use Rattle.heap_model.specs.Change.{DoesChange, Does_nothing}
 use Rattle.machine.specs.Plan.{CanPerform, DoesEach}
@@ -7,6 +7,7 @@ use Rattle.machine.specs.declared.plan.Write.TheVariants as writes
 use Rattle.raw_heap.specs.Heap.{state_of}
 use Rattle.machine.proofs.Doing.{present_agrees}
 use Rattle.machine.proofs.Finding.{word_held}
+use Rattle.machine.proofs.Live.{join_does}
 use Rattle.machine.proofs.Writing.{word_does}
 use Rattle.machine.proofs.Writers.{writer_is}
 use Rattle.raw_heap.proofs.Keeping.{are_held, store_kept}
@@ -49,3 +50,19 @@ write_new-requires-clause-write c = subst (CanPerform (state_of c.args.heap.now)
 
 pub returns-in-New-clause-does : goal.returns-in-New-clause-does
 returns-in-New-clause-does c = subst (λ (w : Write). DoesEach (state_of c.args.heap.now) w (state_of c.write_new.new.heap)) (sym c.in-New.is) c.write_new.ensures.does
+
+pub set_live-requires : goal.set_live-requires
+set_live-requires c =
+    let w = c.requires.heap.heap in
+    (subst (CanPerform (state_of c.args.heap.now)) c.in-Join.is c.requires.write w.present (present_agrees _ w)).1.1
+
+pub returns-in-Join-clause-does : goal.returns-in-Join-clause-does
+returns-in-Join-clause-does c =
+    let h = state_of c.args.heap.now in
+    rw c.set_live.ensures (subst (λ (w : Write). DoesEach h w (record h { live = set h.live c.in-Join.joiner true })) (sym c.in-Join.is) (join_does h c.in-Join.joiner))
+
+pub write_leave-requires-clause-write : goal.write_leave-requires-clause-write
+write_leave-requires-clause-write c = subst (CanPerform (state_of c.args.heap.now)) c.in-Leave.is c.requires.write
+
+pub returns-in-Leave-clause-does : goal.returns-in-Leave-clause-does
+returns-in-Leave-clause-does c = subst (λ (w : Write). DoesEach (state_of c.args.heap.now) w (state_of c.write_leave.new.heap)) (sym c.in-Leave.is) c.write_leave.ensures.does

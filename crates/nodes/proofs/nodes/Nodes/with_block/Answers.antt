@@ -1,6 +1,7 @@
-use Rattle.std.proofs.Common.{◌≡◌, ◌==◌, ◌&&◌, not, ap, sym, ◌∙◌, arith}
+use Rattle.std.proofs.Common.{◌≡◌, ℕ, ◌+◌, ◌^◌, ◌<◌, ◌≤◌, true, ◌==◌, ◌&&◌, not, ap, sym, ◌∙◌, arith}
 use Rattle.std.proofs.lemmas.Bool.{eq-eqb, ne_eqb}
 use Rattle.std.specs.Int.{from_bool}
+use Rattle.heap_model.specs.Store.{Store, IsStore, is_held}
 use Rattle.nodes.proofs.Counting.{few_below, number_few, block_counted}
 use Rattle.nodes.proofs.Writing.{header_inside, part_by}
 use Rattle.nodes.proofs.nodes.Nodes.with_block.Goals as goal
@@ -9,29 +10,18 @@ use Rattle.nodes.proofs.nodes.Nodes.with_block.Goals.{then-is_main, else-is_main
 pub part-is_first-requires : goal.part-is_first-requires
 part-is_first-requires c = omega (arith, header_inside _ _ c.self.view_is c.self.invariant.whole c.args.block c.requires.held)
 
+-- a number of blocks below a held block, and one more, is a word
+fits : (s t : Store) (is : s ≡ t) (whole : IsStore s) (a n k : ℕ) → is_held t a ≡ true → n ≤ a → k ≤ 1 → n + k < 2 ^ 64
+fits s t is whole a n k held few one = omega (arith, header_inside s t is whole a held, whole.words, whole.few)
+
 pub overflow_add-result : goal.overflow_add-result
-overflow_add-result c =
-    let f = few_below c.args.self.now c.args.block c.args.before c.requires.before in
-    let b = header_inside _ _ c.self.view_is c.self.invariant.whole c.args.block c.requires.held in
-    let w = c.self.invariant.whole.words in
-    let p = c.self.invariant.whole.few in
-    omega (arith, f.0, b, w, p, c.from.ensures, number_few c.if-is_main.from)
+overflow_add-result c = omega (arith, fits _ _ c.self.view_is c.self.invariant.whole c.args.block _ _ c.requires.held (few_below c.args.self.now c.args.block c.args.before c.requires.before).0 (number_few c.if-is_main.from), c.from.ensures)
 
 pub overflow_add-result-2 : goal.overflow_add-result-2
-overflow_add-result-2 c =
-    let f = few_below c.args.self.now c.args.block c.args.before c.requires.before in
-    let b = header_inside _ _ c.self.view_is c.self.invariant.whole c.args.block c.requires.held in
-    let w = c.self.invariant.whole.words in
-    let p = c.self.invariant.whole.few in
-    omega (arith, f.1, b, w, p, c.from-2.ensures, number_few (c.forward_of.result == c.args.block))
+overflow_add-result-2 c = omega (arith, fits _ _ c.self.view_is c.self.invariant.whole c.args.block _ _ c.requires.held (few_below c.args.self.now c.args.block c.args.before c.requires.before).1 (number_few (c.forward_of.result == c.args.block)), c.from-2.ensures)
 
 pub overflow_add-result-3 : goal.overflow_add-result-3
-overflow_add-result-3 c =
-    let f = few_below c.args.self.now c.args.block c.args.before c.requires.before in
-    let b = header_inside _ _ c.self.view_is c.self.invariant.whole c.args.block c.requires.held in
-    let w = c.self.invariant.whole.words in
-    let p = c.self.invariant.whole.few in
-    omega (arith, f.2, b, w, p, c.from-3.ensures, number_few (not (c.forward_of.result == c.args.block)))
+overflow_add-result-3 c = omega (arith, fits _ _ c.self.view_is c.self.invariant.whole c.args.block _ _ c.requires.held (few_below c.args.self.now c.args.block c.args.before c.requires.before).2 (number_few (not (c.forward_of.result == c.args.block))), c.from-3.ensures)
 
 pub returns : goal.returns
 returns c =

@@ -9,7 +9,7 @@ use Rattle.raw_heap.proofs.Threading.{no_grey}
 use Rattle.raw_heap.proofs.heap.RawHeap.new.Goals as goal
 
 pub returns-clause-opening : goal.returns-clause-opening
-returns-clause-opening c = record { pages = all_free _ _ _ c.in_ok-nodes.ensures; roots = search rules; next = refl; phase = refl; units = refl; grey = no_grey _ _ _ c.in_ok-grey.ensures }
+returns-clause-opening c = record { pages = all_free _ _ _ c.in_ok-nodes.ensures; roots = search rules; live = search rules; next = refl; phase = refl; units = refl; grey = no_grey _ _ _ c.in_ok-grey.ensures }
 
 pub returns-clause-heap : goal.returns-clause-heap
 returns-clause-heap c =

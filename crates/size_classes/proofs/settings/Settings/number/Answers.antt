@@ -1,6 +1,7 @@
-use Rattle.std.proofs.Common.{arith}
+use Rattle.std.proofs.Common.{pos, nat_abs, ◌≤ℤ◌, w64, to_z, of_z, arith}
 use Rattle.std.proofs.lemmas.Int.{ints}
-use Rattle.size_classes.proofs.Ranges.{in_range}
+use Rattle.size_classes.specs.Keys.{row_of}
+use Rattle.size_classes.proofs.Ranges.{in_range, below_abs}
 use Rattle.size_classes.proofs.settings.Settings.number.Goals as goal
 
 pub overflow_cast-result : goal.overflow_cast-result
@@ -9,4 +10,5 @@ overflow_cast-result c = let r = in_range c.args.self.now c.args.key c.requires 
 pub returns : goal.returns
 returns c =
     let r = in_range c.args.self.now c.args.key c.requires in
-    record { value = omega (arith, ints); least = omega (arith, ints); greatest = omega (arith, ints) }
+    let most : pos (nat_abs (to_z w64 (of_z w64 c.get.result))) ≤ℤ (row_of c.args.self.now.mutators c.args.key).greatest = omega (arith, ints) in
+    record { value = omega (arith, ints); least = omega (arith, ints); greatest = below_abs _ _ most }

@@ -1,7 +1,7 @@
 use Rattle.std.proofs.Common.{◌≡◌, ◌++◌, take}
 use Rattle.player.specs.declared.style.Style.TheVariants.{Entries}
 use Rattle.player.specs.Playing.{written_of}
-use Rattle.metronome.proofs.jobs.write_history.Given as goal
+use Rattle.metronome.proofs.jobs.write_entries.Given as goal
 
 -- the lines of the entries so far
 abbrev pub invariant-loop-entry : goal.invariant-loop-entry

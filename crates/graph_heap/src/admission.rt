@@ -1,0 +1,53 @@
+//! Which mutators are live, and the test of the mutator that stands in front of each command.
+ghost use Rattle.std.specs.Prelude.{◌≡◌, ◌<◌, ◌≤◌, length, slice_set, IfOk};
+ghost use Rattle.graph_heap.specs.Graph.{live_first};
+ghost use Rattle.graph_heap.specs.Effect.{admits, admitted_to};
+
+use crate::command::{Limits, Refusal};
+use crate::no_memory::NoMemory;
+use std::alloc::Global;
+
+/// The row of a heap that opens: true for each mutator below `live`, false for the others.
+pub fn live_row(alloc: Global, limits: &Limits) -> Result<Vec<bool>, NoMemory>
+    ensures { IfOk result (λ row. row.items ≡ live_first limits.now) }
+{
+    let mut live = vec![in alloc; true; limits.live as usize]?;
+    let mut idle = vec![in alloc; false; limits.mutators.saturating_sub(limits.live) as usize]?;
+    live.append(&mut idle)?;
+    Ok(live)
+}
+
+/// Whether a mutator may ask: for Join (`joins`) it has to be one that isn't live, and for all else one
+/// that is. Refused: BadSlot where there is no such mutator, NotLive, AlreadyLive, in this order.
+pub fn admit(limits: &Limits, live: &[bool], mutator: u32, joins: bool) -> Result<bool, Refusal>
+    requires { limits.now.mutators ≤ length live.now }
+    ensures admitted { result ≡ admitted_to limits.now live.now mutator joins }
+    ensures below { IfOk result (λ ok. mutator < limits.now.mutators) }
+{
+    if mutator < limits.mutators {
+        admission_of(live[mutator as usize], joins)
+    } else {
+        Err(Refusal::BadSlot)
+    }
+}
+
+/// All but Join are for a mutator that is live.
+fn admission_of(live: bool, joins: bool) -> Result<bool, Refusal>
+    ensures { result ≡ admits live joins }
+{
+    match (live, joins) {
+        (true, true) => Err(Refusal::AlreadyLive),
+        (true, false) => Ok(true),
+        (false, true) => Ok(true),
+        (false, false) => Err(Refusal::NotLive),
+    }
+}
+
+/// Says whether a mutator is live, if there is such a mutator. The others stay.
+pub fn set_live(live: &mut [bool], mutator: u32, to: bool)
+    ensures { live.new ≡ slice_set live.old mutator to }
+{
+    if (mutator as usize) < live.len() {
+        live[mutator as usize] = to;
+    }
+}

@@ -1,0 +1,7 @@
+use Rattle.heap_model.specs.Change.{Clears}
+use Rattle.raw_heap.specs.Heap.{state_of, IsRawHeap}
+use Rattle.machine.specs.Buffers.{AreOwn}
+use Rattle.machine.proofs.heap.writing.null_roots.Given as goal
+
+abbrev pub invariant-loop-i : goal.invariant-loop-i
+invariant-loop-i l = IsRawHeap l.heap × Clears (state_of l.fn.heap) l.fn.first l.i (state_of l.heap) × AreOwn l.fn.mutator l.fn.heap.grey l.heap.grey

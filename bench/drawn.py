@@ -5,8 +5,8 @@ import subprocess
 TOP = os.path.dirname(os.path.dirname(os.path.abspath(__file__)))
 PROGRAM = f"{TOP}/bin/metronome"
 
-CELLS = [0, 0, 0, 0, 1, 1, 2, 3, 251, 252, 503, 504, 900, 63503, 4294967295]
-LENGTHS = [0, 1, 2, 3, 5, 251, 252, 253, 504, 505, 1500, 63504, 63505, 4294967295]
+CELLS = [0, 0, 0, 0, 1, 1, 2, 3, 251, 252, 503, 504, 900, 63503, 63504, 3999999, 4294967295]
+LENGTHS = [0, 1, 2, 3, 5, 251, 252, 253, 504, 505, 1500, 63504, 63505, 63757, 4000000, 4000001, 4294967295]
 WORDS = [0, 1, 2, 7, 18446744073709551615]
 
 # the first line of a trace in which mutators may join and leave

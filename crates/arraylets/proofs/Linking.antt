@@ -1,34 +1,22 @@
--- Parts made, and the pieces linked.
-use Rattle.std.proofs.Common.{◌≡◌, ◌≢◌, ◌⊎◌, inl, inr, ℕ, zero, suc, ◌+◌, ◌-◌, ◌/◌, ◌<◌, ◌≤◌, replicate, leb, Bool, true, false, length, get_or, set, ap, ◌∙◌, sym, subst, arith, refl, length-set}
+-- Parts made, each linked into its spine.
+use Rattle.std.proofs.Common.{◌≡◌, ◌≢◌, ◌⊎◌, inl, inr, ℕ, ◌+◌, ◌-◌, ◌/◌, ◌<◌, ◌≤◌, Bool, true, false, length, get_or, ap, ◌∙◌, sym, subst, arith, refl, length-set, ◌==◌, if◌then◌else◌}
 use Rattle.std.specs.Prelude.{List, Option, Some, None, IsSome, IsNone, IfSome, ◌↔◌}
-use Rattle.std.proofs.lemmas.List.{get_or-set_same, get_or-set_other, length-replicate}
-use Rattle.size_classes.specs.Parts.{cells_of, parts_in, part_cells, part_words}
-use Rattle.heap_model.specs.Making.{pieces_in}
+use Rattle.std.proofs.lemmas.List.{length-replicate}
 use Rattle.graph_heap.specs.declared.command.Shape.{Shape}
+use Rattle.graph_heap.specs.declared.command.Shape.TheVariants.{Plain, RefArray, WordArray}
+use Rattle.graph_heap.specs.Shape.{fits}
+use Rattle.size_classes.specs.Parts.{cells_of, pieces_of, spines_of, parts_in, part_cells, part_words, holder_of, seat_of}
+use Rattle.size_classes.specs.Sizes.{class_for}
+use Rattle.size_classes.proofs.Cutting.{Pieces, Spines, pieces_are, spines_are, held_by, count_most}
 use Rattle.heap_model.specs.Block.{Node, with_cell, new_node}
 use Rattle.heap_model.specs.Store.{Store, is_held, node_of, Writes, Adds}
-use Rattle.size_classes.specs.Sizes.{class_for}
 use Rattle.heap_model.specs.Pages.{Page, TakesBlock}
 use Rattle.heap_model.specs.Taking.{Takes, Nothing_taken, Part_taken}
-use Rattle.heap_model.specs.Making.{Making, MakesObject, Nothing_made, Part_made, Piece_linked}
+use Rattle.heap_model.specs.Header.{ShapeFits}
+use Rattle.heap_model.specs.Making.{Making, MakesObject, Nothing_made, Part_made}
+use Rattle.heap_model.proofs.Seen.{held_pages}
 use Rattle.nodes.specs.Links.{KeepsLinks}
-
--- blocks are held as the pages say
-pub held_same : (s t : Store) (b : ℕ) → t.pages ≡ s.pages → is_held s b ≡ true → is_held t b ≡ true
-unfolding is_held
-held_same s t b e h = subst (λ pages. is_held (record { pages = pages; words = t.words }) b ≡ true) (sym e) h
-
--- a block stays held where another is added, where a cell is written, and while an object is made
-added_held : (s t : Store) (a : ℕ) (node : Node) → Adds s t a node → (b : ℕ) → is_held s b ≡ true → is_held t b ≡ true
-added_held s t a node added b h = added.same b (λ e. clash (ap (is_held s) (sym e) ∙ h) added.free) ∙ h
-  where
-    clash : {b : Bool} → b ≡ true → b ≡ false → ⊥
-    clash p q = cc
-
-pub making_held : (old : Store) (shape : Shape) (colour : Bool) (id : ℕ) (at : ℕ → ℕ) (parts linked : ℕ) (new : Store) → Making old shape colour id at parts linked new → (b : ℕ) → is_held old b ≡ true → is_held new b ≡ true
-making_held old shape colour id at parts linked new Nothing_made b h = h
-making_held old shape colour id at parts linked new (Part_made k s t m a) b h = added_held s t (at k) (new_node (at k) (record { shape = shape; part = k; colour = colour }) id) a b (making_held old shape colour id at k 0 s m b h)
-making_held old shape colour id at parts linked new (Piece_linked k l s t m w) b h = held_same s t b w.pages (making_held old shape colour id at k l s m b h)
+use Rattle.arraylets.specs.Made.{MakesPart}
 
 -- the links stay where nothing is done, and after two steps of which each keeps them
 pub links_same : (s : Store) → KeepsLinks s s
@@ -37,25 +25,14 @@ links_same s = record { len = refl; each = λ b h. refl }
 pub links_then : (s t u : Store) → ((b : ℕ) → is_held s b ≡ true → is_held t b ≡ true) → KeepsLinks s t → KeepsLinks t u → KeepsLinks s u
 links_then s t u still x y = record { len = y.len ∙ x.len; each = λ b h. y.each b (still b h) ∙ x.each b h }
 
--- a cell of the spine is written
-module _ (s t : Store) (spine i v : ℕ) (written : Writes s t spine (with_cell (node_of s spine) i v)) where
-  pub spine_held : is_held s spine ≡ true → is_held t spine ≡ true
-  spine_held h = held_same s t spine written.pages h
+-- a block stays held where another is added
+pub added_held : (s t : Store) (a : ℕ) (node : Node) → Adds s t a node → (b : ℕ) → is_held s b ≡ true → is_held t b ≡ true
+added_held s t a node added b h = added.same b (λ e. clash (ap (is_held s) (sym e) ∙ h) added.free) ∙ h
+  where
+    clash : {b : Bool} → b ≡ true → b ≡ false → ⊥
+    clash p q = cc
 
-  pub spine_cells : (n : ℕ) → n ≤ length (node_of s spine).cells → n ≤ length (node_of t spine).cells
-  spine_cells n h =
-      let e : length (node_of t spine).cells ≡ length (node_of s spine).cells = ap (λ (x : Node). length x.cells) written.here ∙ length-set (node_of s spine).cells i v in
-      subst (λ k. n ≤ k) (sym e) h
-
--- the addresses of parts that aren't made yet may be any
-pub making_at : (old : Store) (shape : Shape) (colour : Bool) (id : ℕ) (at at' : ℕ → ℕ) (parts linked : ℕ) (new : Store) → linked ≡ 0 → ((p : ℕ) → p < parts → at p ≡ at' p)
-    → Making old shape colour id at parts linked new → Making old shape colour id at' parts linked new
-making_at old shape colour id at at' parts linked new none same Nothing_made = Nothing_made
-making_at old shape colour id at at' parts linked new none same (Part_made k s t m a) =
-    Part_made k s t (making_at old shape colour id at at' k 0 s refl (λ p l. same p (omega arith)) m)
-    (subst (λ b. Adds s t b (new_node b (record { shape = shape; part = k; colour = colour }) id)) (same k (omega arith)) a)
-making_at old shape colour id at at' parts linked new none same (Piece_linked k l s t m w) = absurd (omega arith)
-
+-- what a call answers
 some_by : (o q : Option ℕ) → (IsNone o ↔ IsNone q) → IsSome q → IsSome o
 some_by None q w s = absurd (clash q (w.0 refl) s)
   where
@@ -70,88 +47,199 @@ gives_by o q w s = some_by o q w s
 pub at_some : (o : Option ℕ) (P : ℕ → Type 0) (x : ℕ) → o ≡ Some x → IfSome o P → P x
 at_some o P x e w = subst (λ z. IfSome z P) e w
 
+zero_or : (n : ℕ) → (n ≡ 0) ⊎ (0 < n)
+zero_or n = grind arith
+
 same_or : (a b : ℕ) → (a ≡ b) ⊎ (a ≢ b)
 same_or a b = grind arith
+
+-- spines are few
+cells_few : (shape : Shape) → fits shape ≡ true → cells_of shape ≤ 4000000
+cells_few (Plain refs words) f = grind arith
+cells_few (RefArray n) f = grind arith
+cells_few (WordArray n) f = grind arith
+
+-- what is made has a header
+pub shape_fits : (shape : Shape) → fits shape ≡ true → ShapeFits shape
+shape_fits (Plain refs words) f = (grind arith, grind arith)
+shape_fits (RefArray n) f = grind arith
+shape_fits (WordArray n) f = grind arith
+
+pub parts_few : (shape : Shape) (part : ℕ) → fits shape ≡ true → part < parts_in (cells_of shape) → part < 65536
+parts_few shape part f l =
+    let n = cells_of shape in
+    let most = count_most n (pieces_of n) (spines_of n) (pieces_are n) (spines_are n) (cells_few shape f) in
+    omega (arith, l, most)
+
+spines_most : (n k s : ℕ) → Pieces n k → Spines k s → n ≤ 4000000 → s ≤ 64
+spines_most n k s a b l = grind arith
+
+pub spine_before : (shape : Shape) (part : ℕ) → fits shape ≡ true → 0 < part → part < parts_in (cells_of shape)
+    → (holder_of (cells_of shape) part < part) × (holder_of (cells_of shape) part < 64) × (seat_of (cells_of shape) part < part_cells (cells_of shape) (holder_of (cells_of shape) part))
+spine_before shape part f some below =
+    let n = cells_of shape in
+    let q = held_by n (pieces_of n) (spines_of n) (pieces_are n) (spines_are n) part some below in
+    let most = spines_most n (pieces_of n) (spines_of n) (pieces_are n) (spines_are n) (cells_few shape f) in
+    (q.1, omega (arith, q.0, most), q.2)
+
+-- the spine is as it was when the part was added
+module _ (s t : Store) (shape : Shape) (part address : ℕ) (node : Node) (added : Adds s t address node) (spines : List ℕ) (spine cell : ℕ) (es : spine ≡ holder_of (cells_of shape) part) (ec : cell ≡ seat_of (cells_of shape) part)
+    (held : is_held s (get_or spines (holder_of (cells_of shape) part) 0) ≡ true) where
+  pub spine_held : is_held t (get_or spines spine 0) ≡ true
+  spine_held = subst (λ k. is_held t (get_or spines k 0) ≡ true) (sym es) (added_held s t address node added _ held)
+
+  pub cell_within : fits shape ≡ true → 0 < part → part < parts_in (cells_of shape) → length (node_of s (get_or spines (holder_of (cells_of shape) part) 0)).cells ≡ part_cells (cells_of shape) (holder_of (cells_of shape) part)
+      → cell < length (node_of t (get_or spines spine 0)).cells
+  cell_within f some below cells =
+      let e : length (node_of t (get_or spines (holder_of (cells_of shape) part) 0)).cells ≡ part_cells (cells_of shape) (holder_of (cells_of shape) part) = ap (λ (x : Node). length x.cells) (added.others _ held) ∙ cells in
+      let l : seat_of (cells_of shape) part < length (node_of t (get_or spines (holder_of (cells_of shape) part) 0)).cells = subst (λ n. seat_of (cells_of shape) part < n) (sym e) (spine_before shape part f some below).2 in
+      subst (λ k. cell < length (node_of t (get_or spines k 0)).cells) (sym es) (subst (λ c. c < length (node_of t (get_or spines (holder_of (cells_of shape) part) 0)).cells) (sym ec) l)
+
+-- one part is made
+module _ (old new : Store) (shape : Shape) (colour : Bool) (id : ℕ) (spines : ℕ → ℕ) (part address : ℕ) (w : MakesPart old shape colour id spines part address new) where
+  abbrev Stands : Store → ℕ → ℕ → Type 0
+  Stands s b k = (is_held s b ≡ true) × (length (node_of s b).cells ≡ part_cells (cells_of shape) k)
+
+  then_written : (P : Store → Type 0) → P w.between → (0 < part → P w.between → P new) → P new
+  then_written P p q = elim (zero_or part) [ inl e ↦ subst P (sym (w.root e)) p | inr l ↦ q l p ]
+
+  pub part_held : (b : ℕ) → is_held old b ≡ true → is_held new b ≡ true
+  part_held b h = then_written (λ s. is_held s b ≡ true) (added_held old w.between address _ w.added b h) (λ l k. held_pages w.between new b (w.written l).pages ∙ k)
+
+  written_stands : (b k : ℕ) → 0 < part → (length (node_of w.between b).cells ≡ part_cells (cells_of shape) k) → is_held w.between b ≡ true → length (node_of new b).cells ≡ part_cells (cells_of shape) k
+  written_stands b k l e h = elim (same_or b (spines (holder_of (cells_of shape) part))) [
+    | inl same ↦
+        ap (λ z. length (node_of new z).cells) same ∙ ap (λ (x : Node). length x.cells) (w.written l).here ∙ length-set (node_of w.between (spines (holder_of (cells_of shape) part))).cells (seat_of (cells_of shape) part) (address + 1)
+        ∙ ap (λ z. length (node_of w.between z).cells) (sym same) ∙ e
+    | inr apart ↦ ap (λ (x : Node). length x.cells) ((w.written l).others b h apart) ∙ e
+  ]
+
+  pub new_stands : Stands new address part
+  new_stands = then_written (λ s. Stands s address part)
+      (w.added.held, ap (λ (x : Node). length x.cells) w.added.here ∙ length-replicate {A = ℕ} (part_cells (cells_of shape) part) 0)
+      (λ l q. (held_pages w.between new address (w.written l).pages ∙ q.0, written_stands address part l q.1 q.0))
+
+  pub old_stands : (b k : ℕ) → Stands old b k → Stands new b k
+  old_stands b k i = then_written (λ s. Stands s b k)
+      (added_held old w.between address _ w.added b i.0, ap (λ (x : Node). length x.cells) (w.added.others b i.0) ∙ i.1)
+      (λ l q. (held_pages w.between new b (w.written l).pages ∙ q.0, written_stands b k l q.1 q.0))
+
+-- the addresses of parts that aren't made yet may be any
+module _ (old : Store) (shape : Shape) (colour : Bool) (id : ℕ) (at at' : ℕ → ℕ) (f : fits shape ≡ true) where
+  abbrev spine_of : ℕ → ℕ
+  spine_of part = holder_of (cells_of shape) part
+
+  making_at : (parts : ℕ) (new : Store) → parts ≤ parts_in (cells_of shape) → ((p : ℕ) → p < parts → at p ≡ at' p) → Making old shape colour id at parts new → Making old shape colour id at' parts new
+  making_at parts new few same Nothing_made = Nothing_made
+  making_at parts new few same (Part_made k s t u m a none some) =
+      Part_made k s t u (making_at k s (omega arith) (λ p l. same p (omega arith)) m)
+      (subst (λ b. Adds s t b (new_node b (record { shape = shape; part = k; colour = colour }) id)) (same k (omega arith)) a)
+      none
+      (λ l. let q = spine_before shape k f l (omega arith) in
+      subst (λ b. Writes t u b (with_cell (node_of t b) (seat_of (cells_of shape) k) (at' k + 1))) (same (spine_of k) (let x = q.0 in omega arith))
+      (subst (λ z. Writes t u (at (spine_of k)) (with_cell (node_of t (at (spine_of k))) (seat_of (cells_of shape) k) (z + 1))) (same k (omega arith)) (some l)))
 
 pub taking_at : (cells : ℕ) (at at' : ℕ → ℕ) (old : List (Option Page)) (parts : ℕ) (new : List (Option Page)) → ((p : ℕ) → p < parts → at p ≡ at' p) → Takes cells at old parts new → Takes cells at' old parts new
 taking_at cells at at' old parts new same Nothing_taken = Nothing_taken
 taking_at cells at at' old parts new same (Part_taken part class index s t takes f b) =
     Part_taken part class index s t (taking_at cells at at' old part s (λ p l. same p (omega arith)) takes) f (subst (λ z. TakesBlock s class (z / 2048) index t) (same part (omega arith)) b)
 
--- a part is made, and its address is kept
-module _ (at : List ℕ) (part address : ℕ) (l : part < length at) where
-  here : get_or (set at part address) part 0 ≡ address
-  here = get_or-set_same at part address 0 l
+-- so many parts are made, and the spines among them are known
+pub record Made (old : Store) (shape : Shape) (colour : Bool) (id : ℕ) (spines : List ℕ) (parts : ℕ) (new : Store) : Type 0 where
+  pub at : ℕ → ℕ
+  pub known : (p : ℕ) → p < parts → p < 64 → get_or spines p 0 ≡ at p
+  pub making : Making old shape colour id at parts new
+  pub takes : Takes (cells_of shape) at old.pages parts new.pages
+  pub stands : (p : ℕ) → p < parts → (is_held new (at p) ≡ true) × (length (node_of new (at p)).cells ≡ part_cells (cells_of shape) p)
+  pub held : (b : ℕ) → is_held old b ≡ true → is_held new b ≡ true
 
-  other : (p : ℕ) → p ≢ part → get_or (set at part address) p 0 ≡ get_or at p 0
-  other p d = get_or-set_other at part p address 0 (λ e. d e)
+pub none_made : (old : Store) (shape : Shape) (colour : Bool) (id : ℕ) (spines : List ℕ) → Made old shape colour id spines 0 old
+none_made old shape colour id spines = record {
+  at = λ p. 0;
+  known = λ p l. absurd (omega arith);
+  making = Nothing_made;
+  takes = Nothing_taken;
+  stands = λ p l. absurd (omega arith);
+  held = λ b h. h;
+}
 
-  pub within_more : ((p : ℕ) → get_or at p 0 ≤ 8388608) → address ≤ 8388608 → (p : ℕ) → get_or (set at part address) p 0 ≤ 8388608
-  within_more all this p = elim (same_or p part) [
-    | inl e ↦ subst (λ k. get_or (set at part address) k 0 ≤ 8388608) (sym e) (subst (λ k. k ≤ 8388608) (sym here) this)
-    | inr d ↦ subst (λ k. k ≤ 8388608) (sym (other p d)) (all p)
-  ]
+-- one part more
+module _ (old s t : Store) (shape : Shape) (colour : Bool) (id : ℕ) (spines spines' : List ℕ) (part address : ℕ) (f : fits shape ≡ true) (below : part < parts_in (cells_of shape)) (m : Made old shape colour id spines part s) where
+  -- the spine that refers to the part stands
+  pub spine_stands : 0 < part → (is_held s (get_or spines (holder_of (cells_of shape) part) 0) ≡ true)
+      × (length (node_of s (get_or spines (holder_of (cells_of shape) part) 0)).cells ≡ part_cells (cells_of shape) (holder_of (cells_of shape) part))
+  spine_stands l =
+      let q = spine_before shape part f l below in
+      let e = m.known (holder_of (cells_of shape) part) q.0 q.1 in
+      subst (λ b. (is_held s b ≡ true) × (length (node_of s b).cells ≡ part_cells (cells_of shape) (holder_of (cells_of shape) part))) (sym e) (m.stands (holder_of (cells_of shape) part) q.0)
 
-  pub taken_more : (cells class index : ℕ) (old s t : List (Option Page)) → class_for (part_words cells part) ≡ Some class → TakesBlock s class (address / 2048) index t → Takes cells (λ p. get_or at p 0) old part s
-      → Takes cells (λ p. get_or (set at part address) p 0) old (part + 1) t
-  taken_more cells class index old s t f b takes =
-      Part_taken part class index s t (taking_at cells (λ p. get_or at p 0) (λ p. get_or (set at part address) p 0) old part s (λ p l. sym (other p (λ e. omega arith))) takes) f
-      (subst (λ z. TakesBlock s class (z / 2048) index t) (sym here) b)
+  module _ (w : MakesPart s shape colour id (λ p. get_or spines p 0) part address t)
+      (taken : (class : ℕ) × (index : ℕ) × (class_for (part_words (cells_of shape) part) ≡ Some class) × TakesBlock s.pages class (address / 2048) index t.pages)
+      (here : part < 64 → get_or spines' part 0 ≡ address) (others : (p : ℕ) → p ≢ part → get_or spines' p 0 ≡ get_or spines p 0) where
+    abbrev at' : ℕ → ℕ
+    at' p = if p == part then address else m.at p
 
-  module _ (old s t : Store) (shape : Shape) (colour : Bool) (id : ℕ) (added : Adds s t address (new_node address (record { shape = shape; part = part; colour = colour }) id)) where
-    pub made_more : Making old shape colour id (λ p. get_or at p 0) part 0 s → Making old shape colour id (λ p. get_or (set at part address) p 0) (part + 1) 0 t
-    made_more m =
-        Part_made part s t
-        (making_at old shape colour id (λ p. get_or at p 0) (λ p. get_or (set at part address) p 0) part 0 s refl (λ p b. sym (other p (λ e. omega arith))) m)
-        (subst (λ b. Adds s t b (new_node b (record { shape = shape; part = part; colour = colour }) id)) (sym here) added)
+    at_here : at' part ≡ address
+    at_here = let e : (part == part) ≡ true = grind arith in rw e refl
 
-    abbrev IsSpine : Store → ℕ → Type 0
-    IsSpine x b = (is_held x b ≡ true) × (length (node_of x b).cells ≡ part_cells (cells_of shape) 0)
+    at_other : (p : ℕ) → p ≢ part → m.at p ≡ at' p
+    at_other p d = let e : (p == part) ≡ false = grind arith in rw e refl
 
-    first_spine : part ≡ 0 → IsSpine t address
-    first_spine e = (added.held, ap (λ (x : Node). length x.cells) added.here ∙ length-replicate {A = ℕ} (part_cells (cells_of shape) part) 0 ∙ ap (part_cells (cells_of shape)) e)
+    before : (p : ℕ) → p < part → m.at p ≡ at' p
+    before p l = at_other p (λ e. absurd (omega arith))
 
-    later_spine : (b : ℕ) → IsSpine s b → IsSpine t b
-    later_spine b i =
-        let apart : b ≢ address = λ e. clash (subst (λ k. is_held s k ≡ true) e i.0) added.free in
-        (added.same b apart ∙ i.0, ap (λ (x : Node). length x.cells) (added.others b i.0) ∙ i.1)
-      where
-        clash : {b : Bool} → b ≡ true → b ≡ false → ⊥
-        clash p q = cc
+    links : 0 < part → Writes w.between t (at' (holder_of (cells_of shape) part)) (with_cell (node_of w.between (at' (holder_of (cells_of shape) part))) (seat_of (cells_of shape) part) (at' part + 1))
+    links l =
+        let q = spine_before shape part f l below in
+        let e : get_or spines (holder_of (cells_of shape) part) 0 ≡ at' (holder_of (cells_of shape) part) = m.known (holder_of (cells_of shape) part) q.0 q.1 ∙ before (holder_of (cells_of shape) part) q.0 in
+        subst (λ b. Writes w.between t b (with_cell (node_of w.between b) (seat_of (cells_of shape) part) (at' part + 1))) e
+        (subst (λ z. Writes w.between t (get_or spines (holder_of (cells_of shape) part) 0) (with_cell (node_of w.between (get_or spines (holder_of (cells_of shape) part) 0)) (seat_of (cells_of shape) part) (z + 1))) (sym at_here) (w.written l))
 
-    pub spine_more : (0 < part → IsSpine s (get_or at 0 0)) → IsSpine t (get_or (set at part address) 0 0)
-    spine_more all = elim (same_or part 0) [
-      | inl e ↦ subst (IsSpine t) (sym (subst (λ k. get_or (set at part address) k 0 ≡ address) e here)) (first_spine e)
-      | inr d ↦ subst (IsSpine t) (sym (other 0 (λ e. d (sym e)))) (later_spine (get_or at 0 0) (all (grind arith)))
-    ]
+    pub one_more : Made old shape colour id spines' (part + 1) t
+    one_more = record {
+      at = at';
+      known = λ p l few. elim (same_or p part) [
+        | inl e ↦ subst (λ k. get_or spines' k 0 ≡ at' k) (sym e) (here (subst (λ k. k < 64) e few) ∙ sym at_here)
+        | inr d ↦ others p d ∙ m.known p (omega arith) few ∙ at_other p d
+      ];
+      making = Part_made part s w.between t (making_at old shape colour id m.at at' f part s (omega arith) before m.making)
+          (subst (λ b. Adds s w.between b (new_node b (record { shape = shape; part = part; colour = colour }) id)) (sym at_here) w.added)
+          w.root links;
+      takes = Part_taken part taken.0 taken.1 s.pages t.pages (taking_at (cells_of shape) m.at at' old.pages part s.pages before m.takes) taken.2
+          (subst (λ z. TakesBlock s.pages taken.0 (z / 2048) taken.1 t.pages) (sym at_here) taken.3);
+      stands = λ p l. elim (same_or p part) [
+        | inl e ↦ subst (λ k. (is_held t (at' k) ≡ true) × (length (node_of t (at' k)).cells ≡ part_cells (cells_of shape) k)) (sym e)
+            (subst (λ b. (is_held t b ≡ true) × (length (node_of t b).cells ≡ part_cells (cells_of shape) part)) (sym at_here) (new_stands s t shape colour id _ part address w))
+        | inr d ↦ subst (λ b. (is_held t b ≡ true) × (length (node_of t b).cells ≡ part_cells (cells_of shape) p)) (at_other p d) (old_stands s t shape colour id _ part address w (m.at p) p (m.stands p (omega arith)))
+      ];
+      held = λ b h. part_held s t shape colour id _ part address w b (m.held b h);
+    }
 
--- the pieces are the parts but the spine
-pub pieces_are : (n : ℕ) → parts_in n - 1 ≡ pieces_in n
-pieces_are n = by_size (leb n 252) refl
-  where
-    by_size : (b : Bool) → leb n 252 ≡ b → parts_in n - 1 ≡ pieces_in n
-    by_size true e = rw e refl
-    by_size false e = rw e (omega arith)
+pub first_within : (spines spines' : List ℕ) (part address : ℕ) → (part < 64 → get_or spines' part 0 ≡ address) → ((p : ℕ) → p ≢ part → get_or spines' p 0 ≡ get_or spines p 0)
+    → get_or spines 0 0 ≤ 8388608 → address ≤ 8388608 → get_or spines' 0 0 ≤ 8388608
+first_within spines spines' part address here others first this = elim (same_or 0 part) [
+  | inl e ↦ subst (λ z. z ≤ 8388608) (sym (subst (λ k. get_or spines' k 0 ≡ address) (sym e) (here (omega arith)))) this
+  | inr d ↦ subst (λ z. z ≤ 8388608) (sym (others 0 d)) first
+]
 
--- an object of one part is made by making that part: no piece is linked
+-- all parts are made
+pub all_made : (old new : Store) (shape : Shape) (colour : Bool) (id : ℕ) (spines : List ℕ) (parts : ℕ) → Made old shape colour id spines parts new → parts ≡ parts_in (cells_of shape) → 0 < parts
+    → (at : ℕ → ℕ) × (at 0 ≡ get_or spines 0 0) × MakesObject old shape colour id at new × Takes (cells_of shape) at old.pages (parts_in (cells_of shape)) new.pages
+all_made old new shape colour id spines parts m e some = (
+  m.at,
+  sym (m.known 0 some (omega arith)),
+  subst (λ n. Making old shape colour id m.at n new) e m.making,
+  subst (λ n. Takes (cells_of shape) m.at old.pages n new.pages) e m.takes,
+)
+
+-- an object of one part is made by making that part
 pub one_made : (s t : Store) (address : ℕ) (shape : Shape) (colour : Bool) (id : ℕ) → parts_in (cells_of shape) ≡ 1
     → Adds s t address (new_node address (record { shape = shape; part = 0; colour = colour }) id)
     → (class : ℕ) × (index : ℕ) × (class_for (part_words (cells_of shape) 0) ≡ Some class) × TakesBlock s.pages class (address / 2048) index t.pages
     → (at : ℕ → ℕ) × (at 0 ≡ address) × MakesObject s shape colour id at t × Takes (cells_of shape) at s.pages (parts_in (cells_of shape)) t.pages
-one_made s t address shape colour id one added taken =
-    let none : 0 ≡ pieces_in (cells_of shape) = ap (λ n. n - 1) (sym one) ∙ pieces_are (cells_of shape) in (
-      λ p. address,
-      refl,
-      subst (λ n. Making s shape colour id (λ p. address) (parts_in (cells_of shape)) n t) none
-          (subst (λ n. Making s shape colour id (λ p. address) n 0 t) (sym one) (Part_made 0 s t Nothing_made added)),
-      subst (λ n. Takes (cells_of shape) (λ p. address) s.pages n t.pages) (sym one) (Part_taken 0 taken.0 taken.1 s.pages t.pages Nothing_taken taken.2 taken.3),
-    )
-
--- no address yet
-zeros : (n p : ℕ) → get_or (replicate {A = ℕ} n 0) p 0 ≡ 0
-zeros zero p = refl
-zeros (suc n) zero = refl
-zeros (suc n) (suc p) = zeros n p
-
-pub zeros_small : (n p : ℕ) → get_or (replicate {A = ℕ} n 0) p 0 ≤ 8388608
-zeros_small n p = omega (arith, zeros n p)
+one_made s t address shape colour id one added taken = (
+  λ p. address,
+  refl,
+  subst (λ n. Making s shape colour id (λ p. address) n t) (sym one) (Part_made 0 s t t Nothing_made added (λ e. refl) (λ l. absurd (omega arith))),
+  subst (λ n. Takes (cells_of shape) (λ p. address) s.pages n t.pages) (sym one) (Part_taken 0 taken.0 taken.1 s.pages t.pages Nothing_taken taken.2 taken.3),
+)

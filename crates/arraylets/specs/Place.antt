@@ -1,32 +1,23 @@
 -- Where the cells of an object stand.
-use Rattle.std.specs.Prelude.{ℕ, ◌+◌, ◌-◌, ◌==◌, nat_lt, if◌then◌else◌, slice_index, Result, Ok, Err}
+use Rattle.std.specs.Prelude.{ℕ, ◌+◌, ◌-◌, nat_lt, if◌then◌else◌, Result, Ok, Err}
 use Rattle.graph_heap.specs.declared.command.Shape.{Shape}
 use Rattle.graph_heap.specs.declared.command.Refusal.{Refusal}
 use Rattle.graph_heap.specs.declared.command.Refusal.TheVariants as refusals
 use Rattle.graph_heap.specs.Shape.{ref_cells, word_cells, takes_refs, takes_words}
-use Rattle.size_classes.specs.Parts.{cells_of}
-use Rattle.heap_model.specs.Store.{Store, node_of}
-use Rattle.heap_model.specs.Cut.{width_in, part_in, column_in}
+use Rattle.size_classes.specs.Parts.{cells_of, part_in, column_in}
+use Rattle.heap_model.specs.Cut.{width_in}
 use Rattle.arraylets.specs.declared.place.Place.{Place}
 
 -- reference cell i: in its part, where references stand first
 abbrev pub ref_place : Shape → ℕ → Result Place Refusal
 ref_place shape i =
     if takes_refs shape
-    then (if nat_lt i (ref_cells shape) then Ok (record { part = part_in (cells_of shape) i; cell = column_in (cells_of shape) i }) else Err refusals.BadIndex)
+    then (if nat_lt i (ref_cells shape) then Ok (record { part = part_in (cells_of shape) i; cell = column_in i }) else Err refusals.BadIndex)
     else Err refusals.WrongKind
 
 -- word cell i: in its part, after the references
 abbrev pub word_place : Shape → ℕ → Result Place Refusal
 word_place shape i =
     if takes_words shape
-    then (if nat_lt i (word_cells shape) then Ok (record { part = part_in (cells_of shape) i; cell = width_in (ref_cells shape) (word_cells shape) (part_in (cells_of shape) i) + column_in (cells_of shape) i }) else Err refusals.BadIndex)
+    then (if nat_lt i (word_cells shape) then Ok (record { part = part_in (cells_of shape) i; cell = width_in (ref_cells shape) (word_cells shape) (part_in (cells_of shape) i) + column_in i }) else Err refusals.BadIndex)
     else Err refusals.WrongKind
-
--- the cell of a spine that names a piece
-abbrev pub piece_cell : Store → ℕ → ℕ → ℕ
-piece_cell s spine part = slice_index (node_of s spine).cells (part - 1)
-
--- the block of a part, from that of part 0: itself, or by way of a cell of the spine and its forwarding word
-abbrev pub block_of : Store → ℕ → ℕ → ℕ
-block_of s block part = if part == 0 then block else (node_of s (piece_cell s block part - 1)).forward

@@ -1,24 +1,28 @@
 //! How objects are made.
-ghost use Rattle.std.specs.Prelude.{◌≡◌, ◌+◌, ◌-◌, ◌/◌, ◌<◌, ◌≤◌, ℕ, Bool, true, length, slice_index, Some};
+ghost use Rattle.std.specs.Prelude.{◌≡◌, ◌≢◌, ◌+◌, ◌/◌, ◌<◌, ◌≤◌, ℕ, Bool, true, length, slice_index, Some};
 ghost use Rattle.graph_heap.specs.declared.command.Shape.{Shape};
 ghost use Rattle.graph_heap.specs.Shape.{fits};
 ghost use Rattle.size_classes.specs.Sizes.{class_for};
-ghost use Rattle.size_classes.specs.Parts.{cells_of, parts_in, part_cells, part_words};
+ghost use Rattle.size_classes.specs.Parts.{cells_of, parts_in, part_cells, part_words, holder_of};
 ghost use Rattle.size_classes.specs.Need.{needed};
 ghost use Rattle.heap_model.specs.Block.{new_node};
 ghost use Rattle.heap_model.specs.Pages.{has_room, TakesBlock};
 ghost use Rattle.heap_model.specs.Room.{needed_from};
 ghost use Rattle.heap_model.specs.Store.{Store, is_held, node_of, Adds};
-ghost use Rattle.heap_model.specs.Making.{Making, MakesObject};
+ghost use Rattle.heap_model.specs.Making.{MakesObject};
 ghost use Rattle.heap_model.specs.Taking.{Takes};
 ghost use Rattle.nodes.specs.Links.{KeepsLinks};
+ghost use Rattle.arraylets.specs.Made.{MakesPart};
 
 use graph_heap::Shape;
 use nodes::Nodes;
 use size_classes::{Parts, class_of, parts_of};
 
-/// The addresses of the parts of an object.
-type Addresses = [usize; 253];
+/// How many spines an object has at most: of an array of 4000000 cells, the root spine and 63 others.
+const SPINES: usize = 64;
+
+/// The addresses of the first parts of an object, all spines among them.
+type Spines = [usize; SPINES];
 
 /// Makes a part of an object, for which and for the parts after it there is room.
 fn make_part(
@@ -46,49 +50,53 @@ fn make_part(
         .unwrap()
 }
 
-/// Makes the parts of an object, in rising part number.
-fn make_parts(
+/// Makes a part of an object as above, and writes it into the spine that refers to it, which stands
+/// already.
+fn make_linked(
     nodes: &mut Nodes,
     shape: Shape,
     parts: &Parts,
+    spines: &Spines,
+    part: u32,
     colour: bool,
     identity: u64,
-) -> Addresses
+) -> usize
     requires fits { fits shape ≡ true }
     requires parts { parts.now ≡ cells_of shape }
-    requires room { has_room nodes.old.pages (needed_from (cells_of shape) 0 (parts_in (cells_of shape))) ≡ true }
-    ensures made { Making nodes.old shape colour identity (λ p. slice_index result p) (parts_in (cells_of shape)) 0 nodes.new }
-    ensures taken { Takes (cells_of shape) (λ p. slice_index result p) nodes.old.pages (parts_in (cells_of shape)) nodes.new.pages }
-    ensures held { is_held nodes.new (slice_index result 0) ≡ true }
-    ensures cells { length (node_of nodes.new (slice_index result 0)).cells ≡ part_cells (cells_of shape) 0 }
-    ensures within { (p : ℕ) → slice_index result p ≤ 8388608 }
+    requires part { part < parts_in (cells_of shape) }
+    requires room { has_room nodes.old.pages (needed_from (cells_of shape) part (parts_in (cells_of shape))) ≡ true }
+    requires held { 0 < part → is_held nodes.old (slice_index spines.now (holder_of (cells_of shape) part)) ≡ true }
+    requires cells { 0 < part → length (node_of nodes.old (slice_index spines.now (holder_of (cells_of shape) part))).cells ≡ part_cells (cells_of shape) (holder_of (cells_of shape) part) }
+    ensures made { MakesPart nodes.old shape colour identity (λ p. slice_index spines.now p) part result nodes.new }
+    ensures taken { (class : ℕ) × (index : ℕ) × (class_for (part_words (cells_of shape) part) ≡ Some class) × TakesBlock nodes.old.pages class (result / 2048) index nodes.new.pages }
+    ensures room { has_room nodes.new.pages (needed_from (cells_of shape) (part + 1) (parts_in (cells_of shape))) ≡ true }
+    ensures within { result ≤ 8388608 }
     ensures links { KeepsLinks nodes.old nodes.new }
 {
-    let mut at = [0; 253];
-    for part in 0..parts.count() {
-        at[part as usize] = make_part(nodes, shape, parts, part, colour, identity);
+    let block = make_part(nodes, shape, parts, part, colour, identity);
+    if part > 0 {
+        let position = parts.position(part);
+        nodes.set_cell(
+            spines[position.spine as usize],
+            position.cell,
+            block as u64 + 1,
+        );
     }
-    at
+    block
 }
 
-/// Writes the references of the pieces into the spine.
-fn link_pieces(nodes: &mut Nodes, at: &Addresses, pieces: usize)
-    requires few { pieces < 253 }
-    requires held { is_held nodes.old (slice_index at.now 0) ≡ true }
-    requires cells { pieces ≤ length (node_of nodes.old (slice_index at.now 0)).cells }
-    requires within { (p : ℕ) → slice_index at.now p ≤ 8388608 }
-    ensures linked { (old : Store) (shape : Shape) (colour : Bool) (id parts : ℕ) → Making old shape colour id (λ p. slice_index at.now p) parts 0 nodes.old → Making old shape colour id (λ p. slice_index at.now p) parts pieces nodes.new }
-    ensures pages { nodes.new.pages ≡ nodes.old.pages }
-    ensures links { KeepsLinks nodes.old nodes.new }
+/// Notes the address of a part, where it may be a spine.
+fn note(spines: &mut Spines, part: u32, block: usize)
+    ensures here { part < SPINES → slice_index spines.new part ≡ block }
+    ensures others { (p : ℕ) → p ≢ part → slice_index spines.new p ≡ slice_index spines.old p }
 {
-    for piece in 0..pieces {
-        nodes.set_cell(at[0], piece, at[piece + 1] as u64 + 1);
+    if (part as usize) < SPINES {
+        spines[part as usize] = block;
     }
 }
 
-/// Makes an object that is cut: a spine and its pieces, which the spine names. Answers the address of
-/// the spine.
-fn new_array(nodes: &mut Nodes, shape: Shape, parts: &Parts, colour: bool, identity: u64) -> usize
+/// Makes the parts of an object, in rising part number. Answers the address of part 0.
+fn make_parts(nodes: &mut Nodes, shape: Shape, parts: &Parts, colour: bool, identity: u64) -> usize
     requires fits { fits shape ≡ true }
     requires parts { parts.now ≡ cells_of shape }
     requires room { has_room nodes.old.pages (needed_from (cells_of shape) 0 (parts_in (cells_of shape))) ≡ true }
@@ -96,13 +104,16 @@ fn new_array(nodes: &mut Nodes, shape: Shape, parts: &Parts, colour: bool, ident
     ensures within { result ≤ 8388608 }
     ensures links { KeepsLinks nodes.old nodes.new }
 {
-    let at = make_parts(nodes, shape, parts, colour, identity);
-    link_pieces(nodes, &at, parts.count() as usize - 1);
-    at[0]
+    let mut spines: Spines = [0; SPINES];
+    for part in 0..parts.count() {
+        let block = make_linked(nodes, shape, parts, &spines, part, colour, identity);
+        note(&mut spines, part, block);
+    }
+    spines[0]
 }
 
-/// Makes an object, for whose parts there is room: all cells are null or 0. Answers the address of its
-/// part 0.
+/// Makes an object, for whose parts there is room: all cells are null or 0. Each part but part 0 is
+/// written into its spine as soon as it is made. Answers the address of its part 0.
 pub fn new_object(nodes: &mut Nodes, shape: Shape, colour: bool, identity: u64) -> usize
     requires fits { fits shape ≡ true }
     requires room { has_room nodes.old.pages (needed shape) ≡ true }
@@ -114,5 +125,5 @@ pub fn new_object(nodes: &mut Nodes, shape: Shape, colour: bool, identity: u64) 
     if parts.count() == 1 {
         return make_part(nodes, shape, &parts, 0, colour, identity);
     }
-    new_array(nodes, shape, &parts, colour, identity)
+    make_parts(nodes, shape, &parts, colour, identity)
 }

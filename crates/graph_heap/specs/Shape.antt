@@ -1,6 +1,7 @@
 -- Shapes: how many cells of each kind an object has.
 use Rattle.std.specs.Prelude.{ℕ, ◌+◌, Bool, true, false, nat_le}
 use Rattle.graph_heap.specs.declared.command.Shape.{Shape}
+use Rattle.graph_heap.specs.declared.command.TheConstants.{PLAIN_CELLS, ARRAY_CELLS}
 use Rattle.graph_heap.specs.declared.command.Shape.TheVariants.{Plain, RefArray, WordArray}
 
 -- how many reference cells
@@ -17,9 +18,9 @@ word_cells (WordArray n) = n
 
 -- a shape within the limits of an object
 abbrev pub fits : Shape → Bool
-fits (Plain refs words) = nat_le (refs + words) 252
-fits (RefArray n) = nat_le n 63504
-fits (WordArray n) = nat_le n 63504
+fits (Plain refs words) = nat_le (refs + words) PLAIN_CELLS
+fits (RefArray n) = nat_le n ARRAY_CELLS
+fits (WordArray n) = nat_le n ARRAY_CELLS
 
 -- whether reference commands are for the shape: for all but an array of words
 abbrev pub takes_refs : Shape → Bool

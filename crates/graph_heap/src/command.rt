@@ -1,13 +1,19 @@
 //! What a mutator may ask, and what it is told.
 
+/// How many cells a plain object has at most.
+pub const PLAIN_CELLS: u32 = 252;
+
+/// How many cells an array has at most.
+pub const ARRAY_CELLS: u32 = 4_000_000;
+
 /// The shape of an object: how many cells of each kind it has.
 #[derive(Clone, Copy, Debug, PartialEq, Eq)]
 pub enum Shape {
     /// Reference cells and word cells, together at most 252.
     Plain { refs: u32, words: u32 },
-    /// An array of so many reference cells, at most 63504.
+    /// An array of so many reference cells, at most 4000000.
     RefArray(u32),
-    /// An array of so many word cells, at most 63504.
+    /// An array of so many word cells, at most 4000000.
     WordArray(u32),
 }
 

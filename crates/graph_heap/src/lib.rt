@@ -10,7 +10,9 @@ pub mod reference;
 mod stored;
 
 pub use admission::{admit, live_row, set_live};
-pub use command::{Change, Command, Entry, Limits, Refusal, Reply, Shape};
+pub use command::{
+    ARRAY_CELLS, Change, Command, Entry, Limits, PLAIN_CELLS, Refusal, Reply, Shape,
+};
 pub use laws::{one_more, one_step, shapes_stand};
 pub use no_memory::NoMemory;
 pub use reference::Reference;

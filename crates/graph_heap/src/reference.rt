@@ -9,7 +9,9 @@ ghost use Rattle.graph_heap.specs.History as history;
 ghost use Rattle.graph_heap.specs.History.{IsEntryOf, after_entry};
 
 use crate::admission::{admit, live_row, set_live};
-use crate::command::{Change, Command, Entry, Limits, Refusal, Reply, Shape};
+use crate::command::{
+    ARRAY_CELLS, Change, Command, Entry, Limits, PLAIN_CELLS, Refusal, Reply, Shape,
+};
 use crate::no_memory::NoMemory;
 use crate::stored::{StoredObject, object_of, ref_of, set_ref_of, set_word_of, word_of};
 use std::alloc::Global;
@@ -65,9 +67,8 @@ fn fits(shape: Shape) -> bool
     ensures { result ≡ shapes.fits shape }
 {
     match shape {
-        Shape::Plain { refs, words } => refs as u64 + words as u64 <= 252,
-        Shape::RefArray(n) => n <= 63504,
-        Shape::WordArray(n) => n <= 63504,
+        Shape::Plain { refs, words } => refs as u64 + words as u64 <= PLAIN_CELLS as u64,
+        Shape::RefArray(n) | Shape::WordArray(n) => n <= ARRAY_CELLS,
     }
 }
 

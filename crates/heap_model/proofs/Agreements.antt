@@ -4,7 +4,7 @@ use Rattle.graph_heap.specs.Graph.{Graph, no_object, object_of}
 use Rattle.graph_heap.specs.Reach.{Reaches}
 use Rattle.heap_model.specs.Core.{Name, null, Reach, Kept}
 use Rattle.heap_model.specs.Agree.{Shows}
-use Rattle.heap_model.specs.Cut.{is_cut, count_of, width_in, width_of, words_of, name_of, view}
+use Rattle.heap_model.specs.Cut.{count_of, width_in, width_of, words_of, name_of, view}
 use Rattle.heap_model.specs.State.{HeapState, seen}
 use Rattle.heap_model.specs.Agreement.{Agrees, Consistent}
 use Rattle.heap_model.specs.Written.{IsKnown}
@@ -51,11 +51,11 @@ consistent_agrees h present snapshot c =
 
 -- agreement in parts
 no_width : width_of no_object 0 ≡ 0
-unfolding width_in is_cut
+unfolding width_in
 no_width = grind arith
 
 no_words : words_of no_object 0 ≡ []
-unfolding words_of is_cut
+unfolding words_of
 no_words = grind arith
 
 shows_null : (h : HeapState) (g : Graph) → Agrees h g → Shows (seen h) (view g) null

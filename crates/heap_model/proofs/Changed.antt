@@ -1,5 +1,5 @@
 -- A change that the heap does keeps what holds of it.
-use Rattle.std.proofs.Common.{◌≡◌, ℕ, zero, suc, ◌+◌, ◌<◌, ◌≤◌, Bool, true, false, List, inl, length, get_or, set, refl, ap, subst, sym, ◌∙◌, inr, arith}
+use Rattle.std.proofs.Common.{◌≡◌, ℕ, ◌+◌, ◌<◌, ◌≤◌, Bool, true, false, List, inl, length, get_or, set, refl, ap, subst, sym, ◌∙◌, inr, arith}
 use Rattle.std.specs.Prelude.{Option}
 use Rattle.graph_heap.specs.declared.command.Shape.{Shape}
 use Rattle.graph_heap.specs.declared.command.Change.{Change}
@@ -7,13 +7,13 @@ use Rattle.graph_heap.specs.declared.command.Change.TheVariants as changes
 use Rattle.graph_heap.specs.Shape.{fits}
 use Rattle.graph_heap.specs.Graph.{Graph, object_of, nulled, first_slot, changed}
 use Rattle.graph_heap.specs.Reach.{Reaches}
-use Rattle.size_classes.specs.Parts.{cells_of, parts_in}
+use Rattle.size_classes.specs.Parts.{cells_of, parts_in, part_in, column_in}
 use Rattle.heap_model.specs.Block.{with_cell}
 use Rattle.heap_model.specs.Pages.{Page, ArePages}
 use Rattle.heap_model.specs.Store.{Store, Writes, node_of}
 use Rattle.heap_model.specs.Core.{Name}
 use Rattle.heap_model.specs.Agree.{IsMain, Reads}
-use Rattle.heap_model.specs.Cut.{name_of, count_of, part_in, column_in, width_of}
+use Rattle.heap_model.specs.Cut.{name_of, count_of, width_of}
 use Rattle.heap_model.specs.State.{HeapState, seen, width_at}
 use Rattle.heap_model.specs.Agreement.{Consistent}
 use Rattle.heap_model.specs.Making.{MakesObject}
@@ -120,7 +120,7 @@ stands_ref h k p s id i value address y new w reaches l known at r main writes =
     let within = column_within k p s v.consistent address n (part_kept k p s v.consistent id (part_at o i) reaches below) at'' below in
     let column : column_at o i < width_of o (part_at o i) = column_below o i l in
     let column' : column_at o i < width_at (node_of k.store address) = subst (λ z. column_at o i < z) (sym within.0) column in
-    let wide : place_of p id i < width_at (node_of k.store address) = subst (λ z. column_in z i < width_at (node_of k.store address)) sum column' in
+    let wide : place_of p id i < width_at (node_of k.store address) = subst (λ z. column_in i < width_at (node_of k.store address)) sum column' in
     let inside : place_of p id i < length (node_of k.store address).cells = (let e = within.1 in omega arith) in
     stands_same k (record k { store = new }) p s (changed p (changes.Ref id i value)) v c1 writes.pages (ref_more k new address (place_of p id i) y writes inside wide)
 

@@ -8,10 +8,11 @@ use Rattle.graph_heap.specs.declared.command.Shape.{Shape}
 use Rattle.graph_heap.specs.declared.command.Change.TheVariants as changes
 use Rattle.graph_heap.specs.Shape.{ref_cells}
 use Rattle.graph_heap.specs.Graph.{Object, Graph, no_object, object_of, put_object, with_ref, with_word, new_object, changed}
-use Rattle.size_classes.specs.Parts.{pieces_of}
+use Rattle.size_classes.specs.Parts.{Run, pieces_of, spines_of, parts_in, run_of, first_by, count_by, part_in, column_in}
+use Rattle.size_classes.proofs.Cutting.{Pieces, Spines, pieces_are, spines_are, holds, cell_stands}
 use Rattle.heap_model.specs.Core.{Name, null, PartGraph}
-use Rattle.heap_model.specs.Cut.{is_cut, count_of, width_in, width_of, name_of, target_of, words_of, view, part_in, column_in}
-use Rattle.heap_model.proofs.Parts.{AreParts, link_name, made, parts_of}
+use Rattle.heap_model.specs.Cut.{count_of, width_by, width_in, width_of, name_of, target_by, target_of, words_of, view}
+use Rattle.heap_model.proofs.Parts.{AreParts, link_by, link_name, made, parts_of}
 use Rattle.heap_model.proofs.Edits.{write_root, write_target, write_word}
 use Rattle.heap_model.proofs.Cut.{part_at, column_at}
 
@@ -67,34 +68,28 @@ ref_words o i v p = rw length-set refl
 pub read-set : (xs : List ℕ) (i v j : ℕ) → i < length xs → get_or (set xs i v) j 0 ≡ (if j == i then v else get_or xs j 0)
 read-set xs i v j l = grind (arith, get_or-set_at, get_or-set_other)
 
-in_piece : (i p c : ℕ) → 0 < p → c < 252 → 252 * (p - 1) + c ≡ i → (p ≡ i / 252 + 1) × (c ≡ i % 252)
-in_piece i p c k l e = grind arith
+-- a cell of a piece is one of the object's
+hit : (n k s : ℕ) → Pieces n k → Spines k s → (i p c : ℕ) → i < n → p ≡ s + i / 252 → c ≡ i % 252 → (nat_lt p s ≡ false) × (c < count_by n k s p) × (first_by s p + c ≡ i)
+hit n k s a b i p c l e f = let q = cell_stands n k s a b i l in rw (e, f) (past s (i / 252), q.2, q.3)
+  where
+    past : (s x : ℕ) → nat_lt (s + x) s ≡ false
+    past s x = grind arith
 
-of_piece : (i p c : ℕ) → p ≡ i / 252 + 1 → c ≡ i % 252 → 252 * (p - 1) + c ≡ i
-of_piece i p c e f = grind arith
+miss : (n k s i p c : ℕ) → nat_lt p s ≡ false → c < count_by n k s p → first_by s p + c ≡ i → (p ≡ s + i / 252) × (c ≡ i % 252)
+miss n k s i p c e l f = (grind arith, grind arith)
 
-large_target : (identity ps : ℕ) (refs : List ℕ) (i v p c : ℕ) → i < length refs →
-    (if p == 0 then (if nat_lt c ps then record { identity = identity; part = c + 1 } else null) else (if nat_lt c 252 then name_of (get_or (set refs i v) (252 * (p - 1) + c) 0) else null))
-    ≡ (if (p == i / 252 + 1) && (c == i % 252) then name_of v else (if p == 0 then (if nat_lt c ps then record { identity = identity; part = c + 1 } else null) else (if nat_lt c 252 then name_of (get_or refs (252 * (p - 1) + c) 0) else null)))
-large_target identity ps refs i v p c l = let e = read-set refs i v (252 * (p - 1) + c) l in let f = in_piece i p c in let g = of_piece i p c in grind arith
-
-small_target : (refs : List ℕ) (i v p c : ℕ) → i < length refs →
-    (if p == 0 then name_of (get_or (set refs i v) c 0) else null) ≡ (if (p == 0) && (c == i) then name_of v else (if p == 0 then name_of (get_or refs c 0) else null))
-small_target refs i v p c l = let e = read-set refs i v c l in grind arith
+target_set : (r : Run) (identity : ℕ) (refs : List ℕ) (i v p q c d : ℕ) → i < length refs → (p ≡ q → c ≡ d → (r.spine ≡ false) × (c < r.count) × (r.first + c ≡ i)) → (r.spine ≡ false → c < r.count → r.first + c ≡ i → (p ≡ q) × (c ≡ d))
+    → target_by r identity (set refs i v) c ≡ (if (p == q) && (c == d) then name_of v else target_by r identity refs c)
+target_set r identity refs i v p q c d l there back = let e = read-set refs i v (r.first + c) l in grind arith
 
 ref_target : (identity : ℕ) (o : Object) (i v p c : ℕ) → i < length o.refs → target_of identity (with_ref o i v) p c ≡ (if (p == part_at o i) && (c == column_at o i) then name_of v else target_of identity o p c)
 unfolding target_of part_in column_in
 ref_target identity o i v p c l =
-    let ps = pieces_of (length o.refs + length o.words) in
+    let n = length o.refs + length o.words in
     rw length-set
-    (elim (is_cut (length o.refs + length o.words)) as (λ b. (if b
-    then (if p == 0 then (if nat_lt c ps then record { identity = identity; part = c + 1 } else null) else (if nat_lt c 252 then name_of (get_or (set o.refs i v) (252 * (p - 1) + c) 0) else null))
-    else (if p == 0 then name_of (get_or (set o.refs i v) c 0) else null)) ≡ (if (p == (if b then i / 252 + 1 else 0)) && (c == (if b then i % 252 else i)) then name_of v else (if b
-    then (if p == 0 then (if nat_lt c ps then record { identity = identity; part = c + 1 } else null) else (if nat_lt c 252 then name_of (get_or o.refs (252 * (p - 1) + c) 0) else null))
-    else (if p == 0 then name_of (get_or o.refs c 0) else null)))) [
-      | true ↦ large_target identity ps o.refs i v p c l
-      | false ↦ small_target o.refs i v p c l
-    ])
+    (target_set (run_of n p) identity o.refs i v p (spines_of n + i / 252) c (i % 252) l
+    (λ e f. hit n (pieces_of n) (spines_of n) (pieces_are n) (spines_are n) i p c (omega arith) e f)
+    (λ e m f. miss n (pieces_of n) (spines_of n) i p c e m f))
 
 put_target : (g : Graph) (id i v : ℕ) → 0 < id → id ≤ length g.objects → i < length (object_of g.objects id).refs → (n : Name) (c : ℕ)
     → (view (changed g (changes.Ref id i v))).target n c ≡ (write_target (view g) (record { identity = id; part = part_at (object_of g.objects id) i }) (column_at (object_of g.objects id) i) (name_of v)).target n c
@@ -143,23 +138,38 @@ piece_behind : (ws : List ℕ) (k i d w : ℕ) → i ≡ k + d → 252 ≤ d →
 piece_behind ws k i d w e l = rw e (ap (take 252) (drop-set-add k ws d w) ∙ take-set-le 252 (drop k ws) d w l)
 
 -- which piece it is, and where in it
-here_place : (i p : ℕ) → 0 < p → p ≡ i / 252 + 1 → (i ≡ 252 * (p - 1) + i % 252) × (i % 252 < 252)
-here_place i p k e = grind arith
+here_place : (s i p : ℕ) → s ≤ p → p ≡ s + i / 252 → (i ≡ 252 * (p - s) + i % 252) × (i % 252 < 252)
+here_place s i p k e = (grind arith, grind arith)
 
-other_place : (i p : ℕ) → 0 < p → p ≢ i / 252 + 1 → (i < 252 * (p - 1)) ⊎ ((252 * (p - 1) ≤ i) × (252 ≤ i - 252 * (p - 1)))
-other_place i p k e = grind arith
+other_place : (s i p : ℕ) → s ≤ p → p ≢ s + i / 252 → (i < 252 * (p - s)) ⊎ ((252 * (p - s) ≤ i) × (252 ≤ i - 252 * (p - s)))
+other_place s i p k e = grind arith
 
-other_piece : (ws : List ℕ) (i w p : ℕ) → 0 < p → p ≢ i / 252 + 1 → take 252 (drop (252 * (p - 1)) (set ws i w)) ≡ take 252 (drop (252 * (p - 1)) ws)
-other_piece ws i w p k e = elim (other_place i p k e) [ inl l ↦ piece_before ws (252 * (p - 1)) i w l | inr l ↦ piece_behind ws (252 * (p - 1)) i (i - 252 * (p - 1)) w (let l0 = l.0 in omega arith) l.1 ]
+other_piece : (ws : List ℕ) (s i w p : ℕ) → s ≤ p → p ≢ s + i / 252 → take 252 (drop (252 * (p - s)) (set ws i w)) ≡ take 252 (drop (252 * (p - s)) ws)
+other_piece ws s i w p k e = elim (other_place s i p k e) [ inl l ↦ piece_before ws (252 * (p - s)) i w l | inr l ↦ piece_behind ws (252 * (p - s)) i (i - 252 * (p - s)) w (let l0 = l.0 in omega arith) l.1 ]
 
-this_piece : (ws : List ℕ) (i w p : ℕ) → 0 < p → p ≡ i / 252 + 1 → take 252 (drop (252 * (p - 1)) (set ws i w)) ≡ set (take 252 (drop (252 * (p - 1)) ws)) (i % 252) w
-this_piece ws i w p k e = let h = here_place i p k e in piece_here ws (252 * (p - 1)) i (i % 252) w h.0 h.1
+this_piece : (ws : List ℕ) (s i w p : ℕ) → s ≤ p → p ≡ s + i / 252 → take 252 (drop (252 * (p - s)) (set ws i w)) ≡ set (take 252 (drop (252 * (p - s)) ws)) (i % 252) w
+this_piece ws s i w p k e = let h = here_place s i p k e in piece_here ws (252 * (p - s)) i (i % 252) w h.0 h.1
 
-large_words : (ws : List ℕ) (i w p : ℕ) → (if p == 0 then [] else take 252 (drop (252 * (p - 1)) (set ws i w))) ≡ (if p == i / 252 + 1 then set (if p == 0 then [] else take 252 (drop (252 * (p - 1)) ws)) (i % 252) w else (if p == 0 then [] else take 252 (drop (252 * (p - 1)) ws)))
-large_words ws i w p = let a = this_piece ws i w p in let b = other_piece ws i w p in grind arith
+first_piece : (s p : ℕ) → s ≤ p → first_by s p ≡ 252 * (p - s)
+first_piece s p l = grind arith
 
-small_words : (ws : List ℕ) (i w p : ℕ) → (if p == 0 then set ws i w else []) ≡ (if p == 0 then set (if p == 0 then ws else []) i w else (if p == 0 then ws else []))
-small_words ws i w p = grind arith
+words_set : (ws : List ℕ) (s f i w p : ℕ) → (s ≤ p → f ≡ 252 * (p - s)) → (if nat_lt p s then [] else take 252 (drop f (set ws i w)))
+    ≡ (if p == s + i / 252 then set (if nat_lt p s then [] else take 252 (drop f ws)) (i % 252) w else (if nat_lt p s then [] else take 252 (drop f ws)))
+words_set ws s f i w p e = by_spine (nat_lt p s) refl
+  where
+    later : (s p : ℕ) → nat_lt p s ≡ false → s ≤ p
+    later s p t = grind arith
+
+    sooner : (s p i : ℕ) → nat_lt p s ≡ true → (p == s + i / 252) ≡ false
+    sooner s p i t = grind arith
+
+    by_here : s ≤ p → (b : Bool) → (p == s + i / 252) ≡ b → take 252 (drop f (set ws i w)) ≡ (if b then set (take 252 (drop f ws)) (i % 252) w else take 252 (drop f ws))
+    by_here l true t = let q : p ≡ s + i / 252 = grind arith in rw (e l) (this_piece ws s i w p l q)
+    by_here l false t = let q : p ≢ s + i / 252 = grind arith in rw (e l) (other_piece ws s i w p l q)
+
+    by_spine : (b : Bool) → nat_lt p s ≡ b → (if b then [] else take 252 (drop f (set ws i w))) ≡ (if p == s + i / 252 then set (if b then [] else take 252 (drop f ws)) (i % 252) w else (if b then [] else take 252 (drop f ws)))
+    by_spine true t = rw (sooner s p i t) refl
+    by_spine false t = by_here (later s p t) (p == s + i / 252) refl
 
 -- an object with one word written
 word_target : (identity : ℕ) (o : Object) (i w p c : ℕ) → target_of identity (with_word o i w) p c ≡ target_of identity o p c
@@ -169,13 +179,8 @@ word_target identity o i w p c = rw length-set refl
 word_words : (o : Object) (i w p : ℕ) → words_of (with_word o i w) p ≡ (if p == part_at o i then set (words_of o p) (column_at o i) w else words_of o p)
 unfolding words_of part_in column_in
 word_words o i w p =
-    rw length-set
-    (elim (is_cut (length o.refs + length o.words)) as (λ b. (if b then (if p == 0 then [] else take 252 (drop (252 * (p - 1)) (set o.words i w))) else (if p == 0 then set o.words i w else []))
-    ≡ (if p == (if b then i / 252 + 1 else 0) then set (if b then (if p == 0 then [] else take 252 (drop (252 * (p - 1)) o.words)) else (if p == 0 then o.words else [])) (if b then i % 252 else i) w
-    else (if b then (if p == 0 then [] else take 252 (drop (252 * (p - 1)) o.words)) else (if p == 0 then o.words else [])))) [
-      | true ↦ large_words o.words i w p
-      | false ↦ small_words o.words i w p
-    ])
+    let s = spines_of (length o.refs + length o.words) in
+    rw length-set (words_set o.words s (first_by s p) i w p (first_piece s p))
 
 -- a word cell is written
 pub view-word : (g : Graph) (id i w : ℕ) → 0 < id → id ≤ length g.objects
@@ -228,24 +233,41 @@ append_each f xs e k = ap f (object-append xs e k) ∙ pulled (k == length xs + 
     pulled true = refl
     pulled false = refl
 
+link_below : (r : Run) (refs i parts : ℕ) → 0 < parts → i < width_by r refs → (r.spine ≡ true → i < r.count → r.first + i < parts) → link_by r i < parts
+link_below r refs i parts some l below = grind arith
+
 pub parts_are : (shape : Shape) → AreParts (parts_of shape)
-unfolding count_of width_in is_cut
-parts_are shape = record { some = grind arith; link = λ p i l k. grind arith }
+unfolding count_of width_in
+parts_are shape =
+    let o = new_object shape in
+    let n = length o.refs + length o.words in
+    record {
+      some = some_parts n;
+      link = λ p i l k. link_below (run_of n p) (length o.refs) i (parts_in n) (some_parts n) k (λ e m. (holds n (pieces_of n) (spines_of n) (pieces_are n) (spines_are n) p i (among (spines_of n) p e) m).1);
+    }
+  where
+    some_parts : (n : ℕ) → 0 < parts_in n
+    some_parts n = grind arith
+
+    among : (s p : ℕ) → nat_lt p s ≡ true → p < s
+    among s p e = grind arith
 
 -- every reference of a new object is null
 pub no_refs : (n i : ℕ) → get_or {A = ℕ} (replicate n 0) i 0 ≡ 0
 no_refs n i = let l = length-replicate {A = ℕ} n 0 in grind (arith, get_or-replicate, get_or_past)
 
-empty_by : (large : Bool) (identity ps : ℕ) (refs : List ℕ) (p i : ℕ) → ((j : ℕ) → get_or refs j 0 ≡ 0) →
-    (if large
-    then (if p == 0 then (if nat_lt i ps then record { identity = identity; part = i + 1 } else null) else (if nat_lt i 252 then name_of (get_or refs (252 * (p - 1) + i) 0) else null))
-    else (if p == 0 then name_of (get_or refs i 0) else null))
-    ≡ link_name identity (if large && ((p == 0) && nat_lt i ps) then i + 1 else 0)
-empty_by large identity ps refs p i none = let a = none i in let b = none (252 * (p - 1) + i) in grind arith
+empty_by : (r : Run) (identity : ℕ) (refs : List ℕ) (i : ℕ) → (r.spine ≡ true → 0 < r.first) → ((j : ℕ) → get_or refs j 0 ≡ 0) → target_by r identity refs i ≡ link_name identity (link_by r i)
+empty_by r identity refs i some none = let a = none (r.first + i) in grind arith
+
+first_some : (s p : ℕ) → nat_lt p s ≡ true → 0 < first_by s p
+first_some s p e = grind arith
 
 empty_target : (identity : ℕ) (shape : Shape) (p i : ℕ) → target_of identity (new_object shape) p i ≡ link_name identity ((parts_of shape).link p i)
 unfolding target_of
-empty_target identity shape p i = let o = new_object shape in empty_by (is_cut (length o.refs + length o.words)) identity (pieces_of (length o.refs + length o.words)) o.refs p i (no_refs (ref_cells shape))
+empty_target identity shape p i =
+    let o = new_object shape in
+    let n = length o.refs + length o.words in
+    empty_by (run_of n p) identity o.refs i (first_some (spines_of n) p) (no_refs (ref_cells shape))
 
 -- the graph heap with an object that no root names yet
 abbrev pub appended : Graph → Shape → Graph

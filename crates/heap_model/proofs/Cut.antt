@@ -1,9 +1,11 @@
 -- What the part graph of a graph heap reaches is what the graph heap reaches.
-use Rattle.std.proofs.Common.{◌≡◌, ℕ, zero, suc, ◌+◌, ◌-◌, ◌*◌, ◌<◌, ◌≢◌, Bool, true, false, length, get_or, arith, refl, ap, subst, sym, ◌∙◌, ◌==◌, ◌&&◌, if◌then◌else◌}
+use Rattle.std.proofs.Common.{◌≡◌, ℕ, zero, suc, ◌+◌, ◌-◌, ◌/◌, ◌%◌, ◌<◌, ◌≤◌, ◌≢◌, Bool, true, false, length, get_or, arith, refl, ap, subst, sym, ◌∙◌, nat_lt, List}
 use Rattle.graph_heap.specs.Graph.{Object, Graph, no_object, object_of}
 use Rattle.graph_heap.specs.Reach.{Path, Reaches}
 use Rattle.heap_model.specs.Core.{Name, null, Reach}
-use Rattle.heap_model.specs.Cut.{is_cut, count_of, width_in, width_of, name_of, target_of, view, part_in, column_in}
+use Rattle.heap_model.specs.Cut.{count_of, width_by, width_in, width_of, name_of, target_by, target_of, view}
+use Rattle.size_classes.specs.Parts.{Run, pieces_of, spines_of, run_of, holder_of, seat_of, part_in, column_in}
+use Rattle.size_classes.proofs.Cutting.{pieces_are, spines_are, held_by, holds, cell_stands}
 use Rattle.heap_model.proofs.Kept.{reach_root, reach_step, reach_induction}
 
 -- in which part cell i of an object stands, and at which place among its cells of that kind
@@ -11,36 +13,89 @@ abbrev pub part_at : Object → ℕ → ℕ
 part_at o i = part_in (length o.refs + length o.words) i
 
 abbrev pub column_at : Object → ℕ → ℕ
-column_at o i = column_in (length o.refs + length o.words) i
+column_at o i = column_in i
+
+-- what a run says of its cells
+target_piece : (r : Run) (identity : ℕ) (refs : List ℕ) (i x : ℕ) → r.spine ≡ false → i < r.count → r.first + i ≡ x → target_by r identity refs i ≡ name_of (get_or refs x 0)
+target_piece r identity refs i x e l q = grind arith
+
+target_spine : (r : Run) (identity : ℕ) (refs : List ℕ) (i x : ℕ) → r.spine ≡ true → i < r.count → r.first + i ≡ x → target_by r identity refs i ≡ record { identity = identity; part = x }
+target_spine r identity refs i x e l q = grind arith
+
+width_piece : (r : Run) (refs i x : ℕ) → r.spine ≡ false → i < r.count → r.first + i ≡ x → x < refs → i < width_by r refs
+width_piece r refs i x e l q m = grind arith
+
+width_spine : (r : Run) (refs i : ℕ) → r.spine ≡ true → i < r.count → i < width_by r refs
+width_spine r refs i e l = grind arith
+
+behind_spines : (s p : ℕ) → s ≤ p → nat_lt p s ≡ false
+behind_spines s p l = grind arith
+
+among_spines : (s p : ℕ) → p < s → nat_lt p s ≡ true
+among_spines s p l = grind arith
+
+-- how an object is cut
+abbrev cells_in : Object → ℕ
+cells_in o = length o.refs + length o.words
+
+stands : (o : Object) (i : ℕ) → i < cells_in o → (spines_of (cells_in o) + i / 252 < spines_of (cells_in o) + pieces_of (cells_in o)) × (spines_of (cells_in o) ≤ spines_of (cells_in o) + i / 252) × (i % 252 < (run_of (cells_in o) (spines_of (cells_in o) + i / 252)).count) × ((run_of (cells_in o) (spines_of (cells_in o) + i / 252)).first + i % 252 ≡ i)
+stands o i l = cell_stands (cells_in o) (pieces_of (cells_in o)) (spines_of (cells_in o)) (pieces_are (cells_in o)) (spines_are (cells_in o)) i l
 
 -- a reference cell stands in its part
 pub part_below : (o : Object) (i : ℕ) → i < length o.refs → part_at o i < count_of o
-unfolding part_in count_of is_cut
-part_below o i l = grind arith
+unfolding part_in count_of
+part_below o i l = (stands o i (omega arith)).0
 
 pub column_below : (o : Object) (i : ℕ) → i < length o.refs → column_at o i < width_of o (part_at o i)
-unfolding part_in column_in width_in is_cut
-column_below o i l = grind arith
+unfolding part_in column_in width_in
+column_below o i l =
+    let q = stands o i (omega arith) in
+    width_piece (run_of (cells_in o) (part_at o i)) (length o.refs) (i % 252) i (behind_spines _ _ q.1) q.2 q.3 l
 
 pub cell_at : (identity : ℕ) (o : Object) (i : ℕ) → i < length o.refs → target_of identity o (part_at o i) (column_at o i) ≡ name_of (get_or o.refs i 0)
-unfolding part_in column_in target_of is_cut
-cell_at identity o i l = grind arith
+unfolding part_in column_in target_of
+cell_at identity o i l =
+    let q = stands o i (omega arith) in
+    target_piece (run_of (cells_in o) (part_at o i)) identity o.refs (i % 252) i (behind_spines _ _ q.1) q.2 q.3
 
--- what is at an identity with a cell
-pub spine_below : (o : Object) (p : ℕ) → p < count_of o → 0 < p → (p - 1 < width_of o 0) × (is_cut (length o.refs + length o.words) ≡ true)
-unfolding count_of width_in is_cut
-spine_below o p l k = grind arith
+-- the spine that refers to a part, and the cell
+abbrev pub holder_at : Object → ℕ → ℕ
+holder_at o p = holder_of (length o.refs + length o.words) p
 
-pub spine_cell : (identity : ℕ) (o : Object) (p : ℕ) → p < count_of o → 0 < p → target_of identity o 0 (p - 1) ≡ record { identity = identity; part = p }
-unfolding count_of target_of is_cut
-spine_cell identity o p l k = grind arith
+abbrev pub seat_at : Object → ℕ → ℕ
+seat_at o p = seat_of (length o.refs + length o.words) p
+
+pub holder_below : (o : Object) (p : ℕ) → p < count_of o → 0 < p → (seat_at o p < width_of o (holder_at o p)) × (holder_at o p < p) × (holder_at o p < count_of o)
+unfolding count_of width_in
+holder_below o p l k =
+    let q = held_by (cells_in o) (pieces_of (cells_in o)) (spines_of (cells_in o)) (pieces_are (cells_in o)) (spines_are (cells_in o)) p k l in
+    (width_spine (run_of (cells_in o) (holder_at o p)) (length o.refs) (seat_at o p) (among_spines _ _ q.0) q.2, q.1, before (q.1) l)
+  where
+    before : {x : ℕ} → x < p → p < spines_of (cells_in o) + pieces_of (cells_in o) → x < spines_of (cells_in o) + pieces_of (cells_in o)
+    before h m = omega arith
+
+pub holder_cell : (identity : ℕ) (o : Object) (p : ℕ) → p < count_of o → 0 < p → target_of identity o (holder_at o p) (seat_at o p) ≡ record { identity = identity; part = p }
+unfolding count_of target_of
+holder_cell identity o p l k =
+    let q = held_by (cells_in o) (pieces_of (cells_in o)) (spines_of (cells_in o)) (pieces_are (cells_in o)) (spines_are (cells_in o)) p k l in
+    target_spine (run_of (cells_in o) (holder_at o p)) identity o.refs (seat_at o p) p (among_spines _ _ q.0) q.2 q.3
+
+-- each part is reached from part 0, by way of the spine that refers to it
+reach_by : (g : Graph) (identity fuel p : ℕ) → p ≤ fuel → Reach (length g.roots) (view g) (name_of identity) → p < count_of (object_of g.objects identity) → Reach (length g.roots) (view g) (record { identity = identity; part = p })
+reach_by g identity fuel zero m r l = r
+reach_by g identity zero (suc p) m r l = absurd (omega arith)
+reach_by g identity (suc fuel) (suc p) m r l =
+    let o = object_of g.objects identity in
+    let q = holder_below o (suc p) l (omega arith) in
+    let lower : holder_at o (suc p) ≤ fuel = at_most (holder_at o (suc p)) q.1 in
+    subst (λ z. Reach (length g.roots) (view g) z) (holder_cell identity o (suc p) l (omega arith))
+    (reach_step (length g.roots) (view g) (record { identity = identity; part = holder_at o (suc p) }) (seat_at o (suc p)) (reach_by g identity fuel (holder_at o (suc p)) lower r q.2) q.0)
+  where
+    at_most : (x : ℕ) → x < suc p → x ≤ fuel
+    at_most x h = omega arith
 
 pub reach_part : (g : Graph) (identity p : ℕ) → Reach (length g.roots) (view g) (name_of identity) → p < count_of (object_of g.objects identity) → Reach (length g.roots) (view g) (record { identity = identity; part = p })
-reach_part g identity zero r l = r
-reach_part g identity (suc p) r l =
-    let o = object_of g.objects identity in
-    let below = (spine_below o (suc p) l (omega arith)).0 in
-    subst (λ z. Reach (length g.roots) (view g) z) (spine_cell identity o (suc p) l (omega arith)) (reach_step (length g.roots) (view g) (name_of identity) (suc p - 1) r below)
+reach_part g identity p r l = reach_by g identity p p (omega arith) r l
 
 reach_ref : (g : Graph) (identity i : ℕ) → Reach (length g.roots) (view g) (name_of identity) → i < length (object_of g.objects identity).refs → Reach (length g.roots) (view g) (name_of (get_or (object_of g.objects identity).refs i 0))
 reach_ref g identity i r l =
@@ -68,36 +123,44 @@ unfolding count_of
 count_some o = grind arith
 
 width_none : (p : ℕ) → width_of no_object p ≡ 0
-unfolding width_in is_cut
+unfolding width_in
 width_none p = grind arith
 
--- a cell of a spine is a piece of the object
-is_spine : Object → ℕ → Bool
-is_spine o p = is_cut (length o.refs + length o.words) && (p == 0)
+-- a cell of a spine is a part of the object
+abbrev is_spine : Object → ℕ → Bool
+is_spine o p = (run_of (length o.refs + length o.words) p).spine
+
+by_spine : (r : Run) (identity : ℕ) (refs : List ℕ) (i : ℕ) → i < width_by r (length refs) → r.spine ≡ true → (i < r.count) × (target_by r identity refs i ≡ record { identity = identity; part = r.first + i })
+by_spine r identity refs i l e = (grind arith, grind arith)
+
+by_piece : (r : Run) (identity : ℕ) (refs : List ℕ) (i : ℕ) → i < width_by r (length refs) → r.spine ≡ false → (r.first + i < length refs) × (target_by r identity refs i ≡ name_of (get_or refs (r.first + i) 0))
+by_piece r identity refs i l e = (grind arith, grind arith)
+
+is_among : (s p : ℕ) → nat_lt p s ≡ true → p < s
+is_among s p e = grind arith
 
 spine_leads : (identity : ℕ) (o : Object) (p i : ℕ) → i < width_of o p → is_spine o p ≡ true → (target_of identity o p i).identity ≡ identity
-unfolding width_in target_of is_spine
-spine_leads identity o p i l e = grind arith
+unfolding width_in target_of
+spine_leads identity o p i l e = ap (λ (z : Name). z.identity) ((by_spine (run_of (cells_in o) p) identity o.refs i l e).1)
 
 spine_part : (identity : ℕ) (o : Object) (p i : ℕ) → i < width_of o p → is_spine o p ≡ true → (target_of identity o p i).part < count_of o
-unfolding width_in target_of is_spine count_of is_cut
-spine_part identity o p i l e = grind arith
-
-spine_not_null : (identity : ℕ) (o : Object) (p i : ℕ) → i < width_of o p → is_spine o p ≡ true → o ≢ no_object
-unfolding is_spine is_cut
-spine_not_null identity o p i l e n = let w : is_cut (length o.refs + length o.words) ≡ true = grind arith in let f : is_cut (length no_object.refs + length no_object.words) ≡ true = ap (λ (z : Object). is_cut (length z.refs + length z.words)) (sym n) ∙ w in grind arith
+unfolding width_in target_of count_of
+spine_part identity o p i l e =
+    let q = by_spine (run_of (cells_in o) p) identity o.refs i l e in
+    let w = holds (cells_in o) (pieces_of (cells_in o)) (spines_of (cells_in o)) (pieces_are (cells_in o)) (spines_are (cells_in o)) p i (is_among _ _ e) q.0 in
+    subst (λ (z : Name). z.part < spines_of (cells_in o) + pieces_of (cells_in o)) (sym q.1) w.1
 
 -- every other cell is a reference of it
-ref_at : Object → ℕ → ℕ → ℕ
-ref_at o p i = if is_cut (length o.refs + length o.words) then 252 * (p - 1) + i else i
+abbrev ref_at : Object → ℕ → ℕ → ℕ
+ref_at o p i = (run_of (length o.refs + length o.words) p).first + i
 
 ref_below : (o : Object) (p i : ℕ) → i < width_of o p → is_spine o p ≡ false → ref_at o p i < length o.refs
-unfolding width_in ref_at is_spine
-ref_below o p i l e = grind arith
+unfolding width_in
+ref_below o p i l e = (by_piece (run_of (cells_in o) p) 0 o.refs i l e).0
 
 ref_leads : (identity : ℕ) (o : Object) (p i : ℕ) → i < width_of o p → is_spine o p ≡ false → target_of identity o p i ≡ name_of (get_or o.refs (ref_at o p i) 0)
-unfolding width_in ref_at is_spine target_of
-ref_leads identity o p i l e = grind arith
+unfolding width_in target_of
+ref_leads identity o p i l e = (by_piece (run_of (cells_in o) p) identity o.refs i l e).1
 
 pub reaches_step : (g : Graph) (from j : ℕ) → Reaches g from → j < length (object_of g.objects from).refs → 0 < get_or (object_of g.objects from).refs j 0 → Reaches g (get_or (object_of g.objects from).refs j 0)
 unfolding Reaches
@@ -141,5 +204,5 @@ reach_zero g n r e = let p = (is_reached g n r).null e in λ i. record { identit
 
 -- a word cell stands in its part
 pub word_below : (o : Object) (i : ℕ) → i < length o.words → part_at o i < count_of o
-unfolding part_in count_of is_cut
-word_below o i l = grind arith
+unfolding part_in count_of
+word_below o i l = (stands o i (omega arith)).0

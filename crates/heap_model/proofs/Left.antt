@@ -1,12 +1,12 @@
 -- A change leaves the cycle where it stood.
-use Rattle.std.proofs.Common.{◌≡◌, ◌≢◌, ℕ, ◌+◌, Bool, true, false, List, length, set, refl, ap, sym, ◌∙◌, arith, length-set, ◌==◌}
+use Rattle.std.proofs.Common.{◌≡◌, ◌≢◌, ℕ, ◌+◌, ◌<◌, ◌⊎◌, inl, inr, Bool, true, false, List, length, set, refl, ap, sym, subst, ◌∙◌, arith, length-set, ◌==◌}
 use Rattle.graph_heap.specs.declared.command.Shape.{Shape}
 use Rattle.graph_heap.specs.declared.command.Change.{Change}
 use Rattle.graph_heap.specs.Graph.{Graph, first_slot}
 use Rattle.size_classes.specs.Parts.{cells_of, parts_in}
 use Rattle.heap_model.specs.Store.{Store, is_held}
 use Rattle.heap_model.specs.State.{HeapState}
-use Rattle.heap_model.specs.Making.{Making, Nothing_made, Part_made, Piece_linked}
+use Rattle.heap_model.specs.Making.{Making, Nothing_made, Part_made}
 use Rattle.heap_model.specs.Change.{DoesChange, Does_nothing, Does_root, Does_ref, Does_word, Does_new, Does_join, Does_leave, Clears, Clears_none, Clears_next}
 use Rattle.heap_model.specs.Left.{LeavesCycle}
 use Rattle.heap_model.proofs.Seen.{held_pages}
@@ -24,10 +24,14 @@ adds_held s t a b free same held = by_here (b == a) refl
     by_here true e = let here : b ≡ a = same_number b a e in absurd (let z : false ≡ true = sym free ∙ sym (ap (is_held s) here) ∙ held in cc)
     by_here false e = let ne : b ≢ a = grind arith in same b ne ∙ held
 
-making_held : (old : Store) (shape : Shape) (colour : Bool) (id : ℕ) (at : ℕ → ℕ) (k l : ℕ) (new : Store) → Making old shape colour id at k l new → (b : ℕ) → is_held old b ≡ true → is_held new b ≡ true
-making_held old shape colour id at k l new Nothing_made b held = held
-making_held old shape colour id at k l new (Part_made parts s t making w) b held = adds_held s t (at parts) b w.free w.same (making_held old shape colour id at parts 0 s making b held)
-making_held old shape colour id at k l new (Piece_linked parts linked s t making w) b held = held_pages s t b w.pages ∙ making_held old shape colour id at parts linked s making b held
+zero_or : (n : ℕ) → (n ≡ 0) ⊎ (0 < n)
+zero_or n = grind arith
+
+making_held : (old : Store) (shape : Shape) (colour : Bool) (id : ℕ) (at : ℕ → ℕ) (k : ℕ) (new : Store) → Making old shape colour id at k new → (b : ℕ) → is_held old b ≡ true → is_held new b ≡ true
+making_held old shape colour id at k new Nothing_made b held = held
+making_held old shape colour id at k new (Part_made part s t u making w none some) b held =
+    let x = adds_held s t (at part) b w.free w.same (making_held old shape colour id at part s making b held) in
+    elim (zero_or part) [ inl e ↦ subst (λ z. is_held z b ≡ true) (sym (none e)) x | inr l ↦ held_pages t u b (some l).pages ∙ x ]
 
 -- behind the barrier, and after a write of a cell
 written_left : (h k : HeapState) (new : Store) (roots : List ℕ) → Stays h k → new.pages ≡ k.store.pages → length roots ≡ length k.roots → LeavesCycle h (record k { store = new; roots = roots })
@@ -86,7 +90,7 @@ change_left h after g c (Does_new cell id shape k new at r makes takes) =
       limit = same_limit h (record k { store = new; next = k.next + 1; roots = set k.roots cell (at 0 + 1) }) (length-set k.roots cell (at 0 + 1) ∙ ap length s.roots) (count ∙ ap length s.pages) s.defrag;
       sense = s.sense;
       pages = pages_then h.store.pages k.store.pages new.pages (same_pages h.store.pages k.store.pages s.pages) keeps;
-      held = λ b l. making_held k.store shape k.sense k.next at _ _ new makes b (held_pages h.store k.store b s.pages ∙ l);
+      held = λ b l. making_held k.store shape k.sense k.next at _ new makes b (held_pages h.store k.store b s.pages ∙ l);
       grey = s.grey;
     }
 change_left h after g c (Does_join m) = live_left h (set h.live m true)

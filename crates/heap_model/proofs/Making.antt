@@ -4,27 +4,29 @@ use Rattle.std.proofs.lemmas.List.{length-replicate, drop-replicate, take-replic
 use Rattle.graph_heap.specs.declared.command.Shape.{Shape}
 use Rattle.graph_heap.specs.declared.command.Shape.TheVariants.{Plain, RefArray, WordArray}
 use Rattle.graph_heap.specs.Shape.{ref_cells, word_cells, fits}
-use Rattle.graph_heap.specs.Graph.{new_object}
-use Rattle.size_classes.specs.Parts.{cells_of, pieces_of, parts_in, part_cells}
+use Rattle.graph_heap.specs.Graph.{Object, new_object}
+use Rattle.size_classes.specs.Parts.{Run, cells_of, pieces_of, spines_of, parts_in, part_cells, run_of, first_by, count_by, holder_of, seat_of}
+use Rattle.size_classes.proofs.Cutting.{Pieces, Spines, pieces_are, spines_are, held_by, holds}
 use Rattle.heap_model.specs.Header.{Header}
 use Rattle.heap_model.specs.Block.{Node, new_node}
 use Rattle.heap_model.specs.Store.{Store, Adds, is_held, node_of}
 use Rattle.heap_model.specs.Core.{Name, null, Heap}
-use Rattle.heap_model.specs.Cut.{is_cut, count_of, width_in, width_of, words_of}
+use Rattle.heap_model.specs.Cut.{count_of, width_by, width_in, width_of, words_by, words_of}
+use Rattle.heap_model.proofs.Cut.{holder_at, seat_at, holder_below}
 use Rattle.heap_model.specs.State.{HeapState, seen, width_at, same_colour}
 use Rattle.heap_model.specs.Agreement.{IsWhole}
-use Rattle.heap_model.specs.Making.{Making, Nothing_made, Part_made, Piece_linked, pieces_in, MakesObject}
+use Rattle.heap_model.specs.Making.{Making, Nothing_made, Part_made, MakesObject}
 use Rattle.heap_model.proofs.Same.{SameBlocks}
-use Rattle.heap_model.proofs.Parts.{Parts, Makes, parts_of}
+use Rattle.heap_model.proofs.Parts.{Parts, Makes, link_by, parts_of}
 use Rattle.heap_model.proofs.Edits.{set_cell}
 use Rattle.heap_model.proofs.Changes.{no_refs, parts_are}
-use Rattle.heap_model.proofs.Steps.{MakesFirst, block_made, first_none, first_more, first_link, first_all}
-use Rattle.heap_model.proofs.Written.{whole_cell}
+use Rattle.heap_model.proofs.Steps.{AreLinked, MakesFirst, block_made, first_none, first_root, first_more, first_all}
+use Rattle.heap_model.proofs.Written.{whole_cell, width_le}
 use Rattle.heap_model.proofs.Seen.{behind, held_put, cell_seen}
 
 -- a heap that shows the same blocks has the same parts made
-pub first_same : (h : Heap) (ps : Parts) (a : ℕ → ℕ) (k l : ℕ) (h1 h2 : Heap) → MakesFirst h ps a k l h1 → SameBlocks h1 h2 → MakesFirst h ps a k l h2
-first_same h ps a k l h1 h2 m e = record {
+pub first_same : (h : Heap) (ps : Parts) (a : ℕ → ℕ) (k : ℕ) (h1 h2 : Heap) → MakesFirst h ps a k h1 → SameBlocks h1 h2 → MakesFirst h ps a k h2
+first_same h ps a k h1 h2 m e = record {
   next = e.next ∙ m.next;
   roots = e.roots ∙ m.roots;
   root = λ j b. grind arith;
@@ -32,9 +34,7 @@ first_same h ps a k l h1 h2 m e = record {
   stays = let s = m.stays in grind arith;
   parts = let o = m.parts in grind arith;
   apart = m.apart;
-  spine = λ i b c d. let u = m.parts.held 0 b in let w = m.parts.width 0 b in e.cell (a 0) i u (omega arith) ∙ m.spine i b c d;
-  rest = λ i b c d. let u = m.parts.held 0 b in let w = m.parts.width 0 b in e.cell (a 0) i u (omega arith) ∙ m.rest i b c d;
-  leaf = λ p i b c d. let u = m.parts.held p c in let w = m.parts.width p c in e.cell (a p) i u (omega arith) ∙ m.leaf p i b c d;
+  cell = λ p i b d. let u = m.parts.held p b in let w = m.parts.width p b in e.cell (a p) i u (omega arith) ∙ m.cell p i b d;
   part = m.part;
   others = λ x b. m.others x (sym (e.held x) ∙ b);
 }
@@ -70,27 +70,35 @@ one_kind (Plain refs words) f = inr (inr (grind arith))
 one_kind (RefArray n) f = inr (inl refl)
 one_kind (WordArray n) f = inl refl
 
-words_rest : (r w p : ℕ) → (r ≡ 0) ⊎ ((w ≡ 0) ⊎ (r + w ≤ 252)) → p < parts_in (r + w) → is_cut (r + w) ≡ true → part_cells (r + w) p - width_in r w p ≡ (if p == 0 then 0 else min 252 (w - 252 * (p - 1)))
-unfolding width_in is_cut
-words_rest r w p k l c = grind arith
+share_left : (r w f : ℕ) → (r ≡ 0) ⊎ ((w ≡ 0) ⊎ ((f ≡ 0) × (r + w ≤ 252))) → min 252 (r + w - f) - min (min 252 (r + w - f)) (r - f) ≡ min 252 (w - f)
+share_left r w f k = grind arith
 
-words_small : (r w p : ℕ) → p < parts_in (r + w) → is_cut (r + w) ≡ false → (p ≡ 0) × (part_cells (r + w) p - width_in r w p ≡ w)
-unfolding width_in is_cut
-words_small r w p l c = grind arith
+alone : (n k s p : ℕ) → Pieces n k → Spines k s → n ≤ 252 → p < s + k → 252 * (p - s) ≡ 0
+alone n k s p a b l m = grind arith
 
-new_words : (r w p : ℕ) → (r ≡ 0) ⊎ ((w ≡ 0) ⊎ (r + w ≤ 252)) → p < parts_in (r + w) → drop (width_in r w p) (replicate {A = ℕ} (part_cells (r + w) p) 0) ≡ (if is_cut (r + w) then (if p == 0 then [] else take 252 (drop (252 * (p - 1)) (replicate w 0))) else (if p == 0 then replicate w 0 else []))
-new_words r w p k l = drop-replicate (width_in r w p) (part_cells (r + w) p) 0 ∙ by_cut (is_cut (r + w)) refl
+one_of : (r w p : ℕ) → (r ≡ 0) ⊎ ((w ≡ 0) ⊎ (r + w ≤ 252)) → p < parts_in (r + w) → (r ≡ 0) ⊎ ((w ≡ 0) ⊎ ((252 * (p - spines_of (r + w)) ≡ 0) × (r + w ≤ 252)))
+one_of r w p (inl e) l = inl e
+one_of r w p (inr (inl e)) l = inr (inl e)
+one_of r w p (inr (inr e)) l = inr (inr (alone (r + w) (pieces_of (r + w)) (spines_of (r + w)) p (pieces_are (r + w)) (spines_are (r + w)) e l, e))
+
+nothing_left : (n m : ℕ) → n ≡ m → n - m ≡ 0
+nothing_left n m e = omega arith
+
+new_words : (r w p : ℕ) → (r ≡ 0) ⊎ ((w ≡ 0) ⊎ (r + w ≤ 252)) → p < parts_in (r + w) → drop (width_by (run_of (r + w) p) r) (replicate {A = ℕ} (run_of (r + w) p).count 0) ≡ words_by (run_of (r + w) p) (replicate w 0)
+new_words r w p k l = drop-replicate (width_by (run_of (r + w) p) r) ((run_of (r + w) p).count) 0 ∙ by_spine (nat_lt p (spines_of (r + w))) (count_by (r + w) (pieces_of (r + w)) (spines_of (r + w)) p) (first_by (spines_of (r + w)) p) (λ e. (as_piece p (spines_of (r + w)) (pieces_of (r + w)) (r + w) e))
   where
-    by_first : (t : Bool) → replicate {A = ℕ} (if t then 0 else min 252 (w - 252 * (p - 1))) 0 ≡ (if t then [] else take 252 (drop (252 * (p - 1)) (replicate w 0)))
-    by_first true = refl
-    by_first false = sym (ap (take 252) (drop-replicate (252 * (p - 1)) w 0) ∙ take-replicate_min 252 (w - 252 * (p - 1)))
+    as_piece : (p s k n : ℕ) → nat_lt p s ≡ false → (count_by n k s p ≡ min 252 (n - 252 * (p - s))) × (first_by s p ≡ 252 * (p - s))
+    as_piece p s k n e = (grind arith, grind arith)
 
-    by_cut : (t : Bool) → is_cut (r + w) ≡ t → replicate {A = ℕ} (part_cells (r + w) p - width_in r w p) 0 ≡ (if t then (if p == 0 then [] else take 252 (drop (252 * (p - 1)) (replicate w 0))) else (if p == 0 then replicate w 0 else []))
-    by_cut true e = ap (λ z. replicate z 0) (words_rest r w p k l e) ∙ by_first (p == 0)
-    by_cut false e = let q = words_small r w p l e in ap (λ z. replicate z 0) q.1 ∙ (let f : (p == 0) ≡ true = (let z = q.0 in grind arith) in rw f refl)
+    by_spine : (t : Bool) (count first : ℕ) → (t ≡ false → (count ≡ min 252 (r + w - 252 * (p - spines_of (r + w)))) × (first ≡ 252 * (p - spines_of (r + w)))) → replicate {A = ℕ} (count - (if t then count else min count (r - first))) 0 ≡ (if t then [] else take 252 (drop first (replicate w 0)))
+    by_spine true count first e = ap (λ z. replicate {A = ℕ} z 0) (nothing_left count count refl)
+    by_spine false count first e =
+        let q = e refl in
+        let f = 252 * (p - spines_of (r + w)) in
+        rw (q.0, q.1) (ap (λ z. replicate {A = ℕ} z 0) (share_left r w f (one_of r w p k l)) ∙ sym (ap (take 252) (drop-replicate f w 0) ∙ take-replicate_min 252 (w - f)))
 
 part_words_new : (shape : Shape) (p : ℕ) → fits shape ≡ true → p < parts_in (cells_of shape) → drop (width_in (ref_cells shape) (word_cells shape) p) (replicate {A = ℕ} (part_cells (cells_of shape) p) 0) ≡ words_of (new_object shape) p
-unfolding words_of
+unfolding words_of width_in
 part_words_new shape p f l =
     let a = length-replicate {A = ℕ} (ref_cells shape) 0 in
     let b = length-replicate {A = ℕ} (word_cells shape) 0 in
@@ -134,82 +142,117 @@ whole_add s t a header id w k b l = by_here (b == a) refl
         let l' : is_held s b ≡ true = sym (w.same b ne) ∙ l in
         subst (λ (z : Node). length z.cells ≡ part_cells (cells_of z.shape) z.part) (sym (w.others b l')) (k b l')
 
-pub making_whole : (old : Store) (shape : Shape) (colour : Bool) (id : ℕ) (at : ℕ → ℕ) (k l : ℕ) (new : Store) → Making old shape colour id at k l new → IsWhole old → IsWhole new
-making_whole old shape colour id at k l new Nothing_made w = w
-making_whole old shape colour id at k l new (Part_made parts s t m a) w = whole_add s t (at parts) _ id a (making_whole old shape colour id at parts 0 s m w)
-making_whole old shape colour id at k l new (Piece_linked parts linked s t m a) w = whole_cell s t (at 0) linked _ a (making_whole old shape colour id at parts linked s m w)
+zero_or : (n : ℕ) → (n ≡ 0) ⊎ (0 < n)
+zero_or n = grind arith
+
+pub making_whole : (old : Store) (shape : Shape) (colour : Bool) (id : ℕ) (at : ℕ → ℕ) (k : ℕ) (new : Store) → Making old shape colour id at k new → IsWhole old → IsWhole new
+making_whole old shape colour id at k new Nothing_made w = w
+making_whole old shape colour id at k new (Part_made part s t u m a none some) w =
+    let x = whole_add s t (at part) _ id a (making_whole old shape colour id at part s m w) in
+    elim (zero_or part) [ inl e ↦ subst IsWhole (sym (none e)) x | inr l ↦ whole_cell t u _ _ _ (some l) x ]
 
 -- the address of part p, as a reference
 abbrev pub reference : (ℕ → ℕ) → ℕ → ℕ
 reference at p = at p + 1
 
-spine_width : (shape : Shape) (i : ℕ) → i < pieces_in (cells_of shape) → (is_cut (cells_of shape) ≡ true) × (width_in (ref_cells shape) (word_cells shape) 0 ≡ pieces_of (cells_of shape)) × (part_cells (cells_of shape) 0 ≡ pieces_of (cells_of shape)) × (i < pieces_of (cells_of shape))
-unfolding width_in is_cut
-spine_width shape i l = (grind arith, grind arith, grind arith, grind arith)
-
-link_next : (shape : Shape) (i : ℕ) → i < pieces_in (cells_of shape) → (parts_of shape).link 0 i ≡ i + 1
-link_next shape i l =
-    let q = spine_width shape i l in
-    let c = q.0 in
-    let b = q.3 in
-    let u = length-replicate {A = ℕ} (ref_cells shape) 0 in
-    let v = length-replicate {A = ℕ} (word_cells shape) 0 in
-    rw (u, v) (grind arith)
-
-linked_value : (at : ℕ → ℕ) (link i : ℕ) → link ≡ i + 1 → (if link == 0 then 0 else reference at link) ≡ at (i + 1) + 1
-linked_value at link i e = rw e (let f : ((i + 1) == 0) ≡ false = grind arith in rw f refl)
-
 parts_count : (shape : Shape) → (parts_of shape).count ≡ parts_in (cells_of shape)
 unfolding count_of
 parts_count shape = let u = length-replicate {A = ℕ} (ref_cells shape) 0 in let v = length-replicate {A = ℕ} (word_cells shape) 0 in rw (u, v) refl
 
-pub making_first : (h : HeapState) (shape : Shape) (at : ℕ → ℕ) (k l : ℕ) (new : Store) → fits shape ≡ true → IsWhole h.store → k ≤ parts_in (cells_of shape) → l ≤ pieces_in (cells_of shape) → (0 < l → 0 < k)
-    → Making h.store shape h.sense h.next at k l new → MakesFirst (seen h) (parts_of shape) (reference at) k l (seen (record h { store = new }))
-making_first h shape at k l new f whole bk bl some Nothing_made = first_none (seen h) (parts_of shape) (reference at)
-making_first h shape at k l new f whole bk bl some (Part_made parts s t m a) =
-    let before = making_first h shape at parts 0 s f whole (omega arith) (omega arith) (λ z. absurd (omega arith)) m in
-    let free : (seen (record h { store = s })).held (at parts + 1) ≡ false = behind true (λ z. is_held s z) (at parts) ∙ a.free in
-    first_same (seen h) (parts_of shape) (reference at) (parts + 1) 0 _ (seen (record h { store = t })) (first_more (seen h) (parts_of shape) (reference at) parts (seen (record h { store = s })) (at parts + 1) before free refl)
-    (add_seen h s t (at parts) parts shape f (omega arith) a)
-making_first h shape at k l new f whole bk bl some (Piece_linked parts linked s t m a) =
-    let more : 0 < parts = some (omega arith) in
-    let before = making_first h shape at parts linked s f whole bk (omega arith) (λ z. more) m in
-    let bound : linked < pieces_in (cells_of shape) = omega arith in
-    let q = spine_width shape linked bound in
+link_some : (r : Run) (i : ℕ) → 0 < link_by r i → (r.spine ≡ true) × (i < r.count) × (r.first + i ≡ link_by r i)
+link_some r i l = (grind arith, grind arith, grind arith)
+
+link_is : (r : Run) (i x : ℕ) → r.spine ≡ true → i < r.count → r.first + i ≡ x → link_by r i ≡ x
+link_is r i x e l q = grind arith
+
+among : (s p : ℕ) → nat_lt p s ≡ true → p < s
+among s p e = grind arith
+
+sooner : (s p : ℕ) → p < s → nat_lt p s ≡ true
+sooner s p e = grind arith
+
+-- the links of a new object
+linked_there : (o : Object) (k : ℕ) → 0 < k → k < count_of o → link_by (run_of (length o.refs + length o.words) (holder_at o k)) (seat_at o k) ≡ k
+unfolding count_of
+linked_there o k l m =
+    let n = length o.refs + length o.words in
+    let q = held_by n (pieces_of n) (spines_of n) (pieces_are n) (spines_are n) k l m in
+    link_is (run_of n (holder_of n k)) (seat_of n k) k (sooner _ _ q.0) q.2 q.3
+
+linked_back : (n p i : ℕ) → 0 < link_by (run_of n p) i → (holder_of n (link_by (run_of n p) i) ≡ p) × (seat_of n (link_by (run_of n p) i) ≡ i) × (p < link_by (run_of n p) i)
+linked_back n p i l =
+    let q = link_some (run_of n p) i l in
+    let w = holds n (pieces_of n) (spines_of n) (pieces_are n) (spines_are n) p i (among _ _ q.0) q.1 in
+    subst (λ z. (holder_of n z ≡ p) × (seat_of n z ≡ i) × (p < z)) q.2 (w.2, w.3, w.0)
+
+pub parts_linked : (shape : Shape) → AreLinked (parts_of shape) (holder_of (cells_of shape)) (seat_of (cells_of shape))
+parts_linked shape =
+    let o = new_object shape in
+    let u = length-replicate {A = ℕ} (ref_cells shape) 0 in
+    let v = length-replicate {A = ℕ} (word_cells shape) 0 in
+    let sum : length o.refs + length o.words ≡ cells_of shape = (let x : (a b c d : ℕ) → a ≡ c → b ≡ d → a + b ≡ c + d = λ a b c d e f. omega arith in x _ _ _ _ u v) in
+    subst (λ z. AreLinked (parts_of shape) (holder_of z) (seat_of z)) sum (record {
+      there = λ k l m. let q = holder_below o k m l in (q.1, q.0, linked_there o k l m);
+      back = λ p i l m n. linked_back (length o.refs + length o.words) p i n;
+    })
+
+same_set : (h1 h2 : Heap) (x i y : ℕ) → SameBlocks h1 h2 → SameBlocks (set_cell h1 x i y) (set_cell h2 x i y)
+same_set h1 h2 x i y e = record {
+  next = e.next;
+  roots = e.roots;
+  root = e.root;
+  held = e.held;
+  forward = e.forward;
+  name = e.name;
+  width = e.width;
+  words = e.words;
+  shape = e.shape;
+  marked = e.marked;
+  cell = λ z k b d. ap (λ v. if (z == x) && (k == i) then y else v) (e.cell z k b d);
+}
+
+pub making_first : (h : HeapState) (shape : Shape) (at : ℕ → ℕ) (k : ℕ) (new : Store) → fits shape ≡ true → IsWhole h.store → k ≤ parts_in (cells_of shape)
+    → Making h.store shape h.sense h.next at k new → MakesFirst (seen h) (parts_of shape) (reference at) k (seen (record h { store = new }))
+making_first h shape at k new f whole few Nothing_made = first_none (seen h) (parts_of shape) (reference at)
+making_first h shape at k new f whole few (Part_made part s t u m a none some) =
+    let ps = parts_of shape in
+    let n = cells_of shape in
     let hs : HeapState = record h { store = s } in
-    let wide : width_at (node_of s (at 0)) ≡ pieces_of (cells_of shape) = sym (behind 0 (λ z. width_at (node_of s z)) (at 0)) ∙ before.parts.width 0 more ∙ sym (part_width_new shape 0) ∙ q.1 in
-    let held : is_held s (at 0) ≡ true = sym (behind true (λ z. is_held s z) (at 0)) ∙ before.parts.held 0 more in
-    let is_shape : (node_of s (at 0)).shape ≡ shape = sym (behind _ (λ z. (node_of s z).shape) (at 0)) ∙ before.parts.shape 0 more in
-    let is_name : record { identity = (node_of s (at 0)).identity; part = (node_of s (at 0)).part } ≡ record { identity = h.next; part = 0 } = sym (behind null (λ z. (let y : Name = record { identity = (node_of s z).identity; part = (node_of s z).part } in y)) (at 0)) ∙ before.parts.name 0 more in
-    let is_part : (node_of s (at 0)).part ≡ 0 = ap (λ (z : Name). z.part) is_name in
-    let cells : length (node_of s (at 0)).cells ≡ pieces_of (cells_of shape) = making_whole h.store shape h.sense h.next at parts linked s m whole (at 0) held ∙ ap (λ z. part_cells (cells_of z) (node_of s (at 0)).part) is_shape ∙ ap (λ z. part_cells (cells_of shape) z) is_part ∙ q.2 in
-    let inside : linked < length (node_of s (at 0)).cells = subst (λ z. linked < z) (sym cells) q.3 in
-    let within : linked < width_at (node_of s (at 0)) = subst (λ z. linked < z) (sym wide) q.3 in
-    let seen_write = cell_seen hs t (at 0) linked (at (linked + 1) + 1) a inside within in
-    let value = linked_value at ((parts_of shape).link 0 linked) linked (link_next shape linked bound) in
-    let step = first_link (seen h) (parts_of shape) (reference at) parts linked (seen hs) before more (subst (λ z. linked < z) (sym (sym (part_width_new shape 0) ∙ q.1)) q.3) in
-    first_same (seen h) (parts_of shape) (reference at) parts (linked + 1) _ (seen (record h { store = t }))
-    (subst (λ z. MakesFirst (seen h) (parts_of shape) (reference at) parts (linked + 1) (set_cell (seen hs) (at 0 + 1) linked z)) value step) seen_write
-
-no_link : (shape : Shape) (i : ℕ) → pieces_in (cells_of shape) ≤ i → (parts_of shape).link 0 i ≡ 0
-unfolding is_cut
-no_link shape i l = let u = length-replicate {A = ℕ} (ref_cells shape) 0 in let v = length-replicate {A = ℕ} (word_cells shape) 0 in rw (u, v) (grind arith)
-
-no_link_later : (shape : Shape) (p i : ℕ) → 0 < p → (parts_of shape).link p i ≡ 0
-no_link_later shape p i l = let e : (p == 0) ≡ false = grind arith in by_cut (is_cut (length (new_object shape).refs + length (new_object shape).words)) e
+    let ht : HeapState = record h { store = t } in
+    let below : part < parts_in n = omega arith in
+    let fewer : part < ps.count = subst (λ z. part < z) (sym (parts_count shape)) below in
+    let before = making_first h shape at part s f whole (omega arith) m in
+    let free : (seen hs).held (at part + 1) ≡ false = behind true (λ z. is_held s z) (at part) ∙ a.free in
+    let added = add_seen h s t (at part) part shape f below a in
+    elim (zero_or part) [
+      | inl e ↦
+          subst (λ z. MakesFirst (seen h) ps (reference at) (part + 1) (seen (record h { store = z }))) (sym (none e))
+          (first_same (seen h) ps (reference at) (part + 1) _ (seen ht)
+          (first_root (seen h) ps (reference at) (holder_of n) (seat_of n) part (seen hs) (at part + 1) (parts_linked shape) e fewer before free refl) added)
+      | inr l ↦
+          let q = holder_of n part in
+          let c = seat_of n part in
+          let w = (parts_linked shape).there part l fewer in
+          let held : is_held s (at q) ≡ true = sym (behind true (λ z. is_held s z) (at q)) ∙ before.parts.held q w.0 in
+          let kept : node_of t (at q) ≡ node_of s (at q) = a.others (at q) held in
+          let wide : width_at (node_of s (at q)) ≡ ps.width q = sym (behind 0 (λ z. width_at (node_of s z)) (at q)) ∙ before.parts.width q w.0 in
+          let is_shape : (node_of s (at q)).shape ≡ shape = sym (behind _ (λ z. (node_of s z).shape) (at q)) ∙ before.parts.shape q w.0 in
+          let within_s : c < width_at (node_of s (at q)) = subst (λ z. c < z) (sym wide) w.1 in
+          let inside_s : c < length (node_of s (at q)).cells = under c (width_at (node_of s (at q))) _ _ within_s (width_le (ref_cells (node_of s (at q)).shape) (word_cells (node_of s (at q)).shape) (node_of s (at q)).part) (making_whole h.store shape h.sense h.next at part s m whole (at q) held) in
+          let within : c < width_at (node_of t (at q)) = subst (λ (z : Node). c < width_at z) (sym kept) within_s in
+          let inside : c < length (node_of t (at q)).cells = subst (λ (z : Node). c < length z.cells) (sym kept) inside_s in
+          let written = cell_seen ht u (at q) c (at part + 1) (some l) inside within in
+          let step = first_more (seen h) ps (reference at) (holder_of n) (seat_of n) part (seen hs) (at part + 1) (parts_linked shape) l fewer before free refl in
+          first_same (seen h) ps (reference at) (part + 1) _ (seen (record h { store = u })) (first_same (seen h) ps (reference at) (part + 1) _ _ step (same_set _ (seen ht) (at q + 1) c (at part + 1) added)) written
+    ]
   where
-    by_cut : (b : Bool) → (p == 0) ≡ false → (if b && ((p == 0) && nat_lt i (pieces_of (length (new_object shape).refs + length (new_object shape).words))) then i + 1 else 0) ≡ 0
-    by_cut true e = rw e refl
-    by_cut false e = refl
-
-parts_some : (n : ℕ) → 0 < parts_in n
-parts_some n = grind arith
+    under : (c width cells count : ℕ) → c < width → width ≤ count → cells ≡ count → c < cells
+    under c width cells count l m e = omega arith
 
 -- all parts of an object are made
 pub makes_object : (h : HeapState) (shape : Shape) (at : ℕ → ℕ) (new : Store) → fits shape ≡ true → IsWhole h.store → MakesObject h.store shape h.sense h.next at new
     → Makes (seen h) (parts_of shape) (reference at) (seen (record h { store = new; next = h.next + 1 }))
 makes_object h shape at new f whole m =
-    let first = making_first h shape at (parts_in (cells_of shape)) (pieces_in (cells_of shape)) new f whole (omega arith) (omega arith) (λ _. parts_some (cells_of shape)) m in
-    first_all (seen h) (parts_of shape) (reference at) (pieces_in (cells_of shape)) (seen (record h { store = new })) (parts_are shape)
-    (subst (λ z. MakesFirst (seen h) (parts_of shape) (reference at) z (pieces_in (cells_of shape)) (seen (record h { store = new }))) (sym (parts_count shape)) first)
-    (no_link shape) (no_link_later shape)
+    let first = making_first h shape at (parts_in (cells_of shape)) new f whole (omega arith) m in
+    first_all (seen h) (parts_of shape) (reference at) (seen (record h { store = new })) (parts_are shape)
+    (subst (λ z. MakesFirst (seen h) (parts_of shape) (reference at) z (seen (record h { store = new }))) (sym (parts_count shape)) first)

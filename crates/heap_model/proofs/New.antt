@@ -72,7 +72,7 @@ new_written h present snapshot new at j shape c f l rec making place =
       present_row = c.present_row;
       snapshot_row = c.snapshot_row;
       cells = cells_append present.objects shape c.cells;
-      whole = making_whole h.store shape h.sense h.next at _ _ new making c.whole;
+      whole = making_whole h.store shape h.sense h.next at _ new making c.whole;
       parts = c3;
     } in
     let b = c.parts.base in

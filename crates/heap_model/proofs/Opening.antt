@@ -7,7 +7,7 @@ use Rattle.graph_heap.specs.Graph.{Object, no_object, object_of, opening, root_c
 use Rattle.heap_model.specs.Pages.{Page, page_at}
 use Rattle.heap_model.specs.Store.{is_held, held_in}
 use Rattle.heap_model.specs.Core.{Name, null, Kept, Base}
-use Rattle.heap_model.specs.Cut.{is_cut, width_in, width_of, words_of, name_of, view}
+use Rattle.heap_model.specs.Cut.{width_in, width_of, words_of, name_of, view}
 use Rattle.heap_model.specs.Collector.{In_idle}
 use Rattle.heap_model.specs.State.{HeapState, seen, collector_of, progress_of}
 use Rattle.heap_model.specs.Agreement.{HasItsCells, Consistent}
@@ -35,11 +35,11 @@ unfolding object_of
 none_there k = grind arith
 
 none_wide : (p : ℕ) → width_of no_object p ≡ 0
-unfolding width_in is_cut
+unfolding width_in
 none_wide p = grind arith
 
 no_words : words_of no_object 0 ≡ []
-unfolding words_of is_cut
+unfolding words_of
 no_words = grind arith
 
 opening_wide : (l : Limits) (n : Name) → (view (opening l)).width n ≡ 0

@@ -2,9 +2,9 @@
 use Rattle.std.specs.Prelude.{◌≡◌, ℕ, ◌+◌, ◌<◌, ◌⊎◌, true, false, List, length, if◌then◌else◌, ◌==◌, ◌&&◌, nat_lt}
 use Rattle.graph_heap.specs.declared.command.Shape.{Shape}
 use Rattle.graph_heap.specs.Graph.{new_object}
-use Rattle.size_classes.specs.Parts.{pieces_of}
+use Rattle.size_classes.specs.Parts.{Run, run_of}
 use Rattle.heap_model.specs.Core.{Name, null, PartGraph, Heap}
-use Rattle.heap_model.specs.Cut.{is_cut, count_of, width_of, words_of}
+use Rattle.heap_model.specs.Cut.{count_of, width_of, words_of}
 use Rattle.heap_model.proofs.Stays.{Stays}
 
 -- the parts of a new object. A cell holds null, 0, or a later part of the object
@@ -15,12 +15,16 @@ pub record Parts : Type 0 where
   pub words : ℕ → List ℕ
   pub shape : Shape
 
+-- the part to which a cell refers, or 0
+abbrev pub link_by : Run → ℕ → ℕ
+link_by r i = if r.spine && nat_lt i r.count then r.first + i else 0
+
 -- those of a shape
 abbrev pub parts_of : Shape → Parts
 parts_of shape = let o = new_object shape in record {
   count = count_of o;
   width = width_of o;
-  link = λ p i. if is_cut (length o.refs + length o.words) && ((p == 0) && nat_lt i (pieces_of (length o.refs + length o.words))) then i + 1 else 0;
+  link = λ p i. link_by (run_of (length o.refs + length o.words) p) i;
   words = words_of o;
   shape = shape;
 }

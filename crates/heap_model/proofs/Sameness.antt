@@ -1,5 +1,6 @@
 -- Two graph heaps that agree with one heap can't be told apart.
 use Rattle.graph_heap.specs.declared.command.Change.TheVariants as changes
+use Rattle.size_classes.specs.Parts.{part_in, column_in}
 use Rattle.heap_model.proofs.Changes.{object-put_same, object-put_other, length-put, object-append, no_refs, read-set}
 use Rattle.graph_heap.specs.declared.command.Change.{Change}
 use Rattle.graph_heap.specs.declared.command.Shape.{Shape}
@@ -11,7 +12,7 @@ use Rattle.graph_heap.specs.Graph.{Object, Graph, nulled, first_slot, object_of,
 use Rattle.graph_heap.specs.Reach.{Path, Reaches}
 use Rattle.heap_model.specs.Core.{Name, Reach}
 use Rattle.heap_model.specs.Agree.{Reads}
-use Rattle.heap_model.specs.Cut.{count_of, width_of, words_of, target_of, name_of, view, part_in, column_in}
+use Rattle.heap_model.specs.Cut.{count_of, width_of, words_of, target_of, name_of, view}
 use Rattle.heap_model.specs.State.{HeapState, seen}
 use Rattle.heap_model.specs.Agreement.{HasItsCells, Agrees}
 use Rattle.heap_model.specs.Written.{IsKnown}
@@ -43,12 +44,12 @@ object_same h f g p q id r =
     let refs : o.refs ≡ o'.refs = ext_get_or 0 o.refs o'.refs refs_length (λ i l.
     let n : Name = record { identity = id; part = part_at o i } in
     let t = al.target n (column_at o i) (reach n r (part_below o i l)) (column_below o i l) in
-    let t' : target_of id o' (part_at o i) (column_at o i) ≡ name_of (get_or o'.refs i 0) = subst (λ z. target_of id o' (part_in z i) (column_in z i) ≡ name_of (get_or o'.refs i 0)) (sym sum) (cell_at id o' i (subst (λ z. i < z) refs_length l)) in
+    let t' : target_of id o' (part_at o i) (column_at o i) ≡ name_of (get_or o'.refs i 0) = subst (λ z. target_of id o' (part_in z i) (column_in i) ≡ name_of (get_or o'.refs i 0)) (sym sum) (cell_at id o' i (subst (λ z. i < z) refs_length l)) in
     name_same _ _ (sym (cell_at id o i l) ∙ t ∙ t')) in
     let words : o.words ≡ o'.words = ext_get_or 0 o.words o'.words words_length (λ k l.
     let n : Name = record { identity = id; part = part_at o k } in
     let t : words_of o (part_at o k) ≡ words_of o' (part_at o k) = al.words n (reach n r (word_below o k l)) in
-    let t' : get_or (words_of o' (part_at o k)) (column_at o k) 0 ≡ get_or o'.words k 0 = subst (λ z. get_or (words_of o' (part_in z k)) (column_in z k) 0 ≡ get_or o'.words k 0) (sym sum) (word_at o' k) in
+    let t' : get_or (words_of o' (part_at o k)) (column_at o k) 0 ≡ get_or o'.words k 0 = subst (λ z. get_or (words_of o' (part_in z k)) (column_in k) 0 ≡ get_or o'.words k 0) (sym sum) (word_at o' k) in
     sym (word_at o k) ∙ ap (λ z. get_or z (column_at o k) 0) t ∙ t') in
     λ i. record { shape = shape i; refs = refs i; words = words i }
   where

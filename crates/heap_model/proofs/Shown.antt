@@ -1,17 +1,17 @@
 -- What a heap that agrees with a graph heap reads as.
 use Rattle.std.proofs.lemmas.List.{get_or-drop, get_or-take}
-use Rattle.std.proofs.Common.{◌≡◌, ◌≢◌, ℕ, ◌+◌, ◌-◌, ◌<◌, Bool, true, false, length, get_or, refl, ap, subst, sym, ◌∙◌, arith, ◌==◌, if◌then◌else◌, ◌↔◌, drop, take, ◌*◌, ◌/◌, ◌%◌, []}
+use Rattle.std.proofs.Common.{◌≡◌, ◌≢◌, ℕ, ◌+◌, ◌-◌, ◌<◌, Bool, true, false, length, get_or, refl, ap, subst, sym, ◌∙◌, arith, ◌==◌, if◌then◌else◌, ◌↔◌, drop, ◌*◌, ◌/◌, ◌%◌, nat_lt}
 use Rattle.graph_heap.specs.Graph.{Graph, object_of, Object}
 use Rattle.graph_heap.specs.Reach.{Reaches}
-use Rattle.size_classes.specs.Parts.{cells_of}
+use Rattle.size_classes.specs.Parts.{cells_of, spines_of, holder_of, seat_of, part_in, column_in}
 use Rattle.heap_model.specs.Store.{is_held, node_of}
 use Rattle.heap_model.specs.Core.{Name, null}
 use Rattle.heap_model.specs.Agree.{IsMain, Reads}
-use Rattle.heap_model.specs.Cut.{count_of, width_of, words_of, target_of, name_of, part_in, column_in, is_cut}
+use Rattle.heap_model.specs.Cut.{count_of, width_of, words_of, target_of, name_of}
 use Rattle.heap_model.specs.State.{HeapState, seen, width_at}
 use Rattle.heap_model.specs.Agreement.{Agrees}
 use Rattle.heap_model.specs.Reading.{IsMainCopy, LeadsTo}
-use Rattle.heap_model.proofs.Cut.{part_at, column_at, part_below, column_below, cell_at, spine_below, spine_cell, word_below}
+use Rattle.heap_model.proofs.Cut.{part_at, column_at, part_below, column_below, cell_at, holder_at, seat_at, holder_below, holder_cell, word_below}
 use Rattle.heap_model.proofs.Seen.{behind}
 use Rattle.heap_model.proofs.Written.{cells_sum}
 
@@ -88,7 +88,7 @@ shape_shown h g id part address a r l i = sym (behind _ (λ z. (node_of h.store 
 -- each reference cell reads as the object's
 pub ref_shown : (h : HeapState) (g : Graph) (id i address : ℕ) → Agrees h g → Reaches g id → i < length (object_of g.objects id).refs
     → IsMainCopy h.store address (record { identity = id; part = part_in (cells_of (object_of g.objects id).shape) i })
-    → Reads (seen h) (get_or (node_of h.store address).cells (column_in (cells_of (object_of g.objects id).shape) i) 0) (name_of (get_or (object_of g.objects id).refs i 0))
+    → Reads (seen h) (get_or (node_of h.store address).cells (column_in i) 0) (name_of (get_or (object_of g.objects id).refs i 0))
 ref_shown h g id i address a r l m =
     let o = object_of g.objects id in
     let sum = cells_sum o (a.given id r).cells in
@@ -96,35 +96,44 @@ ref_shown h g id i address a r l m =
     let s = (shown h g id (part_at o i) address a r (part_below o i l) m').3 (column_at o i) (column_below o i l) in
     let s' = subst (λ z. Reads (seen h) ((seen h).cell (address + 1) (column_at o i)) z) (cell_at id o i l) s in
     let s'' = subst (λ z. Reads (seen h) z (name_of (get_or o.refs i 0))) (behind 0 (λ z. get_or (node_of h.store z).cells (column_at o i) 0) address) s' in
-    subst (λ z. Reads (seen h) (get_or (node_of h.store address).cells (column_in z i) 0) (name_of (get_or o.refs i 0))) sum s''
+    subst (λ z. Reads (seen h) (get_or (node_of h.store address).cells (column_in i) 0) (name_of (get_or o.refs i 0))) sum s''
 
--- each cell of a spine reads as a piece
-pub piece_shown : (h : HeapState) (g : Graph) (id part address : ℕ) → Agrees h g → Reaches g id → 0 < part → part < count_of (object_of g.objects id) → IsMainCopy h.store address (name_of id)
-    → Reads (seen h) (get_or (node_of h.store address).cells (part - 1) 0) (record { identity = id; part = part })
+-- the cell of a spine that refers to a part reads as that part
+pub piece_shown : (h : HeapState) (g : Graph) (id part address : ℕ) → Agrees h g → Reaches g id → 0 < part → part < count_of (object_of g.objects id)
+    → IsMainCopy h.store address (record { identity = id; part = holder_of (cells_of (object_of g.objects id).shape) part })
+    → Reads (seen h) (get_or (node_of h.store address).cells (seat_of (cells_of (object_of g.objects id).shape) part) 0) (record { identity = id; part = part })
 piece_shown h g id part address a r p l m =
     let o = object_of g.objects id in
-    let s = (shown h g id 0 address a r (omega arith) m).3 (part - 1) (spine_below o part l p).0 in
-    let s' = subst (λ z. Reads (seen h) ((seen h).cell (address + 1) (part - 1)) z) (spine_cell id o part l p) s in
-    subst (λ z. Reads (seen h) z (record { identity = id; part = part })) (behind 0 (λ z. get_or (node_of h.store z).cells (part - 1) 0) address) s'
+    let sum = cells_sum o (a.given id r).cells in
+    let m' = subst (λ z. IsMainCopy h.store address (record { identity = id; part = holder_of z part })) (sym sum) m in
+    let q = holder_below o part l p in
+    let s = (shown h g id (holder_at o part) address a r q.2 m').3 (seat_at o part) q.0 in
+    let s' = subst (λ z. Reads (seen h) ((seen h).cell (address + 1) (seat_at o part)) z) (holder_cell id o part l p) s in
+    let s'' = subst (λ z. Reads (seen h) z (record { identity = id; part = part })) (behind 0 (λ z. get_or (node_of h.store z).cells (seat_at o part) 0) address) s' in
+    subst (λ z. Reads (seen h) (get_or (node_of h.store address).cells (seat_of z part) 0) (record { identity = id; part = part })) sum s''
 
 -- each word cell is the object's
 pub word_at : (o : Object) (k : ℕ) → get_or (words_of o (part_at o k)) (column_at o k) 0 ≡ get_or o.words k 0
 unfolding words_of part_in column_in
-word_at o k = elim (is_cut (length o.refs + length o.words)) as (λ b. get_or (if b then (if (if b then k / 252 + 1 else 0) == 0 then [] else take 252 (drop (252 * ((if b then k / 252 + 1 else 0) - 1)) o.words)) else (if (if b then k / 252 + 1 else 0) == 0 then o.words else [])) (if b then k % 252 else k) 0 ≡ get_or o.words k 0) [
-  | true ↦ large
-  | false ↦ refl
-]
+word_at o k =
+    let s = spines_of (length o.refs + length o.words) in
+    let e : nat_lt (s + k / 252) s ≡ false = none_before s (k / 252) in
+    let first : 252 * (s + k / 252 - s) + k % 252 ≡ k = back s k in
+    let less : k % 252 < 252 = small k in
+    rw e (get_or-take 252 (drop (252 * (s + k / 252 - s)) o.words) (k % 252) 0 less ∙ get_or-drop (252 * (s + k / 252 - s)) o.words (k % 252) 0 ∙ ap (λ z. get_or o.words z 0) first)
   where
-    large : get_or (if k / 252 + 1 == 0 then [] else take 252 (drop (252 * (k / 252 + 1 - 1)) o.words)) (k % 252) 0 ≡ get_or o.words k 0
-    large =
-        let e : (k / 252 + 1 == 0) ≡ false = grind arith in
-        let less : k % 252 < 252 = grind arith in
-        let sum : 252 * (k / 252 + 1 - 1) + k % 252 ≡ k = grind arith in
-        rw e (get_or-take 252 (drop (252 * (k / 252 + 1 - 1)) o.words) (k % 252) 0 less ∙ get_or-drop (252 * (k / 252 + 1 - 1)) o.words (k % 252) 0 ∙ ap (λ z. get_or o.words z 0) sum)
+    none_before : (s x : ℕ) → nat_lt (s + x) s ≡ false
+    none_before s x = grind arith
+
+    back : (s k : ℕ) → 252 * (s + k / 252 - s) + k % 252 ≡ k
+    back s k = grind arith
+
+    small : (k : ℕ) → k % 252 < 252
+    small k = omega arith
 
 pub word_shown : (h : HeapState) (g : Graph) (id k address : ℕ) → Agrees h g → Reaches g id → k < length (object_of g.objects id).words
     → IsMainCopy h.store address (record { identity = id; part = part_in (cells_of (object_of g.objects id).shape) k })
-    → get_or (node_of h.store address).cells (width_at (node_of h.store address) + column_in (cells_of (object_of g.objects id).shape) k) 0 ≡ get_or (object_of g.objects id).words k 0
+    → get_or (node_of h.store address).cells (width_at (node_of h.store address) + column_in k) 0 ≡ get_or (object_of g.objects id).words k 0
 word_shown h g id k address a r l m =
     let o = object_of g.objects id in
     let n = node_of h.store address in
@@ -132,4 +141,4 @@ word_shown h g id k address a r l m =
     let m' = subst (λ z. IsMainCopy h.store address (record { identity = id; part = part_in z k })) (sym sum) m in
     let s : drop (width_at n) n.cells ≡ words_of o (part_at o k) = sym (behind _ (λ z. drop (width_at (node_of h.store z)) (node_of h.store z).cells) address) ∙ (shown h g id (part_at o k) address a r (word_below o k l) m').1 in
     let e : get_or n.cells (width_at n + column_at o k) 0 ≡ get_or o.words k 0 = sym (get_or-drop (width_at n) n.cells (column_at o k) 0) ∙ ap (λ z. get_or z (column_at o k) 0) s ∙ word_at o k in
-    subst (λ z. get_or n.cells (width_at n + column_in z k) 0 ≡ get_or o.words k 0) sum e
+    subst (λ z. get_or n.cells (width_at n + column_in k) 0 ≡ get_or o.words k 0) sum e

@@ -4,7 +4,7 @@ use Rattle.std.specs.Prelude.{Option}
 use Rattle.graph_heap.specs.declared.command.Change.TheVariants as changes
 use Rattle.graph_heap.specs.Graph.{Object, Graph, object_of, put_object, with_ref, with_word, changed}
 use Rattle.graph_heap.specs.Reach.{Reaches}
-use Rattle.size_classes.specs.Parts.{part_cells, cells_of}
+use Rattle.size_classes.specs.Parts.{part_cells, cells_of, part_in, column_in}
 use Rattle.heap_model.specs.declared.phase.Phase.{Phase}
 use Rattle.heap_model.specs.declared.phase.Phase.TheVariants as phases
 use Rattle.heap_model.specs.Block.{Node, with_cell}
@@ -12,7 +12,7 @@ use Rattle.heap_model.specs.Pages.{Page}
 use Rattle.heap_model.specs.Store.{Store, Writes, is_held, node_of}
 use Rattle.heap_model.specs.Core.{Name, Kept}
 use Rattle.heap_model.specs.Agree.{IsMain}
-use Rattle.heap_model.specs.Cut.{is_cut, count_of, width_in, width_of, name_of, view, part_in, column_in}
+use Rattle.heap_model.specs.Cut.{count_of, width_in, width_of, name_of, view}
 use Rattle.heap_model.specs.Collector.{Coherent}
 use Rattle.heap_model.specs.State.{HeapState, seen, width_at, collector_by, collector_of, progress_of}
 use Rattle.heap_model.specs.Agreement.{HasItsCells, IsWhole, Consistent}
@@ -87,7 +87,7 @@ cells_sum o k = let r = k.refs in let w = k.words in omega arith
 -- a word cell is written
 pub word_written : (h : HeapState) (present snapshot : Graph) (new : Store) (address id k word : ℕ) → Consistent h present snapshot → Reaches present id → k < length (object_of present.objects id).words
     → IsMain (seen h) (address + 1) (record { identity = id; part = part_in (cells_of (object_of present.objects id).shape) k })
-    → Writes h.store new address (with_cell (node_of h.store address) (width_at (node_of h.store address) + column_in (cells_of (object_of present.objects id).shape) k) word)
+    → Writes h.store new address (with_cell (node_of h.store address) (width_at (node_of h.store address) + column_in k) word)
     → Consistent (record h { store = new }) (changed present (changes.Word id k word)) snapshot
 word_written h present snapshot new a id k word c r l i w =
     let o = object_of present.objects id in
@@ -99,7 +99,7 @@ word_written h present snapshot new a id k word c r l i w =
     let given = kept_given h present snapshot c (name_of id) (known_kept h present snapshot c id (inr r)) in
     let n : Name = record { identity = id; part = part_at o k } in
     let i' : IsMain (seen h) (a + 1) n = subst (λ z. IsMain (seen h) (a + 1) (record { identity = id; part = part_in z k })) (sym sum) i in
-    let w' = subst (λ z. Writes h.store new a (with_cell (node_of h.store a) (width_at (node_of h.store a) + column_in z k) word)) (sym sum) w in
+    let w' = subst (λ z. Writes h.store new a (with_cell (node_of h.store a) (width_at (node_of h.store a) + column_in k) word)) (sym sum) w in
     let c1 = puts_word m (view present) (view snapshot) (a + 1) n (column_at o k) word c.parts (part_kept h present snapshot c id (part_at o k) r below) i' in
     let c2 = same_stands (record m { heap = set_word m.heap (a + 1) (column_at o k) word }) (seen h') (write_word (view present) n (column_at o k) word) (view snapshot) (word_seen h new a (column_at o k) word w') c1 in
     let c3 = subst (λ z. Coherent (record m { heap = seen h' }) z (view snapshot)) (sym (view-word present id k word some given)) c2 in
@@ -115,7 +115,7 @@ word_written h present snapshot new a id k word c r l i w =
     }
 
 pub width_le : (refs words p : ℕ) → width_in refs words p ≤ part_cells (refs + words) p
-unfolding width_in is_cut
+unfolding width_in
 width_le refs words p = grind arith
 
 -- the reference cells of a part are among its cells
@@ -139,9 +139,9 @@ column_within h present snapshot c a n k i l =
 -- a reference cell is written
 pub ref_written : (h : HeapState) (present snapshot : Graph) (new : Store) (address y id i v : ℕ) → Consistent h present snapshot → Reaches present id → i < length (object_of present.objects id).refs
     → IsMain (seen h) (address + 1) (record { identity = id; part = part_in (cells_of (object_of present.objects id).shape) i })
-    → IsRecorded h (get_or (node_of h.store address).cells (column_in (cells_of (object_of present.objects id).shape) i) 0)
+    → IsRecorded h (get_or (node_of h.store address).cells (column_in i) 0)
     → IsKnown present v → IsMain (seen h) y (name_of v)
-    → Writes h.store new address (with_cell (node_of h.store address) (column_in (cells_of (object_of present.objects id).shape) i) y)
+    → Writes h.store new address (with_cell (node_of h.store address) (column_in i) y)
     → Consistent (record h { store = new }) (changed present (changes.Ref id i v)) snapshot
 ref_written h present snapshot new a y id i v c r l ix rec kv iy w =
     let o = object_of present.objects id in
@@ -154,8 +154,8 @@ ref_written h present snapshot new a y id i v c r l ix rec kv iy w =
     let n : Name = record { identity = id; part = part_at o i } in
     let kn = part_kept h present snapshot c id (part_at o i) r below in
     let ix' : IsMain (seen h) (a + 1) n = subst (λ z. IsMain (seen h) (a + 1) (record { identity = id; part = part_in z i })) (sym sum) ix in
-    let w' = subst (λ z. Writes h.store new a (with_cell (node_of h.store a) (column_in z i) y)) (sym sum) w in
-    let rec' = subst (λ z. IsRecorded h (get_or (node_of h.store a).cells (column_in z i) 0)) (sym sum) rec in
+    let w' = subst (λ z. Writes h.store new a (with_cell (node_of h.store a) (column_in i) y)) (sym sum) w in
+    let rec' = subst (λ z. IsRecorded h (get_or (node_of h.store a).cells (column_in i) 0)) (sym sum) rec in
     let within = column_within h present snapshot c a n kn ix' below in
     let column : column_at o i < width_of o (part_at o i) = column_below o i l in
     let column' : column_at o i < width_at (node_of h.store a) = subst (λ z. column_at o i < z) (sym within.0) column in

@@ -1,23 +1,21 @@
 -- How the objects of a graph heap are cut into parts: the part graph of a graph heap.
-use Rattle.std.specs.Prelude.{ℕ, Bool, ◌+◌, ◌-◌, ◌*◌, ◌/◌, ◌%◌, List, [], if◌then◌else◌, ◌==◌, nat_lt, nat_le, length, slice_index, take, drop, min, not}
+use Rattle.std.specs.Prelude.{ℕ, ◌+◌, ◌-◌, List, [], if◌then◌else◌, nat_lt, length, slice_index, take, drop, min}
 use Rattle.graph_heap.specs.Graph.{Object, Graph, object_of}
-use Rattle.size_classes.specs.Parts.{pieces_of, parts_in}
+use Rattle.size_classes.specs.declared.parts.TheConstants.{PART_CELLS}
+use Rattle.size_classes.specs.Parts.{Run, parts_in, run_of}
 use Rattle.heap_model.specs.Core.{Name, null, PartGraph}
-
--- whether an object of so many cells is cut into a spine and pieces of 252 cells
-unfoldable pub is_cut : ℕ → Bool
-is_cut cells = not (nat_le cells 252)
 
 -- how many parts an object has
 unfoldable pub count_of : Object → ℕ
 count_of o = parts_in (length o.refs + length o.words)
 
--- how many reference cells a part has, of an object with so many reference and word cells
+-- how many reference cells a part has, of an object with so many reference cells: in a spine all, and
+-- in a piece its share, as references stand first
+abbrev pub width_by : Run → ℕ → ℕ
+width_by r refs = if r.spine then r.count else min r.count (refs - r.first)
+
 unfoldable pub width_in : ℕ → ℕ → ℕ → ℕ
-width_in refs words part =
-    if is_cut (refs + words)
-    then (if part == 0 then pieces_of (refs + words) else min 252 (refs - 252 * (part - 1)))
-    else (if part == 0 then refs else 0)
+width_in refs words part = width_by (run_of (refs + words) part) refs
 
 -- the same of an object's part
 abbrev pub width_of : Object → ℕ → ℕ
@@ -27,20 +25,19 @@ width_of o part = width_in (length o.refs) (length o.words) part
 abbrev pub name_of : ℕ → Name
 name_of identity = record { identity = identity; part = 0 }
 
--- What a reference cell of a part names: in a spine the pieces, in a piece of an array its share of
--- the object's references, else these references.
+-- what a reference cell of a part names: in a spine a part, in a piece one of the object's references
+abbrev pub target_by : Run → ℕ → List ℕ → ℕ → Name
+target_by r identity refs i = if nat_lt i r.count then (if r.spine then record { identity = identity; part = r.first + i } else name_of (slice_index refs (r.first + i))) else null
+
 unfoldable pub target_of : ℕ → Object → ℕ → ℕ → Name
-target_of identity o part i =
-    if is_cut (length o.refs + length o.words)
-    then (if part == 0 then (if nat_lt i (pieces_of (length o.refs + length o.words)) then record { identity = identity; part = i + 1 } else null) else (if nat_lt i 252 then name_of (slice_index o.refs (252 * (part - 1) + i)) else null))
-    else (if part == 0 then name_of (slice_index o.refs i) else null)
+target_of identity o part i = target_by (run_of (length o.refs + length o.words) part) identity o.refs i
 
 -- the word cells of a part
+abbrev pub words_by : Run → List ℕ → List ℕ
+words_by r words = if r.spine then [] else take PART_CELLS (drop r.first words)
+
 unfoldable pub words_of : Object → ℕ → List ℕ
-words_of o part =
-    if is_cut (length o.refs + length o.words)
-    then (if part == 0 then [] else take 252 (drop (252 * (part - 1)) o.words))
-    else (if part == 0 then o.words else [])
+words_of o part = words_by (run_of (length o.refs + length o.words) part) o.words
 
 -- the graph heap as a graph of parts
 abbrev pub view : Graph → PartGraph
@@ -53,12 +50,3 @@ view g = record {
   words = λ n. words_of (object_of g.objects n.identity) n.part;
   shape = λ n. (object_of g.objects n.identity).shape;
 }
-
--- in which part cell i of a kind stands, of an object with so many cells, and at which place among
--- the part's cells of that kind
-unfoldable pub part_in : ℕ → ℕ → ℕ
-part_in cells i = if is_cut cells then i / 252 + 1 else 0
-
--- the place of the cell in its part
-unfoldable pub column_in : ℕ → ℕ → ℕ
-column_in cells i = if is_cut cells then i % 252 else i

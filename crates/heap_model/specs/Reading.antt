@@ -1,5 +1,6 @@
 -- Reading the heap through forwarding, by address.
-use Rattle.std.specs.Prelude.{◌≡◌, ℕ, ◌-◌, true}
+use Rattle.std.specs.Prelude.{◌≡◌, ◌≢◌, ℕ, ◌-◌, ◌<◌, true, ◌==◌, if◌then◌else◌, length, slice_index}
+use Rattle.size_classes.specs.Parts.{holder_of, seat_of}
 use Rattle.heap_model.specs.Store.{Store, is_held, node_of}
 use Rattle.heap_model.specs.Core.{Name}
 use Rattle.heap_model.specs.State.{HeapState}
@@ -15,3 +16,23 @@ pub record IsMainCopy (s : Store) (address : ℕ) (n : Name) : Type 0 where
 pub record LeadsTo (h : HeapState) (x : ℕ) (n : Name) : Type 0 where
   pub held : is_held h.store (x - 1) ≡ true
   pub main : IsMainCopy h.store (node_of h.store (x - 1)).forward n
+
+-- the block that a reference cell names, by way of the forwarding word
+abbrev pub step_to : Store → ℕ → ℕ → ℕ
+step_to s block cell = (node_of s (slice_index (node_of s block).cells cell - 1)).forward
+
+-- a cell of a held block refers to a held block
+pub record Refers (s : Store) (block cell : ℕ) : Type 0 where
+  pub held : is_held s block ≡ true
+  pub within : cell < length (node_of s block).cells
+  pub some : slice_index (node_of s block).cells cell ≢ 0
+  pub there : is_held s (slice_index (node_of s block).cells cell - 1) ≡ true
+
+-- the block of the spine that refers to a part, from that of part 0 of an object of so many cells: itself,
+-- or the middle spine to which it refers
+abbrev pub spine_at : Store → ℕ → ℕ → ℕ → ℕ
+spine_at s cells block part = if holder_of cells part == 0 then block else step_to s block (seat_of cells (holder_of cells part))
+
+-- the block of a part, from that of part 0: itself, or by way of the spine that refers to it
+abbrev pub block_of : Store → ℕ → ℕ → ℕ → ℕ
+block_of s cells block part = if part == 0 then block else step_to s (spine_at s cells block part) (seat_of cells part)

@@ -3,14 +3,14 @@
 ghost use Rattle.std.specs.Prelude.{◌≡◌, ◌≢◌, ◌↔◌, ℕ, ◌+◌, ◌-◌, ◌<◌, length, slice_index};
 ghost use Rattle.graph_heap.specs.Graph.{Graph, object_of};
 ghost use Rattle.graph_heap.specs.Reach.{Reaches};
-ghost use Rattle.size_classes.specs.Parts.{cells_of};
+ghost use Rattle.size_classes.specs.Parts.{cells_of, holder_of, seat_of, part_in, column_in};
 ghost use Rattle.heap_model.specs.Store.{node_of};
 ghost use Rattle.heap_model.specs.Core.{Name};
 ghost use Rattle.heap_model.specs.Agree.{IsMain, Reads};
-ghost use Rattle.heap_model.specs.Cut.{count_of, name_of, part_in, column_in};
+ghost use Rattle.heap_model.specs.Cut.{count_of, name_of};
 ghost use Rattle.heap_model.specs.State.{HeapState, seen, width_at};
-ghost use Rattle.heap_model.specs.Agreement.{Agrees};
-ghost use Rattle.heap_model.specs.Reading.{IsMainCopy, LeadsTo};
+ghost use Rattle.heap_model.specs.Agreement.{Agrees, IsWhole};
+ghost use Rattle.heap_model.specs.Reading.{IsMainCopy, LeadsTo, Refers, spine_at, block_of};
 ghost use Rattle.heap_model.specs.declared.phase.Phase.TheVariants as phases;
 ghost use Rattle.heap_model.specs.declared.phase.Moving.{Moving};
 ghost use Rattle.heap_model.specs.Action.{Action};
@@ -55,18 +55,30 @@ pub fn shape_shown()
 pub fn ref_shown()
     ensures { (h : HeapState) (g : Graph) (id i address : ℕ) → Agrees h g → Reaches g id → i < length (object_of g.objects id).refs
         → IsMainCopy h.store address (record { identity = id; part = part_in (cells_of (object_of g.objects id).shape) i })
-        → Reads (seen h) (slice_index (node_of h.store address).cells (column_in (cells_of (object_of g.objects id).shape) i)) (name_of (slice_index (object_of g.objects id).refs i)) }
+        → Reads (seen h) (slice_index (node_of h.store address).cells (column_in i)) (name_of (slice_index (object_of g.objects id).refs i)) }
 {}
 
-/// Cell part - 1 of a spine reads as that part of the same object.
+/// The cell of a spine that refers to a part reads as that part of the same object.
 pub fn piece_shown()
-    ensures { (h : HeapState) (g : Graph) (id part address : ℕ) → Agrees h g → Reaches g id → 0 < part → part < count_of (object_of g.objects id) → IsMainCopy h.store address (name_of id)
-        → Reads (seen h) (slice_index (node_of h.store address).cells (part - 1)) (record { identity = id; part = part }) }
+    ensures { (h : HeapState) (g : Graph) (id part address : ℕ) → Agrees h g → Reaches g id → 0 < part → part < count_of (object_of g.objects id)
+        → IsMainCopy h.store address (record { identity = id; part = holder_of (cells_of (object_of g.objects id).shape) part })
+        → Reads (seen h) (slice_index (node_of h.store address).cells (seat_of (cells_of (object_of g.objects id).shape) part)) (record { identity = id; part = part }) }
 {}
 
 /// Word cell k of an object stands in its part after the references, and is the object's.
 pub fn word_shown()
     ensures { (h : HeapState) (g : Graph) (id k address : ℕ) → Agrees h g → Reaches g id → k < length (object_of g.objects id).words
         → IsMainCopy h.store address (record { identity = id; part = part_in (cells_of (object_of g.objects id).shape) k })
-        → slice_index (node_of h.store address).cells (width_at (node_of h.store address) + column_in (cells_of (object_of g.objects id).shape) k) ≡ slice_index (object_of g.objects id).words k }
+        → slice_index (node_of h.store address).cells (width_at (node_of h.store address) + column_in k) ≡ slice_index (object_of g.objects id).words k }
+{}
+
+/// From the block of part 0 the block of each part is found, in two steps at most, and each step is by a
+/// cell that refers to a held block.
+pub fn part_reached()
+    ensures main { (h : HeapState) (g : Graph) (id part address : ℕ) → Agrees h g → Reaches g id → part < count_of (object_of g.objects id) → IsMainCopy h.store address (name_of id)
+        → IsMainCopy h.store (block_of h.store (cells_of (object_of g.objects id).shape) address part) (record { identity = id; part = part }) }
+    ensures spine { (h : HeapState) (g : Graph) (id part address : ℕ) → Agrees h g → Reaches g id → IsWhole h.store → 0 < part → part < count_of (object_of g.objects id) → IsMainCopy h.store address (name_of id)
+        → holder_of (cells_of (object_of g.objects id).shape) part ≢ 0 → Refers h.store address (seat_of (cells_of (object_of g.objects id).shape) (holder_of (cells_of (object_of g.objects id).shape) part)) }
+    ensures piece { (h : HeapState) (g : Graph) (id part address : ℕ) → Agrees h g → Reaches g id → IsWhole h.store → 0 < part → part < count_of (object_of g.objects id) → IsMainCopy h.store address (name_of id)
+        → Refers h.store (spine_at h.store (cells_of (object_of g.objects id).shape) address part) (seat_of (cells_of (object_of g.objects id).shape) part) }
 {}

@@ -9,7 +9,6 @@ use Rattle.graph_heap.specs.Shape.{fits}
 use Rattle.graph_heap.specs.Graph.{Object, Graph, no_object, object_of}
 use Rattle.graph_heap.specs.Effect.{object_at, found}
 use Rattle.graph_heap.specs.Reach.{Reaches}
-use Rattle.size_classes.specs.Parts.{cells_of, part_cells}
 use Rattle.heap_model.specs.Store.{is_held, node_of}
 use Rattle.heap_model.specs.Agree.{IsMain, Reads}
 use Rattle.heap_model.specs.Core.{Name}
@@ -98,11 +97,6 @@ module _ (h : HeapState) (w : IsHeap h) (r : Referent) (some : r.reference ≢ 0
   module _ (present : ℕ) (named : Names h w.present present r) where
     pub object_held : is_held h.store block ≡ true
     object_held = (block_main w.present present named).held
-
-    pub object_cells : (shape : Shape) → shape ≡ (node_of h.store block).shape → length (node_of h.store block).cells ≡ part_cells (cells_of shape) 0
-    object_cells shape es =
-        w.stands.consistent.whole block object_held
-        ∙ ap (part_cells (cells_of (node_of h.store block).shape)) (block_main w.present present named).part ∙ ap (λ s. part_cells (cells_of s) 0) (sym es)
 
   pub finds_by : (g : Graph) → Agrees h g → (id : ℕ) → Names h g id r → (shape : Shape) → shape ≡ (node_of h.store block).shape → IsFound h g id (record { block = block; id = r.identity; shape = shape })
   finds_by g a id n shape es =

@@ -1,20 +1,20 @@
 -- The cells of an object that was found, as the code knows them: of the value t as which the fields h
 -- are seen.
-use Rattle.std.proofs.Common.{◌≡◌, ◌≢◌, ℕ, ◌-◌, ◌<◌, true, length, get_or, Ok, sym, subst}
+use Rattle.std.proofs.Common.{◌≡◌, ◌≢◌, ℕ, ◌<◌, true, get_or, Ok, sym, subst}
 use Rattle.graph_heap.specs.Shape.{fits}
 use Rattle.graph_heap.specs.Graph.{Graph, object_of}
-use Rattle.size_classes.specs.Parts.{cells_of, part_cells}
-use Rattle.heap_model.specs.Store.{is_held, node_of}
+use Rattle.size_classes.specs.Parts.{cells_of, parts_in, holder_of, seat_of}
 use Rattle.heap_model.specs.Cut.{count_of}
 use Rattle.heap_model.specs.State.{HeapState}
 use Rattle.heap_model.specs.Agreement.{Agrees}
+use Rattle.heap_model.specs.Reading.{Refers, spine_at, block_of}
 use Rattle.arraylets.specs.declared.place.Place.{Place}
-use Rattle.arraylets.specs.Place.{ref_place, word_place, piece_cell, block_of}
+use Rattle.arraylets.specs.Place.{ref_place, word_place}
 use Rattle.machine.specs.declared.plan.Found.{Found}
 use Rattle.raw_heap.specs.Heap.{IsHeap}
 use Rattle.machine.specs.Reading.{IsFound, FindsRef, FindsWord}
 use Rattle.machine.proofs.Doing.{present_agrees, at_present}
-use Rattle.machine.proofs.Cells.{spine_within, piece_some, piece_held, ref_below, found_ref, word_part_below, found_word}
+use Rattle.machine.proofs.Cells.{parts_below, spine_refers, part_refers, ref_below, found_ref, word_part_below, found_word}
 
 module _ (h t : HeapState) (is : h ≡ t) (w : IsHeap h) (root i : ℕ) (f : Found) (finds : (g : Graph) → Agrees t g → IsFound t g (get_or g.roots root 0) f) where
   -- of each graph heap
@@ -40,19 +40,18 @@ module _ (h t : HeapState) (is : h ≡ t) (w : IsHeap h) (root i : ℕ) (f : Fou
   pub word_part : (place : Place) → word_place f.shape i ≡ Ok place → IsPart place.part
   word_part place at = word_part_below h w.present (present_agrees h w) present_id f found_now i place at
 
-  module _ (p : ℕ) (below : IsPart p) (some : p ≢ 0) where
-    pub within_spine : length (node_of t.store f.block).cells ≡ part_cells (cells_of f.shape) 0 → p - 1 < length (node_of h.store f.block).cells
-    within_spine cells =
-        spine_within h w.present (present_agrees h w) present_id f found_now p below some (subst (λ (x : HeapState). length (node_of x.store f.block).cells ≡ part_cells (cells_of f.shape) 0) (sym is) cells)
+  module _ (p : ℕ) (below : IsPart p) where
+    pub within_parts : p < parts_in (cells_of f.shape)
+    within_parts = parts_below h w.present (present_agrees h w) present_id f found_now p below
 
-    pub some_piece : piece_cell h.store f.block p ≢ 0
-    some_piece = piece_some h w.present (present_agrees h w) present_id f found_now p below some
+    pub to_spine : p ≢ 0 → holder_of (cells_of f.shape) p ≢ 0 → Refers h.store f.block (seat_of (cells_of f.shape) (holder_of (cells_of f.shape) p))
+    to_spine = spine_refers h w.present (present_agrees h w) present_id f found_now p below w.stands.consistent.whole
 
-    pub held_piece : is_held h.store (piece_cell h.store f.block p - 1) ≡ true
-    held_piece = piece_held h w.present (present_agrees h w) present_id f found_now p below some
+    pub to_part : p ≢ 0 → Refers h.store (spine_at h.store (cells_of f.shape) f.block p) (seat_of (cells_of f.shape) p)
+    to_part = part_refers h w.present (present_agrees h w) present_id f found_now p below w.stands.consistent.whole
 
   -- the cell
-  module _ (place : Place) (block : ℕ) (eb : block ≡ block_of h.store f.block place.part) where
+  module _ (place : Place) (block : ℕ) (eb : block ≡ block_of h.store (cells_of f.shape) f.block place.part) where
     pub finds_ref : ref_place f.shape i ≡ Ok place → (g : Graph) → Agrees t g → FindsRef t g (get_or g.roots root 0) i (Ok (record { block = block; index = place.cell }))
     finds_ref at g a =
         subst (λ (y : HeapState). FindsRef y g (get_or g.roots root 0) i (Ok (record { block = block; index = place.cell }))) is

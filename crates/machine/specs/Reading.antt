@@ -4,10 +4,10 @@ use Rattle.graph_heap.specs.declared.command.Refusal.{Refusal}
 use Rattle.graph_heap.specs.Graph.{Graph, Object, object_of}
 use Rattle.graph_heap.specs.Effect.{object_at, ref_at, word_at}
 use Rattle.graph_heap.specs.Reach.{Reaches}
-use Rattle.size_classes.specs.Parts.{cells_of}
+use Rattle.size_classes.specs.Parts.{cells_of, part_in, column_in}
 use Rattle.heap_model.specs.Store.{node_of}
 use Rattle.heap_model.specs.Agree.{IsMain}
-use Rattle.heap_model.specs.Cut.{name_of, part_in, column_in}
+use Rattle.heap_model.specs.Cut.{name_of}
 use Rattle.heap_model.specs.State.{HeapState, seen, width_at}
 use Rattle.heap_model.specs.Written.{IsKnown}
 use Rattle.heap_model.specs.Reading.{IsMainCopy}
@@ -38,13 +38,13 @@ Finds h g id (Err e) = object_at g.objects id ≡ Err e
 pub record IsRefCell (h : HeapState) (o : Object) (id i : ℕ) (at : Cell) : Type 0 where
   pub below : i < length o.refs
   pub main : IsMain (seen h) (at.block + 1) (record { identity = id; part = part_in (cells_of o.shape) i })
-  pub index : at.index ≡ column_in (cells_of o.shape) i
+  pub index : at.index ≡ column_in i
   pub within : at.index < length (node_of h.store at.block).cells
 
 pub record IsWordCell (h : HeapState) (o : Object) (id i : ℕ) (at : Cell) : Type 0 where
   pub below : i < length o.words
   pub main : IsMain (seen h) (at.block + 1) (record { identity = id; part = part_in (cells_of o.shape) i })
-  pub index : at.index ≡ width_at (node_of h.store at.block) + column_in (cells_of o.shape) i
+  pub index : at.index ≡ width_at (node_of h.store at.block) + column_in i
   pub within : at.index < length (node_of h.store at.block).cells
 
 -- and the object can be reached

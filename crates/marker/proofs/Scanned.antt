@@ -13,6 +13,18 @@ use Rattle.raw_heap.proofs.Standing.{main_held}
 use Rattle.raw_heap.specs.declared.heap.RawHeap.{RawHeap}
 use Rattle.raw_heap.specs.Heap.{state_of, IsRawHeap}
 
+some_more : (x : ℕ) → x ≢ 0 → 0 < x
+some_more x ne = grind arith
+
+some_is : (x : ℕ) → 0 < x → (x == 0) ≡ false
+some_is x up = grind arith
+
+after_some : (n : ℕ) → 0 < n + 1
+after_some n = omega arith
+
+before_after : (n : ℕ) → n + 1 - 1 ≡ n
+before_after n = omega arith
+
 module _ (a : RawHeap) (w : IsRawHeap a) (part cell : ℕ) (e : a.phase ≡ phases.Marking part cell) where
   abbrev h : HeapState
   h = state_of a
@@ -51,22 +63,19 @@ module _ (a : RawHeap) (w : IsRawHeap a) (part cell : ℕ) (e : a.phase ≡ phas
     scans_follow : cell < (seen h).width part → CanFollow h.store ((seen h).cell part cell)
     scans_follow l some' =
         let x = (seen h).cell part cell in
-        let up : 0 < x = more x some' in
+        let up : 0 < x = some_more x some' in
         let held = scanned_cell_held m (view w.heap.present) (view w.heap.snapshot) c c.stage l in
         let main = scanned_held m (view w.heap.present) (view w.heap.snapshot) c c.stage l in
         (held_behind h x up held, follow x up main)
       where
-        more : (x : ℕ) → x ≢ 0 → 0 < x
-        more x ne = grind arith
-
         follow : (x : ℕ) → 0 < x → (seen h).held ((seen h).forward x) ≡ true → is_held h.store (node_of h.store (x - 1)).forward ≡ true
         follow x up main =
-            let z : (x == 0) ≡ false = grind arith in
+            let z = some_is x up in
             let f : (seen h).forward x ≡ (node_of h.store (x - 1)).forward + 1 = rw z refl in
-            let g = held_behind h ((node_of h.store (x - 1)).forward + 1) (omega arith) (ap (seen h).held (sym f) ∙ main) in
-            subst (λ k. is_held h.store k ≡ true) (omega arith) g
+            let g = held_behind h ((node_of h.store (x - 1)).forward + 1) (after_some _) (ap (seen h).held (sym f) ∙ main) in
+            subst (λ k. is_held h.store k ≡ true) (before_after _) g
 
-    cell_follows : cell < width_at (node_of a.nodes (part - 1)) → CanFollow a.nodes (get_or (node_of a.nodes (part - 1)).cells cell 0)
+    pub cell_follows : cell < width_at (node_of a.nodes (part - 1)) → CanFollow a.nodes (get_or (node_of a.nodes (part - 1)).cells cell 0)
     cell_follows l = subst (CanFollow h.store) cell_is (scans_follow (subst (λ n. cell < n) (sym wide) l))
 
     -- the main copy that a cell names is held

@@ -1,4 +1,5 @@
 //! Runs worked out by hand.
+mod arrays;
 mod collecting;
 mod first;
 mod versions;
@@ -208,17 +209,24 @@ fn large_arrays(rt: HostRuntime) -> Result<(), Fail> {
         pages: 32,
         ..FOUR_PAGES
     };
-    let trace = "0 new 0 words 63504\n0 new 1 words 63505\n";
-    expect(&rt, &enough, trace, Ok(()), "made 1\nrefused 5\n")?;
+    let trace = "0 new 0 words 63504\n0 new 1 words 63505\n0 new 1 words 4000001\n";
+    let written = "made 1\nrefused 7\nrefused 5\n";
+    expect(&rt, &enough, trace, Ok(()), written)?;
     let short = Settings {
         pages: 31,
         ..FOUR_PAGES
     };
-    expect(&rt, &short, trace, Ok(()), "refused 7\nrefused 5\n")
+    let written = "refused 7\nrefused 7\nrefused 5\n";
+    expect(&rt, &short, trace, Ok(()), written)
 }
 
-/// Plays a trace on a heap and on the slow heap of the definition, and compares the histories.
-fn compare(rt: &(impl Abort + AllocGlobal), settings: &Settings, trace: &str) -> Result<(), Fail> {
+/// Plays a trace on a heap and on the slow heap of the definition, compares the histories, and tells the
+/// player.
+fn compare(
+    rt: &(impl Abort + AllocGlobal),
+    settings: &Settings,
+    trace: &str,
+) -> Result<Player, Fail> {
     let mut player = player(rt, settings)?;
     let mut source = MemorySource::new(trace.as_bytes());
     let mut sink = MemorySink::new(rt.alloc());
@@ -227,7 +235,7 @@ fn compare(rt: &(impl Abort + AllocGlobal), settings: &Settings, trace: &str) ->
     for entry in player.recorded().history() {
         assert!(rt; reference.accepts(entry)?, "{trace}");
     }
-    Ok(())
+    Ok(player)
 }
 
 #[test]

@@ -1,3 +1,4 @@
-pub mod Counting
+pub mod Closed
+pub mod Cutting
 pub mod Ranges
 pub mod Table

@@ -16,3 +16,7 @@ blocks_needed cells (suc parts) class = blocks_needed cells parts class + (if is
 -- how many blocks of a class an object of a shape needs
 abbrev pub needed : Shape → ℕ → ℕ
 needed shape class = blocks_needed (cells_of shape) (parts_in (cells_of shape)) class
+
+-- whether a block of so many words is of a class, as a number
+abbrev pub counts_at : ℕ → ℕ → ℕ
+counts_at words class = if is_class class (class_for words) then 1 else 0

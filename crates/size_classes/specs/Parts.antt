@@ -1,6 +1,8 @@
--- The parts of an object. An array of more cells than a part has is cut into pieces of so many cells,
--- the last with the rest; part 0 is then the spine, which has a reference to each piece.
-use Rattle.std.specs.Prelude.{ℕ, ◌+◌, ◌-◌, ◌*◌, ◌/◌, nat_lt, nat_le, ◌==◌, if◌then◌else◌}
+-- The parts of an object. Each part holds a run: a piece holds cells of the object, 252 at most, and a
+-- spine refers to parts of it. The spines stand first. An object of at most 252 cells is one piece; up to
+-- 252 * 252 cells part 0 is the only spine and refers to all pieces; above, part 0 is the root spine and
+-- refers to middle spines, and each of these to 252 pieces, the last to the rest.
+use Rattle.std.specs.Prelude.{ℕ, ◌+◌, ◌-◌, ◌*◌, ◌/◌, ◌%◌, Bool, min, max, nat_lt, nat_le, ◌==◌, if◌then◌else◌}
 use Rattle.graph_heap.specs.declared.command.Shape.{Shape}
 use Rattle.size_classes.specs.declared.parts.TheConstants.{PART_CELLS}
 use Rattle.graph_heap.specs.Shape.{ref_cells, word_cells}
@@ -9,21 +11,68 @@ use Rattle.graph_heap.specs.Shape.{ref_cells, word_cells}
 abbrev pub cells_of : Shape → ℕ
 cells_of shape = ref_cells shape + word_cells shape
 
--- how many pieces an array of so many cells has
+-- how many pieces: one for each 252 cells, and at least one
 abbrev pub pieces_of : ℕ → ℕ
-pieces_of n = (n + (PART_CELLS - 1)) / PART_CELLS
+pieces_of n = max 1 ((n + (PART_CELLS - 1)) / PART_CELLS)
 
--- how many parts an object of so many cells has
+-- how many spines: the one place where the form is decided
+abbrev pub spines_of : ℕ → ℕ
+spines_of n = if nat_le n PART_CELLS then 0 else if nat_le n (PART_CELLS * PART_CELLS) then 1 else (pieces_of n + (PART_CELLS - 1)) / PART_CELLS + 1
+
+-- how many parts
 abbrev pub parts_in : ℕ → ℕ
-parts_in n = if nat_le n PART_CELLS then 1 else pieces_of n + 1
+parts_in n = spines_of n + pieces_of n
 
--- how many cells a part of it has
+-- what a part holds: `count` parts from part `first` on, or as many cells from cell `first` on
+pub record Run : Type 0 where
+  pub spine : Bool
+  pub first : ℕ
+  pub count : ℕ
+
+-- to how many parts part 0 refers, of so many pieces and spines: all pieces, or the middle spines
+abbrev pub heads_by : ℕ → ℕ → ℕ
+heads_by k s = if nat_le s 1 then k else s - 1
+
+-- the first of what a part holds, of an object with so many spines
+abbrev pub first_by : ℕ → ℕ → ℕ
+first_by s part = if nat_lt part s then (if part == 0 then 1 else s + PART_CELLS * (part - 1)) else PART_CELLS * (part - s)
+
+-- how much a part holds, of so many cells, pieces and spines
+abbrev pub count_by : ℕ → ℕ → ℕ → ℕ → ℕ
+count_by n k s part = if nat_lt part s then (if part == 0 then heads_by k s else min PART_CELLS (k - PART_CELLS * (part - 1))) else min PART_CELLS (n - PART_CELLS * (part - s))
+
+-- what a part of an object of so many cells holds
+abbrev pub run_of : ℕ → ℕ → Run
+run_of n part = record {
+  spine = nat_lt part (spines_of n);
+  first = first_by (spines_of n) part;
+  count = count_by n (pieces_of n) (spines_of n) part;
+}
+
+-- how many cells a part has, references to parts included
 abbrev pub part_cells : ℕ → ℕ → ℕ
-part_cells n part =
-    if nat_le n PART_CELLS then n else
-    if part == 0 then pieces_of n else
-    if nat_lt part (pieces_of n) then PART_CELLS else n - PART_CELLS * (pieces_of n - 1)
+part_cells n part = (run_of n part).count
 
 -- how many words: each part has four words of header
 abbrev pub part_words : ℕ → ℕ → ℕ
 part_words n part = part_cells n part + 4
+
+-- in which part cell i of an object of so many cells stands, and at which place among its part's
+unfoldable pub part_in : ℕ → ℕ → ℕ
+part_in n i = spines_of n + i / PART_CELLS
+
+unfoldable pub column_in : ℕ → ℕ
+column_in i = i % PART_CELLS
+
+-- which spine refers to a part but part 0, and in which of its cells
+abbrev pub holder_by : ℕ → ℕ → ℕ → ℕ
+holder_by k s part = if nat_le part (heads_by k s) then 0 else (part - s) / PART_CELLS + 1
+
+abbrev pub seat_by : ℕ → ℕ → ℕ → ℕ
+seat_by k s part = if nat_le part (heads_by k s) then part - 1 else (part - s) % PART_CELLS
+
+abbrev pub holder_of : ℕ → ℕ → ℕ
+holder_of n part = holder_by (pieces_of n) (spines_of n) part
+
+abbrev pub seat_of : ℕ → ℕ → ℕ
+seat_of n part = seat_by (pieces_of n) (spines_of n) part

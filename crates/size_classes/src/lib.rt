@@ -5,6 +5,7 @@ pub mod class;
 pub mod config;
 pub mod fault;
 pub mod key;
+pub mod laws;
 pub mod need;
 pub mod parts;
 mod settings;
@@ -14,7 +15,7 @@ pub use config::{Config, LEAST_BUDGET, MOST_BUDGET, MOST_PAGES};
 pub use fault::ConfigFault;
 pub use key::{Key, Row};
 pub use need::Need;
-pub use parts::{ARRAY_CELLS, PART_CELLS, Parts, parts_of};
+pub use parts::{PART_CELLS, Parts, Position, Run, parts_of, spines_in};
 pub use settings::Settings;
 
 #[cfg(test)]

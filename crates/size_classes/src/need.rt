@@ -1,6 +1,6 @@
 //! The blocks that an object needs, by class.
-ghost use Rattle.std.specs.Prelude.{◌≡◌, ◌+◌, ◌<◌, ◌^◌, ℕ, length, replicate, slice_index, slice_set};
-ghost use Rattle.size_classes.specs.Need.{blocks_needed};
+ghost use Rattle.std.specs.Prelude.{◌≡◌, ◌+◌, ◌*◌, ◌<◌, ◌≤◌, ◌^◌, ℕ, length, replicate, slice_index};
+ghost use Rattle.size_classes.specs.Need.{blocks_needed, counts_at};
 ghost use Rattle.size_classes.specs.Parts.{parts_in};
 
 use crate::class::{CLASSES, Class, class_of};
@@ -33,24 +33,29 @@ impl Need {
         }
     }
 
-    /// One block more.
-    fn add(&mut self, class: Class)
-        requires { slice_index self.old class + 1 < 2 ^ 32 }
-        ensures { self.new ≡ slice_set self.old class (slice_index self.old class + 1) }
+    /// So many blocks more, of so many words each.
+    fn add(&mut self, words: u32, count: u32)
+        requires words { words ≤ 256 }
+        requires few { (class : ℕ) → class < CLASSES → slice_index self.old class + count < 2 ^ 32 }
+        ensures { (class : ℕ) → class < CLASSES → slice_index self.new class ≡ slice_index self.old class + count * counts_at words class }
     {
-        let number = class.number();
-        self.blocks[number] += 1;
+        let class = class_of(words).unwrap();
+        self.blocks[class.number()] += count;
     }
 
-    /// What the parts of an object need, one block for each.
+    /// What the parts of an object need, one block for each: all pieces but the last and all middle
+    /// spines but the last have 256 words.
     pub fn of(parts: &Parts) -> Need
         ensures { (class : ℕ) → class < CLASSES → slice_index result class ≡ blocks_needed parts.now (parts_in parts.now) class }
     {
+        let spines = parts.spines();
+        let pieces = parts.pieces();
         let mut need = Need::none();
-        for part in 0..parts.count() {
-            let class = class_of(parts.words(part)).unwrap();
-            need.add(class);
-        }
+        need.add(256, pieces - 1 + spines.saturating_sub(2));
+        need.add(parts.words(spines + pieces - 1), 1);
+        need.add(parts.words(0), spines.min(1));
+        let last_spine = spines.saturating_sub(1);
+        need.add(parts.words(last_spine), last_spine.min(1));
         need
     }
 

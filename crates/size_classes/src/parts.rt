@@ -1,20 +1,116 @@
 //! The parts that an object is cut into.
-ghost use Rattle.std.specs.Prelude.{◌≡◌, ◌+◌, ◌-◌, ◌*◌, ◌/◌, ◌<◌, ◌≤◌, ◌↔◌, IsNone, IfSome, false};
+ghost use Rattle.std.specs.Prelude.{◌≡◌, ◌+◌, ◌-◌, ◌*◌, ◌/◌, ◌^◌, ◌<◌, ◌≤◌, ◌↔◌, IsNone, IfSome, false};
 ghost use Rattle.graph_heap.specs.Shape.{fits};
-ghost use Rattle.size_classes.specs.Parts.{cells_of, pieces_of, parts_in, part_cells, part_words};
+ghost use Rattle.size_classes.specs.Parts.{cells_of, pieces_of, spines_of, parts_in, run_of, part_words, holder_of, seat_of};
 
-use graph_heap::Shape;
+use graph_heap::{ARRAY_CELLS, PLAIN_CELLS, Shape};
 use std::marker::Model;
 
 /// How many cells a part has at most.
-pub const PART_CELLS: u32 = 252;
+pub const PART_CELLS: usize = 252;
 
-/// How many cells an array has at most: those of as many pieces as a spine has cells.
-pub const ARRAY_CELLS: u32 = PART_CELLS * PART_CELLS;
+/// How many pieces an object of so many cells has: one for each 252 cells, and at least one.
+fn pieces_in(cells: usize) -> usize
+    ensures { result ≡ pieces_of cells }
+{
+    cells.div_ceil(PART_CELLS).max(1)
+}
 
-/// The parts that an object is cut into: an object of at most 252 cells is one part; a larger array
-/// has pieces of 252 cells, the last with the rest, and a spine that refers to them (arraylets, as in
-/// Bacon, Cheng and Rajan's collector of 2003). Contracts see them as the number of the object's cells.
+/// How many spines an object of so many cells has: none, one, or a root spine and middle spines.
+pub fn spines_in(cells: usize) -> usize
+    ensures { result ≡ spines_of cells }
+{
+    if cells <= PART_CELLS {
+        0
+    } else if cells <= PART_CELLS * PART_CELLS {
+        1
+    } else {
+        pieces_in(cells).div_ceil(PART_CELLS) + 1
+    }
+}
+
+/// What a part holds: references to `count` parts from part `first` on, or as many cells of the object
+/// from cell `first` on.
+#[derive(Clone, Copy, Debug, PartialEq, Eq)]
+pub struct Run {
+    pub spine: bool,
+    pub first: usize,
+    pub count: usize,
+}
+
+impl Run {
+    /// What a part of an object of so many cells holds.
+    pub fn of(cells: usize, part: u32) -> Run
+        requires few { cells < 2 ^ 34 }
+        ensures spine { result.spine ≡ (run_of cells part).spine }
+        ensures first { result.first ≡ (run_of cells part).first }
+        ensures count { result.count ≡ (run_of cells part).count }
+        ensures within { part < parts_in cells → cells ≤ ARRAY_CELLS → result.count ≤ PART_CELLS }
+    {
+        let part = part as usize;
+        let spines = spines_in(cells);
+        if part >= spines {
+            let first = PART_CELLS * (part - spines);
+            return Run {
+                spine: false,
+                first,
+                count: cells.saturating_sub(first).min(PART_CELLS),
+            };
+        }
+        let pieces = pieces_in(cells);
+        if part > 0 {
+            let before = PART_CELLS * (part - 1);
+            return Run {
+                spine: true,
+                first: spines + before,
+                count: pieces.saturating_sub(before).min(PART_CELLS),
+            };
+        }
+        Run {
+            spine: true,
+            first: 1,
+            count: if spines <= 1 { pieces } else { spines - 1 },
+        }
+    }
+}
+
+/// The cell that refers to a part: in which spine, and which of its cells.
+#[derive(Clone, Copy, Debug, PartialEq, Eq)]
+pub struct Position {
+    pub spine: u32,
+    pub cell: usize,
+}
+
+impl Position {
+    /// The cell that refers to a part but part 0, of an object of so many cells: a middle spine is referred
+    /// to by the root spine, in order.
+    pub fn of(cells: usize, part: u32) -> Position
+        requires few { cells ≤ ARRAY_CELLS }
+        requires some { 0 < part }
+        requires part { part < parts_in cells }
+        ensures spine { result.spine ≡ holder_of cells part }
+        ensures cell { result.cell ≡ seat_of cells part }
+        ensures root { 0 < result.spine → seat_of cells result.spine ≡ result.spine - 1 }
+    {
+        let spines = spines_in(cells) as u32;
+        if spines <= 1 || part < spines {
+            Position {
+                spine: 0,
+                cell: part as usize - 1,
+            }
+        } else {
+            let piece = (part - spines) as usize;
+            Position {
+                spine: (piece / PART_CELLS) as u32 + 1,
+                cell: piece % PART_CELLS,
+            }
+        }
+    }
+}
+
+/// The parts that an object is cut into: pieces of 252 cells, the last with the rest, and before them
+/// the spines, which refer to parts (arraylets, as in Bacon, Cheng and Rajan's collector of 2003).
+/// Contracts see them as the number of the object's cells.
 #[derive(Clone, Copy, Debug, PartialEq, Eq)]
 pub struct Parts {
     cells: u32,
@@ -22,7 +118,7 @@ pub struct Parts {
 
 impl Model for Parts {
     ghost use Rattle.std.specs.Prelude.{ℕ, ◌≤◌};
-    ghost use Rattle.size_classes.specs.declared.parts.TheConstants.{ARRAY_CELLS};
+    ghost use Rattle.graph_heap.specs.declared.command.TheConstants.{ARRAY_CELLS};
 
     ghost Value = { ℕ };
 
@@ -34,23 +130,41 @@ impl Model for Parts {
 }
 
 impl Parts {
-    /// How many parts the object has: one, or a spine and its pieces.
-    pub fn count(&self) -> u32
-        ensures count { result ≡ parts_in self.now }
-        ensures within { (1 ≤ result) × (result ≤ 253) }
+    /// How many pieces the object has.
+    pub fn pieces(&self) -> u32
+        ensures pieces { result ≡ pieces_of self.now }
+        ensures within { (1 ≤ result) × (result ≤ 15874) }
     {
-        if self.cells <= PART_CELLS {
-            1
-        } else {
-            self.pieces() + 1
-        }
+        pieces_in(self.cells as usize) as u32
     }
 
-    /// How many pieces an array has that is cut.
-    fn pieces(&self) -> u32
-        ensures { result ≡ pieces_of self.now }
+    /// How many spines stand before the pieces.
+    pub fn spines(&self) -> u32
+        ensures spines { result ≡ spines_of self.now }
+        ensures within { result ≤ 64 }
     {
-        self.cells.div_ceil(PART_CELLS)
+        spines_in(self.cells as usize) as u32
+    }
+
+    /// How many parts the object has.
+    pub fn count(&self) -> u32
+        ensures count { result ≡ parts_in self.now }
+        ensures within { (1 ≤ result) × (result ≤ 15938) }
+    {
+        if self.cells <= PART_CELLS as u32 {
+            return 1;
+        }
+        self.spines() + self.pieces()
+    }
+
+    /// The cell that refers to a part but part 0.
+    pub fn position(&self, part: u32) -> Position
+        requires some { 0 < part }
+        requires part { part < parts_in self.now }
+        ensures spine { result.spine ≡ holder_of self.now part }
+        ensures cell { result.cell ≡ seat_of self.now part }
+    {
+        Position::of(self.cells as usize, part)
     }
 
     /// How many words a part has, its header of four words included.
@@ -59,17 +173,10 @@ impl Parts {
         ensures words { result ≡ part_words self.now part }
         ensures within { (4 ≤ result) × (result ≤ 256) }
     {
-        if self.cells <= PART_CELLS {
+        if self.cells <= PART_CELLS as u32 {
             return self.cells + 4;
         }
-        let pieces = self.pieces();
-        if part == 0 {
-            pieces + 4
-        } else if part < pieces {
-            PART_CELLS + 4
-        } else {
-            self.cells - PART_CELLS * (pieces - 1) + 4
-        }
+        Run::of(self.cells as usize, part).count as u32 + 4
     }
 }
 
@@ -81,7 +188,7 @@ pub fn parts_of(shape: &Shape) -> Option<Parts>
     let cells = match *shape {
         Shape::Plain { refs, words } => refs
             .checked_add(words)
-            .filter(|cells| *cells <= PART_CELLS)?,
+            .filter(|cells| *cells <= PLAIN_CELLS)?,
         Shape::RefArray(n) | Shape::WordArray(n) if n <= ARRAY_CELLS => n,
         _ => return None,
     };

@@ -29,12 +29,78 @@ fn arrays_are_cut(rt: HostRuntime) {
     }
     let large = parts_of(&Shape::WordArray(63504)).unwrap();
     assert!(rt; large.count() == 253 && Need::of(&large).blocks(Class::new(37)) == 253);
-    assert!(rt; parts_of(&Shape::WordArray(63505)).is_none());
+    assert!(rt; parts_of(&Shape::WordArray(4000001)).is_none());
     let wraps = Shape::Plain {
         refs: 4294967295,
         words: 1,
     };
     assert!(rt; parts_of(&wraps).is_none());
+}
+
+#[test]
+fn larger_arrays_are_cut(rt: HostRuntime) {
+    let tables = [
+        (
+            63505u32,
+            256u32,
+            [(0u32, 6u32), (1, 256), (2, 5), (254, 256), (255, 5)],
+        ),
+        (
+            63756,
+            256,
+            [(0, 6), (1, 256), (2, 5), (254, 256), (255, 256)],
+        ),
+        (63757, 257, [(0, 6), (1, 256), (2, 6), (255, 256), (256, 5)]),
+        (
+            4000000,
+            15938,
+            [(0, 67), (62, 256), (63, 254), (64, 256), (15937, 8)],
+        ),
+    ];
+    for (cells, count, sizes) in tables {
+        let Some(parts) = parts_of(&Shape::WordArray(cells)) else {
+            panic!(rt; "an array has room for {cells} cells");
+        };
+        assert!(rt; parts.count() == count, "{cells}");
+        for (part, words) in sizes {
+            assert!(rt; part < parts.count());
+            assert!(rt; parts.words(part) == words, "part {part} of {cells}");
+        }
+    }
+}
+
+#[test]
+fn larger_arrays_need_blocks(rt: HostRuntime) {
+    let parts = parts_of(&Shape::RefArray(63505)).unwrap();
+    let need = Need::of(&parts);
+    assert!(rt; need.blocks(Class::new(37)) == 253);
+    assert!(rt; need.blocks(Class::new(2)) == 1 && need.blocks(Class::new(1)) == 2);
+    let parts = parts_of(&Shape::WordArray(4000000)).unwrap();
+    let need = Need::of(&parts);
+    assert!(rt; need.blocks(Class::new(37)) == 15936);
+    assert!(rt; need.blocks(Class::new(26)) == 1 && need.blocks(Class::new(4)) == 1);
+}
+
+#[test]
+fn spines_refer_to_parts(rt: HostRuntime) {
+    let places = [
+        (63505u32, 2u32, 0u32, 1usize),
+        (63505, 254, 1, 251),
+        (63505, 255, 2, 0),
+        (4000000, 63, 0, 62),
+        (4000000, 64, 1, 0),
+        (4000000, 15937, 63, 249),
+    ];
+    for (cells, part, spine, cell) in places {
+        let Some(parts) = parts_of(&Shape::RefArray(cells)) else {
+            panic!(rt; "an array has room for {cells} cells");
+        };
+        assert!(rt; 0 < part && part < parts.count());
+        assert!(rt;
+            parts.position(part) == Position { spine, cell },
+            "part {part} of {cells}"
+        );
+    }
 }
 
 const SETTINGS: Settings = Settings {

@@ -2,8 +2,7 @@
 ghost use Rattle.std.specs.Prelude.{◌≡◌, ◌<◌, ℕ, true, length, slice_index, IfOk};
 ghost use Rattle.graph_heap.specs.Graph.{Graph, object_of};
 ghost use Rattle.graph_heap.specs.Shape.{fits};
-ghost use Rattle.size_classes.specs.Parts.{cells_of, part_cells};
-ghost use Rattle.heap_model.specs.Store.{is_held, node_of};
+ghost use Rattle.heap_model.specs.Store.{is_held};
 ghost use Rattle.heap_model.specs.Agreement.{Agrees};
 ghost use Rattle.machine.specs.Reading.{Names, Finds, FindsRef, FindsWord, IsRefPlace, IsWordPlace};
 
@@ -27,7 +26,6 @@ impl Heap {
         requires { root < length self.now.roots }
         ensures finds { (g : Graph) → Agrees self.now g → Finds self.now g (slice_index g.roots root) result }
         ensures held { IfOk result (λ f. is_held self.now.store f.block ≡ true) }
-        ensures cells { IfOk result (λ f. length (node_of self.now.store f.block).cells ≡ part_cells (cells_of f.shape) 0) }
         ensures fits { IfOk result (λ f. fits f.shape ≡ true) }
     {
         let held = self.held(root);
@@ -50,7 +48,7 @@ impl Heap {
     {
         let found = self.object(root)?;
         let place = ref_place(found.shape, i)?;
-        let block = part_block(&self.raw.nodes, found.block, place.part);
+        let block = part_block(&self.raw.nodes, found.shape, found.block, place.part);
         Ok(Cell {
             block,
             index: place.cell,
@@ -64,7 +62,7 @@ impl Heap {
     {
         let found = self.object(root)?;
         let place = word_place(found.shape, i)?;
-        let block = part_block(&self.raw.nodes, found.block, place.part);
+        let block = part_block(&self.raw.nodes, found.shape, found.block, place.part);
         Ok(Cell {
             block,
             index: place.cell,

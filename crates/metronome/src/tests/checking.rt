@@ -28,6 +28,19 @@ fn a_wrong_history(rt: HostRuntime) -> Result<(), NoMemory> {
 }
 
 #[test]
+fn an_old_history_of_a_large_array(rt: HostRuntime) -> Result<(), NoMemory> {
+    let wanted = Run {
+        words: &["check", "config", "text"],
+        config: FOUR_PAGES,
+        text: "0 new 0 words 4000001 => refused 5\n0 new 0 words 4000000 => refused 7\n0 new 0 words 63505 => refused 5\n",
+        output: "wrong at line 3\n",
+        errors: "",
+        status: 7,
+    };
+    expect(&rt, &wanted)
+}
+
+#[test]
 fn no_entry(rt: HostRuntime) -> Result<(), NoMemory> {
     let wanted = Run {
         words: &["check", "config", "text"],

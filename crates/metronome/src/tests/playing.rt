@@ -58,8 +58,8 @@ fn the_largest_array(rt: HostRuntime) -> Result<(), NoMemory> {
     let wanted = Run {
         words: &["play", "config", "text"],
         config: "pages = 32\nmutators = 2\nslots = 4\nstatics = 1\n",
-        text: "0 new 0 words 63504\n0 new 1 words 63505\n",
-        output: "made 1\nrefused 5\n",
+        text: "0 new 0 words 63504\n0 new 1 words 63505\n0 new 1 words 4000001\n",
+        output: "made 1\nrefused 7\nrefused 5\n",
         errors: "",
         status: 0,
     };

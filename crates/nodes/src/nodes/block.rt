@@ -10,20 +10,24 @@ ghost use Rattle.nodes.specs.Referent.{referent_of};
 
 use super::{Nodes, Referent};
 use graph_heap::Shape;
+use size_classes::{PART_CELLS, Run};
 
 /// How many reference cells a part has, of an object with so many reference and word cells: a spine
-/// has one for each piece, a piece has its share.
-#[tactic(auto, unfolding(heap_model::specs::Cut::is_cut, heap_model::specs::Cut::width_in))]
+/// has only such, a piece has its share.
+#[tactic(auto, unfolding(heap_model::specs::Cut::width_in))]
 fn width_of(refs: u32, words: u32, part: u32) -> usize
     ensures { result ≡ width_in refs words part }
 {
     let refs = refs as usize;
     let cells = refs + words as usize;
-    match (cells <= 252, part) {
-        (true, 0) => refs,
-        (true, _) => 0,
-        (false, 0) => (cells + 251) / 252,
-        (false, _) => refs.saturating_sub(252 * (part as usize - 1)).min(252),
+    if part == 0 && cells <= PART_CELLS {
+        return refs;
+    }
+    let run = Run::of(cells, part);
+    if run.spine {
+        run.count
+    } else {
+        run.count.min(refs.saturating_sub(run.first))
     }
 }
 

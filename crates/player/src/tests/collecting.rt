@@ -24,12 +24,12 @@ fn played(
 }
 
 /// The units of the last cycle.
-fn units(player: &Player) -> u64 {
+pub(super) fn units(player: &Player) -> u64 {
     player.recorded().heap().units()
 }
 
 /// Plays a trace under settings, and compares what was written and the units of the last cycle.
-fn expect_units(
+pub(super) fn expect_units(
     rt: &(impl Abort + AllocGlobal),
     settings: &Settings,
     trace: &str,

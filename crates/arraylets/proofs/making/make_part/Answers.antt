@@ -2,8 +2,14 @@ use Rattle.std.proofs.Common.{◌≡◌, ◌<◌, ◌∙◌, ap, sym, Some}
 use Rattle.size_classes.specs.Sizes.{class_for}
 use Rattle.size_classes.specs.Parts.{cells_of, parts_in, part_words}
 use Rattle.heap_model.proofs.Rooms.{next_given, next_left}
-use Rattle.arraylets.proofs.Linking.{gives_by, at_some}
+use Rattle.arraylets.proofs.Linking.{gives_by, at_some, shape_fits, parts_few}
 use Rattle.arraylets.proofs.making.make_part.Goals as goal
+
+pub make-requires-clause-shape : goal.make-requires-clause-shape
+make-requires-clause-shape c = shape_fits c.args.shape c.requires.fits
+
+pub make-requires-clause-part : goal.make-requires-clause-part
+make-requires-clause-part c = parts_few c.args.shape c.args.part c.requires.fits c.requires.part
 
 pub unwrap-requires : goal.unwrap-requires
 unwrap-requires c =

@@ -13,5 +13,5 @@ returns-then-count-eq1-clause-made c =
     let count : c.count.result ≡ parts_in (cells_of c.args.shape) = c.count.ensures.count ∙ ap parts_in parts in
     one_made _ _ _ c.args.shape c.args.colour c.args.identity (omega (arith, count, c.if-count-eq1.true)) c.make_part.ensures.made c.make_part.ensures.taken
 
-pub new_array-requires-clause-room : goal.new_array-requires-clause-room
-new_array-requires-clause-room c = sym (first_same c.args.nodes.now.pages c.args.shape) ∙ c.requires.room
+pub make_parts-requires-clause-room : goal.make_parts-requires-clause-room
+make_parts-requires-clause-room c = sym (first_same c.args.nodes.now.pages c.args.shape) ∙ c.requires.room

@@ -4,18 +4,23 @@ use Rattle.heap_model.specs.State.{width_at}
 use Rattle.heap_model.specs.Store.{node_of}
 use Rattle.heap_model.proofs.Seen.{held_pages}
 use Rattle.nodes.specs.declared.nodes.Referent.{Referent}
-use Rattle.nodes.specs.Referent.{referent_of}
+use Rattle.nodes.specs.Referent.{CanFollow, referent_of}
 use Rattle.raw_heap.specs.declared.heap.RawHeap.{RawHeap}
 use Rattle.raw_heap.specs.Heap.{state_of}
 use Rattle.raw_heap.proofs.Keeping.{are_held, store_kept}
 use Rattle.raw_heap.proofs.Standing.{are_grey, units_small}
 use Rattle.marker.proofs.Acting.{cell_scanned, corrected_grey}
 use Rattle.marker.proofs.Chains.{shades_width, writes_width}
-use Rattle.marker.proofs.Scanned.{part_held, cells_within, cell_main, cell_small}
+use Rattle.marker.proofs.Scanned.{part_held, cells_within, cell_follows, cell_main, cell_small}
 use Rattle.marker.proofs.scan.scan_cell.Goals as goal
 
 pub cell-requires-clause-within : goal.cell-requires-clause-within
 cell-requires-clause-within c = omega (arith, c.requires.left, cells_within c.args.heap.now c.requires.heap c.args.part c.args.cell c.requires.phase c.requires.some)
+
+pub resolve-main-requires-clause-main : goal.resolve-main-requires-clause-main
+resolve-main-requires-clause-main c ne =
+    let x = c.cell.ensures in
+    (subst (CanFollow c.args.heap.now.nodes) (sym x) (cell_follows c.args.heap.now c.requires.heap c.args.part c.args.cell c.requires.phase c.requires.some c.requires.left) ne).1
 
 pub set_cell-requires-clause-within : goal.set_cell-requires-clause-within
 set_cell-requires-clause-within c = omega (arith, c.requires.left, cells_within c.args.heap.now c.requires.heap c.args.part c.args.cell c.requires.phase c.requires.some)

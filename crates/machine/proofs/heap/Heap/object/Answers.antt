@@ -1,14 +1,13 @@
-use Rattle.std.proofs.Common.{◌≡◌, ◌-◌, true, length, slice_index, subst, sym}
+use Rattle.std.proofs.Common.{◌≡◌, ◌-◌, true, slice_index, subst, sym}
 use Rattle.graph_heap.specs.Graph.{Graph}
-use Rattle.size_classes.specs.Parts.{cells_of, part_cells}
-use Rattle.heap_model.specs.Store.{is_held, node_of}
+use Rattle.heap_model.specs.Store.{is_held}
 use Rattle.heap_model.specs.State.{HeapState}
 use Rattle.heap_model.specs.Agreement.{Agrees}
 use Rattle.raw_heap.specs.Heap.{IsHeap}
 use Rattle.machine.specs.Reading.{Names, IsFound}
 use Rattle.nodes.specs.declared.nodes.Referent.{Referent}
 use Rattle.machine.proofs.Doing.{at_present}
-use Rattle.machine.proofs.Finding.{null_object, object_held, object_cells, object_fits, finds_by}
+use Rattle.machine.proofs.Finding.{null_object, object_held, object_fits, finds_by}
 use Rattle.machine.proofs.heap.Heap.object.Goals as goal
 
 -- what the root holds at present
@@ -31,11 +30,6 @@ pub returns-clause-held : goal.returns-clause-held
 returns-clause-held c =
     subst (λ (x : HeapState). is_held x.store (c.held-held.result.reference - 1) ≡ true) c.self.view_is
     (object_held _ c.self.invariant.heap c.held-held.result c.if-held-eq0.false _ (named _ _ c.self.view_is c.self.invariant.heap c.args.root c.held-held.result c.held-held.ensures))
-
-pub returns-clause-cells : goal.returns-clause-cells
-returns-clause-cells c =
-    subst (λ (x : HeapState). length (node_of x.store (c.held-held.result.reference - 1)).cells ≡ part_cells (cells_of c.shape-shape.result) 0) c.self.view_is
-    (object_cells _ c.self.invariant.heap c.held-held.result c.if-held-eq0.false _ (named _ _ c.self.view_is c.self.invariant.heap c.args.root c.held-held.result c.held-held.ensures) c.shape-shape.result c.shape-shape.ensures)
 
 pub returns-clause-fits : goal.returns-clause-fits
 returns-clause-fits c = object_fits _ c.self.invariant.heap c.held-held.result c.if-held-eq0.false _ (named _ _ c.self.view_is c.self.invariant.heap c.args.root c.held-held.result c.held-held.ensures) c.shape-shape.result c.shape-shape.ensures

@@ -1,5 +1,5 @@
 use Rattle.std.proofs.Common.{subst}
-use Rattle.heap_model.specs.Event.{IsCourse, present_of, snapshot_of}
+use Rattle.heap_model.specs.Event.{Does, IsCourse, present_of, snapshot_of}
 use Rattle.heap_model.proofs.Course.{does_course}
 use Rattle.heap_model.proofs.Stood.{stands_chain, sweep_change}
 use Rattle.machine.specs.Recorded.{RecordedHeap, recorded_of, quantum_done}
@@ -10,6 +10,11 @@ pub invariant_of-self : goal.invariant_of-self
 invariant_of-self c =
     let r = (recorded_of c.self.inside).course in
     does_course r (quantum_done c.args.budget c.quantum.result) (record r { heap = c.quantum.new.self }) c.self.invariant (quantum_does r c.args.budget c.quantum.new.self c.quantum.result c.quantum.ensures.spends)
+
+pub returns-clause-does : goal.returns-clause-does
+returns-clause-does c =
+    let r = (recorded_of c.self.inside).course in
+    subst (λ (x : RecordedHeap). Does x.course (quantum_done c.args.budget c.quantum.result) (record r { heap = c.quantum.new.self })) c.self.view_is (quantum_does r c.args.budget c.quantum.new.self c.quantum.result c.quantum.ensures.spends)
 
 pub returns-clause-swept : goal.returns-clause-swept
 returns-clause-swept c spent cost h after chain action from to =

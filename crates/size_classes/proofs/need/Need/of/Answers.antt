@@ -1,25 +1,44 @@
-use Rattle.std.proofs.Common.{◌≡◌, ◌<◌, ◌+◌, ℕ, arith, sym, ◌∙◌, ap, subst, Option, Some, IfSome}
-use Rattle.size_classes.specs.Sizes.{class_for}
-use Rattle.size_classes.specs.Parts.{part_words}
-use Rattle.size_classes.proofs.Counting.{Counts, counts_none, counts_more, blocks_needed_few}
+use Rattle.std.proofs.Common.{◌+◌, ◌-◌, ◌∙◌, ℕ, get_or, arith, ap}
+use Rattle.std.proofs.lemmas.List.{get_or-replicate}
+use Rattle.size_classes.proofs.Closed.{times_small, counted}
 use Rattle.size_classes.proofs.need.Need.of.Goals as goal
 
-pub loop-part-init : goal.loop-part-init
-loop-part-init c = subst (Counts c.args.parts.now 0) (sym c.none-need.ensures) (counts_none c.args.parts.now)
+pub add-requires-clause-few : goal.add-requires-clause-few
+add-requires-clause-few c class h =
+    let z = ap (λ l. get_or l class 0) c.none-need.ensures ∙ get_or-replicate {A = ℕ} 38 class 0 0 h in
+    omega (arith, z)
 
-small : (o : Option ℕ) (class : ℕ) → o ≡ Some class → IfSome o (λ k. k < 38) → class < 38
-small o class e h = subst (λ x. IfSome x (λ k. k < 38)) e h
+pub add-requires-2-clause-few : goal.add-requires-2-clause-few
+add-requires-2-clause-few c class h =
+    let z = ap (λ l. get_or l class 0) c.none-need.ensures ∙ get_or-replicate {A = ℕ} 38 class 0 0 h in
+    let a = c.add.ensures class h in
+    let t = times_small (c.pieces-pieces.result - 1 + c.saturating_sub.result) 256 class in
+    omega (arith, z, a, t)
 
-pub add-requires : goal.add-requires
-add-requires c =
-    let class = c.unwrap-class.result in
-    let few = blocks_needed_few c.args.parts.now c.loop-part.part class in
-    let is = c.loop-part.invariant.count class (small c.class_of.result class c.unwrap-class.ensures c.class_of.ensures.within) in
-    omega (arith, few, is)
+pub add-requires-3-clause-few : goal.add-requires-3-clause-few
+add-requires-3-clause-few c class h =
+    let z = ap (λ l. get_or l class 0) c.none-need.ensures ∙ get_or-replicate {A = ℕ} 38 class 0 0 h in
+    let a = c.add.ensures class h in
+    let b = c.add-2.ensures class h in
+    let t = times_small (c.pieces-pieces.result - 1 + c.saturating_sub.result) 256 class in
+    let u = times_small 1 c.words.result class in
+    omega (arith, z, a, b, t, u)
 
-pub loop-part-preserved : goal.loop-part-preserved
-loop-part-preserved c =
-    let class = c.unwrap-class.result in
-    let is : class_for (part_words c.args.parts.now c.loop-part.part) ≡ Some class = ap class_for (sym c.words.ensures.words) ∙ sym c.class_of.ensures.class ∙ c.unwrap-class.ensures in
-    let below : class < 38 = small c.class_of.result class c.unwrap-class.ensures c.class_of.ensures.within in
-    subst (Counts c.args.parts.now (c.loop-part.part + 1)) (sym c.add.ensures) (counts_more c.args.parts.now c.loop-part.part class c.loop-part.need c.loop-part.invariant below is)
+pub add-requires-4-clause-few : goal.add-requires-4-clause-few
+add-requires-4-clause-few c class h =
+    let z = ap (λ l. get_or l class 0) c.none-need.ensures ∙ get_or-replicate {A = ℕ} 38 class 0 0 h in
+    let a = c.add.ensures class h in
+    let b = c.add-2.ensures class h in
+    let d = c.add-3.ensures class h in
+    let t = times_small (c.pieces-pieces.result - 1 + c.saturating_sub.result) 256 class in
+    let u = times_small 1 c.words.result class in
+    let v = times_small c.min.result c.words-2.result class in
+    omega (arith, z, a, b, d, t, u, v)
+
+pub returns : goal.returns
+returns c class h =
+    let z = ap (λ l. get_or l class 0) c.none-need.ensures ∙ get_or-replicate {A = ℕ} 38 class 0 0 h in
+    counted c.args.parts.now class c.pieces-pieces.result c.spines-spines.result c.saturating_sub.result c.saturating_sub-last_spine.result c.min.result c.min-2.result c.words.result c.words-2.result c.words-3.result _ _ _ _ _
+    c.spines-spines.ensures.spines c.pieces-pieces.ensures.pieces (omega arith) (omega arith) (omega arith) (omega arith)
+    c.words.ensures.words c.words-2.ensures.words c.words-3.ensures.words
+    z (c.add.ensures class h) (c.add-2.ensures class h) (c.add-3.ensures class h) (c.add-4.ensures class h)

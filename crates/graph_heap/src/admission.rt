@@ -1,5 +1,5 @@
 //! Which mutators are live, and the test of the mutator that stands in front of each command.
-ghost use Rattle.std.specs.Prelude.{◌≡◌, ◌<◌, ◌≤◌, length, slice_set, IfOk};
+ghost use Rattle.std.specs.Prelude.{◌≡◌, ◌<◌, ◌≤◌, length, slice_set, Err, IfOk};
 ghost use Rattle.graph_heap.specs.Graph.{live_first};
 ghost use Rattle.graph_heap.specs.Effect.{admits, admitted_to};
 
@@ -35,11 +35,23 @@ pub fn admit(limits: &Limits, live: &[bool], mutator: u32, joins: bool) -> Resul
 fn admission_of(live: bool, joins: bool) -> Result<bool, Refusal>
     ensures { result ≡ admits live joins }
 {
-    match (live, joins) {
-        (true, true) => Err(Refusal::AlreadyLive),
-        (true, false) => Ok(true),
-        (false, true) => Ok(true),
-        (false, false) => Err(Refusal::NotLive),
+    if live != joins {
+        Ok(true)
+    } else {
+        Err(refusal_of(joins))
+    }
+}
+
+/// Why a mutator may not ask: it is live already, or it isn't live.
+#[cold]
+#[inline(never)]
+fn refusal_of(joins: bool) -> Refusal
+    ensures { Err result ≡ admits joins joins }
+{
+    if joins {
+        Refusal::AlreadyLive
+    } else {
+        Refusal::NotLive
     }
 }
 

@@ -11,4 +11,3 @@ pub mod Plans
 pub mod Reached
 pub mod Replying
 pub mod Writing
-pub mod Writers

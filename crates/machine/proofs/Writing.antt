@@ -3,9 +3,10 @@ use Rattle.std.proofs.Common.{◌≡◌, ℕ, ◌+◌, ◌<◌, ◌∷◌, ◌++
 use Rattle.graph_heap.specs.declared.command.Shape.{Shape}
 use Rattle.graph_heap.specs.declared.command.Change.{Change}
 use Rattle.graph_heap.specs.declared.command.Change.TheVariants as changes
-use Rattle.graph_heap.specs.Graph.{Graph, first_slot}
+use Rattle.graph_heap.specs.Graph.{Graph, first_slot, changed}
 use Rattle.size_classes.specs.Parts.{cells_of, parts_in}
 use Rattle.heap_model.specs.Block.{with_cell}
+use Rattle.heap_model.specs.Agreement.{Agrees}
 use Rattle.heap_model.specs.Store.{Store, node_of, Writes}
 use Rattle.heap_model.specs.State.{HeapState, seen}
 use Rattle.heap_model.specs.Written.{records}
@@ -23,13 +24,17 @@ use Rattle.heap_model.proofs.Sameness.{told}
 use Rattle.nodes.specs.Referent.{CanFollow}
 use Rattle.raw_heap.specs.declared.heap.RawHeap.{RawHeap}
 use Rattle.raw_heap.specs.Heap.{state_of, IsHeap, IsRawHeap}
-use Rattle.machine.specs.Plan.{IsPlanned, CanPerform, DoesEach, Performs}
+use Rattle.machine.specs.Plan.{IsPlanned, CanPerform, DoesEach}
 use Rattle.machine.specs.declared.plan.Cell.{Cell}
 use Rattle.machine.specs.declared.plan.Write.{Write}
 use Rattle.machine.specs.declared.plan.Write.TheVariants as writes
 use Rattle.machine.proofs.Doing.{present_agrees, at_present, founded, planned_alike, heap_after, agrees_after}
 use Rattle.machine.proofs.Finding.{reads_root}
 use Rattle.raw_heap.proofs.Standing.{follows}
+
+-- whatever change of a graph heap the write is of, the heap does it, and agrees with the graph heap after it
+abbrev pub Performs : HeapState → Write → HeapState → Type 0
+Performs h w after = (g : Graph) (change : Change) → Agrees h g → IsPlanned h g change w → DoesChange h g change after × Agrees after (changed g change)
 
 -- of the fields h, which are seen as the value t
 module _ (h t : HeapState) (is : h ≡ t) (w : IsHeap h) (write : Write) where

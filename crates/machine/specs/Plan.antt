@@ -1,5 +1,5 @@
 -- What it is to plan a command, and to do what was planned.
-use Rattle.std.specs.Prelude.{◌≡◌, ℕ, ◌^◌, ◌<◌, ◌⊎◌, true, length, Result, Ok, Err}
+use Rattle.std.specs.Prelude.{◌≡◌, ℕ, ◌^◌, ◌<◌, true, length, Result, Ok, Err}
 use Rattle.graph_heap.specs.declared.command.Command.{Command}
 use Rattle.graph_heap.specs.declared.command.Refusal.{Refusal}
 use Rattle.graph_heap.specs.declared.command.Reply.{Reply}
@@ -7,7 +7,7 @@ use Rattle.graph_heap.specs.declared.command.Change.{Change}
 use Rattle.graph_heap.specs.declared.command.Change.TheVariants as changes
 use Rattle.graph_heap.specs.Shape.{fits}
 use Rattle.graph_heap.specs.Graph.{Graph, changed}
-use Rattle.graph_heap.specs.Effect.{deed_of, effect_of, settled}
+use Rattle.graph_heap.specs.Effect.{deed_of, settled}
 use Rattle.size_classes.specs.Need.{needed}
 use Rattle.heap_model.specs.Pages.{has_room}
 use Rattle.heap_model.specs.Agree.{IsMain}
@@ -39,30 +39,33 @@ abbrev pub PlansBy : HeapState → Graph → Result (Reply × Change) Refusal �
 PlansBy h g done (Ok p) = (change : Change) × (done ≡ Ok (p.reply, change)) × IsPlanned h g change p.write
 PlansBy h g done (Err e) = done ≡ Err e
 
--- the plan of a command, for each graph heap with which the heap agrees
-abbrev pub Plans : HeapState → ℕ → Command → Result Planned Refusal → Type 0
-Plans h m c result = (g : Graph) → Agrees h g → PlansBy h g (effect_of (room_for h c) g m c) result
-
--- the same, of a command that is admitted
+-- the plan of a command that is admitted, for each graph heap with which the heap agrees
 abbrev pub Deeds : HeapState → ℕ → Command → Result Planned Refusal → Type 0
 Deeds h m c result = (g : Graph) → Agrees h g → PlansBy h g (deed_of (room_for h c) g m c) result
 
--- the same, where a refusal is a reply
-abbrev pub IsPlan : HeapState → ℕ → Command → Planned → Type 0
-IsPlan h m c p = (g : Graph) → Agrees h g → (change : Change) × (settled (effect_of (room_for h c) g m c) ≡ (p.reply, change)) × IsPlanned h g change p.write
+-- what was planned is what some command does, for each graph heap with which the heap agrees
+abbrev pub CanSettle : HeapState → Result Planned Refusal → Type 0
+CanSettle h planned = (g : Graph) → Agrees h g → (done : Result (Reply × Change) Refusal) × PlansBy h g done planned
+
+-- the reply is that of what the graph heap does, where a refusal is a reply; the heap does its change, and agrees with the
+-- graph heap after it
+pub record Settles (h : HeapState) (g : Graph) (done : Result (Reply × Change) Refusal) (told : Reply) (after : HeapState) : Type 0 where
+  pub reply : told ≡ (settled done).0
+  pub change : DoesChange h g (settled done).1 after
+  pub agrees : Agrees after (changed g (settled done).1)
+
+-- so it is for each graph heap of which what was planned is a plan
+abbrev pub SettlesEach : HeapState → Result Planned Refusal → Reply → HeapState → Type 0
+SettlesEach h planned reply after = (g : Graph) (done : Result (Reply × Change) Refusal) → Agrees h g → PlansBy h g done planned → Settles h g done reply after
+
+-- and of a command that is admitted
+abbrev pub DoesDeed : HeapState → ℕ → Command → Reply → HeapState → Type 0
+DoesDeed h m c reply after = (g : Graph) → Agrees h g → Settles h g (deed_of (room_for h c) g m c) reply after
 
 -- the write is that of some change, for each graph heap with which the heap agrees
 abbrev pub CanPerform : HeapState → Write → Type 0
 CanPerform h w = (g : Graph) → Agrees h g → (change : Change) × IsPlanned h g change w
 
--- nothing is written, or the mutator is one that there is, if the heap agrees with some graph heap
-abbrev pub IsWriter : HeapState → ℕ → Write → Type 0
-IsWriter h m w = (g : Graph) → Agrees h g → (w ≡ writes.Nothing) ⊎ (m < h.limits.mutators)
-
 -- whatever change of such a graph heap the write is of, the heap does it
 abbrev pub DoesEach : HeapState → Write → HeapState → Type 0
 DoesEach h w after = (g : Graph) (change : Change) → Agrees h g → IsPlanned h g change w → DoesChange h g change after
-
--- and agrees with the graph heap after it
-abbrev pub Performs : HeapState → Write → HeapState → Type 0
-Performs h w after = (g : Graph) (change : Change) → Agrees h g → IsPlanned h g change w → DoesChange h g change after × Agrees after (changed g change)

@@ -7,9 +7,9 @@ ghost use Rattle.heap_model.specs.Settings.{settings_of, settings_by};
 ghost use Rattle.heap_model.specs.Agreement.{Agrees};
 ghost use Rattle.heap_model.specs.Change.{DoesChange};
 ghost use Rattle.heap_model.specs.Event.{change_by, room_for};
-ghost use Rattle.machine.specs.Plan.{Plans, Deeds, IsPlan, IsWriter, CanPerform, Performs};
+ghost use Rattle.machine.specs.Plan.{CanSettle, SettlesEach, DoesDeed};
 
-use crate::plan::{Planned, Write};
+use crate::plan::Planned;
 use graph_heap::{Command, NoMemory, Refusal, Reply};
 use raw_heap::RawHeap;
 use size_classes::Config;
@@ -61,69 +61,73 @@ impl Heap {
         ensures agrees { (g : Graph) → Agrees self.old g → Agrees self.new (next_of (room_for self.old command) g mutator command) }
         ensures does { (g : Graph) → Agrees self.old g → DoesChange self.old g (change_by (room_for self.old command) g mutator command) self.new }
     {
-        let planned = self.plan(mutator, &command);
-        self.perform(mutator, &planned.write);
-        planned.reply
-    }
-
-    /// What a command does: its reply, and the write that is left to be done. Nothing changes.
-    pub(crate) fn plan(&self, mutator: u32, command: &Command) -> Planned
-        ensures { IsPlan self.now mutator command.now result }
-    {
-        match self.plan_command(mutator, command) {
-            Ok(planned) => planned,
-            Err(refusal) => Planned::reply(Reply::Refused(refusal)),
+        match self.raw.roots.admit(mutator, command.is_join()) {
+            Ok(_) => self.deed(mutator, &command),
+            Err(refusal) => Reply::Refused(refusal),
         }
     }
 
-    /// What a command does where nothing refuses it. The test of its mutator stands before all else.
-    fn plan_command(&self, mutator: u32, command: &Command) -> Result<Planned, Refusal>
-        ensures { Plans self.now mutator command.now result }
-    {
-        self.raw.roots.admit(mutator, command.is_join())?;
-        self.plan_deed(mutator, command)
-    }
-
-    /// What a command that is admitted does where nothing refuses it.
-    fn plan_deed(&self, mutator: u32, command: &Command) -> Result<Planned, Refusal>
-        requires { mutator < self.now.limits.mutators }
-        ensures { Deeds self.now mutator command.now result }
+    /// Does a command that is admitted, and replies. Each kind of command is settled in its own arm, so that no later
+    /// look finds out once more what is to be written.
+    fn deed(&mut self, mutator: u32, command: &Command) -> Reply
+        requires { mutator < self.old.limits.mutators }
+        ensures { DoesDeed self.old mutator command.now result self.new }
     {
         match *command {
-            Command::New { dst, shape } => self.plan_new(mutator, dst, shape),
-            Command::Load { dst, obj, i } => self.plan_load(mutator, dst, obj, i),
-            Command::Store { obj, i, src } => self.plan_store(mutator, obj, i, src),
+            Command::New { dst, shape } => self.settle(mutator, self.plan_new(mutator, dst, shape)),
+            Command::Load { dst, obj, i } => {
+                self.settle(mutator, self.plan_load(mutator, dst, obj, i))
+            }
+            Command::Store { obj, i, src } => {
+                self.settle(mutator, self.plan_store(mutator, obj, i, src))
+            }
             Command::CompareStore {
                 obj,
                 i,
                 expect,
                 new,
-            } => self.plan_compare_store(mutator, obj, i, expect, new),
-            Command::Get { obj, i } => self.plan_get(mutator, obj, i),
-            Command::Put { obj, i, word } => self.plan_put(mutator, obj, i, word),
+            } => self.settle(
+                mutator,
+                self.plan_compare_store(mutator, obj, i, expect, new),
+            ),
+            Command::Get { obj, i } => self.settle(mutator, self.plan_get(mutator, obj, i)),
+            Command::Put { obj, i, word } => {
+                self.settle(mutator, self.plan_put(mutator, obj, i, word))
+            }
             Command::ComparePut { obj, i, old, new } => {
-                self.plan_compare_put(mutator, obj, i, old, new)
+                self.settle(mutator, self.plan_compare_put(mutator, obj, i, old, new))
             }
-            Command::Copy { dst, src } => self.plan_copy(mutator, dst, src),
-            Command::Clear { dst } => self.plan_clear(mutator, dst),
-            Command::LoadStatic { dst, k } => self.plan_load_static(mutator, dst, k),
-            Command::StoreStatic { k, src } => self.plan_store_static(mutator, k, src),
+            Command::Copy { dst, src } => self.settle(mutator, self.plan_copy(mutator, dst, src)),
+            Command::Clear { dst } => self.settle(mutator, self.plan_clear(mutator, dst)),
+            Command::LoadStatic { dst, k } => {
+                self.settle(mutator, self.plan_load_static(mutator, dst, k))
+            }
+            Command::StoreStatic { k, src } => {
+                self.settle(mutator, self.plan_store_static(mutator, k, src))
+            }
             Command::CompareStatic { k, expect, new } => {
-                self.plan_compare_static(mutator, k, expect, new)
+                self.settle(mutator, self.plan_compare_static(mutator, k, expect, new))
             }
-            Command::Same { a, b } => self.plan_same(mutator, a, b),
-            Command::Describe { a } => self.plan_describe(mutator, a),
-            Command::Join => Ok(self.plan_join(mutator)),
-            Command::Leave => Ok(self.plan_leave(mutator)),
+            Command::Same { a, b } => self.settle(mutator, self.plan_same(mutator, a, b)),
+            Command::Describe { a } => self.settle(mutator, self.plan_describe(mutator, a)),
+            Command::Join => self.settle(mutator, Ok(self.plan_join(mutator))),
+            Command::Leave => self.settle(mutator, Ok(self.plan_leave(mutator))),
         }
     }
 
-    /// Does the write that was planned for a mutator.
-    pub(crate) fn perform(&mut self, mutator: u32, write: &Write)
-        requires mutator { IsWriter self.old mutator write.now }
-        requires write { CanPerform self.old write.now }
-        ensures { Performs self.old write.now self.new }
+    /// Does what was planned for a mutator, and replies.
+    #[inline(always)]
+    fn settle(&mut self, mutator: u32, planned: Result<Planned, Refusal>) -> Reply
+        requires mutator { mutator < self.old.limits.mutators }
+        requires planned { CanSettle self.old planned }
+        ensures { SettlesEach self.old planned result self.new }
     {
-        do_write(&mut self.raw, mutator, write);
+        match planned {
+            Ok(planned) => {
+                do_write(&mut self.raw, mutator, &planned.write);
+                planned.reply
+            }
+            Err(refusal) => Reply::Refused(refusal),
+        }
     }
 }

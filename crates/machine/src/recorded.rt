@@ -112,15 +112,15 @@ impl Recorded {
         ensures left { self.old.room ≤ self.new.room + 1 }
         ensures err { OnErr result (self.new.course ≡ self.old.course) }
     {
-        let planned = self.heap.plan(mutator, &command);
+        self.history.reserve(1)?;
+        let reply = self.heap.step(mutator, command);
         let entry = Entry {
             mutator,
             command,
-            reply: planned.reply,
+            reply,
         };
         let place = self.history.len();
         self.history.push(entry)?;
-        self.heap.perform(mutator, &planned.write);
         Ok(Receipt { entry, place })
     }
 

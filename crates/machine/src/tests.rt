@@ -136,8 +136,7 @@ fn words_are_kept(rt: HostRuntime) -> Result<(), NoMemory> {
     assert!(rt;
         told(&mut heap, Command::Get { obj: 0, i: 0 })? == Reply::Refused(Refusal::NullSlot)
     );
-    assert!(rt;
-        heap.heap().plan(1, &Command::Clear { dst: 0 }).reply == Reply::Refused(Refusal::BadSlot)
-    );
+    let unknown = heap.call(1, Command::Clear { dst: 0 })?;
+    assert!(rt; unknown.entry().reply == Reply::Refused(Refusal::BadSlot));
     Ok(())
 }

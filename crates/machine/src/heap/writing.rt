@@ -3,7 +3,7 @@
 ghost use Rattle.std.specs.Prelude.{◌≡◌, ◌+◌, ◌<◌, ◌≤◌, length};
 ghost use Rattle.heap_model.specs.Change.{Clears};
 ghost use Rattle.raw_heap.specs.Heap.{state_of, IsRawHeap};
-ghost use Rattle.machine.specs.Plan.{CanPerform, DoesEach, IsWriter};
+ghost use Rattle.machine.specs.Plan.{CanPerform, DoesEach};
 ghost use Rattle.machine.specs.Buffers.{buffers_by, AreBuffersBy, AreOwn};
 
 use crate::plan::{Cell, Write};
@@ -13,9 +13,10 @@ use raw_heap::RawHeap;
 use satb_barrier::record;
 
 /// Does a write of a mutator.
+#[inline(always)]
 pub fn do_write(heap: &mut RawHeap, mutator: u32, write: &Write)
     requires heap { IsRawHeap heap.old }
-    requires mutator { IsWriter (state_of heap.old) mutator write.now }
+    requires mutator { mutator < heap.old.roots.limits.mutators }
     requires write { CanPerform (state_of heap.old) write.now }
     ensures does { DoesEach (state_of heap.old) write.now (state_of heap.new) }
     ensures buffers { AreBuffersBy heap.old mutator write.now heap.new.grey }

@@ -5,11 +5,11 @@ use heap_model::phase::Phase;
 use std::test::Fail;
 
 /// The heap is in this phase, has spent so many units, and slot 0 holds its one object.
-fn stands(rt: &impl Abort, heap: &Heap, phase: Phase, units: u64) {
+fn stands(rt: &impl Abort, heap: &mut Heap, phase: Phase, units: u64) {
     let described = Reply::Described(1, Shape::Plain { refs: 0, words: 1 });
     assert_eq!(rt; heap.phase(), phase);
     assert_eq!(rt; heap.units(), units);
-    assert_eq!(rt; heap.plan(0, &Command::Describe { a: 0 }).reply, described);
+    assert_eq!(rt; heap.step(0, Command::Describe { a: 0 }), described);
 }
 
 /// Budgets that are out of range are refused, and so is a beginning while a cycle is on.

@@ -1,18 +1,41 @@
-use Rattle.machine.proofs.Writers.{writer_of}
-use Rattle.machine.proofs.Replying.{reply_settled, agrees_settled, does_settled}
+use Rattle.std.proofs.Common.{◌≡◌, refl}
+use Rattle.graph_heap.specs.declared.command.Reply.TheVariants as replies
+use Rattle.raw_heap.specs.Heap.{state_of}
+use Rattle.machine.proofs.Replying.{told_here, reply_settled, agrees_settled, does_settled, admitted_settled, refused_settled}
 use Rattle.machine.proofs.heap.Heap.step.Goals as goal
 
-pub perform-requires-clause-mutator : goal.perform-requires-clause-mutator
-perform-requires-clause-mutator c g a = let p = c.plan-planned.ensures g a in writer_of _ g c.args.mutator c.args.command _ p.0 _ a p.1 p.2
+pub returns-in-Ok-clause-reply : goal.returns-in-Ok-clause-reply
+returns-in-Ok-clause-reply c =
+    let h = c.args.self.now in let m = c.args.mutator in let r = c.admit.result in
+    let is = told_here (state_of c.self.inside.raw) h c.self.view_is m c.args.command c.is_join.result c.is_join.ensures r c.admit.ensures.admitted in
+    reply_settled h m c.args.command r is c.deed.result c.deed.new.self (admitted_settled h m c.args.command r is c.deed.result c.deed.new.self c.in-Ok.field-0 c.in-Ok.is c.deed.ensures)
 
-pub perform-requires-clause-write : goal.perform-requires-clause-write
-perform-requires-clause-write c g a = let p = c.plan-planned.ensures g a in (p.0, p.2)
+pub returns-in-Err-clause-reply : goal.returns-in-Err-clause-reply
+returns-in-Err-clause-reply c =
+    let h = c.args.self.now in let m = c.args.mutator in let r = c.admit.result in let e = c.in-Err.refusal in
+    let is = told_here (state_of c.self.inside.raw) h c.self.view_is m c.args.command c.is_join.result c.is_join.ensures r c.admit.ensures.admitted in
+    reply_settled h m c.args.command r is (replies.Refused e) h (refused_settled h m c.args.command r is (replies.Refused e) h e c.in-Err.is refl refl)
 
-pub returns-clause-reply : goal.returns-clause-reply
-returns-clause-reply c g a = let p = c.plan-planned.ensures g a in reply_settled _ g c.args.mutator c.args.command _ p.0 p.1
+pub returns-in-Ok-clause-agrees : goal.returns-in-Ok-clause-agrees
+returns-in-Ok-clause-agrees c =
+    let h = c.args.self.now in let m = c.args.mutator in let r = c.admit.result in
+    let is = told_here (state_of c.self.inside.raw) h c.self.view_is m c.args.command c.is_join.result c.is_join.ensures r c.admit.ensures.admitted in
+    agrees_settled h m c.args.command r is c.deed.result c.deed.new.self (admitted_settled h m c.args.command r is c.deed.result c.deed.new.self c.in-Ok.field-0 c.in-Ok.is c.deed.ensures)
 
-pub returns-clause-agrees : goal.returns-clause-agrees
-returns-clause-agrees c g a = let p = c.plan-planned.ensures g a in agrees_settled _ g c.args.mutator c.args.command _ p.0 p.1 _ (c.perform.ensures g p.0 a p.2).1
+pub returns-in-Err-clause-agrees : goal.returns-in-Err-clause-agrees
+returns-in-Err-clause-agrees c =
+    let h = c.args.self.now in let m = c.args.mutator in let r = c.admit.result in let e = c.in-Err.refusal in
+    let is = told_here (state_of c.self.inside.raw) h c.self.view_is m c.args.command c.is_join.result c.is_join.ensures r c.admit.ensures.admitted in
+    agrees_settled h m c.args.command r is (replies.Refused e) h (refused_settled h m c.args.command r is (replies.Refused e) h e c.in-Err.is refl refl)
 
-pub returns-clause-does : goal.returns-clause-does
-returns-clause-does c g a = let p = c.plan-planned.ensures g a in does_settled _ g c.args.mutator c.args.command _ p.0 p.1 _ _ (c.perform.ensures g p.0 a p.2).0
+pub returns-in-Ok-clause-does : goal.returns-in-Ok-clause-does
+returns-in-Ok-clause-does c =
+    let h = c.args.self.now in let m = c.args.mutator in let r = c.admit.result in
+    let is = told_here (state_of c.self.inside.raw) h c.self.view_is m c.args.command c.is_join.result c.is_join.ensures r c.admit.ensures.admitted in
+    does_settled h m c.args.command r is c.deed.result c.deed.new.self (admitted_settled h m c.args.command r is c.deed.result c.deed.new.self c.in-Ok.field-0 c.in-Ok.is c.deed.ensures)
+
+pub returns-in-Err-clause-does : goal.returns-in-Err-clause-does
+returns-in-Err-clause-does c =
+    let h = c.args.self.now in let m = c.args.mutator in let r = c.admit.result in let e = c.in-Err.refusal in
+    let is = told_here (state_of c.self.inside.raw) h c.self.view_is m c.args.command c.is_join.result c.is_join.ensures r c.admit.ensures.admitted in
+    does_settled h m c.args.command r is (replies.Refused e) h (refused_settled h m c.args.command r is (replies.Refused e) h e c.in-Err.is refl refl)

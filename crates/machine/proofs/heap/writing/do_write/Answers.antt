@@ -9,7 +9,6 @@ use Rattle.machine.proofs.Doing.{present_agrees}
 use Rattle.machine.proofs.Finding.{word_held}
 use Rattle.machine.proofs.Live.{join_does}
 use Rattle.machine.proofs.Writing.{word_does}
-use Rattle.machine.proofs.Writers.{writer_is}
 use Rattle.raw_heap.proofs.Keeping.{are_held, store_kept}
 use Rattle.machine.proofs.heap.writing.do_write.Goals as goal
 
@@ -35,15 +34,6 @@ returns-in-Word-clause-does c =
     subst (λ (w : Write). DoesEach h w (state_of (record a { nodes = c.set_cell.new.self }))) (sym c.in-Word.is)
     (subst (DoesEach h (writes.Word c.in-Word.at c.in-Word.word)) (sym (store_kept a (are_held a c.requires.heap) c.set_cell.new.self (ap length c.set_cell.ensures.written.pages) c.set_cell.ensures.links))
     (word_does h c.in-Word.at c.in-Word.word _ c.set_cell.ensures.written))
-
-pub write_root-requires-clause-mutator : goal.write_root-requires-clause-mutator
-write_root-requires-clause-mutator c = writer_is (state_of c.args.heap.now) c.requires.heap.heap c.args.mutator c.args.write.now (λ e. let z : writes.Root c.in-Root.cell c.in-Root.reference ≡ writes.Nothing = sym c.in-Root.is ∙ e in cc) c.requires.mutator
-
-pub write_ref-requires-clause-mutator : goal.write_ref-requires-clause-mutator
-write_ref-requires-clause-mutator c = writer_is (state_of c.args.heap.now) c.requires.heap.heap c.args.mutator c.args.write.now (λ e. let z : writes.Ref c.in-Ref.at c.in-Ref.reference ≡ writes.Nothing = sym c.in-Ref.is ∙ e in cc) c.requires.mutator
-
-pub write_new-requires-clause-mutator : goal.write_new-requires-clause-mutator
-write_new-requires-clause-mutator c = writer_is (state_of c.args.heap.now) c.requires.heap.heap c.args.mutator c.args.write.now (λ e. let z : writes.New c.in-New.cell c.in-New.shape ≡ writes.Nothing = sym c.in-New.is ∙ e in cc) c.requires.mutator
 
 pub write_new-requires-clause-write : goal.write_new-requires-clause-write
 write_new-requires-clause-write c = subst (CanPerform (state_of c.args.heap.now)) c.in-New.is c.requires.write

@@ -1,0 +1,28 @@
+use Rattle.std.proofs.Common.{Result, Ok, sym, subst}
+use Rattle.graph_heap.specs.declared.command.Refusal.{Refusal}
+use Rattle.graph_heap.specs.declared.command.Reply.TheVariants as replies
+use Rattle.heap_model.specs.State.{HeapState}
+use Rattle.machine.specs.declared.plan.Planned.{Planned}
+use Rattle.machine.specs.Plan.{CanPerform, CanSettle, SettlesEach}
+use Rattle.raw_heap.specs.Heap.{state_of}
+use Rattle.machine.proofs.Writing.{written_heap, performs, count_by}
+use Rattle.machine.proofs.Replying.{can_write, settles_ok, settles_err}
+use Rattle.machine.proofs.heap.Heap.settle.Goals as goal
+
+pub do_write-requires-clause-write : goal.do_write-requires-clause-write
+do_write-requires-clause-write c =
+    subst (λ (x : HeapState). CanPerform x c.in-Ok.planned.write) (sym c.self.view_is) (can_write c.args.self.now c.in-Ok.planned (subst (CanSettle c.args.self.now) c.in-Ok.is c.requires.planned))
+
+pub invariant_of-self : goal.invariant_of-self
+invariant_of-self c =
+    written_heap c.self.inside.raw c.do_write.new.heap c.self.invariant c.in-Ok.planned.write
+    (subst (λ (x : HeapState). CanPerform x c.in-Ok.planned.write) (sym c.self.view_is) (can_write c.args.self.now c.in-Ok.planned (subst (CanSettle c.args.self.now) c.in-Ok.is c.requires.planned)))
+    c.do_write.ensures.does (count_by c.self.inside.raw c.args.mutator c.in-Ok.planned.write c.do_write.new.heap.grey c.do_write.ensures.buffers)
+
+pub returns-in-Ok : goal.returns-in-Ok
+returns-in-Ok c =
+    subst (λ (x : Result Planned Refusal). SettlesEach c.args.self.now x c.in-Ok.planned.reply (state_of c.do_write.new.heap)) (sym c.in-Ok.is)
+    (settles_ok c.args.self.now c.in-Ok.planned (state_of c.do_write.new.heap) (performs _ _ c.self.view_is c.self.invariant.heap c.in-Ok.planned.write (state_of c.do_write.new.heap) c.do_write.ensures.does))
+
+pub returns-in-Err : goal.returns-in-Err
+returns-in-Err c = subst (λ (x : Result Planned Refusal). SettlesEach c.args.self.now x (replies.Refused c.in-Err.refusal) c.args.self.now) (sym c.in-Err.is) (settles_err c.args.self.now c.in-Err.refusal)

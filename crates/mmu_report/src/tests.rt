@@ -5,15 +5,9 @@ use size_classes::{Config, Settings};
 use std::alloc::Global;
 use std::test::Fail;
 
-const SETTINGS: Settings = Settings {
-    pages: 2,
-    slots: 2,
-    ..Settings::DEFAULTS
-};
-
+/// A schedule of quanta of 10 ticks with 12 ticks of the mutators between them.
 fn opened(alloc: Global) -> Result<Schedule, Fail> {
-    let config = Config::check(&SETTINGS)?;
-    Ok(Schedule::new(alloc, &config))
+    Ok(Schedule::new(alloc, &Config::check(&Settings::DEFAULTS)?))
 }
 
 /// Places the quanta that are due in the next ticks, eight at most, and then adds the ticks.

@@ -2,6 +2,15 @@
 use super::*;
 use graph_heap::{NoMemory, Refusal};
 use size_classes::{Config, Settings};
+use std::process::Abort;
+
+/// The roots of a new heap of such settings.
+fn roots_of(rt: &(impl Abort + AllocGlobal), settings: &Settings) -> Result<Roots, NoMemory> {
+    let Ok(config) = Config::check(settings) else {
+        panic!(rt; "the settings are good");
+    };
+    Roots::new(rt.alloc(), &config)
+}
 
 #[test]
 fn slots_come_before_statics(rt: HostRuntime) -> Result<(), NoMemory> {
@@ -12,10 +21,7 @@ fn slots_come_before_statics(rt: HostRuntime) -> Result<(), NoMemory> {
         statics: 1,
         ..Settings::DEFAULTS
     };
-    let Ok(config) = Config::check(&settings) else {
-        panic!(rt; "the settings are good");
-    };
-    let mut roots = Roots::new(rt.alloc(), &config)?;
+    let mut roots = roots_of(&rt, &settings)?;
     assert_eq!(rt; roots.slot(0, 0), Ok(0));
     assert_eq!(rt; roots.slot(1, 0), Ok(4));
     assert_eq!(rt; roots.slot(1, 3), Ok(7));
@@ -41,10 +47,7 @@ fn mutators_join_and_leave(rt: HostRuntime) -> Result<(), NoMemory> {
         live: 2,
         ..Settings::DEFAULTS
     };
-    let Ok(config) = Config::check(&settings) else {
-        panic!(rt; "the settings are good");
-    };
-    let mut roots = Roots::new(rt.alloc(), &config)?;
+    let mut roots = roots_of(&rt, &settings)?;
     assert_eq!(rt; roots.admit(1, false), Ok(true));
     assert_eq!(rt; roots.admit(1, true), Err(Refusal::AlreadyLive));
     assert_eq!(rt; roots.admit(2, false), Err(Refusal::NotLive));

@@ -9,157 +9,110 @@ const LIMITS: Limits = Limits {
     live: 2,
 };
 
+/// A command of a mutator, and the reply to it.
+type Told = (u32, Command, Reply);
+
+fn new(dst: u32, shape: Shape) -> Command {
+    Command::New { dst, shape }
+}
+
+fn load(dst: u32, obj: u32, i: u32) -> Command {
+    Command::Load { dst, obj, i }
+}
+
+/// The object in slot 0 gets itself in its cell 1, where that holds what a slot does.
+fn store_itself_if(expect: u32) -> Command {
+    Command::CompareStore {
+        obj: 0,
+        i: 1,
+        expect,
+        new: 0,
+    }
+}
+
+fn get(obj: u32, i: u32) -> Command {
+    Command::Get { obj, i }
+}
+
+/// The object in slot 1 gets 6 in its cell 0, where that holds a word.
+fn put_six_if(old: u64) -> Command {
+    Command::ComparePut {
+        obj: 1,
+        i: 0,
+        old,
+        new: 6,
+    }
+}
+
+/// An array of one word.
+const ONE_WORD: Shape = Shape::WordArray(1);
+
+/// An object with one cell more than the largest one has.
+const TOO_LARGE: Shape = Shape::Plain {
+    refs: 200,
+    words: 53,
+};
+
+const MOST: u64 = 18446744073709551615;
+
+const PUT_MOST: Command = Command::Put {
+    obj: 1,
+    i: 0,
+    word: MOST,
+};
+
+const STORE_IN_WORDS: Command = Command::Store {
+    obj: 1,
+    i: 0,
+    src: 0,
+};
+
 /// Commands of mutators, in the order in which they come, and the reply to each.
-const TOLD: [(u32, Command, Reply); 18] = [
-    (
-        2,
-        Command::Clear { dst: 0 },
-        Reply::Refused(Refusal::BadSlot),
-    ),
-    (
-        0,
-        Command::Clear { dst: 4 },
-        Reply::Refused(Refusal::BadSlot),
-    ),
-    (
-        0,
-        Command::Load {
-            dst: 0,
-            obj: 1,
-            i: 0,
-        },
-        Reply::Refused(Refusal::NullSlot),
-    ),
-    (
-        0,
-        Command::New {
-            dst: 0,
-            shape: Shape::RefArray(2),
-        },
-        Reply::Made(1),
-    ),
-    (
-        0,
-        Command::Get { obj: 0, i: 0 },
-        Reply::Refused(Refusal::WrongKind),
-    ),
-    (
-        0,
-        Command::Load {
-            dst: 1,
-            obj: 0,
-            i: 2,
-        },
-        Reply::Refused(Refusal::BadIndex),
-    ),
-    (
-        0,
-        Command::LoadStatic { dst: 1, k: 1 },
-        Reply::Refused(Refusal::BadStatic),
-    ),
-    (
-        0,
-        Command::New {
-            dst: 1,
-            shape: Shape::Plain {
-                refs: 200,
-                words: 53,
-            },
-        },
-        Reply::Refused(Refusal::TooLarge),
-    ),
-    (
-        0,
-        Command::New {
-            dst: 1,
-            shape: Shape::WordArray(1),
-        },
-        Reply::Made(2),
-    ),
-    (
-        0,
-        Command::Put {
-            obj: 1,
-            i: 0,
-            word: 18446744073709551615,
-        },
-        Reply::Done,
-    ),
-    (
-        0,
-        Command::ComparePut {
-            obj: 1,
-            i: 0,
-            old: 5,
-            new: 6,
-        },
-        Reply::KeptWord(18446744073709551615),
-    ),
-    (
-        0,
-        Command::ComparePut {
-            obj: 1,
-            i: 0,
-            old: 18446744073709551615,
-            new: 6,
-        },
-        Reply::Stored,
-    ),
-    (0, Command::Get { obj: 1, i: 0 }, Reply::Word(6)),
-    (
-        0,
-        Command::New {
-            dst: 2,
-            shape: Shape::WordArray(1),
-        },
-        Reply::Refused(Refusal::IdentitiesSpent),
-    ),
-    (
-        0,
-        Command::Store {
-            obj: 1,
-            i: 0,
-            src: 0,
-        },
-        Reply::Refused(Refusal::WrongKind),
-    ),
-    (
-        0,
-        Command::CompareStore {
-            obj: 0,
-            i: 1,
-            expect: 0,
-            new: 0,
-        },
-        Reply::Kept(0),
-    ),
-    (
-        0,
-        Command::CompareStore {
-            obj: 0,
-            i: 1,
-            expect: 2,
-            new: 0,
-        },
-        Reply::Stored,
-    ),
-    (
-        0,
-        Command::Load {
-            dst: 2,
-            obj: 0,
-            i: 1,
-        },
-        Reply::Ref(1),
-    ),
-];
+fn told() -> [Told; 18] {
+    [
+        (
+            2,
+            Command::Clear { dst: 0 },
+            Reply::Refused(Refusal::BadSlot),
+        ),
+        (
+            0,
+            Command::Clear { dst: 4 },
+            Reply::Refused(Refusal::BadSlot),
+        ),
+        (0, load(0, 1, 0), Reply::Refused(Refusal::NullSlot)),
+        (0, new(0, Shape::RefArray(2)), Reply::Made(1)),
+        (0, get(0, 0), Reply::Refused(Refusal::WrongKind)),
+        (0, load(1, 0, 2), Reply::Refused(Refusal::BadIndex)),
+        (
+            0,
+            Command::LoadStatic { dst: 1, k: 1 },
+            Reply::Refused(Refusal::BadStatic),
+        ),
+        (0, new(1, TOO_LARGE), Reply::Refused(Refusal::TooLarge)),
+        (0, new(1, ONE_WORD), Reply::Made(2)),
+        (0, PUT_MOST, Reply::Done),
+        (0, put_six_if(5), Reply::KeptWord(MOST)),
+        (0, put_six_if(MOST), Reply::Stored),
+        (0, get(1, 0), Reply::Word(6)),
+        (
+            0,
+            new(2, ONE_WORD),
+            Reply::Refused(Refusal::IdentitiesSpent),
+        ),
+        (0, STORE_IN_WORDS, Reply::Refused(Refusal::WrongKind)),
+        (0, store_itself_if(0), Reply::Kept(0)),
+        (0, store_itself_if(2), Reply::Stored),
+        (0, load(2, 0, 1), Reply::Ref(1)),
+    ]
+}
 
 #[test]
 fn replies_as_worked_out(rt: HostRuntime) -> Result<(), NoMemory> {
     let mut heap = Reference::new(rt.alloc(), &LIMITS)?;
-    for (mutator, command, reply) in TOLD {
-        let told = heap.reply(mutator, &command)?;
-        assert!(rt; told == reply, "{command:?}");
+    for (mutator, command, reply) in told() {
+        let replied = heap.reply(mutator, &command)?;
+        assert!(rt; replied == reply, "{command:?}");
     }
     Ok(())
 }
@@ -202,48 +155,35 @@ fn accepts_steps_alone(rt: HostRuntime) -> Result<(), NoMemory> {
 }
 
 /// Commands where mutator 0 alone is live at first.
-const JOINED: [(u32, Command, Reply); 14] = [
-    (
-        1,
-        Command::Clear { dst: 9 },
-        Reply::Refused(Refusal::NotLive),
-    ),
-    (1, Command::Join, Reply::Done),
-    (1, Command::Join, Reply::Refused(Refusal::AlreadyLive)),
-    (
-        1,
-        Command::New {
-            dst: 3,
-            shape: Shape::WordArray(1),
-        },
-        Reply::Made(1),
-    ),
-    (1, Command::StoreStatic { k: 0, src: 3 }, Reply::Done),
-    (1, Command::Leave, Reply::Done),
-    (
-        1,
-        Command::Get { obj: 3, i: 0 },
-        Reply::Refused(Refusal::NotLive),
-    ),
-    (0, Command::LoadStatic { dst: 0, k: 0 }, Reply::Ref(1)),
-    (2, Command::Join, Reply::Refused(Refusal::BadSlot)),
-    (1, Command::Join, Reply::Done),
-    (
-        1,
-        Command::Get { obj: 3, i: 0 },
-        Reply::Refused(Refusal::NullSlot),
-    ),
-    (0, Command::Get { obj: 0, i: 0 }, Reply::Word(0)),
-    (0, Command::Leave, Reply::Done),
-    (0, Command::Leave, Reply::Refused(Refusal::NotLive)),
-];
+fn joined() -> [Told; 14] {
+    [
+        (
+            1,
+            Command::Clear { dst: 9 },
+            Reply::Refused(Refusal::NotLive),
+        ),
+        (1, Command::Join, Reply::Done),
+        (1, Command::Join, Reply::Refused(Refusal::AlreadyLive)),
+        (1, new(3, ONE_WORD), Reply::Made(1)),
+        (1, Command::StoreStatic { k: 0, src: 3 }, Reply::Done),
+        (1, Command::Leave, Reply::Done),
+        (1, get(3, 0), Reply::Refused(Refusal::NotLive)),
+        (0, Command::LoadStatic { dst: 0, k: 0 }, Reply::Ref(1)),
+        (2, Command::Join, Reply::Refused(Refusal::BadSlot)),
+        (1, Command::Join, Reply::Done),
+        (1, get(3, 0), Reply::Refused(Refusal::NullSlot)),
+        (0, get(0, 0), Reply::Word(0)),
+        (0, Command::Leave, Reply::Done),
+        (0, Command::Leave, Reply::Refused(Refusal::NotLive)),
+    ]
+}
 
 #[test]
 fn mutators_join_and_leave(rt: HostRuntime) -> Result<(), NoMemory> {
     let limits = Limits { live: 1, ..LIMITS };
     let mut heap = Reference::new(rt.alloc(), &limits)?;
-    for (mutator, command, reply) in JOINED.iter() {
-        assert!(rt; heap.reply(*mutator, command)? == *reply);
+    for (mutator, command, reply) in joined() {
+        assert!(rt; heap.reply(mutator, &command)? == reply);
     }
     Ok(())
 }

@@ -3,6 +3,7 @@ use super::*;
 use quanta::{CLOCK_LIMIT, Interval, Schedule};
 use size_classes::{Config, Settings};
 use std::alloc::Global;
+use std::process::Abort;
 use std::test::Fail;
 
 /// A schedule of quanta of 10 ticks with 12 ticks of the mutators between them.
@@ -34,16 +35,23 @@ fn measured(schedule: &Schedule, window: u64) -> Option<(u64, u64, u64)> {
     Some((least, bound(10, 12, window), permille(least, window)))
 }
 
+/// Compares windows: each row is the length, the least, the bound and the share. Of the last length there is none.
+fn expect(rt: &impl Abort, schedule: &Schedule, rows: &[(u64, u64, u64, u64)], none: u64) {
+    for (window, least, bound, share) in rows {
+        let figures = Some((*least, *bound, *share));
+        assert!(rt; measured(schedule, *window) == figures, "at {window}");
+    }
+    assert!(rt; measured(schedule, none).is_none());
+}
+
 #[test]
 fn a_cycle_meets_the_bound(rt: HostRuntime) -> Result<(), Fail> {
     let mut schedule = opened(rt.alloc())?;
     schedule.start_cycle();
     tick(&mut schedule, 66, false)?;
     assert!(rt; schedule.intervals().len() == 3 && schedule.span() == 66);
-    assert!(rt; measured(&schedule, 22) == Some((12, 12, 545)));
-    assert!(rt; measured(&schedule, 15) == Some((5, 5, 333)));
-    assert!(rt; measured(&schedule, 10) == Some((0, 0, 0)));
-    assert!(rt; measured(&schedule, 67).is_none());
+    let rows = [(22, 12, 12, 545), (15, 5, 5, 333), (10, 0, 0, 0)];
+    expect(&rt, &schedule, &rows, 67);
     assert!(rt; measured(&schedule, 0).is_none());
     Ok(())
 }
@@ -56,10 +64,8 @@ fn two_cycles(rt: HostRuntime) -> Result<(), Fail> {
     schedule.start_cycle();
     tick(&mut schedule, 30, true)?;
     assert!(rt; schedule.intervals().len() == 2 && schedule.now() == 35);
-    assert!(rt; measured(&schedule, 22) == Some((12, 12, 545)));
-    assert!(rt; measured(&schedule, 32) == Some((12, 12, 375)));
-    assert!(rt; measured(&schedule, 35) == Some((15, 15, 428)));
-    assert!(rt; measured(&schedule, 36).is_none());
+    let rows = [(22, 12, 12, 545), (32, 12, 12, 375), (35, 15, 15, 428)];
+    expect(&rt, &schedule, &rows, 36);
     Ok(())
 }
 

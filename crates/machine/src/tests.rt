@@ -54,6 +54,35 @@ fn words(dst: u32, n: u32) -> Command {
     Command::New { dst, shape }
 }
 
+fn load(dst: u32, obj: u32, i: u32) -> Command {
+    Command::Load { dst, obj, i }
+}
+
+fn store(obj: u32, i: u32, src: u32) -> Command {
+    Command::Store { obj, i, src }
+}
+
+fn compare_store(obj: u32, i: u32, expect: u32, new: u32) -> Command {
+    Command::CompareStore {
+        obj,
+        i,
+        expect,
+        new,
+    }
+}
+
+fn get(obj: u32, i: u32) -> Command {
+    Command::Get { obj, i }
+}
+
+fn put(obj: u32, i: u32, word: u64) -> Command {
+    Command::Put { obj, i, word }
+}
+
+fn compare_put(obj: u32, i: u32, old: u64, new: u64) -> Command {
+    Command::ComparePut { obj, i, old, new }
+}
+
 /// Does commands of a mutator, and compares each reply.
 fn expect(
     rt: &impl Abort,
@@ -69,6 +98,36 @@ fn expect(
         );
     }
     Ok(())
+}
+
+/// Does commands of a mutator, which are all done.
+fn expect_done(
+    rt: &impl Abort,
+    heap: &mut Recorded,
+    mutator: u32,
+    commands: &[Command],
+) -> Result<(), NoMemory> {
+    for command in commands {
+        expect(rt, heap, mutator, &[(*command, Reply::Done)])?;
+    }
+    Ok(())
+}
+
+/// A heap on which a mutator has made objects, which have the identities from 1 on, and has then done commands.
+fn heap_with(
+    rt: &(impl Abort + AllocGlobal),
+    settings: &Settings,
+    mutator: u32,
+    objects: &[Command],
+    steps: &[Command],
+) -> Result<Recorded, NoMemory> {
+    let mut heap = recorded(rt, settings)?;
+    for (k, command) in objects.iter().enumerate() {
+        let made = Reply::Made((k as u64).saturating_add(1));
+        expect(rt, &mut heap, mutator, &[(*command, made)])?;
+    }
+    expect_done(rt, &mut heap, mutator, steps)?;
+    Ok(heap)
 }
 
 /// The reply to a command of mutator 0.
@@ -91,6 +150,18 @@ fn spend(rt: &impl Abort, heap: &mut Recorded, budget: u32, units: u32, is_over:
     assert_eq!(rt; heap.heap().phase(), spent.phase);
 }
 
+/// Begins a cycle, and spends a first budget, all of it.
+fn start_cycle(rt: &impl Abort, heap: &mut Recorded, budget: u32) {
+    assert_eq!(rt; heap.begin(), Ok(()));
+    spend(rt, heap, budget, budget, false);
+}
+
+/// Does a whole cycle in one quantum, and compares the units that were spent.
+fn cycle_at_once(rt: &impl Abort, heap: &mut Recorded, units: u32) {
+    assert_eq!(rt; heap.begin(), Ok(()));
+    spend(rt, heap, 1000, units, true);
+}
+
 #[test]
 fn a_page_fills_up(rt: HostRuntime) -> Result<(), NoMemory> {
     let mut heap = recorded(&rt, &ONE_PAGE)?;
@@ -105,8 +176,7 @@ fn a_page_fills_up(rt: HostRuntime) -> Result<(), NoMemory> {
     assert!(rt; told(&mut heap, Command::Describe { a: 7 })? == Reply::Described(8, shape));
     assert!(rt; told(&mut heap, Command::Describe { a: 8 })? == Reply::Refused(Refusal::NullSlot));
     assert!(rt; made(&mut heap, 8, 253)? == Reply::Refused(Refusal::TooLarge));
-    let beyond = Command::Get { obj: 0, i: 252 };
-    assert!(rt; told(&mut heap, beyond)? == Reply::Refused(Refusal::BadIndex));
+    assert!(rt; told(&mut heap, get(0, 252))? == Reply::Refused(Refusal::BadIndex));
     assert!(rt; heap.history().len() == 13);
     Ok(())
 }
@@ -123,19 +193,12 @@ fn a_page_has_one_class(rt: HostRuntime) -> Result<(), NoMemory> {
 fn words_are_kept(rt: HostRuntime) -> Result<(), NoMemory> {
     let mut heap = recorded(&rt, &ONE_PAGE)?;
     assert!(rt; made(&mut heap, 0, 1)? == Reply::Made(1));
-    let put = Command::Put {
-        obj: 0,
-        i: 0,
-        word: 7,
-    };
-    assert!(rt; told(&mut heap, put)? == Reply::Done);
+    assert!(rt; told(&mut heap, put(0, 0, 7))? == Reply::Done);
     assert!(rt; made(&mut heap, 1, 1)? == Reply::Made(2));
-    assert!(rt; told(&mut heap, Command::Get { obj: 0, i: 0 })? == Reply::Word(7));
-    assert!(rt; told(&mut heap, Command::Get { obj: 1, i: 0 })? == Reply::Word(0));
+    assert!(rt; told(&mut heap, get(0, 0))? == Reply::Word(7));
+    assert!(rt; told(&mut heap, get(1, 0))? == Reply::Word(0));
     assert!(rt; told(&mut heap, Command::Clear { dst: 0 })? == Reply::Done);
-    assert!(rt;
-        told(&mut heap, Command::Get { obj: 0, i: 0 })? == Reply::Refused(Refusal::NullSlot)
-    );
+    assert!(rt; told(&mut heap, get(0, 0))? == Reply::Refused(Refusal::NullSlot));
     let unknown = heap.call(1, Command::Clear { dst: 0 })?;
     assert!(rt; unknown.entry().reply == Reply::Refused(Refusal::BadSlot));
     Ok(())

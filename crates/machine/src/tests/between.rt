@@ -59,13 +59,8 @@ fn room_is_left_for_one_move(rt: HostRuntime) -> Result<(), NoMemory> {
 
 /// A new object, which names the last one, is put in its place.
 fn chain(rt: &impl Abort, heap: &mut Recorded) -> Result<(), NoMemory> {
-    let store = Command::Store {
-        obj: 1,
-        i: 0,
-        src: 0,
-    };
     assert!(rt; matches!(told(heap, plain(1, 1, 0))?, Reply::Made(_)));
-    assert_eq!(rt; told(heap, store)?, Reply::Done);
+    assert_eq!(rt; told(heap, store(1, 0, 0))?, Reply::Done);
     assert_eq!(rt; told(heap, Command::Copy { dst: 0, src: 1 })?, Reply::Done);
     Ok(())
 }

@@ -78,8 +78,7 @@ fn the_buffers_of_64_mutators_fill_between_two_quanta(rt: HostRuntime) -> Result
     for mutator in 0..64 {
         fill(&mut heap, mutator, 65)?;
     }
-    assert_eq!(&rt; heap.begin(), Ok(()));
-    spend(&rt, &mut heap, 256, 256, false);
+    start_cycle(&rt, &mut heap, 256);
     for mutator in 0..64 {
         clear(&mut heap, mutator, 0, 65)?;
     }

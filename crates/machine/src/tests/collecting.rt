@@ -69,6 +69,68 @@ fn page_steps() -> [(Command, Reply); 13] {
     ]
 }
 
+/// A heap in which slot 0 holds an object whose reference cell alone names another one, with 77 in it.
+fn linked(rt: &(impl Abort + AllocGlobal)) -> Result<Recorded, NoMemory> {
+    let objects = [plain(0, 1, 0), plain(1, 0, 1)];
+    let steps = [put(1, 0, 77), store(0, 0, 1), Command::Clear { dst: 1 }];
+    heap_with(rt, &MANY_SLOTS, 0, &objects, &steps)
+}
+
+/// A heap in which slot 100 of mutator 1 alone holds an object, with 78 in it.
+fn held(rt: &(impl Abort + AllocGlobal)) -> Result<Recorded, NoMemory> {
+    let steps = [put(100, 0, 78)];
+    heap_with(rt, &MANY_SLOTS, 1, &[plain(100, 0, 1)], &steps)
+}
+
+/// A heap in which two objects name one another, and each is held by a slot.
+fn ring(rt: &(impl Abort + AllocGlobal)) -> Result<Recorded, NoMemory> {
+    let objects = [plain(0, 1, 0), plain(1, 1, 0)];
+    let steps = [store(0, 0, 1), store(1, 0, 0)];
+    heap_with(rt, &TWO_SLOTS, 0, &objects, &steps)
+}
+
+/// Both slots of a ring get null.
+const CLEARS: [Command; 2] = [Command::Clear { dst: 0 }, Command::Clear { dst: 1 }];
+
+/// A heap in which a ring is dropped while a cycle is on.
+fn ring_of_a_cycle(rt: &(impl Abort + AllocGlobal)) -> Result<Recorded, NoMemory> {
+    let mut heap = ring(rt)?;
+    assert_eq!(rt; heap.begin(), Ok(()));
+    expect_done(rt, &mut heap, 0, &CLEARS)?;
+    Ok(heap)
+}
+
+/// A heap of one page with two objects, of which a slot holds the second one.
+fn dropped(rt: &(impl Abort + AllocGlobal)) -> Result<Recorded, NoMemory> {
+    let objects = [plain(0, 0, 1), plain(1, 0, 1)];
+    let steps = [Command::Clear { dst: 0 }];
+    heap_with(rt, &ONE_PAGE_TWO_SLOTS, 0, &objects, &steps)
+}
+
+/// What the cell of the first object names is loaded into a slot that was scanned before, and its only cell gets null.
+fn moved_out() -> [(Command, Reply); 2] {
+    [
+        (load(2, 0, 0), Reply::Ref(2)),
+        (store(0, 0, 5), Reply::Done),
+    ]
+}
+
+/// The object of slot 100 is copied into another slot, and its first slot gets null.
+fn moved_over() -> [(Command, Reply); 2] {
+    [
+        (Command::Copy { dst: 0, src: 100 }, Reply::Done),
+        (Command::Clear { dst: 100 }, Reply::Done),
+    ]
+}
+
+/// An object is made, and gets the word 9.
+fn made_late() -> [(Command, Reply); 2] {
+    [
+        (plain(0, 0, 1), Reply::Made(3)),
+        (put(0, 0, 9), Reply::Done),
+    ]
+}
+
 #[test]
 fn a_full_page_has_room_after_a_cycle(rt: HostRuntime) -> Result<(), NoMemory> {
     let mut heap = recorded(&rt, &ONE_PAGE)?;
@@ -109,174 +171,54 @@ fn events_are_done_in_their_order(rt: HostRuntime) -> Result<(), NoMemory> {
     Ok(())
 }
 
-/// A heap in which slot 0 holds an object whose reference cell alone names another one, with 77 in it.
-fn linked(rt: &(impl Abort + AllocGlobal)) -> Result<Recorded, NoMemory> {
-    let mut heap = recorded(rt, &MANY_SLOTS)?;
-    let put = Command::Put {
-        obj: 1,
-        i: 0,
-        word: 77,
-    };
-    let store = Command::Store {
-        obj: 0,
-        i: 0,
-        src: 1,
-    };
-    let steps = [
-        (plain(0, 1, 0), Reply::Made(1)),
-        (plain(1, 0, 1), Reply::Made(2)),
-        (put, Reply::Done),
-        (store, Reply::Done),
-        (Command::Clear { dst: 1 }, Reply::Done),
-    ];
-    expect(rt, &mut heap, 0, &steps)?;
-    Ok(heap)
-}
-
-/// The object is loaded into a slot that was scanned before, and its only cell gets null.
-fn moved_out() -> [(Command, Reply); 2] {
-    let load = Command::Load {
-        dst: 2,
-        obj: 0,
-        i: 0,
-    };
-    let store = Command::Store {
-        obj: 0,
-        i: 0,
-        src: 5,
-    };
-    [(load, Reply::Ref(2)), (store, Reply::Done)]
+#[test]
+fn what_a_slot_held_is_kept(rt: HostRuntime) -> Result<(), NoMemory> {
+    let mut heap = held(&rt)?;
+    start_cycle(&rt, &mut heap, 300);
+    expect(&rt, &mut heap, 1, &moved_over())?;
+    spend(&rt, &mut heap, 1000, 629, true);
+    expect(&rt, &mut heap, 1, &[(get(0, 0), Reply::Word(78))])
 }
 
 #[test]
 fn what_a_cell_named_is_kept(rt: HostRuntime) -> Result<(), NoMemory> {
     let mut heap = linked(&rt)?;
-    assert_eq!(rt; heap.begin(), Ok(()));
-    spend(&rt, &mut heap, 256, 256, false);
+    start_cycle(&rt, &mut heap, 256);
     expect(&rt, &mut heap, 0, &moved_out())?;
-    spend(&rt, &mut heap, 256, 256, false);
-    spend(&rt, &mut heap, 256, 256, false);
-    spend(&rt, &mut heap, 256, 163, true);
-    let get = Command::Get { obj: 2, i: 0 };
-    expect(&rt, &mut heap, 0, &[(get, Reply::Word(77))])?;
+    for (units, is_over) in [(256, false), (256, false), (163, true)] {
+        spend(&rt, &mut heap, 256, units, is_over);
+    }
+    expect(&rt, &mut heap, 0, &[(get(2, 0), Reply::Word(77))])?;
     assert_eq!(rt; heap.heap().units(), 931);
     Ok(())
-}
-
-/// A heap in which slot 100 of mutator 1 alone holds an object, with 78 in it.
-fn held(rt: &(impl Abort + AllocGlobal)) -> Result<Recorded, NoMemory> {
-    let mut heap = recorded(rt, &MANY_SLOTS)?;
-    let put = Command::Put {
-        obj: 100,
-        i: 0,
-        word: 78,
-    };
-    let steps = [(plain(100, 0, 1), Reply::Made(1)), (put, Reply::Done)];
-    expect(rt, &mut heap, 1, &steps)?;
-    Ok(heap)
-}
-
-/// The object is copied into another slot, and its first slot gets null.
-fn moved_over() -> [(Command, Reply); 2] {
-    [
-        (Command::Copy { dst: 0, src: 100 }, Reply::Done),
-        (Command::Clear { dst: 100 }, Reply::Done),
-    ]
-}
-
-#[test]
-fn what_a_slot_held_is_kept(rt: HostRuntime) -> Result<(), NoMemory> {
-    let mut heap = held(&rt)?;
-    assert_eq!(rt; heap.begin(), Ok(()));
-    spend(&rt, &mut heap, 300, 300, false);
-    expect(&rt, &mut heap, 1, &moved_over())?;
-    spend(&rt, &mut heap, 1000, 629, true);
-    let get = Command::Get { obj: 0, i: 0 };
-    expect(&rt, &mut heap, 1, &[(get, Reply::Word(78))])
-}
-
-const CLEARS: [(Command, Reply); 2] = [
-    (Command::Clear { dst: 0 }, Reply::Done),
-    (Command::Clear { dst: 1 }, Reply::Done),
-];
-
-/// A heap in which two objects name one another, and each is held by a slot.
-fn ring(rt: &(impl Abort + AllocGlobal)) -> Result<Recorded, NoMemory> {
-    let mut heap = recorded(rt, &TWO_SLOTS)?;
-    let first = Command::Store {
-        obj: 0,
-        i: 0,
-        src: 1,
-    };
-    let second = Command::Store {
-        obj: 1,
-        i: 0,
-        src: 0,
-    };
-    let steps = [
-        (plain(0, 1, 0), Reply::Made(1)),
-        (plain(1, 1, 0), Reply::Made(2)),
-        (first, Reply::Done),
-        (second, Reply::Done),
-    ];
-    expect(rt, &mut heap, 0, &steps)?;
-    Ok(heap)
 }
 
 #[test]
 fn a_ring_goes(rt: HostRuntime) -> Result<(), NoMemory> {
     let mut heap = ring(&rt)?;
-    expect(&rt, &mut heap, 0, &CLEARS)?;
-    assert_eq!(rt; heap.begin(), Ok(()));
-    spend(&rt, &mut heap, 1000, 416, true);
+    expect_done(&rt, &mut heap, 0, &CLEARS)?;
+    cycle_at_once(&rt, &mut heap, 416);
     Ok(())
 }
 
 #[test]
 fn a_ring_stays_for_the_cycle_that_is_on(rt: HostRuntime) -> Result<(), NoMemory> {
-    let mut heap = ring(&rt)?;
-    assert_eq!(rt; heap.begin(), Ok(()));
-    expect(&rt, &mut heap, 0, &CLEARS)?;
+    let mut heap = ring_of_a_cycle(&rt)?;
     spend(&rt, &mut heap, 1000, 420, true);
-    assert_eq!(rt; heap.begin(), Ok(()));
-    spend(&rt, &mut heap, 1000, 416, true);
+    cycle_at_once(&rt, &mut heap, 416);
     Ok(())
-}
-
-/// A heap of one page with two objects, of which a slot holds the second one.
-fn dropped(rt: &(impl Abort + AllocGlobal)) -> Result<Recorded, NoMemory> {
-    let mut heap = recorded(rt, &ONE_PAGE_TWO_SLOTS)?;
-    let steps = [
-        (plain(0, 0, 1), Reply::Made(1)),
-        (plain(1, 0, 1), Reply::Made(2)),
-        (Command::Clear { dst: 0 }, Reply::Done),
-    ];
-    expect(rt, &mut heap, 0, &steps)?;
-    Ok(heap)
-}
-
-/// An object is made, and gets the word 9.
-fn made_late() -> [(Command, Reply); 2] {
-    let put = Command::Put {
-        obj: 0,
-        i: 0,
-        word: 9,
-    };
-    [(plain(0, 0, 1), Reply::Made(3)), (put, Reply::Done)]
 }
 
 #[test]
 fn what_is_made_behind_the_sweep_is_kept(rt: HostRuntime) -> Result<(), NoMemory> {
     let mut heap = dropped(&rt)?;
-    assert_eq!(rt; heap.begin(), Ok(()));
-    spend(&rt, &mut heap, 256, 256, false);
+    start_cycle(&rt, &mut heap, 256);
     let page = 0;
     let block = 251;
     assert_eq!(rt; heap.heap().phase(), Phase::Sweeping { page, block });
     expect(&rt, &mut heap, 0, &made_late())?;
     spend(&rt, &mut heap, 256, 160, true);
-    let get = Command::Get { obj: 0, i: 0 };
-    expect(&rt, &mut heap, 0, &[(get, Reply::Word(9))])
+    expect(&rt, &mut heap, 0, &[(get(0, 0), Reply::Word(9))])
 }
 
 #[test]
@@ -289,28 +231,24 @@ fn units_of_a_page_in_small_quanta(rt: HostRuntime) -> Result<(), NoMemory> {
 
 #[test]
 fn units_of_a_load_in_small_quanta(rt: HostRuntime) -> Result<(), NoMemory> {
-    let mut heap = linked(&rt)?;
-    cycle(&rt, &mut heap, 0, &moved_out(), 931)
+    cycle(&rt, &mut linked(&rt)?, 0, &moved_out(), 931)
 }
 
 #[test]
 fn units_of_a_copy_in_small_quanta(rt: HostRuntime) -> Result<(), NoMemory> {
-    let mut heap = held(&rt)?;
-    cycle(&rt, &mut heap, 1, &moved_over(), 929)
+    cycle(&rt, &mut held(&rt)?, 1, &moved_over(), 929)
 }
 
 #[test]
 fn units_of_a_ring_in_small_quanta(rt: HostRuntime) -> Result<(), NoMemory> {
     let mut heap = ring(&rt)?;
-    expect(&rt, &mut heap, 0, &CLEARS)?;
+    expect_done(&rt, &mut heap, 0, &CLEARS)?;
     cycle(&rt, &mut heap, 0, &[], 416)
 }
 
 #[test]
 fn units_of_a_kept_ring_in_small_quanta(rt: HostRuntime) -> Result<(), NoMemory> {
-    let mut heap = ring(&rt)?;
-    assert_eq!(rt; heap.begin(), Ok(()));
-    expect(&rt, &mut heap, 0, &CLEARS)?;
+    let mut heap = ring_of_a_cycle(&rt)?;
     spend(&rt, &mut heap, 256, 256, false);
     spend(&rt, &mut heap, 256, 164, true);
     cycle(&rt, &mut heap, 0, &[], 416)
@@ -318,6 +256,5 @@ fn units_of_a_kept_ring_in_small_quanta(rt: HostRuntime) -> Result<(), NoMemory>
 
 #[test]
 fn units_of_a_late_object_in_small_quanta(rt: HostRuntime) -> Result<(), NoMemory> {
-    let mut heap = dropped(&rt)?;
-    cycle(&rt, &mut heap, 0, &made_late(), 416)
+    cycle(&rt, &mut dropped(&rt)?, 0, &made_late(), 416)
 }

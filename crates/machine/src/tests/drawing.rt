@@ -61,37 +61,12 @@ impl Draw {
     fn cell_command(&mut self, kind: u32) -> Command {
         let slot = self.slot();
         match kind {
-            1 => Command::Load {
-                dst: slot,
-                obj: self.slot(),
-                i: self.cell(),
-            },
-            2 => Command::Store {
-                obj: slot,
-                i: self.cell(),
-                src: self.slot(),
-            },
-            3 => Command::CompareStore {
-                obj: slot,
-                i: self.cell(),
-                expect: self.slot(),
-                new: self.slot(),
-            },
-            4 => Command::Get {
-                obj: slot,
-                i: self.cell(),
-            },
-            5 => Command::Put {
-                obj: slot,
-                i: self.cell(),
-                word: self.word(),
-            },
-            _ => Command::ComparePut {
-                obj: slot,
-                i: self.cell(),
-                old: self.word(),
-                new: self.word(),
-            },
+            1 => load(slot, self.slot(), self.cell()),
+            2 => store(slot, self.cell(), self.slot()),
+            3 => compare_store(slot, self.cell(), self.slot(), self.slot()),
+            4 => get(slot, self.cell()),
+            5 => put(slot, self.cell(), self.word()),
+            _ => compare_put(slot, self.cell(), self.word(), self.word()),
         }
     }
 

@@ -1,6 +1,6 @@
 //! Mutators that join and leave.
 
-use super::mixing::{Random, THREE_EMPTIED, command_of};
+use super::mixing::{COMMANDS, Random, THREE_EMPTIED, command_of};
 use super::*;
 use graph_heap::Reference;
 
@@ -22,9 +22,6 @@ const MANY_ROOTS: Settings = Settings {
     ..MANY_SLOTS
 };
 
-/// How many commands are mixed.
-const COMMANDS: u32 = 3000;
-
 /// How many objects the heap holds.
 fn objects(heap: &Recorded) -> usize {
     heap.heap().copies().objects
@@ -34,33 +31,27 @@ fn objects(heap: &Recorded) -> usize {
 fn a_mutator_joins_and_leaves(rt: HostRuntime) -> Result<(), NoMemory> {
     let mut heap = recorded(&rt, &ONE_LIVE)?;
     let not_live = Reply::Refused(Refusal::NotLive);
-    let put = Command::Put {
-        obj: 0,
-        i: 0,
-        word: 5,
-    };
-    let get = Command::Get { obj: 0, i: 0 };
     let first = [
         (Command::Clear { dst: 9 }, not_live),
         (Command::Join, Reply::Done),
         (Command::Join, Reply::Refused(Refusal::AlreadyLive)),
         (plain(0, 0, 1), Reply::Made(1)),
-        (put, Reply::Done),
+        (put(0, 0, 5), Reply::Done),
         (Command::StoreStatic { k: 0, src: 0 }, Reply::Done),
         (Command::Leave, Reply::Done),
-        (get, not_live),
+        (get(0, 0), not_live),
     ];
     expect(&rt, &mut heap, 1, &first)?;
     let others = [
         (Command::LoadStatic { dst: 0, k: 0 }, Reply::Ref(1)),
-        (get, Reply::Word(5)),
+        (get(0, 0), Reply::Word(5)),
     ];
     expect(&rt, &mut heap, 0, &others)?;
     let beyond = Reply::Refused(Refusal::BadSlot);
     expect(&rt, &mut heap, 2, &[(Command::Join, beyond)])?;
     let again = [
         (Command::Join, Reply::Done),
-        (get, Reply::Refused(Refusal::NullSlot)),
+        (get(0, 0), Reply::Refused(Refusal::NullSlot)),
     ];
     expect(&rt, &mut heap, 1, &again)?;
     let last = [(Command::Leave, Reply::Done), (Command::Leave, not_live)];
@@ -71,13 +62,11 @@ fn a_mutator_joins_and_leaves(rt: HostRuntime) -> Result<(), NoMemory> {
 fn what_a_leaver_held_is_held_for_the_cycle(rt: HostRuntime) -> Result<(), NoMemory> {
     let mut heap = recorded(&rt, &MANY_SLOTS)?;
     expect(&rt, &mut heap, 1, &[(plain(100, 0, 1), Reply::Made(1))])?;
-    assert_eq!(&rt; heap.begin(), Ok(()));
-    spend(&rt, &mut heap, 300, 300, false);
+    start_cycle(&rt, &mut heap, 300);
     expect(&rt, &mut heap, 1, &[(Command::Leave, Reply::Done)])?;
     spend(&rt, &mut heap, 1000, 629, true);
     assert_eq!(&rt; objects(&heap), 1);
-    assert_eq!(&rt; heap.begin(), Ok(()));
-    spend(&rt, &mut heap, 1000, 928, true);
+    cycle_at_once(&rt, &mut heap, 928);
     assert_eq!(&rt; objects(&heap), 0);
     Ok(())
 }

@@ -29,7 +29,7 @@ pub(super) const THREE_EMPTIED: Settings = Settings {
 };
 
 /// How many commands are mixed.
-const COMMANDS: u32 = 3000;
+pub(super) const COMMANDS: u32 = 3000;
 
 /// A linear congruential generator.
 #[derive(Clone, Copy, Debug, PartialEq, Eq)]
@@ -82,22 +82,9 @@ pub(super) fn command_of(kind: usize, random: &mut Random) -> Command {
     let (a, b, c) = (random.slot(), random.slot(), random.slot());
     let k = random.next() % 2;
     match kind {
-        0 => Command::Load {
-            dst: a,
-            obj: b,
-            i: random.cell(),
-        },
-        1 => Command::Store {
-            obj: a,
-            i: random.cell(),
-            src: b,
-        },
-        2 => Command::CompareStore {
-            obj: a,
-            i: random.cell(),
-            expect: b,
-            new: c,
-        },
+        0 => load(a, b, random.cell()),
+        1 => store(a, random.cell(), b),
+        2 => compare_store(a, random.cell(), b, c),
         3 => Command::Copy { dst: a, src: b },
         4 => Command::Clear { dst: a },
         5 => Command::LoadStatic { dst: a, k },
@@ -114,21 +101,9 @@ pub(super) fn command_of(kind: usize, random: &mut Random) -> Command {
 /// A command of a kind that has to do with words, with shapes, or with what slots hold.
 fn word_command_of(kind: usize, random: &mut Random, a: u32, b: u32) -> Command {
     match kind {
-        8 => Command::Get {
-            obj: a,
-            i: random.cell(),
-        },
-        9 => Command::Put {
-            obj: a,
-            i: random.cell(),
-            word: random.word(),
-        },
-        10 => Command::ComparePut {
-            obj: a,
-            i: random.cell(),
-            old: random.word(),
-            new: random.word(),
-        },
+        8 => get(a, random.cell()),
+        9 => put(a, random.cell(), random.word()),
+        10 => compare_put(a, random.cell(), random.word(), random.word()),
         11 => Command::Same { a, b },
         12 => Command::Describe { a },
         _ => Command::New {
@@ -243,29 +218,32 @@ const ALL_SEEN: Seen = Seen {
     made_large: true,
 };
 
-#[test]
-fn a_long_mix_is_accepted(rt: HostRuntime) -> Result<(), NoMemory> {
-    let (mixed, seen) = accepted(&rt, &EIGHT_PAGES)?;
+/// Mixes commands on a heap of such settings: each kind is done, so many cycles end, and blocks move if they are to.
+fn expect_mixed(
+    rt: &(impl Abort + AllocGlobal),
+    settings: &Settings,
+    cycles: u32,
+    moves: bool,
+) -> Result<(), NoMemory> {
+    let (mixed, seen) = accepted(rt, settings)?;
     assert_eq!(rt; mixed.done, [true; 28]);
-    assert!(rt; mixed.cycles >= 30 && mixed.moving == 0, "{mixed:?}");
+    assert!(rt; mixed.cycles >= cycles, "{mixed:?}");
+    assert!(rt; (mixed.moving > 0) == moves, "{mixed:?}");
     assert_eq!(rt; seen, ALL_SEEN);
     Ok(())
+}
+
+#[test]
+fn a_long_mix_is_accepted(rt: HostRuntime) -> Result<(), NoMemory> {
+    expect_mixed(&rt, &EIGHT_PAGES, 30, false)
 }
 
 #[test]
 fn a_long_mix_with_moves_is_accepted(rt: HostRuntime) -> Result<(), NoMemory> {
-    let (mixed, seen) = accepted(&rt, &ONE_EMPTIED)?;
-    assert_eq!(rt; mixed.done, [true; 28]);
-    assert!(rt; mixed.cycles >= 20 && mixed.moving > 0, "{mixed:?}");
-    assert_eq!(rt; seen, ALL_SEEN);
-    Ok(())
+    expect_mixed(&rt, &ONE_EMPTIED, 20, true)
 }
 
 #[test]
 fn a_long_mix_with_many_moves_is_accepted(rt: HostRuntime) -> Result<(), NoMemory> {
-    let (mixed, seen) = accepted(&rt, &THREE_EMPTIED)?;
-    assert_eq!(rt; mixed.done, [true; 28]);
-    assert!(rt; mixed.cycles >= 20 && mixed.moving > 0, "{mixed:?}");
-    assert_eq!(rt; seen, ALL_SEEN);
-    Ok(())
+    expect_mixed(&rt, &THREE_EMPTIED, 20, true)
 }

@@ -20,14 +20,9 @@ fn sparse(rt: &(impl Abort + AllocGlobal), settings: &Settings) -> Result<Record
             Reply::Made(u64::from(k) + 1)
         );
     }
-    let store = Command::Store {
-        obj: 9,
-        i: 0,
-        src: 8,
-    };
     let steps = [
         (plain(9, 1, 0), Reply::Made(10)),
-        (store, Reply::Done),
+        (store(9, 0, 8), Reply::Done),
         (Command::Clear { dst: 0 }, Reply::Done),
         (Command::Clear { dst: 1 }, Reply::Done),
     ];
@@ -35,24 +30,20 @@ fn sparse(rt: &(impl Abort + AllocGlobal), settings: &Settings) -> Result<Record
     Ok(heap)
 }
 
+/// Such a heap after a cycle, which has moved the ninth.
+fn moved(rt: &(impl Abort + AllocGlobal)) -> Result<Recorded, NoMemory> {
+    let mut heap = sparse(rt, &THREE_PAGES)?;
+    cycle_at_once(rt, &mut heap, 823);
+    Ok(heap)
+}
+
 /// The ninth object, which is moved, is still itself by the reference in the cell, and is compared as
 /// itself.
 fn seen_after() -> [(Command, Reply); 4] {
-    let load = Command::Load {
-        dst: 10,
-        obj: 9,
-        i: 0,
-    };
-    let store = Command::CompareStore {
-        obj: 9,
-        i: 0,
-        expect: 10,
-        new: 11,
-    };
     [
-        (load, Reply::Ref(9)),
+        (load(10, 9, 0), Reply::Ref(9)),
         (Command::Same { a: 8, b: 10 }, Reply::Is(true)),
-        (store, Reply::Stored),
+        (compare_store(9, 0, 10, 11), Reply::Stored),
         (
             Command::Describe { a: 8 },
             Reply::Described(9, Shape::WordArray(252)),
@@ -62,20 +53,16 @@ fn seen_after() -> [(Command, Reply); 4] {
 
 #[test]
 fn a_moved_object_is_itself(rt: HostRuntime) -> Result<(), NoMemory> {
-    let mut heap = sparse(&rt, &THREE_PAGES)?;
-    assert_eq!(rt; heap.begin(), Ok(()));
-    spend(&rt, &mut heap, 1000, 823, true);
+    let mut heap = moved(&rt)?;
     expect(&rt, &mut heap, 0, &seen_after())?;
-    assert_eq!(rt; heap.begin(), Ok(()));
-    spend(&rt, &mut heap, 1000, 567, true);
+    cycle_at_once(&rt, &mut heap, 567);
     Ok(())
 }
 
 #[test]
 fn a_move_waits_for_room(rt: HostRuntime) -> Result<(), NoMemory> {
     let mut heap = sparse(&rt, &THREE_PAGES)?;
-    assert_eq!(rt; heap.begin(), Ok(()));
-    spend(&rt, &mut heap, 256, 256, false);
+    start_cycle(&rt, &mut heap, 256);
     assert_eq!(rt; heap.begin(), Err(Busy));
     spend(&rt, &mut heap, 256, 256, false);
     spend(&rt, &mut heap, 256, 54, false);
@@ -95,23 +82,19 @@ fn a_class_gets_another_pass(rt: HostRuntime) -> Result<(), NoMemory> {
         ..THREE_PAGES
     };
     let mut heap = sparse(&rt, &settings)?;
-    assert_eq!(rt; heap.begin(), Ok(()));
-    spend(&rt, &mut heap, 1000, 826, true);
+    cycle_at_once(&rt, &mut heap, 826);
     Ok(())
 }
 
 #[test]
 fn a_leaving_page_gets_no_object(rt: HostRuntime) -> Result<(), NoMemory> {
-    let mut heap = sparse(&rt, &THREE_PAGES)?;
-    assert_eq!(rt; heap.begin(), Ok(()));
-    spend(&rt, &mut heap, 1000, 823, true);
+    let mut heap = moved(&rt)?;
     let before = [
         (words(11, 252), Reply::Made(11)),
         (words(10, 252), Reply::Refused(Refusal::NoSpace)),
     ];
     expect(&rt, &mut heap, 0, &before)?;
-    assert_eq!(rt; heap.begin(), Ok(()));
-    spend(&rt, &mut heap, 1000, 568, true);
+    cycle_at_once(&rt, &mut heap, 568);
     expect(&rt, &mut heap, 0, &[(words(10, 252), Reply::Made(12))])
 }
 

@@ -1,5 +1,5 @@
 use Rattle.std.proofs.Common.{◌+◌, ◌≤◌, length}
-use Rattle.trace.proofs.tests.tellers_of.Given as goal
+use Rattle.trace.proofs.tests.inputs.tellers_of.Given as goal
 
 -- the reader has its lines from the source
 abbrev pub invariant-loop-i : goal.invariant-loop-i

@@ -15,17 +15,12 @@ const LIMITS: Limits = Limits {
 };
 
 /// Reads scripts, and compares the fault.
-fn refuse(
-    rt: &(impl Abort + AllocGlobal),
-    text: &str,
-    number: u64,
-    fault: LineFault,
-) -> Result<(), Fail> {
+fn refuse(rt: &(impl Abort + AllocGlobal), text: &str, fault: TextFault) -> Result<(), Fail> {
     let mut source = MemorySource::new(text.as_bytes());
     match read_scripts(rt.alloc(), &mut source, &LIMITS) {
         Ok(_) => panic!(rt; "{text}"),
         Err(found) => {
-            assert_eq!(rt; found, TextFault::Line(number, fault), "{text}");
+            assert_eq!(rt; found, fault, "{text}");
         }
     }
     Ok(())
@@ -136,7 +131,7 @@ fn lines_of_scripts_are_refused(rt: HostRuntime) -> Result<(), Fail> {
         ("version 2", 1, LineFault::NotEnded),
     ];
     for (text, number, fault) in faults {
-        refuse(&rt, text, number, fault)?;
+        refuse(&rt, text, TextFault::Line(number, fault))?;
     }
     Ok(())
 }
@@ -155,7 +150,7 @@ fn comment_of(alloc: Global, length: usize) -> Result<String, NoMemory> {
 #[test]
 fn long_lines_are_refused(rt: HostRuntime) -> Result<(), Fail> {
     let long = comment_of(rt.alloc(), 257)?;
-    refuse(&rt, &long, 2, LineFault::TooLong)?;
+    refuse(&rt, &long, TextFault::Line(2, LineFault::TooLong))?;
     let fits = comment_of(rt.alloc(), 256)?;
     let mut source = MemorySource::new(fits.as_bytes());
     let (_, scripts) = read_scripts(rt.alloc(), &mut source, &LIMITS)?;
@@ -221,26 +216,34 @@ fn histories_are_checked(rt: HostRuntime) -> Result<(), Fail> {
     Ok(())
 }
 
+/// Checks histories that have this fault in this line.
+fn refuse_all(
+    rt: &(impl Abort + AllocGlobal),
+    number: u64,
+    fault: LineFault,
+    texts: &[&str],
+) -> Result<(), Fail> {
+    for text in texts {
+        check(rt, text, Err(TextFault::Line(number, fault)))?;
+    }
+    Ok(())
+}
+
 #[test]
 fn lines_of_histories_are_refused(rt: HostRuntime) -> Result<(), Fail> {
-    let faults = [
-        ("0 clear 0\n", 1, LineFault::NotAnEntry),
-        ("0 clear 0 => done\nbegin\n", 2, LineFault::NotAnEntry),
-        ("#\n\n0 clear 0 =>  done\n", 3, LineFault::NotAnEntry),
-        (
-            "0 clear 0 => done\n0 clear 0 => done",
-            2,
-            LineFault::NotEnded,
-        ),
-        ("0 leave => done\n", 1, LineFault::NotAnEntry),
-        ("\nversion 2\n0 leave => done\n", 2, LineFault::NotAnEntry),
-        ("version 2\nversion 2\n", 2, LineFault::NotAnEntry),
-        ("version 2\n0 leave\n", 2, LineFault::NotAnEntry),
-        ("version 3\n", 1, LineFault::NotAnEntry),
+    let first = ["0 clear 0\n", "0 leave => done\n", "version 3\n"];
+    refuse_all(&rt, 1, LineFault::NotAnEntry, &first)?;
+    let second = [
+        "0 clear 0 => done\nbegin\n",
+        "\nversion 2\n0 leave => done\n",
+        "version 2\nversion 2\n",
+        "version 2\n0 leave\n",
     ];
-    for (text, number, fault) in faults {
-        check(&rt, text, Err(TextFault::Line(number, fault)))?;
-    }
+    refuse_all(&rt, 2, LineFault::NotAnEntry, &second)?;
+    let third = ["#\n\n0 clear 0 =>  done\n"];
+    refuse_all(&rt, 3, LineFault::NotAnEntry, &third)?;
+    let not_ended = ["0 clear 0 => done\n0 clear 0 => done"];
+    refuse_all(&rt, 2, LineFault::NotEnded, &not_ended)?;
     let long = comment_of(rt.alloc(), 257)?;
     check(&rt, &long, Err(TextFault::Line(1, LineFault::NotAnEntry)))
 }

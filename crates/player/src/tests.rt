@@ -23,18 +23,8 @@ const FOUR_PAGES: Settings = Settings {
 };
 
 const ONE_PAGE: Settings = Settings {
-    pages: 1,
-    mutators: 1,
     slots: 9,
-    statics: 0,
-    live: 1,
-    ..FOUR_PAGES
-};
-
-const TWO_PAGES: Settings = Settings {
-    pages: 2,
-    slots: 2,
-    ..ONE_PAGE
+    ..Settings::DEFAULTS
 };
 
 fn config(rt: &impl Abort, settings: &Settings) -> Config {
@@ -43,6 +33,12 @@ fn config(rt: &impl Abort, settings: &Settings) -> Config {
         Err(_) => panic!(rt; "the settings are good"),
     }
 }
+
+const TWO_PAGES: Settings = Settings {
+    pages: 2,
+    slots: 2,
+    ..ONE_PAGE
+};
 
 fn player(rt: &(impl Abort + AllocGlobal), settings: &Settings) -> Result<Player, NoMemory> {
     Player::new(rt.alloc(), &config(rt, settings))
@@ -66,6 +62,35 @@ fn expect(
     );
     assert_eq!(rt; sink.bytes(), written.as_bytes(), "{trace}");
     Ok(())
+}
+
+/// Plays traces, each on a heap of so many pages, and compares what was written.
+fn expect_on_pages(
+    rt: &(impl Abort + AllocGlobal),
+    settings: &Settings,
+    runs: &[(i64, &str, &str)],
+) -> Result<(), Fail> {
+    for (pages, trace, written) in runs {
+        let settings = Settings {
+            pages: *pages,
+            ..*settings
+        };
+        expect(rt, &settings, trace, Ok(()), written)?;
+    }
+    Ok(())
+}
+
+/// Plays a trace under settings. The result is the player and what was written.
+fn played(
+    rt: &(impl Abort + AllocGlobal),
+    settings: &Settings,
+    trace: &str,
+) -> Result<(Player, MemorySink), Fail> {
+    let mut player = player(rt, settings)?;
+    let mut source = MemorySource::new(trace.as_bytes());
+    let mut sink = MemorySink::new(rt.alloc());
+    play(&mut source, &mut sink, &mut player, Style::Replies)?;
+    Ok((player, sink))
 }
 
 #[test]
@@ -192,32 +217,19 @@ fn a_slot_may_be_named_twice(rt: HostRuntime) -> Result<(), Fail> {
 
 #[test]
 fn large_arrays(rt: HostRuntime) -> Result<(), Fail> {
-    let trace = "0 new 0 refs 253\n0 store 0 252 0\n0 load 1 0 252\n0 load 1 0 253\n";
-    expect(
-        &rt,
-        &FOUR_PAGES,
-        trace,
-        Ok(()),
-        "made 1\ndone\nref 1\nrefused 3\n",
-    )?;
-    let trace =
+    let refs = "0 new 0 refs 253\n0 store 0 252 0\n0 load 1 0 252\n0 load 1 0 253\n";
+    let words =
         "0 new 0 words 505\n0 put 0 251 1\n0 put 0 252 2\n0 put 0 504 3\n0 get 0 251\n0 get 0 252\n\
         0 get 0 504\n0 get 0 503\n0 get 0 505\n";
-    let written = "made 1\ndone\ndone\ndone\nword 1\nword 2\nword 3\nword 0\nrefused 3\n";
-    expect(&rt, &FOUR_PAGES, trace, Ok(()), written)?;
-    let enough = Settings {
-        pages: 32,
-        ..FOUR_PAGES
-    };
-    let trace = "0 new 0 words 63504\n0 new 1 words 63505\n0 new 1 words 4000001\n";
-    let written = "made 1\nrefused 7\nrefused 5\n";
-    expect(&rt, &enough, trace, Ok(()), written)?;
-    let short = Settings {
-        pages: 31,
-        ..FOUR_PAGES
-    };
-    let written = "refused 7\nrefused 7\nrefused 5\n";
-    expect(&rt, &short, trace, Ok(()), written)
+    let found = "made 1\ndone\ndone\ndone\nword 1\nword 2\nword 3\nword 0\nrefused 3\n";
+    let larger = "0 new 0 words 63504\n0 new 1 words 63505\n0 new 1 words 4000001\n";
+    let runs = [
+        (4, refs, "made 1\ndone\nref 1\nrefused 3\n"),
+        (4, words, found),
+        (32, larger, "made 1\nrefused 7\nrefused 5\n"),
+        (31, larger, "refused 7\nrefused 7\nrefused 5\n"),
+    ];
+    expect_on_pages(&rt, &FOUR_PAGES, &runs)
 }
 
 /// Plays a trace on a heap and on the slow heap of the definition, compares the histories, and tells the
@@ -227,10 +239,7 @@ fn compare(
     settings: &Settings,
     trace: &str,
 ) -> Result<Player, Fail> {
-    let mut player = player(rt, settings)?;
-    let mut source = MemorySource::new(trace.as_bytes());
-    let mut sink = MemorySink::new(rt.alloc());
-    play(&mut source, &mut sink, &mut player, Style::Replies)?;
+    let (player, _) = played(rt, settings, trace)?;
     let mut reference = Reference::new(rt.alloc(), &config(rt, settings).limits())?;
     for entry in player.recorded().history() {
         assert!(rt; reference.accepts(entry)?, "{trace}");
@@ -295,10 +304,7 @@ fn each_read_fails_in_turn(rt: HostRuntime) -> Result<(), Fail> {
 
 #[test]
 fn the_history_has_the_commands_and_replies(rt: HostRuntime) -> Result<(), Fail> {
-    let mut player = player(&rt, &FOUR_PAGES)?;
-    let mut source = MemorySource::new(TRACE.as_bytes());
-    let mut sink = MemorySink::new(rt.alloc());
-    play(&mut source, &mut sink, &mut player, Style::Replies)?;
+    let (player, _) = played(&rt, &FOUR_PAGES, TRACE)?;
     assert_eq!(rt; player.recorded().history().len(), 3);
     let entry = player.recorded().history()[1];
     let put = Command::Put {

@@ -21,11 +21,7 @@ fn an_array_has_up_to_4000000_cells(rt: HostRuntime) -> Result<(), Fail> {
         (1994, "0 new 0 words 4000000\n", "made 1\n"),
         (1993, "0 new 0 words 4000000\n", "refused 7\n"),
     ];
-    for (pages, trace, written) in runs {
-        let settings = Settings { pages, ..ONE_SLOT };
-        expect(&rt, &settings, trace, Ok(()), written)?;
-    }
-    Ok(())
+    expect_on_pages(&rt, &ONE_SLOT, &runs)
 }
 
 /// The root, 256 headers, the cells of the spines and of the array, 1006 blocks, 34 pages and three changes

@@ -1,6 +1,5 @@
 //! Runs with a collector, worked out by hand.
 use super::*;
-use quanta::Interval;
 
 const MANY_SLOTS: Settings = Settings {
     slots: 256,
@@ -9,16 +8,13 @@ const MANY_SLOTS: Settings = Settings {
 };
 
 /// Plays a trace under settings, compares what was written, and tells the player.
-fn played(
+fn played_to(
     rt: &(impl Abort + AllocGlobal),
     settings: &Settings,
     trace: &str,
     written: &str,
 ) -> Result<Player, Fail> {
-    let mut player = player(rt, settings)?;
-    let mut source = MemorySource::new(trace.as_bytes());
-    let mut sink = MemorySink::new(rt.alloc());
-    play(&mut source, &mut sink, &mut player, Style::Replies)?;
+    let (player, sink) = played(rt, settings, trace)?;
     assert_eq!(rt; sink.bytes(), written.as_bytes(), "{trace}");
     Ok(player)
 }
@@ -36,7 +32,7 @@ pub(super) fn expect_units(
     written: &str,
     spent: u64,
 ) -> Result<(), Fail> {
-    let player = played(rt, settings, trace, written)?;
+    let player = played_to(rt, settings, trace, written)?;
     assert_eq!(rt; units(&player), spent, "{trace}");
     Ok(())
 }
@@ -110,52 +106,44 @@ fn an_object_is_made_in_a_sweep(rt: HostRuntime) -> Result<(), Fail> {
     expect_units(&rt, &settings, trace, written, 416)
 }
 
+/// Compares the intervals of the quanta, each with its start and end, the clock, and the units of the last cycle.
+fn expect_placed(rt: &impl Abort, player: &Player, placed: &[(u64, u64)], now: u64, spent: u64) {
+    let intervals = player.schedule().intervals();
+    assert_eq!(rt; intervals.len(), placed.len());
+    for (interval, (start, end)) in intervals.iter().zip(placed) {
+        assert_eq!(rt; (interval.start, interval.end), (*start, *end));
+    }
+    assert_eq!(rt; player.schedule().now(), now);
+    assert_eq!(rt; units(player), spent);
+}
+
+const MANY_MUTATORS: Settings = Settings {
+    mutators: 64,
+    ..MANY_SLOTS
+};
+
 #[test]
 fn ticks_place_quanta(rt: HostRuntime) -> Result<(), Fail> {
-    let player = played(&rt, &TWO_PAGES, "begin\ntick 5\nbegin\ntick 30\n", "")?;
-    let placed = [
-        Interval { start: 0, end: 10 },
-        Interval { start: 22, end: 32 },
-    ];
-    assert_eq!(rt; player.schedule().intervals(), placed.as_slice());
-    assert_eq!(rt; player.schedule().now(), 35);
-    assert_eq!(rt; units(&player), 7);
-    let first = played(&rt, &TWO_PAGES, "begin\ntick 5\n", "")?;
+    let player = played_to(&rt, &TWO_PAGES, "begin\ntick 5\nbegin\ntick 30\n", "")?;
+    expect_placed(&rt, &player, &[(0, 10), (22, 32)], 35, 7);
+    let first = played_to(&rt, &TWO_PAGES, "begin\ntick 5\n", "")?;
     assert_eq!(rt; units(&first), 7);
     Ok(())
 }
 
 #[test]
 fn a_long_cycle_takes_many_quanta(rt: HostRuntime) -> Result<(), Fail> {
-    let settings = Settings {
-        mutators: 64,
-        ..MANY_SLOTS
-    };
-    let player = played(&rt, &settings, "begin\ntick 66\n", "")?;
-    let placed = [
-        Interval { start: 0, end: 10 },
-        Interval { start: 22, end: 32 },
-        Interval { start: 44, end: 54 },
-    ];
-    assert_eq!(rt; player.schedule().intervals(), placed.as_slice());
-    assert_eq!(rt; player.schedule().now(), 66);
-    assert_eq!(rt; units(&player), 3000);
+    let player = played_to(&rt, &MANY_MUTATORS, "begin\ntick 66\n", "")?;
+    expect_placed(&rt, &player, &[(0, 10), (22, 32), (44, 54)], 66, 3000);
     Ok(())
 }
 
 #[test]
 fn quanta_that_are_asked_for_have_no_interval(rt: HostRuntime) -> Result<(), Fail> {
-    let player = played(&rt, &TWO_PAGES, "begin\nquantum 1000\ntick 40\n", "")?;
+    let player = played_to(&rt, &TWO_PAGES, "begin\nquantum 1000\ntick 40\n", "")?;
     assert!(rt; player.schedule().intervals().is_empty());
     assert_eq!(rt; units(&player), 7);
     Ok(())
-}
-
-#[test]
-fn the_clock_has_a_limit(rt: HostRuntime) -> Result<(), Fail> {
-    let fault = TextFault::Line(2, LineFault::ClockSpent);
-    let trace = "tick 1099511627776\ntick 1\n";
-    expect(&rt, &TWO_PAGES, trace, Err(fault), "")
 }
 
 /// Four pages of four classes, and quanta of 260 units.
@@ -165,10 +153,17 @@ const SMALL_QUANTA: Settings = Settings {
 };
 
 #[test]
+fn the_clock_has_a_limit(rt: HostRuntime) -> Result<(), Fail> {
+    let fault = TextFault::Line(2, LineFault::ClockSpent);
+    let trace = "tick 1099511627776\ntick 1\n";
+    expect(&rt, &TWO_PAGES, trace, Err(fault), "")
+}
+
+#[test]
 fn ticks_end_where_memory_is_refused(rt: HostRuntime) -> Result<(), Fail> {
     let trace =
         "0 new 0 plain 0 0\n0 new 1 plain 0 1\n0 new 2 plain 0 2\n0 new 3 plain 0 3\nbegin\n";
-    let mut player = played(
+    let mut player = played_to(
         &rt,
         &SMALL_QUANTA,
         trace,

@@ -41,7 +41,6 @@ returns-in_err-play_line-clause-played g c =
     let e = c.in_ok-next_line_once_written.ensures in
     let i = c.loop-left.invariant in
     let new = c.next_line_once_written.new in
-    let old = stage c.args.player.now (g.K.Sink.taken c.args.sink.now) in
     let so = moved c.args.style _ (g.K.Sink.taken new.sink ++ new.waiting) i.done (e.whole refl) in
     rw (p.1, p.2) (inl (
       ends_so
@@ -56,7 +55,6 @@ loop-left-preserved-then-branch-2 g c =
     let d = c.in_ok-play_line.ensures in
     let i = c.loop-left.invariant in
     let new = c.next_line_once_written.new in
-    let old = stage c.args.player.now (g.K.Sink.taken c.args.sink.now) in
     let so = moved c.args.style _ (g.K.Sink.taken new.sink ++ new.waiting) i.done (e.whole refl) in
     let event : true ≡ is_event c.next_line_once_written.new.self.line = sym c.if-branch-2.true ∙ (d.played (g.K.Sink.taken c.next_line_once_written.new.sink)).2 ∙ ap is_event c.line.ensures in
     record {
@@ -77,7 +75,6 @@ loop-left-preserved g c =
     let d = c.in_ok-play_line.ensures in
     let i = c.loop-left.invariant in
     let new = c.next_line_once_written.new in
-    let old = stage c.args.player.now (g.K.Sink.taken c.args.sink.now) in
     let so = moved c.args.style _ (g.K.Sink.taken new.sink ++ new.waiting) i.done (e.whole refl) in
     let skipped : false ≡ is_event c.next_line_once_written.new.self.line = sym c.if-branch-2.false ∙ (d.played (g.K.Sink.taken c.next_line_once_written.new.sink)).2 ∙ ap is_event c.line.ensures in
     record {
@@ -97,7 +94,6 @@ returns-else-branch-clause-played g c =
     let e = c.in_ok-next_line_once_written.ensures in
     let i = c.loop-left.invariant in
     let new = c.next_line_once_written.new in
-    let old = stage c.args.player.now (g.K.Sink.taken c.args.sink.now) in
     let so = moved c.args.style _ (g.K.Sink.taken new.sink ++ new.waiting) i.done (e.whole refl) in
     inl (
       ends_so

@@ -36,7 +36,6 @@ loop-reader-preserved g c =
     let d = c.in_ok-play_line.ensures in
     let i = c.loop-reader.invariant in
     let new = c.next_line_once_written.new in
-    let old = stage c.args.player.now (g.K.Sink.taken c.args.sink.now) in
     let so = moved c.args.style _ (g.K.Sink.taken new.sink ++ new.waiting) i.done (e.whole refl) in
     let does = d.played (g.K.Sink.taken new.sink) in
     record {
@@ -54,7 +53,6 @@ returns-in_err-play_line-clause-played g c =
     let e = c.in_ok-next_line_once_written.ensures in
     let i = c.loop-reader.invariant in
     let new = c.next_line_once_written.new in
-    let old = stage c.args.player.now (g.K.Sink.taken c.args.sink.now) in
     let so = moved c.args.style _ (g.K.Sink.taken new.sink ++ new.waiting) i.done (e.whole refl) in
     rw (p.1, p.2) (ends_so
     (ends_at so new.self _ _ _ (record { text = e.text; says = e.says refl; number = e.number; small = e.small refl }) c.if-branch.true _ c.line.ensures (Unit {0}) (StopsText c.args.style) _ _ _ c.number.ensures
@@ -65,7 +63,6 @@ returns-clause-played g c =
     let e = c.in_ok-next_line_once_written.ensures in
     let i = c.loop-reader.invariant in
     let new = c.next_line_once_written.new in
-    let old = stage c.args.player.now (g.K.Sink.taken c.args.sink.now) in
     let so = moved c.args.style _ (g.K.Sink.taken new.sink ++ new.waiting) i.done (e.whole refl) in
     ends_so
     (ends_over so new.self _ _ _ (record { text = e.text; says = e.says refl; number = e.number; small = e.small refl }) c.if-branch.false _ (λ rest all. (all.0, all.1, refl)))

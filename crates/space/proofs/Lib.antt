@@ -1,0 +1,9 @@
+pub mod Counts
+pub mod Spacing
+pub mod Tidying
+pub mod Changing
+pub mod Census
+pub mod Roomless
+pub mod Running
+pub mod Pacing
+pub mod Configured

@@ -1,0 +1,147 @@
+-- The pages of a heap stay within their bound through each action.
+use Rattle.std.proofs.Common.{◌≡◌, ℕ, suc, ◌<◌, ◌≤◌, Bool, true, false, ◌&&◌, ◌==◌, if◌then◌else◌, nat_lt, List, [], ◌∷◌, Option, Some, None, ap, ◌∙◌, sym, subst, arith, refl}
+use Rattle.std.proofs.lemmas.List.Sums.{sum_by-cons}
+use Rattle.heap_model.specs.declared.phase.Phase.{Phase}
+use Rattle.heap_model.specs.declared.phase.Phase.TheVariants as phases
+use Rattle.heap_model.specs.declared.phase.Moving.TheVariants as moves
+use Rattle.heap_model.specs.declared.phase.Candidate.{Candidate}
+use Rattle.heap_model.specs.Pages.{Page, page_at, with_held, free_pages}
+use Rattle.heap_model.specs.State.{HeapState, is_leaving}
+use Rattle.heap_model.specs.Marks.{HasNoMark, AreClosed}
+use Rattle.heap_model.specs.Action.{Shades, Was_marked, Is_marked, Action, Scans_root, Ends_roots, Scans_header, Scans_cell, Ends_marking, Frees_block, Passes_block, Closes_page, Ends_sweep, Looks_at_page, Chooses_page, Chooses_none, Moves_block, Ends_moving, AtPass, In_pass, After_page, held_on, closed, is_sparse}
+use Rattle.heap_model.proofs.Held.{page_within}
+use Rattle.heap_model.proofs.Marks.{no_mark}
+use Rattle.space.specs.Space.{spare_of}
+use Rattle.space.specs.Counts.{is_of, used_pages, leaving_pages, IsBounded}
+use Rattle.space.specs.Placement.{MayLeave, HasBoundedPages}
+use Rattle.space.proofs.Counts.{one_if, used_set, leaving_set}
+
+few_leaving : (spare most leaving : ℕ) (p : Phase) → MayLeave spare most leaving p → leaving ≤ spare
+few_leaving spare most leaving phases.Idle l = l
+few_leaving spare most leaving (phases.Roots next) l = l
+few_leaving spare most leaving (phases.Marking part cell) l = l
+few_leaving spare most leaving (phases.Sweeping page block) l = l
+few_leaving spare most leaving (phases.Moving (moves.Pass class page best chosen)) l = let a = l.0 in let b = l.1 in omega arith
+few_leaving spare most leaving (phases.Moving (moves.Emptying class page block chosen)) l = let a = l.0 in let b = l.1 in omega arith
+
+pub bounded_pages : (h : HeapState) (blocks : ℕ → ℕ) (spare : ℕ) → HasBoundedPages h blocks spare → IsBounded h.store.pages blocks spare
+bounded_pages h blocks spare w = record { used = w.used; leaving = few_leaving spare h.defrag_pages (leaving_pages h.store.pages) h.phase w.leaving }
+
+-- the settings stay
+pub record KeepsSettings (h k : HeapState) : Type 0 where
+  pub most : k.defrag_pages ≡ h.defrag_pages
+  pub below : k.defrag_below ≡ h.defrag_below
+
+pub same_spare : (h k : HeapState) → KeepsSettings h k → spare_of k ≡ spare_of h
+same_spare h k e = ap (λ z. if z == 0 then 0 else k.defrag_pages) e.below ∙ ap (λ z. if h.defrag_below == 0 then 0 else z) e.most
+
+-- fewer pages of each class
+pub bounded_less : (h k : HeapState) (blocks : ℕ → ℕ) (spare : ℕ) → HasBoundedPages h blocks spare → KeepsSettings h k → ((class : ℕ) → used_pages k.store.pages class ≤ used_pages h.store.pages class)
+    → MayLeave spare h.defrag_pages (leaving_pages k.store.pages) k.phase → HasBoundedPages k blocks spare
+bounded_less h k blocks spare w e less may = record {
+  used = λ class l. (let u = less class in let q = w.used class l in omega (arith, u, q));
+  leaving = subst (λ z. MayLeave spare z (leaving_pages k.store.pages) k.phase) (sym e.most) may;
+  same = same_spare h k e ∙ w.same;
+}
+
+-- the same pages
+pub bounded_same : (h k : HeapState) (blocks : ℕ → ℕ) (spare : ℕ) → HasBoundedPages h blocks spare → KeepsSettings h k → k.store.pages ≡ h.store.pages → MayLeave spare h.defrag_pages (leaving_pages h.store.pages) k.phase → HasBoundedPages k blocks spare
+bounded_same h k blocks spare w e same may =
+    bounded_less h k blocks spare w e (λ class. (let u : used_pages k.store.pages class ≡ used_pages h.store.pages class = ap (λ z. used_pages z class) same in omega (arith, u)))
+    (subst (λ z. MayLeave spare h.defrag_pages (leaving_pages z) k.phase) (sym same) may)
+
+pub shades_same : (h k : HeapState) (x : ℕ) → Shades h x k → KeepsSettings h k × (k.store.pages ≡ h.store.pages)
+shades_same h k x (Was_marked e) = (record { most = refl; below = refl }, refl)
+shades_same h k x (Is_marked new front back is e w) = (record { most = refl; below = refl }, w.pages)
+
+none_leaving : (pages : List (Option Page)) → ((k : ℕ) → HasNoMark (page_at pages k)) → leaving_pages pages ≡ 0
+none_leaving [] n = refl
+none_leaving (o ∷ os) n =
+    let r = none_leaving os (λ k. n (suc k)) in
+    let h : one_if (is_leaving o) ≡ 0 = ap one_if (n 0).leaving in
+    let a = sum_by-cons (λ z. one_if (is_leaving z)) o os in omega (arith, r, h, a)
+
+kept : (h : HeapState) → KeepsSettings h h
+kept h = record { most = refl; below = refl }
+
+few_one : (b : Bool) → one_if b ≤ 1
+few_one true = omega arith
+few_one false = omega arith
+
+closed_less : (class : ℕ) (o : Option Page) → (one_if (is_of class (closed o)) ≤ one_if (is_of class o)) × (one_if (is_leaving (closed o)) ≡ 0)
+closed_less class None = (omega arith, refl)
+closed_less class (Some p) = by_held (held_on (Some p) == 0)
+  where
+    by_held : (b : Bool) → (one_if (is_of class (if b then None else Some (record p { leaving = false; receiving = false }))) ≤ one_if (is_of class (Some p))) × (one_if (is_leaving (if b then None else Some (record p { leaving = false; receiving = false }))) ≡ 0)
+    by_held true = (omega arith, refl)
+    by_held false = (omega arith, refl)
+
+both_true : (x y : Bool) → (x && y) ≡ true → (x ≡ true) × (y ≡ true)
+both_true true y h = (refl, h)
+both_true false y h = absurd (cc)
+
+-- at a look of a pass
+at_pass : (h : HeapState) (blocks : ℕ → ℕ) (spare class page : ℕ) (best : Option Candidate) (chosen : ℕ) → HasBoundedPages h blocks spare → AtPass h class page best chosen
+    → (leaving_pages h.store.pages ≤ chosen) × (chosen < spare) × (spare ≡ h.defrag_pages)
+at_pass h blocks spare class page best chosen w (In_pass class0 page0 best0 chosen0 e) = subst (MayLeave spare h.defrag_pages (leaving_pages h.store.pages)) e w.leaving
+at_pass h blocks spare class page best chosen w (After_page class0 page0 block chosen0 p e at on done few) =
+    let m : (leaving_pages h.store.pages ≤ chosen) × (chosen ≤ spare) × (spare ≡ h.defrag_pages) = subst (MayLeave spare h.defrag_pages (leaving_pages h.store.pages)) e w.leaving in
+    let s = m.2 in (m.0, omega arith, m.2)
+
+pub bounded_action : (h after : HeapState) (cost : ℕ) (blocks : ℕ → ℕ) (spare : ℕ) → AreClosed h.store.pages h.phase → HasBoundedPages h blocks spare → Action h cost after → HasBoundedPages after blocks spare
+bounded_action h after cost blocks spare c w (Scans_root next k e l sh) =
+    let s = shades_same _ k _ sh in bounded_same h _ blocks spare w (record { most = s.0.most; below = s.0.below }) s.1 (few_leaving spare h.defrag_pages _ h.phase w.leaving)
+bounded_action h after cost blocks spare c w (Ends_roots next e l) = bounded_same h _ blocks spare w (record { most = refl; below = refl }) refl (few_leaving spare h.defrag_pages _ h.phase w.leaving)
+bounded_action h after cost blocks spare c w (Scans_header part cell x front back e f n) = bounded_same h _ blocks spare w (record { most = refl; below = refl }) refl (few_leaving spare h.defrag_pages _ h.phase w.leaving)
+bounded_action h after cost blocks spare c w (Scans_cell part cell new k e l w0 sh) =
+    let s = shades_same _ k _ sh in bounded_same h _ blocks spare w (record { most = s.0.most; below = s.0.below }) (s.1 ∙ w0.pages) (few_leaving spare h.defrag_pages _ h.phase w.leaving)
+bounded_action h after cost blocks spare c w (Ends_marking part cell e f n) = bounded_same h _ blocks spare w (record { most = refl; below = refl }) refl (few_leaving spare h.defrag_pages _ h.phase w.leaving)
+bounded_action h after cost blocks spare c w (Frees_block page block p new e f was unmarked w0 pages) =
+    let l = page_within h.store.pages page p f in
+    let v : Option Page = Some (with_held p block false) in
+    let m = few_leaving spare h.defrag_pages _ h.phase w.leaving in
+    bounded_less h _ blocks spare w (record { most = refl; below = refl })
+    (λ class. (let u = used_set h.store.pages new.pages page (Some p) v l f pages class in omega (arith, u)))
+    (let u = leaving_set h.store.pages new.pages page (Some p) v l f pages in omega (arith, u, m))
+bounded_action h after cost blocks spare c w (Passes_block page block p e f l marked) = bounded_same h _ blocks spare w (record { most = refl; below = refl }) refl (few_leaving spare h.defrag_pages _ h.phase w.leaving)
+bounded_action h after cost blocks spare c w (Closes_page page block new e l f w0 pages) =
+    let o = page_at h.store.pages page in
+    let m = few_leaving spare h.defrag_pages _ h.phase w.leaving in
+    bounded_less h _ blocks spare w (record { most = refl; below = refl })
+    (λ class. (let u = used_set h.store.pages new.pages page o (closed o) l refl pages class in let d = (closed_less class o).0 in omega (arith, u, d)))
+    (let u = leaving_set h.store.pages new.pages page o (closed o) l refl pages in let d = (closed_less 0 o).1 in omega (arith, u, d, m))
+bounded_action h after cost blocks spare c w (Ends_sweep page block e l) =
+    let none = none_leaving h.store.pages (no_mark h.store.pages page (subst (AreClosed h.store.pages) e c) l) in
+    bounded_same h _ blocks spare w (record { most = refl; below = refl }) refl (by_sparse none (is_sparse h) refl)
+  where
+    chosen_none : (h.defrag_below == 0) ≡ false → spare ≡ h.defrag_pages
+    chosen_none n = sym w.same ∙ ap (λ z. if z then 0 else h.defrag_pages) n
+
+    by_sparse : leaving_pages h.store.pages ≡ 0 → (b : Bool) → is_sparse h ≡ b → MayLeave spare h.defrag_pages (leaving_pages h.store.pages) (if b then phases.Moving (moves.Pass 0 0 None 0) else phases.Idle)
+    by_sparse none true s =
+        let q = both_true (nat_lt 0 h.defrag_pages) (nat_lt (free_pages h.store.pages) h.defrag_below) s in
+        let some : 0 < h.defrag_pages = (let a = q.0 in grind arith) in
+        let below : 0 < h.defrag_below = (let a = q.1 in grind arith) in
+        let n : (h.defrag_below == 0) ≡ false = grind arith in
+        let same = chosen_none n in
+        (omega (arith, none), omega (arith, same, some), same)
+    by_sparse none false s = omega (arith, none)
+bounded_action h after cost blocks spare c w (Looks_at_page class page best chosen at few more) = bounded_same h _ blocks spare w (record { most = refl; below = refl }) refl (at_pass h blocks spare class page best chosen w at)
+bounded_action h after cost blocks spare c w (Chooses_page class page best chosen k p new at few last is good there w0 pages) =
+    let l = page_within h.store.pages k.page p there in
+    let v : Option Page = Some (record p { leaving = true }) in
+    let m = at_pass h blocks spare class page best chosen w at in
+    let b = m.0 in
+    bounded_less h _ blocks spare w (record { most = refl; below = refl })
+    (λ class. (let u = used_set h.store.pages new.pages k.page (Some p) v l there pages class in omega (arith, u)))
+    ((let u = leaving_set h.store.pages new.pages k.page (Some p) v l there pages in omega (arith, u, b)), (let b = m.1 in omega (arith, b)), m.2)
+bounded_action h after cost blocks spare c w (Chooses_none class page best chosen at few last is) = bounded_same h _ blocks spare w (record { most = refl; below = refl }) refl (at_pass h blocks spare class page best chosen w at)
+bounded_action h after cost blocks spare c w (Moves_block class page block chosen i to j p q new e at leaving next place there empty w0 pages) =
+    let l = page_within h.store.pages to q there in
+    let v : Option Page = Some (record (with_held q j true) { receiving = true }) in
+    let m : MayLeave spare h.defrag_pages (leaving_pages h.store.pages) (phases.Moving (moves.Emptying class page block chosen)) = subst (MayLeave spare h.defrag_pages (leaving_pages h.store.pages)) e w.leaving in
+    let b = m.0 in
+    bounded_less h _ blocks spare w (record { most = refl; below = refl })
+    (λ class. (let u = used_set h.store.pages new.pages to (Some q) v l there pages class in omega (arith, u)))
+    ((let u = leaving_set h.store.pages new.pages to (Some q) v l there pages in omega (arith, u, b)), m.1, m.2)
+bounded_action h after cost blocks spare c w (Ends_moving done) = bounded_same h _ blocks spare w (record { most = refl; below = refl }) refl (few_leaving spare h.defrag_pages _ h.phase w.leaving)

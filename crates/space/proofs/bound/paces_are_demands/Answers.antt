@@ -1,0 +1,5 @@
+use Rattle.space.proofs.Pacing.{pace_keeps as it}
+use Rattle.space.proofs.bound.paces_are_demands.Goals as goal
+
+pub returns : goal.returns
+returns c = it

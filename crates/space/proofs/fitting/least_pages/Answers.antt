@@ -1,0 +1,18 @@
+use Rattle.std.proofs.Common.{◌≡◌, ℕ, ◌+◌, ◌<◌, ◌≤◌, ◌⊎◌, inl, inr, true, false, arith, sym, subst, ◌∙◌}
+use Rattle.std.proofs.lemmas.Bool.{cases_lt}
+use Rattle.space.specs.Fitting.{pace_in, FitsIn}
+use Rattle.space.proofs.fitting.least_pages.Goals as goal
+
+pub loop-pages-preserved : goal.loop-pages-preserved
+loop-pages-preserved c = record { none = λ pages one less fits. by_size pages one less fits (cases_lt pages c.loop-pages.pages) }
+  where
+    by_size : (pages : ℕ) → 1 ≤ pages → pages < c.loop-pages.pages + 1 → FitsIn c.args.config.now (pace_in c.args.pace.now) pages → (pages < c.loop-pages.pages) ⊎ (c.loop-pages.pages ≤ pages) → ⊥
+    by_size pages one less fits (inl low) = c.loop-pages.invariant.none pages one low fits
+    by_size pages one less fits (inr high) =
+        let e : pages ≡ c.loop-pages.pages = omega (arith, less, high) in
+        let t : c.fits_in.result ≡ true = c.fits_in.ensures.1 (subst (λ n. FitsIn c.args.config.now (pace_in c.args.pace.now) n) e fits) in
+        let f : c.fits_in.result ≡ false = c.if-fits_in.false in
+        let z : true ≡ false = sym t ∙ f in cc
+
+pub returns : goal.returns
+returns c = λ pages one small fits. c.loop-pages.invariant.none pages one (omega (arith, c.loop-pages-test.false, c.loop-pages.auto.pages-end, small)) fits

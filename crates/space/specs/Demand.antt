@@ -1,0 +1,45 @@
+-- How many blocks a program asks for.
+use Rattle.std.specs.Prelude.{◌≡◌, ℕ, ◌+◌, ◌<◌, ◌≤◌, true, List, sum_by}
+use Rattle.graph_heap.specs.declared.command.Command.{Command}
+use Rattle.graph_heap.specs.declared.command.Change.{Change}
+use Rattle.graph_heap.specs.declared.command.Change.TheVariants as changes
+use Rattle.graph_heap.specs.Graph.{Object, Graph, object_of}
+use Rattle.graph_heap.specs.Reach.{Reaches}
+use Rattle.size_classes.specs.declared.class.TheConstants.{CLASSES}
+use Rattle.size_classes.specs.Need.{needed}
+use Rattle.heap_model.specs.Collector.{contains}
+use Rattle.heap_model.specs.Event.{change_by}
+
+-- Of each size class: how many blocks live objects need at most where a cycle begins, and how many the
+-- objects need that are allocated from there up to the end of the next cycle's sweep.
+pub record Demand : Type 0 where
+  pub live : ℕ → ℕ
+  pub allocated : ℕ → ℕ
+
+-- both together
+abbrev pub blocks_for : Demand → ℕ → ℕ
+blocks_for d class = d.live class + d.allocated class
+
+-- how many blocks of a class objects need
+abbrev pub blocks_of : List Object → ℕ → ℕ
+blocks_of objects class = sum_by (λ o. needed o.shape class) objects
+
+-- how many the objects of these identities need
+abbrev pub blocks_by : Graph → List ℕ → ℕ → ℕ
+blocks_by g ids class = sum_by (λ id. needed (object_of g.objects id).shape class) ids
+
+-- What is live needs at most so many blocks of each class: whatever can be reached is among identities that
+-- need no more.
+pub record LiveWithin (g : Graph) (most : ℕ → ℕ) : Type 0 where
+  pub ids : List ℕ
+  pub reached : (id : ℕ) → Reaches g id → contains ids id ≡ true
+  pub blocks : (class : ℕ) → class < CLASSES → blocks_by g ids class ≤ most class
+
+-- the blocks of a class for which a change asks: those of a new object
+abbrev pub asked_by : Change → ℕ → ℕ
+asked_by (changes.New cell id shape) class = needed shape class
+asked_by _ class = 0
+
+-- the blocks of a class for which a command of mutator m asks, where nothing but want of space refuses it
+abbrev pub asked_for : Graph → ℕ → Command → ℕ → ℕ
+asked_for g m c = asked_by (change_by true g m c)

@@ -1,0 +1,60 @@
+-- A pace: how many blocks are asked for while the collector does a quantum's work.
+use Rattle.std.specs.Prelude.{ℕ, ◌+◌, ◌*◌, ◌<◌, ◌≤◌, Bool, true, false, if◌then◌else◌, List, [], ◌∷◌}
+use Rattle.graph_heap.specs.declared.command.Limits.{Limits}
+use Rattle.graph_heap.specs.Graph.{Graph, opening}
+use Rattle.graph_heap.specs.History.{after_entry}
+use Rattle.size_classes.specs.declared.class.TheConstants.{CLASSES}
+use Rattle.heap_model.specs.declared.phase.Phase.{Phase}
+use Rattle.heap_model.specs.declared.phase.Phase.TheVariants as phases
+use Rattle.heap_model.specs.Event.{Event, Command_done, Cycle_begun, Cycle_on, Quantum_done, Quantum_refused}
+use Rattle.space.specs.Demand.{Demand, LiveWithin, asked_for}
+
+-- Of each size class: how many blocks live objects need at most where a cycle begins; how many are asked for
+-- at most while a cycle is on, from its beginning or a quantum up to the next quantum; and how many from the
+-- end of a cycle until the next begins.
+pub record Pace : Type 0 where
+  pub live : ℕ → ℕ
+  pub busy : ℕ → ℕ
+  pub idle : ℕ → ℕ
+
+-- The graph heap to which the events lead; whether a cycle is on; and how many blocks were asked for since
+-- the last beginning, or quantum of a cycle.
+pub record Beat : Type 0 where
+  pub graph : Graph
+  pub on : Bool
+  pub asked : ℕ → ℕ
+
+abbrev pub opening_beat : Limits → Beat
+opening_beat l = record { graph = opening l; on = false; asked = λ class. 0 }
+
+abbrev pub in_cycle : Phase → Bool
+in_cycle phases.Idle = false
+in_cycle (phases.Roots next) = true
+in_cycle (phases.Marking part cell) = true
+in_cycle (phases.Sweeping page block) = true
+in_cycle (phases.Moving m) = true
+
+abbrev pub next_beat : Beat → Event → Beat
+next_beat b (Command_done m c reply) = record b { graph = after_entry b.graph (record { mutator = m; command = c; reply = reply }); asked = λ class. b.asked class + asked_for b.graph m c class }
+next_beat b Cycle_begun = record b { on = true; asked = λ class. 0 }
+next_beat b Cycle_on = b
+next_beat b (Quantum_done budget units phase) = if b.on then record b { on = in_cycle phase; asked = λ class. 0 } else b
+next_beat b (Quantum_refused budget) = b
+
+-- an event keeps to a pace, with quanta of at least k units
+abbrev pub KeepsPace : Pace → ℕ → Beat → Event → Type 0
+KeepsPace p k b (Command_done m c reply) = (class : ℕ) → class < CLASSES → b.asked class + asked_for b.graph m c class ≤ (if b.on then p.busy class else p.idle class)
+KeepsPace p k b Cycle_begun = LiveWithin b.graph p.live
+KeepsPace p k b Cycle_on = Unit {0}
+KeepsPace p k b (Quantum_done budget units phase) = k ≤ budget
+KeepsPace p k b (Quantum_refused budget) = Unit {0}
+
+-- each of the events does
+abbrev pub AllKeepPace : Pace → ℕ → Beat → List Event → Type 0
+AllKeepPace p k b [] = Unit {0}
+AllKeepPace p k b (e ∷ es) = KeepsPace p k b e × AllKeepPace p k (next_beat b e) es
+
+-- the demand to which a pace comes where a cycle takes at most so many quanta: two cycles, and the time
+-- between them
+abbrev pub demand_of : Pace → ℕ → Demand
+demand_of p quanta = record { live = p.live; allocated = λ class. 2 * (quanta * p.busy class) + p.idle class }

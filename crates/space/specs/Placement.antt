@@ -1,0 +1,54 @@
+-- Where blocks stand, and on how many pages.
+use Rattle.std.specs.Prelude.{◌≡◌, ℕ, ◌/◌, ◌<◌, ◌≤◌, ◌⊎◌, true, List, Option, Some, None, length}
+use Rattle.graph_heap.specs.Graph.{Object, object_of}
+use Rattle.size_classes.specs.declared.class.TheConstants.{CLASSES, PAGE_WORDS}
+use Rattle.size_classes.specs.Sizes.{class_for}
+use Rattle.size_classes.specs.Parts.{cells_of, parts_in, part_words}
+use Rattle.heap_model.specs.declared.phase.Phase.{Phase}
+use Rattle.heap_model.specs.declared.phase.Phase.TheVariants as phases
+use Rattle.heap_model.specs.declared.phase.Moving.TheVariants as moves
+use Rattle.heap_model.specs.Pages.{Page, page_at}
+use Rattle.heap_model.specs.Store.{Store, is_held, node_of}
+use Rattle.heap_model.specs.Collector.{contains}
+use Rattle.heap_model.specs.State.{HeapState, is_leaving}
+use Rattle.space.specs.Space.{class_pages, spare_of}
+use Rattle.space.specs.Counts.{used_pages, leaving_pages}
+
+-- in moving as many pages are leaving as were chosen, and else as many as may be
+abbrev pub MayLeave : ℕ → ℕ → ℕ → Phase → Type 0
+MayLeave spare most leaving phases.Idle = leaving ≤ spare
+MayLeave spare most leaving (phases.Roots next) = leaving ≤ spare
+MayLeave spare most leaving (phases.Marking part cell) = leaving ≤ spare
+MayLeave spare most leaving (phases.Sweeping page block) = leaving ≤ spare
+MayLeave spare most leaving (phases.Moving (moves.Pass class page best chosen)) = (leaving ≤ chosen) × (chosen < spare) × (spare ≡ most)
+MayLeave spare most leaving (phases.Moving (moves.Emptying class page block chosen)) = (leaving ≤ chosen) × (chosen ≤ spare) × (spare ≡ most)
+
+-- no class has more pages than its blocks take, and no more pages are leaving than may be
+pub record HasBoundedPages (h : HeapState) (blocks : ℕ → ℕ) (spare : ℕ) : Type 0 where
+  pub used : (class : ℕ) → class < CLASSES → used_pages h.store.pages class ≤ class_pages spare class (blocks class)
+  pub leaving : MayLeave spare h.defrag_pages (leaving_pages h.store.pages) h.phase
+  pub same : spare_of h ≡ spare
+
+-- the class of a page; a free page has none
+abbrev pub class_in : Option Page → Option ℕ
+class_in None = None
+class_in (Some p) = Some p.class
+
+-- Each held block is one of a part, on a page of the part's class; an old copy is on a leaving page; and no
+-- part has two main copies.
+pub record IsTidy (s : Store) (objects : List Object) : Type 0 where
+  pub class : (b : ℕ) → is_held s b ≡ true → class_for (part_words (cells_of (node_of s b).shape) (node_of s b).part) ≡ class_in (page_at s.pages (b / PAGE_WORDS))
+  pub part : (b : ℕ) → is_held s b ≡ true → (node_of s b).part < parts_in (cells_of (node_of s b).shape)
+  pub given : (b : ℕ) → is_held s b ≡ true → (node_of s b).identity ≤ length objects
+  pub shape : (b : ℕ) → is_held s b ≡ true → (node_of s b).shape ≡ (object_of objects (node_of s b).identity).shape
+  pub one : (a b : ℕ) → is_held s a ≡ true → is_held s b ≡ true → (node_of s a).forward ≡ a → (node_of s b).forward ≡ b → (node_of s a).identity ≡ (node_of s b).identity → (node_of s a).part ≡ (node_of s b).part → a ≡ b
+  pub old : (b : ℕ) → is_held s b ≡ true → ((node_of s b).forward ≡ b) ⊎ (is_leaving (page_at s.pages (b / PAGE_WORDS)) ≡ true)
+
+-- of the identities up to one, only these have a main copy
+abbrev pub KeepsOnly : Store → ℕ → List ℕ → Type 0
+KeepsOnly s base ids = (b : ℕ) → is_held s b ≡ true → (node_of s b).forward ≡ b → (node_of s b).identity ≤ base → contains ids (node_of s b).identity ≡ true
+
+-- no object goes, and none changes its shape
+pub record KeepsShapes (old new : List Object) : Type 0 where
+  pub more : length old ≤ length new
+  pub shape : (id : ℕ) → id ≤ length old → (object_of new id).shape ≡ (object_of old id).shape

@@ -1,0 +1,69 @@
+-- What a list of events comes to, by the events alone: no heap is looked at.
+use Rattle.std.specs.Prelude.{◌≡◌, ℕ, ◌+◌, ◌<◌, ◌≤◌, Bool, true, false, if◌then◌else◌, List, [], ◌∷◌, length, drop}
+use Rattle.graph_heap.specs.declared.command.Limits.{Limits}
+use Rattle.graph_heap.specs.declared.command.Command.{Command}
+use Rattle.graph_heap.specs.declared.command.Command.TheVariants as commands
+use Rattle.graph_heap.specs.declared.command.Reply.{Reply}
+use Rattle.graph_heap.specs.Graph.{Graph, opening}
+use Rattle.graph_heap.specs.History.{after_entry, had_room}
+use Rattle.size_classes.specs.declared.class.TheConstants.{CLASSES}
+use Rattle.heap_model.specs.declared.phase.Phase.{Phase}
+use Rattle.heap_model.specs.declared.phase.Phase.TheVariants as phases
+use Rattle.heap_model.specs.Event.{Event, Command_done, Cycle_begun, Cycle_on, Quantum_done, Quantum_refused}
+use Rattle.space.specs.Demand.{Demand, LiveWithin, blocks_of, asked_for}
+
+-- The graph heap to which the events lead; how many objects there were when the last cycle began; and how
+-- many when that cycle began whose sweep ended last. Both are 0 before the first.
+pub record Tally : Type 0 where
+  pub graph : Graph
+  pub last : ℕ
+  pub base : ℕ
+
+abbrev pub opening_tally : Limits → Tally
+opening_tally l = record { graph = opening l; last = 0; base = 0 }
+
+-- a cycle is on, and its sweep hasn't ended
+abbrev pub is_tracing : Phase → Bool
+is_tracing phases.Idle = false
+is_tracing (phases.Roots next) = true
+is_tracing (phases.Marking part cell) = true
+is_tracing (phases.Sweeping page block) = true
+is_tracing (phases.Moving m) = false
+
+abbrev pub after_event : Tally → Event → Tally
+after_event t (Command_done m c reply) = record t { graph = after_entry t.graph (record { mutator = m; command = c; reply = reply }) }
+after_event t Cycle_begun = record t { last = length t.graph.objects }
+after_event t Cycle_on = t
+after_event t (Quantum_done budget units phase) = if is_tracing phase then t else record t { base = t.last }
+after_event t (Quantum_refused budget) = t
+
+-- An event keeps to a demand. Where a cycle begins, what is live is within it; and at a command, so are the
+-- objects that were allocated since the cycle began whose sweep ended last, with the one that is asked for.
+abbrev pub KeepsTo : Demand → Tally → Event → Type 0
+KeepsTo d t (Command_done m c reply) = (class : ℕ) → class < CLASSES → blocks_of (drop t.base t.graph.objects) class + asked_for t.graph m c class ≤ d.allocated class
+KeepsTo d t Cycle_begun = LiveWithin t.graph d.live
+KeepsTo d t Cycle_on = Unit {0}
+KeepsTo d t (Quantum_done budget units phase) = Unit {0}
+KeepsTo d t (Quantum_refused budget) = Unit {0}
+
+-- each of the events does
+abbrev pub AllKeepTo : Demand → Tally → List Event → Type 0
+AllKeepTo d t [] = Unit {0}
+AllKeepTo d t (e ∷ es) = KeepsTo d t e × AllKeepTo d (after_event t e) es
+
+-- a new object isn't refused for want of space
+abbrev pub FindsRoom : Command → Reply → Type 0
+FindsRoom (commands.New dst shape) reply = had_room reply ≡ true
+FindsRoom _ reply = Unit {0}
+
+abbrev pub NewFindsRoom : Event → Type 0
+NewFindsRoom (Command_done m c reply) = FindsRoom c reply
+NewFindsRoom Cycle_begun = Unit {0}
+NewFindsRoom Cycle_on = Unit {0}
+NewFindsRoom (Quantum_done budget units phase) = Unit {0}
+NewFindsRoom (Quantum_refused budget) = Unit {0}
+
+-- no new object is refused for want of space, in all of the events
+abbrev pub EveryNewFindsRoom : List Event → Type 0
+EveryNewFindsRoom [] = Unit {0}
+EveryNewFindsRoom (e ∷ es) = NewFindsRoom e × EveryNewFindsRoom es

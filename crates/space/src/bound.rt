@@ -1,0 +1,59 @@
+//! The laws of the space bound. Each function does nothing: its contract is the law.
+ghost use Rattle.std.specs.Prelude.{◌≡◌, ℕ, ◌*◌, ◌<◌, ◌≤◌, List, length};
+ghost use Rattle.graph_heap.specs.declared.command.Command.{Command};
+ghost use Rattle.graph_heap.specs.Graph.{Graph};
+ghost use Rattle.size_classes.specs.declared.config.Config.{Config};
+ghost use Rattle.size_classes.specs.declared.config.TheConstants.{LEAST_BUDGET};
+ghost use Rattle.heap_model.specs.State.{HeapState};
+ghost use Rattle.heap_model.specs.Settings.{settings_of, settings_by};
+ghost use Rattle.heap_model.specs.Opening.{IsOpening};
+ghost use Rattle.heap_model.specs.Bound.{most_quanta};
+ghost use Rattle.heap_model.specs.Event.{Course, Event, Runs};
+ghost use Rattle.heap_model.specs.Led.{opened};
+ghost use Rattle.space.specs.Demand.{Demand, asked_for};
+ghost use Rattle.space.specs.Tally.{opening_tally, AllKeepTo, EveryNewFindsRoom};
+ghost use Rattle.space.specs.Pace.{Pace, opening_beat, AllKeepPace, demand_of};
+ghost use Rattle.space.specs.Space.{space_for, spare_of};
+ghost use Rattle.space.specs.Fitting.{Fits, FitsIn};
+ghost use Rattle.space.specs.Room.{asks, AllHaveRoom};
+
+/// The space bound. In every run of events from an opening heap that keeps to a demand, no new object is
+/// refused for want of space, where there are as many pages as the demand takes.
+pub fn space_suffices()
+    ensures { (h : HeapState) (es : List Event) (new : Course) (d : Demand) → IsOpening h → 0 < length h.store.pages → Runs (opened h) es new → AllKeepTo d (opening_tally h.limits) es
+        → space_for d (spare_of h) ≤ length h.store.pages → EveryNewFindsRoom es }
+{}
+
+/// A run that keeps to a pace keeps to a demand. A cycle takes at most so many quanta, so that what is asked
+/// for between them adds up to no more than two cycles' quanta, and the time between two cycles, ask for.
+pub fn paces_are_demands()
+    ensures { (h : HeapState) (es : List Event) (new : Course) (p : Pace) (k : ℕ) → LEAST_BUDGET ≤ k → IsOpening h → 0 < length h.store.pages → Runs (opened h) es new → AllKeepPace p k (opening_beat h.limits) es
+        → AllKeepTo (demand_of p (most_quanta h k)) (opening_tally h.limits) es }
+{}
+
+/// So no new object is refused for want of space in a run that keeps to a pace, where there are as many pages
+/// as the pace takes.
+pub fn space_suffices_at_a_pace()
+    ensures { (h : HeapState) (es : List Event) (new : Course) (p : Pace) (k : ℕ) → LEAST_BUDGET ≤ k → IsOpening h → 0 < length h.store.pages → Runs (opened h) es new → AllKeepPace p k (opening_beat h.limits) es
+        → space_for (demand_of p (most_quanta h k)) (spare_of h) ≤ length h.store.pages → EveryNewFindsRoom es }
+{}
+
+/// A command asks for no more blocks than its shape needs, and for none where that is too large, whatever the
+/// heap is.
+pub fn commands_ask_for_their_shapes()
+    ensures { (g : Graph) (m : ℕ) (c : Command) (class : ℕ) → asked_for g m c class ≤ asks c class }
+{}
+
+/// Commands other than `New` are never refused for want of space: where no `New` is, no reply is that refusal.
+pub fn only_new_needs_room()
+    ensures { (r new : Course) (es : List Event) → Runs r es new → EveryNewFindsRoom es → AllHaveRoom es }
+{}
+
+/// In a heap of a configuration, no reply of a run is the refusal for want of space: where the run keeps to a
+/// demand that fits the configuration, or to a pace that fits in its pages.
+pub fn configured_space_suffices()
+    ensures demand { (config : Config) (h : HeapState) (es : List Event) (new : Course) (d : Demand) → 1 ≤ config.pages → IsOpening h → settings_of h ≡ settings_by config → Runs (opened h) es new
+        → AllKeepTo d (opening_tally h.limits) es → Fits config d → AllHaveRoom es }
+    ensures pace { (config : Config) (h : HeapState) (es : List Event) (new : Course) (p : Pace) → 1 ≤ config.pages → LEAST_BUDGET ≤ config.collector_ticks * config.rate → IsOpening h
+        → settings_of h ≡ settings_by config → Runs (opened h) es new → AllKeepPace p (config.collector_ticks * config.rate) (opening_beat h.limits) es → FitsIn config p config.pages → AllHaveRoom es }
+{}

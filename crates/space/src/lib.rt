@@ -1,0 +1,15 @@
+//! The space bound: how many pages make it impossible that a new object is refused for want of space.
+#![tactic(auto)]
+
+pub mod bound;
+pub mod demand;
+pub mod fitting;
+pub mod pace;
+pub mod steps;
+
+pub use demand::Demand;
+pub use fitting::{fits, least_pages, pace_fits, quanta};
+pub use pace::Pace;
+
+#[cfg(test)]
+mod tests;

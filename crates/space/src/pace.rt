@@ -1,0 +1,40 @@
+//! How many blocks a program asks for while the collector does a quantum's work, and the pages that they
+//! take.
+ghost use Rattle.std.specs.Prelude.{◌≡◌, ◌≤◌};
+ghost use Rattle.space.specs.Space.{space_for};
+ghost use Rattle.space.specs.Pace.{demand_of};
+ghost use Rattle.space.specs.Fitting.{pace_in};
+
+use crate::demand::pages_of_class;
+use size_classes::{CLASSES, Class};
+
+/// The most quanta that a cycle can take: those of the least budget, in the largest heap.
+pub const MOST_QUANTA: u64 = 42_115_333;
+
+/// Of each size class: how many blocks live objects need at most where a cycle begins; how many are asked for
+/// at most while a cycle is on, from its beginning or a quantum up to the next quantum; and how many from the
+/// end of a cycle until the next begins.
+#[derive(Clone, Copy, Debug, PartialEq, Eq)]
+pub struct Pace {
+    pub live: [u32; CLASSES],
+    pub busy: [u64; CLASSES],
+    pub idle: [u64; CLASSES],
+}
+
+impl Pace {
+    /// How many pages it takes, where a cycle takes at most so many quanta, and so many pages may be left
+    /// sparse for each class.
+    pub fn pages(&self, quanta: u64, spare: u32) -> u128
+        requires { quanta ≤ MOST_QUANTA }
+        ensures { result ≡ space_for (demand_of (pace_in self.now) quanta) spare }
+    {
+        let mut pages = 0u128;
+        for number in 0..CLASSES {
+            let busy = u128::from(quanta) * u128::from(self.busy[number]);
+            let allocated = 2 * busy + u128::from(self.idle[number]);
+            let blocks = u128::from(self.live[number]) + allocated;
+            pages += pages_of_class(Class::new(number as u8), blocks, spare);
+        }
+        pages
+    }
+}

@@ -1,0 +1,82 @@
+-- What events come to, at a pace.
+use Rattle.std.proofs.Common.{◌≡◌, ◌≢◌, ℕ, ◌+◌, ◌-◌, ◌*◌, ◌<◌, ◌≤◌, ◌⊎◌, inl, inr, Bool, true, false, max, nat_lt, if◌then◌else◌, List, [], ◌∷◌, ◌++◌, Option, Some, None, ap, ◌∙◌, sym, subst, arith, refl}
+use Rattle.std.specs.List.{last_or}
+use Rattle.std.proofs.lemmas.Bool.{cases_lt}
+use Rattle.std.proofs.Math.Nat.{mul-le-mul_left}
+use Rattle.graph_heap.specs.declared.command.Command.{Command}
+use Rattle.graph_heap.specs.declared.command.Reply.{Reply}
+use Rattle.graph_heap.specs.Graph.{opening}
+use Rattle.heap_model.specs.declared.phase.Phase.{Phase}
+use Rattle.heap_model.specs.declared.phase.Phase.TheVariants as phases
+use Rattle.heap_model.specs.State.{HeapState}
+use Rattle.heap_model.specs.Opening.{IsOpening}
+use Rattle.heap_model.specs.Event.{Course, Event, Command_done, Cycle_begun, Cycle_on, Quantum_done, Quantum_refused, Collects, Does, present_of, room_for, change_by}
+use Rattle.heap_model.proofs.Stood.{idle_chain}
+use Rattle.heap_model.proofs.Left.{change_left}
+use Rattle.quanta.specs.Timetable.{Timetable, first_due, start_after, due_below}
+use Rattle.quanta.specs.Timetable as timetables
+use Rattle.quanta.specs.declared.interval.Interval.{Interval}
+use Rattle.quanta.proofs.Lasts.{last_or-append}
+use Rattle.trace.specs.declared.line.Line.{Line}
+use Rattle.trace.specs.declared.line.Line.TheVariants as lines
+use Rattle.player.specs.Player.{PlayerState, behind_quantum, placed, quantum_behind, QuantaDue, None_yet, One_more, DoesLine, Skips, Commands, Begins, Goes_on, Spends, Ticks}
+use Rattle.space.specs.Demand.{asked_for}
+use Rattle.space.specs.Room.{asks}
+use Rattle.space.specs.Pace.{Pace, Beat, opening_beat, next_beat, in_cycle, KeepsPace, AllKeepPace}
+use Rattle.space.proofs.Roomless.{asks_less}
+use Rattle.arrivals.specs.Load.{Load, clock_after, AsksFrom, Arrives, BeginsOften, AreBudgets, KeepsLoad, AllLive, pace_of}
+
+-- where events lead
+abbrev pub beats : Beat → List Event → Beat
+beats b [] = b
+beats b (e ∷ es) = beats (next_beat b e) es
+
+pub beats_more : (b : Beat) (es : List Event) (e : Event) → beats b (es ++ e ∷ []) ≡ next_beat (beats b es) e
+beats_more b [] e = refl
+beats_more b (x ∷ es) e = beats_more (next_beat b x) es e
+
+pub keep_more : (p : Pace) (k : ℕ) (b : Beat) (es fs : List Event) → AllKeepPace p k b es → AllKeepPace p k (beats b es) fs → AllKeepPace p k b (es ++ fs)
+keep_more p k b [] fs a c = c
+keep_more p k b (e ∷ es) fs a c = (a.0, keep_more p k (next_beat b e) es fs a.1 c)
+
+pub next_on : (b : Beat) (budget units : ℕ) (phase : Phase) → b.on ≡ true → next_beat b (Quantum_done budget units phase) ≡ record b { on = in_cycle phase; asked = λ class. 0 }
+next_on b budget units phase e = ap (λ z. if z then record b { on = in_cycle phase; asked = λ class. 0 } else b) e
+
+pub next_off : (b : Beat) (budget units : ℕ) (phase : Phase) → b.on ≡ false → next_beat b (Quantum_done budget units phase) ≡ b
+next_off b budget units phase e = ap (λ z. if z then record b { on = in_cycle phase; asked = λ class. 0 } else b) e
+
+pub next_graph : (b : Beat) (budget units : ℕ) (phase : Phase) → (next_beat b (Quantum_done budget units phase)).graph ≡ b.graph
+next_graph b budget units phase = by_on b.on
+  where
+    by_on : (o : Bool) → (if o then record b { on = in_cycle phase; asked = λ class. 0 } else b).graph ≡ b.graph
+    by_on true = refl
+    by_on false = refl
+
+pub live_more : (live : ℕ → ℕ) (b : Beat) (es fs : List Event) → AllLive live b.graph (es ++ fs) → AllLive live b.graph es × AllLive live (beats b es).graph fs
+live_more live b [] fs a = (tt, a)
+live_more live b (Command_done m c reply ∷ es) fs a = live_more live (next_beat b (Command_done m c reply)) es fs a
+live_more live b (Cycle_begun ∷ es) fs a = let r = live_more live (next_beat b Cycle_begun) es fs a.1 in ((a.0, r.0), r.1)
+live_more live b (Cycle_on ∷ es) fs a = live_more live b es fs a
+live_more live b (Quantum_done budget units phase ∷ es) fs a =
+    let s = next_graph b budget units phase in
+    let r = live_more live (next_beat b (Quantum_done budget units phase)) es fs (subst (λ g. AllLive live g (es ++ fs)) (sym s) a) in
+    (subst (λ g. AllLive live g es) s r.0, r.1)
+live_more live b (Quantum_refused budget ∷ es) fs a = live_more live b es fs a
+
+pub on_or_off : (b : Bool) → (b ≡ true) ⊎ (b ≡ false)
+on_or_off true = inl refl
+on_or_off false = inr refl
+
+pub idle_phase : (f : Phase) → in_cycle f ≡ false → f ≡ phases.Idle
+idle_phase phases.Idle e = refl
+idle_phase (phases.Roots next) e = absurd (cc)
+idle_phase (phases.Marking part cell) e = absurd (cc)
+idle_phase (phases.Sweeping page block) e = absurd (cc)
+idle_phase (phases.Moving m) e = absurd (cc)
+
+pub busy_phase : (f : Phase) → f ≢ phases.Idle → in_cycle f ≡ true
+busy_phase phases.Idle e = absurd (e refl)
+busy_phase (phases.Roots next) e = refl
+busy_phase (phases.Marking part cell) e = refl
+busy_phase (phases.Sweeping page block) e = refl
+busy_phase (phases.Moving m) e = refl

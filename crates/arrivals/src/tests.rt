@@ -1,0 +1,53 @@
+//! Figures worked out by hand.
+use super::*;
+use size_classes::{CLASSES, Config, Settings};
+
+const SETTINGS: Settings = Settings {
+    pages: 7,
+    mutators: 1,
+    slots: 12,
+    statics: 0,
+    identities: 1000,
+    defrag_below: 4,
+    defrag_pages: 1,
+    collector_ticks: 10,
+    mutator_ticks: 12,
+    rate: 100,
+    live: 1,
+};
+
+/// A table by class: blocks of 4 words.
+fn table(small: u32) -> [u32; CLASSES] {
+    let mut blocks = [0u32; CLASSES];
+    blocks[0] = small;
+    blocks
+}
+
+/// 21 ticks come to 21 * 2 + 5 blocks while a cycle is on, and 40 ticks to 40 * 2 + 5 between two cycles.
+#[test]
+fn loads_come_to_a_pace(rt: HostRuntime) {
+    let load = Load {
+        live: table(1000),
+        rate: table(2),
+        burst: table(5),
+        gap: 40,
+    };
+    let Ok(config) = Config::check(&SETTINGS) else {
+        panic!(rt; "the settings are good");
+    };
+    let pace = load.pace(&config);
+    assert!(rt; pace.live[0] == 1000 && pace.busy[0] == 47 && pace.idle[0] == 85);
+    assert!(rt; pace.busy[1] == 0 && pace.idle[37] == 0);
+    assert!(rt; !load_fits(&config, &load));
+    assert!(rt; least_pages_for(&config, &load).is_none());
+    let slow = Load {
+        live: table(1000),
+        rate: table(0),
+        burst: table(5),
+        gap: 40,
+    };
+    // 59 quanta over 7 pages: 1000 + 2 * 59 * 5 + 5 blocks are 4 pages, and one may be sparse; 34 quanta
+    // over 4 pages: 1345 blocks are 3 pages, and one may be sparse.
+    assert!(rt; load_fits(&config, &slow));
+    assert!(rt; least_pages_for(&config, &slow) == Some(4));
+}

@@ -1,0 +1,43 @@
+-- Replies as C sees them.
+use Rattle.std.specs.Prelude.{ℕ, if◌then◌else◌}
+use Rattle.graph_heap.specs.declared.command.Shape.{Shape}
+use Rattle.graph_heap.specs.declared.command.Shape.TheVariants.{Plain, RefArray, WordArray}
+use Rattle.graph_heap.specs.declared.command.Reply.{Reply}
+use Rattle.graph_heap.specs.declared.command.Reply.TheVariants as replies
+use Rattle.graph_heap.specs.Refusal.{refusal_number}
+use Rattle.metronome_c.specs.declared.answer.Answer.{Answer}
+use Rattle.metronome_c.specs.declared.answer.MetronomeShape.{MetronomeShape}
+use Rattle.metronome_c.specs.declared.status.Status.TheVariants.{Closed}
+use Rattle.metronome_c.specs.Status.{status_number}
+
+abbrev told : ℕ → ℕ → Answer
+told k n = record { kind = k; number = n }
+
+abbrev pub answer_of : Reply → Answer
+answer_of (replies.Refused refusal) = told 0 (refusal_number refusal)
+answer_of (replies.Made id) = told 1 id
+answer_of (replies.Ref id) = told 2 id
+answer_of (replies.Word word) = told 3 word
+answer_of replies.Done = told 4 0
+answer_of replies.Stored = told 5 0
+answer_of (replies.Kept id) = told 6 id
+answer_of (replies.KeptWord word) = told 7 word
+answer_of (replies.Is is) = told 8 (if is then 1 else 0)
+answer_of (replies.Described id shape) = told 9 id
+
+-- the answer of a handle that holds no heap
+abbrev pub closed : Answer
+closed = told 0 (status_number Closed)
+
+abbrev sized : ℕ → ℕ → ℕ → MetronomeShape
+sized k r w = record { kind = k; refs = r; words = w }
+
+abbrev pub shape_of : Shape → MetronomeShape
+shape_of (Plain refs words) = sized 0 refs words
+shape_of (RefArray refs) = sized 1 refs 0
+shape_of (WordArray words) = sized 2 0 words
+
+-- the shape that a reply tells, or the one from before where it tells none
+abbrev pub shape_in : MetronomeShape → Reply → MetronomeShape
+shape_in before (replies.Described id shape) = shape_of shape
+shape_in before _ = before

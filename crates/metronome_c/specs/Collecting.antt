@@ -1,0 +1,54 @@
+-- What the collector does to what C holds, and what C is told.
+use Rattle.std.specs.Prelude.{◌≡◌, ◌⊎◌, ◌+◌, ◌<◌, ℕ, Option, Some, None, Result, Ok, Err}
+use Rattle.graph_heap.specs.Graph.{Graph}
+use Rattle.heap_model.specs.declared.phase.Phase.{Phase}
+use Rattle.heap_model.specs.declared.phase.Phase.TheVariants as phases
+use Rattle.heap_model.specs.State.{HeapState}
+use Rattle.heap_model.specs.Agreement.{Agrees}
+use Rattle.machine.specs.declared.collector.Busy.{Busy as CycleOn}
+use Rattle.machine.specs.declared.collector.BudgetOutOfRange.{BudgetOutOfRange as Refused}
+use Rattle.machine.specs.declared.collector.Spent.{Spent}
+use Rattle.machine.specs.Collecting.{Begins, Spends}
+use Rattle.metronome_c.specs.declared.collector.QuantumSpent.{QuantumSpent}
+use Rattle.metronome_c.specs.declared.status.Status.TheVariants.{Done, Busy, BudgetOutOfRange, Closed}
+use Rattle.metronome_c.specs.Status.{status_number}
+
+abbrev pub phase_number : Phase → ℕ
+phase_number phases.Idle = 0
+phase_number (phases.Roots next) = 1
+phase_number (phases.Marking part cell) = 2
+phase_number (phases.Sweeping page block) = 3
+phase_number (phases.Moving place) = 4
+
+-- the heap agrees with each graph heap with which it agreed
+abbrev pub KeepsAgreeing : HeapState → HeapState → Type 0
+KeepsAgreeing h k = (g : Graph) → Agrees h g → Agrees k g
+
+abbrev pub begin_status : Result (Unit {0}) CycleOn → ℕ
+begin_status (Ok done) = status_number Done
+begin_status (Err busy) = status_number Busy
+
+-- a cycle begins, or one is on
+abbrev pub BeginsOpen : Option HeapState → Option HeapState → ℕ → Type 0
+BeginsOpen None new status = (new ≡ None) × (status ≡ status_number Closed)
+BeginsOpen (Some h) new status = (k : HeapState) × (new ≡ Some k) × KeepsAgreeing h k × ((answer : Result (Unit {0}) CycleOn) × Begins h k answer × (status ≡ begin_status answer))
+
+abbrev pub quantum_status : Result Spent Refused → ℕ
+quantum_status (Ok spent) = status_number Done
+quantum_status (Err refused) = status_number BudgetOutOfRange
+
+-- what C is told of a quantum; of one that is refused, what stood there before
+abbrev pub spent_of : QuantumSpent → Result Spent Refused → QuantumSpent
+spent_of before (Ok spent) = record { units = spent.units; phase = phase_number spent.phase }
+spent_of before (Err refused) = before
+
+-- a quantum that isn't refused ends the cycle, or leaves less than the dearest action costs
+abbrev pub EndsOrSpends : ℕ → Result Spent Refused → Type 0
+EndsOrSpends budget (Ok spent) = (spent.phase ≡ phases.Idle) ⊎ (budget < spent.units + 256)
+EndsOrSpends budget (Err refused) = Unit {0}
+
+-- a quantum spends units of its budget in one turn, or the budget is refused
+abbrev pub SpendsOpen : Option HeapState → ℕ → Option HeapState → QuantumSpent → QuantumSpent → ℕ → Type 0
+SpendsOpen None budget new before after status = (new ≡ None) × (after ≡ before) × (status ≡ status_number Closed)
+SpendsOpen (Some h) budget new before after status = (k : HeapState) × (new ≡ Some k) × KeepsAgreeing h k
+    × ((answer : Result Spent Refused) × Spends h budget k answer × EndsOrSpends budget answer × (after ≡ spent_of before answer) × (status ≡ quantum_status answer))

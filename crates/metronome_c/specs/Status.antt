@@ -1,0 +1,91 @@
+-- The numbers and texts of what a call comes to.
+use Rattle.std.specs.Prelude.{ℕ, ◌+◌, ◌==◌, List, Option, Some, None, codes, find}
+use Rattle.graph_heap.specs.declared.command.Refusal.{Refusal}
+use Rattle.graph_heap.specs.declared.command.Refusal.TheVariants.{BadSlot, NullSlot, BadIndex, WrongKind, TooLarge, IdentitiesSpent, NoSpace, BadStatic, NotLive, AlreadyLive}
+use Rattle.graph_heap.specs.Refusal.{refusal_number}
+use Rattle.size_classes.specs.declared.key.Key.{Key}
+use Rattle.size_classes.specs.declared.key.Key.TheVariants.{Pages, Mutators, Slots, Statics, Identities, DefragBelow, DefragPages, CollectorTicks, MutatorTicks, Rate, Live}
+use Rattle.size_classes.specs.declared.fault.ConfigFault.{ConfigFault}
+use Rattle.size_classes.specs.declared.fault.ConfigFault.TheVariants as faults
+use Rattle.metronome_c.specs.declared.status.Status.{Status}
+use Rattle.metronome_c.specs.declared.status.Status.TheVariants as statuses
+use Rattle.metronome_c.specs.declared.status.TheConstants.Status.{ALL}
+
+-- the place of a key among the settings
+abbrev pub key_number : Key → ℕ
+key_number Pages = 0
+key_number Mutators = 1
+key_number Slots = 2
+key_number Statics = 3
+key_number Identities = 4
+key_number DefragBelow = 5
+key_number DefragPages = 6
+key_number CollectorTicks = 7
+key_number MutatorTicks = 8
+key_number Rate = 9
+key_number Live = 10
+
+-- the number of a status: a refusal of a command has its own
+abbrev pub status_number : Status → ℕ
+status_number statuses.Done = 0
+status_number (statuses.Refused refusal) = refusal_number refusal
+status_number statuses.NoMemory = 9
+status_number statuses.Busy = 11
+status_number statuses.BudgetOutOfRange = 12
+status_number statuses.Closed = 16
+status_number statuses.Open = 17
+status_number statuses.ScheduleOutOfRange = 18
+status_number (statuses.SettingOutOfRange key) = 20 + key_number key
+
+-- the first of some statuses with a number
+abbrev pub status_numbered : ℕ → List Status → Option Status
+status_numbered number all = find (λ s. status_number s == number) all
+
+-- the status of a fault of a configuration: a setting that is out of its range, or the budget of a quantum
+abbrev pub fault_status : ConfigFault → Status
+fault_status (faults.OutOfRange key) = statuses.SettingOutOfRange key
+fault_status _ = statuses.ScheduleOutOfRange
+
+abbrev pub refusal_text : Refusal → List ℕ
+refusal_text BadSlot = codes "no such mutator or slot"
+refusal_text NullSlot = codes "the slot holds null"
+refusal_text BadIndex = codes "no such cell"
+refusal_text WrongKind = codes "the object has no such cells"
+refusal_text TooLarge = codes "the object is too large"
+refusal_text IdentitiesSpent = codes "all identities are spent"
+refusal_text NoSpace = codes "no space"
+refusal_text BadStatic = codes "no such static"
+refusal_text NotLive = codes "the mutator isn't live"
+refusal_text AlreadyLive = codes "the mutator is live already"
+
+abbrev pub setting_text : Key → List ℕ
+setting_text Pages = codes "pages is out of range"
+setting_text Mutators = codes "mutators is out of range"
+setting_text Slots = codes "slots is out of range"
+setting_text Statics = codes "statics is out of range"
+setting_text Identities = codes "identities is out of range"
+setting_text DefragBelow = codes "defrag_below is out of range"
+setting_text DefragPages = codes "defrag_pages is out of range"
+setting_text CollectorTicks = codes "collector_ticks is out of range"
+setting_text MutatorTicks = codes "mutator_ticks is out of range"
+setting_text Rate = codes "rate is out of range"
+setting_text Live = codes "live is out of range"
+
+abbrev pub status_text : Status → List ℕ
+status_text statuses.Done = codes "done"
+status_text (statuses.Refused refusal) = refusal_text refusal
+status_text statuses.NoMemory = codes "no memory"
+status_text statuses.Busy = codes "a cycle is on already"
+status_text statuses.BudgetOutOfRange = codes "the budget is out of range"
+status_text statuses.Closed = codes "the heap is closed"
+status_text statuses.Open = codes "the heap is open already"
+status_text statuses.ScheduleOutOfRange = codes "collector_ticks times rate is out of range"
+status_text (statuses.SettingOutOfRange key) = setting_text key
+
+-- the text of a number, which may be that of no status
+abbrev pub text_or_none : Option Status → List ℕ
+text_or_none (Some status) = status_text status
+text_or_none None = codes "no such status"
+
+abbrev pub text_of : ℕ → List ℕ
+text_of number = text_or_none (status_numbered number ALL)

@@ -1,0 +1,78 @@
+//! Replies as C sees them.
+ghost use Rattle.std.specs.Prelude.{◌≡◌};
+ghost use Rattle.metronome_c.specs.Answer.{answer_of, shape_of, shape_in, closed};
+
+use crate::status::Status;
+use graph_heap::{Reply, Shape};
+
+/// A reply: what kind it is, and its number.
+#[repr(C)]
+#[derive(Clone, Copy, Debug, PartialEq, Eq)]
+pub struct Answer {
+    pub kind: u32,
+    pub number: u64,
+}
+
+/// The shape of an object: what kind it is, and how many cells of each kind it has.
+#[repr(C)]
+#[derive(Clone, Copy, Debug, PartialEq, Eq)]
+pub struct MetronomeShape {
+    pub kind: u32,
+    pub refs: u32,
+    pub words: u32,
+}
+
+impl Answer {
+    /// The answer that tells a reply.
+    pub(crate) fn of(reply: Reply) -> Answer
+        ensures { result ≡ answer_of reply }
+    {
+        let (kind, number) = match reply {
+            Reply::Refused(refusal) => (0, u64::from(refusal.number())),
+            Reply::Made(id) => (1, id),
+            Reply::Ref(id) => (2, id),
+            Reply::Word(word) => (3, word),
+            Reply::Done => (4, 0),
+            Reply::Stored => (5, 0),
+            Reply::Kept(id) => (6, id),
+            Reply::KeptWord(word) => (7, word),
+            Reply::Is(is) => (8, u64::from(is)),
+            Reply::Described(id, _) => (9, id),
+        };
+        Answer { kind, number }
+    }
+
+    /// The answer of a handle that holds no heap.
+    pub(crate) fn closed() -> Answer
+        ensures { result ≡ closed }
+    {
+        Answer {
+            kind: 0,
+            number: u64::from(Status::Closed.number()),
+        }
+    }
+}
+
+impl MetronomeShape {
+    /// The shape, as C sees it.
+    fn of(shape: Shape) -> MetronomeShape
+        ensures { result ≡ shape_of shape }
+    {
+        let (kind, refs, words) = match shape {
+            Shape::Plain { refs, words } => (0, refs, words),
+            Shape::RefArray(refs) => (1, refs, 0),
+            Shape::WordArray(words) => (2, 0, words),
+        };
+        MetronomeShape { kind, refs, words }
+    }
+
+    /// The shape that a reply tells, or this one where it tells none.
+    pub(crate) fn told_by(self, reply: &Reply) -> MetronomeShape
+        ensures { result ≡ shape_in self reply.now }
+    {
+        match *reply {
+            Reply::Described(_, shape) => MetronomeShape::of(shape),
+            _ => self,
+        }
+    }
+}

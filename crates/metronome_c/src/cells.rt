@@ -1,0 +1,108 @@
+//! Commands on the cells of an object.
+ghost use Rattle.graph_heap.specs.declared.command.Command.TheVariants as commands;
+ghost use Rattle.metronome_c.specs.Steps.{Steps};
+
+use crate::answer::Answer;
+use crate::metronome::Metronome;
+use graph_heap::Command;
+use std::alloc::Global;
+
+/// What a reference cell holds into slot dst.
+#[unsafe(no_mangle)]
+pub extern "C" fn metronome_load(
+    alloc: Global,
+    heap: &mut Metronome,
+    mutator: u32,
+    dst: u32,
+    obj: u32,
+    i: u32,
+) -> Answer
+    ensures { Steps heap.old.handle.value mutator (commands.Load dst obj i) heap.new.handle.value result }
+{
+    heap.step(alloc, mutator, Command::Load { dst, obj, i })
+}
+
+/// What slot src holds into a reference cell.
+#[unsafe(no_mangle)]
+pub extern "C" fn metronome_store(
+    alloc: Global,
+    heap: &mut Metronome,
+    mutator: u32,
+    obj: u32,
+    i: u32,
+    src: u32,
+) -> Answer
+    ensures { Steps heap.old.handle.value mutator (commands.Store obj i src) heap.new.handle.value result }
+{
+    heap.step(alloc, mutator, Command::Store { obj, i, src })
+}
+
+/// What slot new holds into a reference cell, if that holds what slot expect does.
+#[unsafe(no_mangle)]
+pub extern "C" fn metronome_compare_store(
+    alloc: Global,
+    heap: &mut Metronome,
+    mutator: u32,
+    obj: u32,
+    i: u32,
+    expect: u32,
+    new: u32,
+) -> Answer
+    ensures { Steps heap.old.handle.value mutator (commands.CompareStore obj i expect new) heap.new.handle.value result }
+{
+    heap.step(
+        alloc,
+        mutator,
+        Command::CompareStore {
+            obj,
+            i,
+            expect,
+            new,
+        },
+    )
+}
+
+/// Reads a word cell.
+#[unsafe(no_mangle)]
+pub extern "C" fn metronome_get(
+    alloc: Global,
+    heap: &mut Metronome,
+    mutator: u32,
+    obj: u32,
+    i: u32,
+) -> Answer
+    ensures { Steps heap.old.handle.value mutator (commands.Get obj i) heap.new.handle.value result }
+{
+    heap.step(alloc, mutator, Command::Get { obj, i })
+}
+
+/// Writes a word cell.
+#[unsafe(no_mangle)]
+pub extern "C" fn metronome_put(
+    alloc: Global,
+    heap: &mut Metronome,
+    mutator: u32,
+    obj: u32,
+    i: u32,
+    word: u64,
+) -> Answer
+    ensures { Steps heap.old.handle.value mutator (commands.Put obj i word) heap.new.handle.value result }
+{
+    heap.step(alloc, mutator, Command::Put { obj, i, word })
+}
+
+/// Writes a word cell, if that is old.
+#[unsafe(no_mangle)]
+pub extern "C" fn metronome_compare_put(
+    alloc: Global,
+    heap: &mut Metronome,
+    mutator: u32,
+    obj: u32,
+    i: u32,
+    old: u64,
+    new: u64,
+) -> Answer
+    ensures { Steps heap.old.handle.value mutator (commands.ComparePut obj i old new) heap.new.handle.value result }
+{
+    heap.step(alloc, mutator, Command::ComparePut { obj, i, old, new })
+}

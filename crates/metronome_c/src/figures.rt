@@ -1,0 +1,95 @@
+//! What is told of a heap as a whole.
+ghost use Rattle.std.specs.Prelude.{◌≡◌};
+ghost use Rattle.heap_model.specs.Pages as pages;
+ghost use Rattle.metronome_c.specs.Collecting as collecting;
+ghost use Rattle.metronome_c.specs.Figures.{Tells, counts_of};
+
+use crate::metronome::Metronome;
+use crate::phase::phase_number;
+use crate::status::Status;
+use std::alloc::Global;
+
+/// The counts of a heap: its pages, its root cells, and the objects that it holds.
+#[repr(C)]
+#[derive(Clone, Copy, Debug, PartialEq, Eq)]
+pub struct Counts {
+    pub pages: u64,
+    pub free_pages: u64,
+    pub root_cells: u64,
+    /// Root cells that aren't null.
+    pub roots_used: u64,
+    pub objects: u64,
+    /// Parts of objects, by their main copies.
+    pub parts: u64,
+    /// Copies that forward to another one.
+    pub old_copies: u64,
+}
+
+/// Tells the phase.
+#[unsafe(no_mangle)]
+pub extern "C" fn metronome_phase(alloc: Global, heap: &mut Metronome, phase: &mut u32) -> u32
+    ensures { Tells (λ h. collecting.phase_number h.phase) heap.old.handle.value heap.new.handle.value phase.old phase.new result }
+{
+    if !heap.is_open {
+        return Status::Closed.number();
+    }
+    let inner = heap.take(alloc);
+    *phase = phase_number(inner.phase());
+    *heap = Metronome::of(inner);
+    Status::Done.number()
+}
+
+/// Tells the units that were spent since the last cycle began.
+#[unsafe(no_mangle)]
+pub extern "C" fn metronome_units(alloc: Global, heap: &mut Metronome, units: &mut u64) -> u32
+    ensures { Tells (λ h. h.units) heap.old.handle.value heap.new.handle.value units.old units.new result }
+{
+    if !heap.is_open {
+        return Status::Closed.number();
+    }
+    let inner = heap.take(alloc);
+    *units = inner.units();
+    *heap = Metronome::of(inner);
+    Status::Done.number()
+}
+
+/// Tells how many pages are free.
+#[unsafe(no_mangle)]
+pub extern "C" fn metronome_free_pages(
+    alloc: Global,
+    heap: &mut Metronome,
+    free_pages: &mut u64,
+) -> u32
+    ensures { Tells (λ h. pages.free_pages h.store.pages) heap.old.handle.value heap.new.handle.value free_pages.old free_pages.new result }
+{
+    if !heap.is_open {
+        return Status::Closed.number();
+    }
+    let inner = heap.take(alloc);
+    *free_pages = inner.free_pages() as u64;
+    *heap = Metronome::of(inner);
+    Status::Done.number()
+}
+
+/// Tells the counts. It looks at each block.
+#[unsafe(no_mangle)]
+pub extern "C" fn metronome_count(alloc: Global, heap: &mut Metronome, counts: &mut Counts) -> u32
+    ensures { Tells counts_of heap.old.handle.value heap.new.handle.value counts.old counts.new result }
+{
+    if !heap.is_open {
+        return Status::Closed.number();
+    }
+    let inner = heap.take(alloc);
+    let copies = inner.copies();
+    *counts = Counts {
+        pages: inner.pages() as u64,
+        free_pages: inner.free_pages() as u64,
+        root_cells: inner.root_cells() as u64,
+        roots_used: inner.roots_used() as u64,
+        objects: copies.objects as u64,
+        parts: copies.parts as u64,
+        old_copies: copies.old as u64,
+    };
+    *heap = Metronome::of(inner);
+    Status::Done.number()
+}

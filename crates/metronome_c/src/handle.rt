@@ -1,0 +1,90 @@
+//! What C holds of a heap.
+ghost use Rattle.std.specs.Prelude.{◌≡◌, Option, Some, None, IsSome};
+ghost use Rattle.std.specs.Coded.{coded_option};
+ghost use Rattle.std.specs.Box.Ownership.{box_owns};
+ghost use Rattle.machine.specs.contracts.heap.Heap.{the_row};
+ghost use Rattle.metronome_c.specs.Kept.{kept};
+
+use machine::Heap;
+use std::alloc::{Allocator, Global};
+use std::marker::Model;
+
+/// A box as its pointer.
+pub(crate) struct Loose<T, A: Allocator> {
+    at: *mut T,
+    alloc: A,
+    pub(crate) ghost value: { T },
+}
+
+impl<T, A: Allocator> Model for Loose<T, A> {
+    ghost also_owns = { λ l. box_owns (A.dealloc_token l.alloc) T.row l.at l.value };
+}
+
+impl<T: Drop, A: Allocator> Loose<T, A> {
+    /// The box's pointer.
+    pub(crate) fn of(value: Box<T, A>) -> Loose<T, A>
+        ensures { result.value ≡ value.value }
+    {
+        let (at, alloc) = Box::into_raw_with_allocator(value);
+        Loose { at, alloc }
+    }
+
+    /// The box again.
+    pub(crate) fn into_box(self) -> Box<T, A>
+        ensures { result.value ≡ self.value }
+    {
+        let Loose { at, alloc } = self;
+        unsafe { Box::from_raw(alloc, at) }
+    }
+}
+
+/// A heap as C holds it: a pointer to a box that is owned, or nothing.
+#[repr(C)]
+#[derive(Drop)]
+pub struct Handle {
+    at: *mut u8,
+    alloc: Global,
+    pub ghost value: { Option (the_row.Denot) } by { coded_option the_row.coded },
+}
+
+impl Model for Handle {
+    ghost also_owns = { λ h. kept h.alloc h.at h.value };
+}
+
+// SAFETY: a handle owns the box of its heap, which any thread may give back, and a heap may go to another thread.
+unsafe impl Send for Handle {}
+
+impl Handle {
+    /// No heap.
+    pub(crate) fn empty(alloc: Global) -> Handle
+        ensures { result.value ≡ None }
+    {
+        Handle {
+            at: std::ptr::null_mut(),
+            alloc,
+        }
+    }
+
+    /// This heap.
+    pub(crate) fn shut(value: Loose<Heap, Global>) -> Handle
+        ensures { result.value ≡ Some value.value }
+    {
+        let Loose { at, alloc } = value;
+        Handle {
+            at: at as *mut u8,
+            alloc,
+        }
+    }
+
+    /// The heap.
+    pub(crate) fn open(self) -> Loose<Heap, Global>
+        requires { IsSome self.value }
+        ensures { self.value ≡ Some result.value }
+    {
+        let Handle { at, alloc } = self;
+        Loose {
+            at: at as *mut Heap,
+            alloc,
+        }
+    }
+}

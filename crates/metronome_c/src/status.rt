@@ -1,0 +1,175 @@
+//! What a call comes to, and the number by which C is told.
+ghost use Rattle.std.specs.Prelude.{◌≡◌};
+ghost use Rattle.metronome_c.specs.Status as statuses;
+ghost use Rattle.metronome_c.specs.Status.{status_number, status_numbered, fault_status};
+ghost use Rattle.metronome_c.specs.declared.status.TheConstants.Status.{ALL};
+
+use graph_heap::Refusal;
+use size_classes::{ConfigFault, Key};
+
+/// What a call comes to.
+#[derive(Clone, Copy, Debug, PartialEq, Eq)]
+pub enum Status {
+    Done,
+    Refused(Refusal),
+    NoMemory,
+    /// A cycle is on already.
+    Busy,
+    /// The budget of a quantum isn't 256 to 1000000.
+    BudgetOutOfRange,
+    /// The handle holds no heap.
+    Closed,
+    /// The handle holds a heap already.
+    Open,
+    /// `collector_ticks` times `rate` isn't 256 to 1000000.
+    ScheduleOutOfRange,
+    SettingOutOfRange(Key),
+}
+
+/// The place of a key among the settings, from 0.
+fn key_number(key: Key) -> u32
+    ensures { result ≡ statuses.key_number key }
+{
+    match key {
+        Key::Pages => 0,
+        Key::Mutators => 1,
+        Key::Slots => 2,
+        Key::Statics => 3,
+        Key::Identities => 4,
+        Key::DefragBelow => 5,
+        Key::DefragPages => 6,
+        Key::CollectorTicks => 7,
+        Key::MutatorTicks => 8,
+        Key::Rate => 9,
+        Key::Live => 10,
+    }
+}
+
+impl Status {
+    /// All of them.
+    pub const ALL: [Status; 28] = [
+        Status::Done,
+        Status::Refused(Refusal::BadSlot),
+        Status::Refused(Refusal::NullSlot),
+        Status::Refused(Refusal::BadIndex),
+        Status::Refused(Refusal::WrongKind),
+        Status::Refused(Refusal::TooLarge),
+        Status::Refused(Refusal::IdentitiesSpent),
+        Status::Refused(Refusal::NoSpace),
+        Status::Refused(Refusal::BadStatic),
+        Status::NoMemory,
+        Status::Busy,
+        Status::BudgetOutOfRange,
+        Status::Refused(Refusal::NotLive),
+        Status::Refused(Refusal::AlreadyLive),
+        Status::Closed,
+        Status::Open,
+        Status::ScheduleOutOfRange,
+        Status::SettingOutOfRange(Key::Pages),
+        Status::SettingOutOfRange(Key::Mutators),
+        Status::SettingOutOfRange(Key::Slots),
+        Status::SettingOutOfRange(Key::Statics),
+        Status::SettingOutOfRange(Key::Identities),
+        Status::SettingOutOfRange(Key::DefragBelow),
+        Status::SettingOutOfRange(Key::DefragPages),
+        Status::SettingOutOfRange(Key::CollectorTicks),
+        Status::SettingOutOfRange(Key::MutatorTicks),
+        Status::SettingOutOfRange(Key::Rate),
+        Status::SettingOutOfRange(Key::Live),
+    ];
+
+    /// The number by which C is told.
+    pub fn number(self) -> u32
+        ensures { result ≡ status_number self }
+    {
+        match self {
+            Status::Done => 0,
+            Status::Refused(refusal) => u32::from(refusal.number()),
+            Status::NoMemory => 9,
+            Status::Busy => 11,
+            Status::BudgetOutOfRange => 12,
+            Status::Closed => 16,
+            Status::Open => 17,
+            Status::ScheduleOutOfRange => 18,
+            Status::SettingOutOfRange(key) => 20 + key_number(key),
+        }
+    }
+
+    /// The status of a number, if it is one of a status.
+    pub fn numbered(number: u32) -> Option<Status>
+        ensures { result ≡ status_numbered number ALL }
+    {
+        first_numbered(number, &Status::ALL)
+    }
+
+    /// The status of a fault of a configuration.
+    pub fn of_fault(fault: ConfigFault) -> Status
+        ensures { result ≡ fault_status fault }
+    {
+        match fault {
+            ConfigFault::OutOfRange(key) => Status::SettingOutOfRange(key),
+            _ => Status::ScheduleOutOfRange,
+        }
+    }
+
+    /// What a user is told.
+    pub fn text(self) -> &'static str
+        ensures { result.now ≡ statuses.status_text self }
+    {
+        match self {
+            Status::Done => "done",
+            Status::Refused(refusal) => refusal_text(refusal),
+            Status::NoMemory => "no memory",
+            Status::Busy => "a cycle is on already",
+            Status::BudgetOutOfRange => "the budget is out of range",
+            Status::Closed => "the heap is closed",
+            Status::Open => "the heap is open already",
+            Status::ScheduleOutOfRange => "collector_ticks times rate is out of range",
+            Status::SettingOutOfRange(key) => setting_text(key),
+        }
+    }
+}
+
+/// The first status with a number.
+fn first_numbered(number: u32, all: &[Status]) -> Option<Status>
+    ensures { result ≡ status_numbered number all.now }
+{
+    all.iter().find(|s| s.number() == number).copied()
+}
+
+/// Why a command was refused.
+fn refusal_text(refusal: Refusal) -> &'static str
+    ensures { result.now ≡ statuses.refusal_text refusal }
+{
+    match refusal {
+        Refusal::BadSlot => "no such mutator or slot",
+        Refusal::NullSlot => "the slot holds null",
+        Refusal::BadIndex => "no such cell",
+        Refusal::WrongKind => "the object has no such cells",
+        Refusal::TooLarge => "the object is too large",
+        Refusal::IdentitiesSpent => "all identities are spent",
+        Refusal::NoSpace => "no space",
+        Refusal::BadStatic => "no such static",
+        Refusal::NotLive => "the mutator isn't live",
+        Refusal::AlreadyLive => "the mutator is live already",
+    }
+}
+
+/// Which setting is out of its range.
+fn setting_text(key: Key) -> &'static str
+    ensures { result.now ≡ statuses.setting_text key }
+{
+    match key {
+        Key::Pages => "pages is out of range",
+        Key::Mutators => "mutators is out of range",
+        Key::Slots => "slots is out of range",
+        Key::Statics => "statics is out of range",
+        Key::Identities => "identities is out of range",
+        Key::DefragBelow => "defrag_below is out of range",
+        Key::DefragPages => "defrag_pages is out of range",
+        Key::CollectorTicks => "collector_ticks is out of range",
+        Key::MutatorTicks => "mutator_ticks is out of range",
+        Key::Rate => "rate is out of range",
+        Key::Live => "live is out of range",
+    }
+}

@@ -1,7 +1,9 @@
 -- What is told of a heap as a whole.
 use Rattle.std.specs.Prelude.{◌≡◌, ℕ, length, Option, Some, None}
+use Rattle.graph_heap.specs.Graph.{Graph}
 use Rattle.heap_model.specs.Pages.{free_pages}
 use Rattle.heap_model.specs.State.{HeapState}
+use Rattle.heap_model.specs.Standing.{Stands}
 use Rattle.nodes.specs.Copies.{copies_in}
 use Rattle.roots.specs.Used.{used_in}
 use Rattle.metronome_c.specs.declared.figures.Counts.{Counts}
@@ -12,6 +14,10 @@ use Rattle.metronome_c.specs.Status.{status_number}
 abbrev pub Tells : {A : Type 0} → (HeapState → A) → Option HeapState → Option HeapState → A → A → ℕ → Type 0
 Tells tell None new before after status = (new ≡ None) × (after ≡ before) × (status ≡ status_number Closed)
 Tells tell (Some h) new before after status = (new ≡ Some h) × (after ≡ tell h) × (status ≡ status_number Done)
+
+-- a heap stands for some graph heap at present, and for one when the last cycle began
+abbrev pub StandsForSome : HeapState → Type 0
+StandsForSome h = (present : Graph) × (snapshot : Graph) × Stands h present snapshot
 
 -- the counts of a heap: pages, root cells, objects with the parts that they have, and old copies
 abbrev pub counts_of : HeapState → Counts

@@ -1,8 +1,9 @@
 //! What is told of a heap as a whole.
-ghost use Rattle.std.specs.Prelude.{◌≡◌};
+ghost use Rattle.std.specs.Prelude.{◌≡◌, ◌≤◌, IfSome};
 ghost use Rattle.heap_model.specs.Pages as pages;
 ghost use Rattle.metronome_c.specs.Collecting as collecting;
-ghost use Rattle.metronome_c.specs.Figures.{Tells, counts_of};
+ghost use Rattle.heap_model.specs.Spent.{cycle_limit};
+ghost use Rattle.metronome_c.specs.Figures.{Tells, StandsForSome, counts_of};
 
 use crate::metronome::Metronome;
 use crate::phase::phase_number;
@@ -25,10 +26,11 @@ pub struct Counts {
     pub old_copies: u64,
 }
 
-/// Tells the phase.
+/// Tells the phase. A heap always stands for some graph heap at present, and for one when the last cycle began.
 #[unsafe(no_mangle)]
 pub extern "C" fn metronome_phase(alloc: Global, heap: &mut Metronome, phase: &mut u32) -> u32
-    ensures { Tells (λ h. collecting.phase_number h.phase) heap.old.handle.value heap.new.handle.value phase.old phase.new result }
+    ensures phase { Tells (λ h. collecting.phase_number h.phase) heap.old.handle.value heap.new.handle.value phase.old phase.new result }
+    ensures stands { IfSome heap.old.handle.value StandsForSome }
 {
     if !heap.is_open {
         return Status::Closed.number();
@@ -39,10 +41,11 @@ pub extern "C" fn metronome_phase(alloc: Global, heap: &mut Metronome, phase: &m
     Status::Done.number()
 }
 
-/// Tells the units that were spent since the last cycle began.
+/// Tells the units that were spent since the last cycle began: no more than a cycle may spend.
 #[unsafe(no_mangle)]
 pub extern "C" fn metronome_units(alloc: Global, heap: &mut Metronome, units: &mut u64) -> u32
-    ensures { Tells (λ h. h.units) heap.old.handle.value heap.new.handle.value units.old units.new result }
+    ensures units { Tells (λ h. h.units) heap.old.handle.value heap.new.handle.value units.old units.new result }
+    ensures within { IfSome heap.old.handle.value (λ h. h.units ≤ cycle_limit h) }
 {
     if !heap.is_open {
         return Status::Closed.number();

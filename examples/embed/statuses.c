@@ -1,0 +1,159 @@
+/*
+ * Each status that the header names of each function. Slot 0 holds an object with a cell of each kind, slot 1 an array of one
+ * word, slot 2 an array of one reference, and slot 3 null; mutator 1 isn't live, and there is no mutator 2.
+ */
+#include "metronome.h"
+#include <stdio.h>
+
+static metronome heap = METRONOME_CLOSED;
+static int passed, failed;
+
+static void check(int holds, int line) {
+    if (holds) {
+        passed++;
+    } else {
+        failed++;
+        fprintf(stderr, "failed: line %d\n", line);
+    }
+}
+
+#define REFUSED(status, call) \
+    do { \
+        metronome_answer answer = (call); \
+        check(answer.kind == METRONOME_REFUSED && answer.number == (status), __LINE__); \
+    } while (0)
+
+#define IS(status, call) check((call) == (uint32_t)(status), __LINE__)
+
+/* A command of a mutator that there isn't, and of one that isn't live. */
+#define LIVENESS(name, ...) \
+    do { \
+        REFUSED(METRONOME_BAD_SLOT, metronome_##name(&heap, 2, __VA_ARGS__)); \
+        REFUSED(METRONOME_NOT_LIVE, metronome_##name(&heap, 1, __VA_ARGS__)); \
+    } while (0)
+
+static void check_new(void) {
+    LIVENESS(new_plain, 3, 0, 0);
+    LIVENESS(new_refs, 3, 0);
+    LIVENESS(new_words, 3, 0);
+    REFUSED(METRONOME_BAD_SLOT, metronome_new_plain(&heap, 0, 4, 0, 0));
+    REFUSED(METRONOME_BAD_SLOT, metronome_new_refs(&heap, 0, 4, 0));
+    REFUSED(METRONOME_BAD_SLOT, metronome_new_words(&heap, 0, 4, 0));
+    REFUSED(METRONOME_TOO_LARGE, metronome_new_plain(&heap, 0, 3, 126, 127));
+    REFUSED(METRONOME_TOO_LARGE, metronome_new_refs(&heap, 0, 3, 4000001));
+    REFUSED(METRONOME_TOO_LARGE, metronome_new_words(&heap, 0, 3, 4000001));
+    REFUSED(METRONOME_NO_SPACE, metronome_new_plain(&heap, 0, 3, 0, 252));
+    REFUSED(METRONOME_NO_SPACE, metronome_new_refs(&heap, 0, 3, 4000000));
+    REFUSED(METRONOME_NO_SPACE, metronome_new_words(&heap, 0, 3, 4000000));
+}
+
+static void check_spent(void) {
+    REFUSED(METRONOME_IDENTITIES_SPENT, metronome_new_plain(&heap, 0, 3, 1, 1));
+    REFUSED(METRONOME_IDENTITIES_SPENT, metronome_new_refs(&heap, 0, 3, 1));
+    REFUSED(METRONOME_IDENTITIES_SPENT, metronome_new_words(&heap, 0, 3, 1));
+}
+
+/* A command on cell i of slot obj, as an expression of these two; `wrong` holds an array without cells of that kind. */
+#define CELLS(wrong, call) \
+    do { \
+        uint32_t m = 0, obj = 0, i = 0; \
+        REFUSED(METRONOME_BAD_SLOT, (m = 2, call)); \
+        REFUSED(METRONOME_NOT_LIVE, (m = 1, call)); \
+        REFUSED(METRONOME_BAD_SLOT, (m = 0, obj = 4, call)); \
+        REFUSED(METRONOME_NULL_SLOT, (obj = 3, call)); \
+        REFUSED(METRONOME_WRONG_KIND, (obj = (wrong), call)); \
+        REFUSED(METRONOME_BAD_INDEX, (obj = 0, i = 1, call)); \
+    } while (0)
+
+static void check_cells(void) {
+    CELLS(1, metronome_load(&heap, m, 3, obj, i));
+    CELLS(1, metronome_store(&heap, m, obj, i, 3));
+    CELLS(1, metronome_compare_store(&heap, m, obj, i, 3, 3));
+    CELLS(2, metronome_get(&heap, m, obj, i));
+    CELLS(2, metronome_put(&heap, m, obj, i, 7));
+    CELLS(2, metronome_compare_put(&heap, m, obj, i, 7, 8));
+    REFUSED(METRONOME_BAD_SLOT, metronome_load(&heap, 0, 4, 0, 0));
+    REFUSED(METRONOME_BAD_SLOT, metronome_store(&heap, 0, 0, 0, 4));
+    REFUSED(METRONOME_BAD_SLOT, metronome_compare_store(&heap, 0, 0, 0, 4, 3));
+    REFUSED(METRONOME_BAD_SLOT, metronome_compare_store(&heap, 0, 0, 0, 3, 4));
+}
+
+static void check_slots(void) {
+    metronome_shape shape = { 7, 7, 7 };
+    LIVENESS(copy, 3, 3);
+    LIVENESS(clear, 3);
+    LIVENESS(load_static, 3, 0);
+    LIVENESS(store_static, 0, 3);
+    LIVENESS(compare_static, 0, 3, 3);
+    LIVENESS(same, 0, 0);
+    LIVENESS(describe, 0, &shape);
+    REFUSED(METRONOME_BAD_SLOT, metronome_copy(&heap, 0, 4, 0));
+    REFUSED(METRONOME_BAD_SLOT, metronome_copy(&heap, 0, 3, 4));
+    REFUSED(METRONOME_BAD_SLOT, metronome_clear(&heap, 0, 4));
+    REFUSED(METRONOME_BAD_SLOT, metronome_load_static(&heap, 0, 4, 0));
+    REFUSED(METRONOME_BAD_SLOT, metronome_store_static(&heap, 0, 0, 4));
+    REFUSED(METRONOME_BAD_SLOT, metronome_compare_static(&heap, 0, 0, 4, 0));
+    REFUSED(METRONOME_BAD_SLOT, metronome_same(&heap, 0, 0, 4));
+    REFUSED(METRONOME_BAD_SLOT, metronome_describe(&heap, 0, 4, &shape));
+    REFUSED(METRONOME_NULL_SLOT, metronome_describe(&heap, 0, 3, &shape));
+    REFUSED(METRONOME_BAD_STATIC, metronome_load_static(&heap, 0, 3, 1));
+    REFUSED(METRONOME_BAD_STATIC, metronome_store_static(&heap, 0, 1, 3));
+    REFUSED(METRONOME_BAD_STATIC, metronome_compare_static(&heap, 0, 1, 3, 3));
+    REFUSED(METRONOME_BAD_SLOT, metronome_join(&heap, 2));
+    REFUSED(METRONOME_ALREADY_LIVE, metronome_join(&heap, 0));
+    REFUSED(METRONOME_BAD_SLOT, metronome_leave(&heap, 2));
+    REFUSED(METRONOME_NOT_LIVE, metronome_leave(&heap, 1));
+    check(shape.kind == 7 && shape.refs == 7 && shape.words == 7, __LINE__);
+}
+
+static void check_collector(void) {
+    metronome_spent spent = { 7, 7 };
+    IS(METRONOME_BAD_BUDGET, metronome_quantum(&heap, 255, &spent));
+    IS(METRONOME_BAD_BUDGET, metronome_quantum(&heap, 1000001, &spent));
+    check(spent.units == 7 && spent.phase == 7, __LINE__);
+    IS(METRONOME_OK, metronome_begin(&heap));
+    IS(METRONOME_BUSY, metronome_begin(&heap));
+    IS(METRONOME_OK, metronome_quantum(&heap, 1000000, &spent));
+    check(spent.units > 0 && spent.units <= 1000000 && spent.phase == METRONOME_IDLE, __LINE__);
+}
+
+/* The objects of the slots. */
+static void fill(metronome_settings settings) {
+    IS(METRONOME_OK, metronome_create(&heap, &settings));
+    IS(METRONOME_OPEN, metronome_create(&heap, &settings));
+    check(metronome_new_plain(&heap, 0, 0, 1, 1).kind == METRONOME_MADE, __LINE__);
+    check(metronome_new_words(&heap, 0, 1, 1).kind == METRONOME_MADE, __LINE__);
+    check(metronome_new_refs(&heap, 0, 2, 1).kind == METRONOME_MADE, __LINE__);
+}
+
+/* Each setting out of its range, in turn, and the budget of the schedule. */
+static void check_settings(metronome_settings settings) {
+    for (uint32_t place = 0; place <= 10; place++) {
+        metronome_settings faulty = settings;
+        (&faulty.pages)[place] = -1;
+        IS(METRONOME_BAD_SETTING + place, metronome_create(&heap, &faulty));
+    }
+    settings.rate = 25;
+    IS(METRONOME_BAD_SCHEDULE, metronome_create(&heap, &settings));
+    REFUSED(METRONOME_NO_HEAP, metronome_get(&heap, 0, 0, 0));
+}
+
+int main(void) {
+    /* One page for the cell of two kinds, and one for the two arrays of one cell: there is none for other sizes. */
+    metronome_settings settings = METRONOME_SETTINGS(2, 2, 4);
+    settings.statics = 1;
+    settings.live = 1;
+    check_settings(settings);
+    fill(settings);
+    check_new();
+    check_cells();
+    check_slots();
+    check_collector();
+    metronome_destroy(&heap);
+    settings.identities = 3;
+    fill(settings);
+    check_spent();
+    metronome_destroy(&heap);
+    printf("%d passed, %d failed\n", passed, failed);
+    return failed != 0;
+}

@@ -40,7 +40,7 @@ fn refusals_change_nothing(rt: HostRuntime) -> Result<(), NoMemory> {
     assert_eq!(rt; heap.step(0, plain(0, 0, 1)), Reply::Made(1));
     refuses(&rt, &mut heap, Phase::Idle, 0);
     spends(&rt, &mut heap, 256, 0, Phase::Idle);
-    stands(&rt, &heap, Phase::Idle, 0);
+    stands(&rt, &mut heap, Phase::Idle, 0);
     assert_eq!(rt; heap.begin(), Ok(()));
     refuses(&rt, &mut heap, Phase::Roots { next: 0 }, 0);
     let roots = Phase::Roots { next: 256 };
@@ -57,7 +57,7 @@ fn refusals_change_nothing(rt: HostRuntime) -> Result<(), NoMemory> {
     spends(&rt, &mut heap, 1_000_000, 160, Phase::Idle);
     refuses(&rt, &mut heap, Phase::Idle, 929);
     spends(&rt, &mut heap, 1_000_000, 0, Phase::Idle);
-    stands(&rt, &heap, Phase::Idle, 929);
+    stands(&rt, &mut heap, Phase::Idle, 929);
     Ok(())
 }
 

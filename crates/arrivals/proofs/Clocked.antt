@@ -1,33 +1,25 @@
 -- Each line that keeps to a load keeps to its pace.
-use Rattle.std.proofs.Common.{◌≡◌, ◌≢◌, ℕ, ◌+◌, ◌-◌, ◌*◌, ◌<◌, ◌≤◌, ◌⊎◌, inl, inr, Bool, true, false, max, nat_lt, if◌then◌else◌, List, [], ◌∷◌, ◌++◌, Option, Some, None, ap, ◌∙◌, sym, subst, arith, refl}
+use Rattle.std.proofs.Common.{◌≡◌, ℕ, ◌+◌, ◌-◌, ◌*◌, ◌<◌, ◌≤◌, inl, inr, Bool, true, false, max, if◌then◌else◌, List, [], ◌∷◌, Option, Some, None, ap, ◌∙◌, sym, subst, arith, refl}
 use Rattle.std.specs.List.{last_or}
-use Rattle.std.proofs.lemmas.Bool.{cases_lt}
 use Rattle.std.proofs.Math.Nat.{mul-le-mul_left}
 use Rattle.graph_heap.specs.declared.command.Command.{Command}
 use Rattle.graph_heap.specs.declared.command.Reply.{Reply}
-use Rattle.graph_heap.specs.Graph.{opening}
 use Rattle.size_classes.specs.declared.class.TheConstants.{CLASSES}
-use Rattle.heap_model.specs.declared.phase.Phase.{Phase}
-use Rattle.heap_model.specs.declared.phase.Phase.TheVariants as phases
 use Rattle.heap_model.specs.State.{HeapState}
-use Rattle.heap_model.specs.Opening.{IsOpening}
-use Rattle.heap_model.specs.Event.{Course, Event, Command_done, Cycle_begun, Cycle_on, Quantum_done, Quantum_refused, Collects, Does, present_of, room_for, change_by}
-use Rattle.heap_model.proofs.Stood.{idle_chain}
+use Rattle.heap_model.specs.Event.{Event, Command_done, Quantum_done, present_of, room_for, change_by}
 use Rattle.heap_model.proofs.Left.{change_left}
-use Rattle.quanta.specs.Timetable.{Timetable, first_due, start_after, due_below}
-use Rattle.quanta.specs.Timetable as timetables
+use Rattle.quanta.specs.Timetable.{first_due, start_after, due_below}
 use Rattle.quanta.specs.declared.interval.Interval.{Interval}
-use Rattle.quanta.proofs.Lasts.{last_or-append}
 use Rattle.trace.specs.declared.line.Line.{Line}
 use Rattle.trace.specs.declared.line.Line.TheVariants as lines
-use Rattle.player.specs.Player.{PlayerState, behind_quantum, placed, quantum_behind, QuantaDue, None_yet, One_more, DoesLine, Skips, Commands, Begins, Goes_on, Spends, Ticks}
+use Rattle.player.specs.Player.{PlayerState, behind_quantum, quantum_behind, QuantaDue, None_yet, One_more, DoesLine, Skips, Commands, Begins, Goes_on, Spends, Ticks}
 use Rattle.space.specs.Demand.{asked_for}
 use Rattle.space.specs.Room.{asks}
-use Rattle.space.specs.Pace.{Pace, Beat, opening_beat, next_beat, in_cycle, KeepsPace, AllKeepPace}
+use Rattle.space.specs.Pace.{Beat, next_beat, in_cycle, KeepsPace, AllKeepPace}
 use Rattle.space.proofs.Roomless.{asks_less}
-use Rattle.arrivals.specs.Load.{Load, clock_after, AsksFrom, Arrives, BeginsOften, AreBudgets, KeepsLoad, AllLive, pace_of}
-use Rattle.arrivals.proofs.Beats.{beats, beats_more, keep_more, next_on, next_off, on_or_off, idle_phase, busy_phase}
-use Rattle.arrivals.proofs.Dues.{EndsQuantum, ends_quantum, IsTimed, IsSoon, rests, dues_timed, due_soon, dues_clock, not_below}
+use Rattle.arrivals.specs.Load.{Load, clock_after, AsksFrom, Arrives, BeginsOften, AreBudgets, AllLive, pace_of}
+use Rattle.arrivals.proofs.Beats.{beats, beats_more, next_on, next_off, on_or_off, busy_phase}
+use Rattle.arrivals.proofs.Dues.{EndsQuantum, ends_quantum, IsTimed, IsSoon, rests, dues_timed, due_soon, not_below}
 
 pub from_here : (l : Load) (clock : ℕ) (ls : List Line) → Arrives l clock ls → AsksFrom l clock (λ class. 0) clock ls
 from_here l clock [] a = tt

@@ -2,6 +2,7 @@
 use Rattle.std.proofs.Common.{◌≡◌, ◌≢◌, ◌⊎◌, inl, inr, ℕ, ◌+◌, ◌-◌, ◌/◌, ◌<◌, ◌≤◌, Bool, true, false, length, get_or, ap, ◌∙◌, sym, subst, arith, refl, length-set, ◌==◌, if◌then◌else◌}
 use Rattle.std.specs.Prelude.{List, Option, Some, None, IsSome, IsNone, IfSome, ◌↔◌}
 use Rattle.std.proofs.lemmas.List.{length-replicate}
+use Rattle.std.proofs.Math.Nat.{eq-zero-or-pos}
 use Rattle.graph_heap.specs.declared.command.Shape.{Shape}
 use Rattle.graph_heap.specs.declared.command.Shape.TheVariants.{Plain, RefArray, WordArray}
 use Rattle.graph_heap.specs.Shape.{fits}
@@ -46,9 +47,6 @@ gives_by o q w s = some_by o q w s
 
 pub at_some : (o : Option ℕ) (P : ℕ → Type 0) (x : ℕ) → o ≡ Some x → IfSome o P → P x
 at_some o P x e w = subst (λ z. IfSome z P) e w
-
-zero_or : (n : ℕ) → (n ≡ 0) ⊎ (0 < n)
-zero_or n = grind arith
 
 same_or : (a b : ℕ) → (a ≡ b) ⊎ (a ≢ b)
 same_or a b = grind arith
@@ -101,7 +99,7 @@ module _ (old new : Store) (shape : Shape) (colour : Bool) (id : ℕ) (spines : 
   Stands s b k = (is_held s b ≡ true) × (length (node_of s b).cells ≡ part_cells (cells_of shape) k)
 
   then_written : (P : Store → Type 0) → P w.between → (0 < part → P w.between → P new) → P new
-  then_written P p q = elim (zero_or part) [ inl e ↦ subst P (sym (w.root e)) p | inr l ↦ q l p ]
+  then_written P p q = elim (eq-zero-or-pos part) [ inl e ↦ subst P (sym (w.root e)) p | inr l ↦ q l p ]
 
   pub part_held : (b : ℕ) → is_held old b ≡ true → is_held new b ≡ true
   part_held b h = then_written (λ s. is_held s b ≡ true) (added_held old w.between address _ w.added b h) (λ l k. held_pages w.between new b (w.written l).pages ∙ k)

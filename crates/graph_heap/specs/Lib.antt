@@ -6,3 +6,4 @@ pub mod History
 pub mod Reach
 pub mod Stored
 pub mod Reference
+pub mod Reaching

@@ -8,6 +8,8 @@ ghost use Rattle.graph_heap.specs.Stored.{object_in};
 ghost use Rattle.graph_heap.specs.History as history;
 ghost use Rattle.graph_heap.specs.History.{IsEntryOf, after_entry};
 
+mod reaching;
+
 use crate::admission::{admit, live_row, set_live};
 use crate::command::{
     ARRAY_CELLS, Change, Command, Entry, Limits, PLAIN_CELLS, Refusal, Reply, Shape,

@@ -1,10 +1,11 @@
 //! The objects of the slow heap.
-ghost use Rattle.std.specs.Prelude.{◌≡◌, map, slice_get};
+ghost use Rattle.std.specs.Prelude.{◌≡◌, map, slice_get, slice_index, slice_set, length, nat_lt, if◌then◌else◌, Ok, Err};
 ghost use Rattle.graph_heap.specs.Shape as shapes;
 ghost use Rattle.graph_heap.specs.Graph as graph;
 ghost use Rattle.graph_heap.specs.Graph.{put_object, with_ref, with_word};
 ghost use Rattle.graph_heap.specs.Effect.{object_at, ref_at, word_at, Sees};
 ghost use Rattle.graph_heap.specs.Stored.{object_in};
+ghost use Rattle.graph_heap.specs.declared.command.Refusal.TheVariants as refusals;
 
 use crate::command::{Refusal, Shape};
 
@@ -20,8 +21,7 @@ pub fn takes_refs(shape: Shape) -> bool
     ensures { result ≡ shapes.takes_refs shape }
 {
     match shape {
-        Shape::Plain { .. } => true,
-        Shape::RefArray(_) => true,
+        Shape::Plain { .. } | Shape::RefArray(_) => true,
         Shape::WordArray(_) => false,
     }
 }
@@ -30,9 +30,23 @@ pub fn takes_words(shape: Shape) -> bool
     ensures { result ≡ shapes.takes_words shape }
 {
     match shape {
-        Shape::Plain { .. } => true,
+        Shape::Plain { .. } | Shape::WordArray(_) => true,
         Shape::RefArray(_) => false,
-        Shape::WordArray(_) => true,
+    }
+}
+
+/// What a cell holds, of an object that takes such cells or not.
+fn cell_of(takes: bool, cells: &[u64], i: u32) -> Result<u64, Refusal>
+    ensures { result ≡ if takes then (if nat_lt i (length cells.now) then Ok (slice_index cells.now i) else Err refusals.BadIndex) else Err refusals.WrongKind }
+{
+    if !takes {
+        return Err(Refusal::WrongKind);
+    }
+    let i = i as usize;
+    if i < cells.len() {
+        Ok(cells[i])
+    } else {
+        Err(Refusal::BadIndex)
     }
 }
 
@@ -41,15 +55,7 @@ pub fn ref_of(objects: &[StoredObject], id: u64, i: u32) -> Result<u64, Refusal>
     ensures { result ≡ ref_at (map object_in objects.now) id i }
 {
     let object = object_of(objects, id)?;
-    if !takes_refs(object.shape) {
-        return Err(Refusal::WrongKind);
-    }
-    let i = i as usize;
-    if i < object.refs.len() {
-        Ok(object.refs[i])
-    } else {
-        Err(Refusal::BadIndex)
-    }
+    cell_of(takes_refs(object.shape), object.refs.as_slice(), i)
 }
 
 /// What a word cell holds.
@@ -57,15 +63,7 @@ pub fn word_of(objects: &[StoredObject], id: u64, i: u32) -> Result<u64, Refusal
     ensures { result ≡ word_at (map object_in objects.now) id i }
 {
     let object = object_of(objects, id)?;
-    if !takes_words(object.shape) {
-        return Err(Refusal::WrongKind);
-    }
-    let i = i as usize;
-    if i < object.words.len() {
-        Ok(object.words[i])
-    } else {
-        Err(Refusal::BadIndex)
-    }
+    cell_of(takes_words(object.shape), object.words.as_slice(), i)
 }
 
 /// The object of an identity.
@@ -81,17 +79,22 @@ pub fn object_of(objects: &[StoredObject], id: u64) -> Result<&StoredObject, Ref
     }
 }
 
+/// Writes a cell, if it is there.
+fn set_cell(cells: &mut [u64], i: u32, value: u64)
+    ensures { cells.new ≡ slice_set cells.old i value }
+{
+    let i = i as usize;
+    if i < cells.len() {
+        cells[i] = value;
+    }
+}
+
 /// Writes a reference cell, if it is there.
 pub fn set_ref_of(objects: &mut [StoredObject], id: u64, i: u32, value: u64)
     ensures { map object_in objects.new ≡ put_object (map object_in objects.old) id (with_ref (graph.object_of (map object_in objects.old) id) i value) }
 {
-    if id == 0 || id as usize > objects.len() {
-        return;
-    }
-    let i = i as usize;
-    let object = &mut objects[id as usize - 1];
-    if i < object.refs.len() {
-        object.refs[i] = value;
+    if id != 0 && id as usize <= objects.len() {
+        set_cell(objects[id as usize - 1].refs.as_mut_slice(), i, value);
     }
 }
 
@@ -99,12 +102,7 @@ pub fn set_ref_of(objects: &mut [StoredObject], id: u64, i: u32, value: u64)
 pub fn set_word_of(objects: &mut [StoredObject], id: u64, i: u32, value: u64)
     ensures { map object_in objects.new ≡ put_object (map object_in objects.old) id (with_word (graph.object_of (map object_in objects.old) id) i value) }
 {
-    if id == 0 || id as usize > objects.len() {
-        return;
-    }
-    let i = i as usize;
-    let object = &mut objects[id as usize - 1];
-    if i < object.words.len() {
-        object.words[i] = value;
+    if id != 0 && id as usize <= objects.len() {
+        set_cell(objects[id as usize - 1].words.as_mut_slice(), i, value);
     }
 }

@@ -1,5 +1,6 @@
 //! Replies worked out by hand.
 use super::*;
+use std::alloc::Global;
 
 const LIMITS: Limits = Limits {
     mutators: 2,
@@ -192,4 +193,61 @@ fn mutators_join_and_leave(rt: HostRuntime) -> Result<(), NoMemory> {
 fn refusals_have_their_numbers(rt: HostRuntime) {
     assert!(rt; Refusal::BadSlot.number() == 1 && Refusal::BadStatic.number() == 8);
     assert!(rt; Refusal::NotLive.number() == 14 && Refusal::AlreadyLive.number() == 15);
+}
+
+const TWO_CELLS: Shape = Shape::Plain { refs: 2, words: 0 };
+
+/// A heap in which object 1 refers to 2 in its second cell, and 2 to 3 and itself; 4 was dropped.
+fn linked(alloc: Global) -> Result<Reference, NoMemory> {
+    let limits = Limits {
+        identities: 4,
+        ..LIMITS
+    };
+    let mut heap = Reference::new(alloc, &limits)?;
+    let store = |obj: u32, i: u32, src: u32| Command::Store { obj, i, src };
+    let commands = [
+        new(0, TWO_CELLS),
+        new(1, TWO_CELLS),
+        new(2, ONE_WORD),
+        new(3, ONE_WORD),
+        store(0, 1, 1),
+        store(1, 0, 2),
+        store(1, 1, 1),
+        Command::Clear { dst: 1 },
+        Command::Clear { dst: 2 },
+        Command::Clear { dst: 3 },
+    ];
+    for command in commands {
+        heap.reply(0, &command)?;
+    }
+    Ok(heap)
+}
+
+#[test]
+fn reached_objects_are_each_told_once(rt: HostRuntime) -> Result<(), NoMemory> {
+    let mut heap = linked(rt.alloc())?;
+    assert!(rt; heap.count() == 4);
+    assert!(rt; heap.reached()?.as_slice() == [1u64, 2, 3].as_slice());
+    assert!(rt; heap.shape(2) == TWO_CELLS && heap.shape(3) == ONE_WORD);
+    let none = Shape::Plain { refs: 0, words: 0 };
+    assert!(rt; heap.shape(0) == none && heap.shape(5) == none);
+    heap.reply(0, &Command::StoreStatic { k: 0, src: 0 })?;
+    heap.reply(0, &Command::Leave)?;
+    assert!(rt; heap.reached()?.len() == 3);
+    heap.reply(1, &Command::StoreStatic { k: 0, src: 0 })?;
+    assert!(rt; heap.reached()?.is_empty());
+    Ok(())
+}
+
+#[test]
+fn a_new_object_is_asked_for_where_it_may_be_made(rt: HostRuntime) -> Result<(), NoMemory> {
+    let mut heap = Reference::new(rt.alloc(), &LIMITS)?;
+    assert!(rt; heap.asked_for(0, &new(0, ONE_WORD)) == Some(ONE_WORD));
+    assert!(rt; heap.asked_for(0, &new(4, ONE_WORD)).is_none());
+    assert!(rt; heap.asked_for(0, &new(0, TOO_LARGE)).is_none());
+    assert!(rt; heap.asked_for(0, &Command::Clear { dst: 0 }).is_none());
+    heap.reply(0, &new(0, ONE_WORD))?;
+    heap.reply(0, &new(0, ONE_WORD))?;
+    assert!(rt; heap.asked_for(0, &new(0, ONE_WORD)).is_none());
+    Ok(())
 }

@@ -1,5 +1,6 @@
 -- A change leaves the cycle where it stood.
-use Rattle.std.proofs.Common.{◌≡◌, ◌≢◌, ℕ, ◌+◌, ◌<◌, ◌⊎◌, inl, inr, Bool, true, false, List, length, set, refl, ap, sym, subst, ◌∙◌, arith, length-set, ◌==◌}
+use Rattle.std.proofs.Common.{◌≡◌, ◌≢◌, ℕ, ◌+◌, inl, inr, Bool, true, false, List, length, set, refl, ap, sym, subst, ◌∙◌, arith, length-set, ◌==◌}
+use Rattle.std.proofs.Math.Nat.{eq-zero-or-pos}
 use Rattle.graph_heap.specs.declared.command.Shape.{Shape}
 use Rattle.graph_heap.specs.declared.command.Change.{Change}
 use Rattle.graph_heap.specs.Graph.{Graph, first_slot}
@@ -24,14 +25,11 @@ adds_held s t a b free same held = by_here (b == a) refl
     by_here true e = let here : b ≡ a = same_number b a e in absurd (let z : false ≡ true = sym free ∙ sym (ap (is_held s) here) ∙ held in cc)
     by_here false e = let ne : b ≢ a = grind arith in same b ne ∙ held
 
-zero_or : (n : ℕ) → (n ≡ 0) ⊎ (0 < n)
-zero_or n = grind arith
-
 making_held : (old : Store) (shape : Shape) (colour : Bool) (id : ℕ) (at : ℕ → ℕ) (k : ℕ) (new : Store) → Making old shape colour id at k new → (b : ℕ) → is_held old b ≡ true → is_held new b ≡ true
 making_held old shape colour id at k new Nothing_made b held = held
 making_held old shape colour id at k new (Part_made part s t u making w none some) b held =
     let x = adds_held s t (at part) b w.free w.same (making_held old shape colour id at part s making b held) in
-    elim (zero_or part) [ inl e ↦ subst (λ z. is_held z b ≡ true) (sym (none e)) x | inr l ↦ held_pages t u b (some l).pages ∙ x ]
+    elim (eq-zero-or-pos part) [ inl e ↦ subst (λ z. is_held z b ≡ true) (sym (none e)) x | inr l ↦ held_pages t u b (some l).pages ∙ x ]
 
 -- behind the barrier, and after a write of a cell
 written_left : (h k : HeapState) (new : Store) (roots : List ℕ) → Stays h k → new.pages ≡ k.store.pages → length roots ≡ length k.roots → LeavesCycle h (record k { store = new; roots = roots })

@@ -1,6 +1,7 @@
 -- The parts of a new object, as they are made one after the other.
 use Rattle.std.proofs.Common.{◌≡◌, ◌≢◌, ℕ, ◌+◌, ◌-◌, ◌*◌, ◌<◌, ◌≤◌, ◌⊎◌, inl, inr, Bool, true, false, [], length, get_or, replicate, drop, take, min, refl, ap, subst, sym, ◌∙◌, arith, ◌==◌, ◌&&◌, if◌then◌else◌, nat_le, nat_lt}
 use Rattle.std.proofs.lemmas.List.{length-replicate, drop-replicate, take-replicate, take_all}
+use Rattle.std.proofs.Math.Nat.{eq-zero-or-pos}
 use Rattle.graph_heap.specs.declared.command.Shape.{Shape}
 use Rattle.graph_heap.specs.declared.command.Shape.TheVariants.{Plain, RefArray, WordArray}
 use Rattle.graph_heap.specs.Shape.{ref_cells, word_cells, fits}
@@ -142,14 +143,11 @@ whole_add s t a header id w k b l = by_here (b == a) refl
         let l' : is_held s b ≡ true = sym (w.same b ne) ∙ l in
         subst (λ (z : Node). length z.cells ≡ part_cells (cells_of z.shape) z.part) (sym (w.others b l')) (k b l')
 
-zero_or : (n : ℕ) → (n ≡ 0) ⊎ (0 < n)
-zero_or n = grind arith
-
 pub making_whole : (old : Store) (shape : Shape) (colour : Bool) (id : ℕ) (at : ℕ → ℕ) (k : ℕ) (new : Store) → Making old shape colour id at k new → IsWhole old → IsWhole new
 making_whole old shape colour id at k new Nothing_made w = w
 making_whole old shape colour id at k new (Part_made part s t u m a none some) w =
     let x = whole_add s t (at part) _ id a (making_whole old shape colour id at part s m w) in
-    elim (zero_or part) [ inl e ↦ subst IsWhole (sym (none e)) x | inr l ↦ whole_cell t u _ _ _ (some l) x ]
+    elim (eq-zero-or-pos part) [ inl e ↦ subst IsWhole (sym (none e)) x | inr l ↦ whole_cell t u _ _ _ (some l) x ]
 
 -- the address of part p, as a reference
 abbrev pub reference : (ℕ → ℕ) → ℕ → ℕ
@@ -224,7 +222,7 @@ making_first h shape at k new f whole few (Part_made part s t u m a none some) =
     let before = making_first h shape at part s f whole (omega arith) m in
     let free : (seen hs).held (at part + 1) ≡ false = behind true (λ z. is_held s z) (at part) ∙ a.free in
     let added = add_seen h s t (at part) part shape f below a in
-    elim (zero_or part) [
+    elim (eq-zero-or-pos part) [
       | inl e ↦
           subst (λ z. MakesFirst (seen h) ps (reference at) (part + 1) (seen (record h { store = z }))) (sym (none e))
           (first_same (seen h) ps (reference at) (part + 1) _ (seen ht)

@@ -8,7 +8,7 @@ use Rattle.std.proofs.lemmas.List.Sums.{sum_by-cons, sum_by-set}
 use Rattle.std.proofs.lemmas.List.Folds.{sum_by-replicate}
 use Rattle.std.proofs.lemmas.List.Quantifiers.{position-Some}
 use Rattle.std.proofs.lemmas.Option.{slice_get_within, get_or_from_slice_get}
-use Rattle.std.proofs.Math.Nat.{mul-one, div-eq_of_lt, add-div_right}
+use Rattle.std.proofs.Math.Nat.{eq-zero-or-pos, mul-one, div-eq_of_lt, add-div_right}
 use Rattle.graph_heap.specs.declared.command.Shape.{Shape}
 use Rattle.size_classes.specs.Sizes.{blocks_in, class_for}
 use Rattle.size_classes.specs.Parts.{cells_of, parts_in, part_words}
@@ -87,11 +87,8 @@ first_passing p f xs none h = rw (lt-ltb (position_or_len p xs) (length xs) (fir
 contrary : (b : Bool) → b ≡ true → b ≡ false → ⊥
 contrary b p q = cc
 
-zero_or : (n : ℕ) → (n ≡ 0) ⊎ (0 < n)
-zero_or n = grind arith
-
 no_free : (flags : List Bool) → is_some (position not flags) ≡ false → count_by not flags ≡ 0
-no_free flags e = elim (zero_or (count_by not flags)) [
+no_free flags e = elim (eq-zero-or-pos (count_by not flags)) [
   | inl z ↦ z
   | inr h ↦ absurd (contrary (is_some (position not flags)) (first_passing not (λ b. cond (not b) 1 0) flags (λ b z. ap (λ t. cond t 1 0) z) h) e)
 ]
@@ -117,7 +114,7 @@ either_some None q (inr e) = e
 either_some (Some k) q w = refl
 
 whole_one : (n b : ℕ) → 0 < n → 0 < b → 1 ≤ (n + (b - 1)) / b
-whole_one n b p q = elim (zero_or ((n + (b - 1)) / b)) [
+whole_one n b p q = elim (eq-zero-or-pos ((n + (b - 1)) / b)) [
   | inl z ↦ absurd (let m : b * ((n + (b - 1)) / b) ≡ 0 = ap (λ x. b * x) z ∙ mul-zero b in omega (arith, m))
   | inr h ↦ h
 ]
@@ -131,7 +128,7 @@ free_one pages need class small some room z =
 
 -- where there is room and a block is needed, a page gives it
 pub room_gives : (pages : List (Option Page)) (need : ℕ → ℕ) (class : ℕ) → class < 38 → 0 < need class → has_room pages need ≡ true → IsSome (page_for pages class)
-room_gives pages need class small some room = elim (zero_or (free_blocks pages class)) [
+room_gives pages need class small some room = elim (eq-zero-or-pos (free_blocks pages class)) [
   | inl z ↦ either_some _ _ (inr (first_passing is_free (λ o. one_if (is_free o)) pages counted (free_one pages need class small some room z)))
   | inr h ↦ either_some _ _ (inl (first_passing (is_usable class) (free_on class) pages (free_if_usable class) h))
 ]
@@ -248,7 +245,7 @@ none_some None s e = cc
 none_some (Some k) s e = cc
 
 pub no_blocks : (pages : List (Option Page)) (class : ℕ) → position (is_usable class) pages ≡ None → free_blocks pages class ≡ 0
-no_blocks pages class e = elim (zero_or (free_blocks pages class)) [
+no_blocks pages class e = elim (eq-zero-or-pos (free_blocks pages class)) [
   | inl z ↦ z
   | inr h ↦ absurd (none_some (position (is_usable class) pages) (first_passing (is_usable class) (free_on class) pages (free_if_usable class) h) e)
 ]

@@ -11,3 +11,4 @@ pub mod Plans
 pub mod Reached
 pub mod Replying
 pub mod Writing
+pub mod Space

@@ -4,3 +4,4 @@ pub mod Plan
 pub mod Reading
 pub mod Recorded
 pub mod Buffers
+pub mod Space

@@ -10,6 +10,7 @@ ghost use Rattle.heap_model.specs.Opening.{IsOpening};
 ghost use Rattle.heap_model.specs.Settings.{settings_of, settings_by};
 ghost use Rattle.heap_model.specs.Spent.{cycle_limit};
 ghost use Rattle.machine.specs.Headline.{AlwaysHolds};
+ghost use Rattle.machine.specs.Space.{FindsSpace};
 ghost use Rattle.machine.specs.Recorded.{begin_done, quantum_done, RunsFront, commands_in, EachSweepEnds, EndsSoon, HoldsKept};
 
 use crate::collector::{BudgetOutOfRange, Busy, Spent};
@@ -167,7 +168,8 @@ impl Recorded {
 
     /// What the type promises of whatever events are done next. It does nothing.
     fn promise(&self)
-        ensures { AlwaysHolds self.now.course }
+        ensures headline { AlwaysHolds self.now.course }
+        ensures space { FindsSpace self.now.course }
     {
         let _history = &self.history;
     }
@@ -176,9 +178,12 @@ impl Recorded {
     /// entry of a command, and that command isn't done. Whatever events are done, each reply is that of
     /// one sequential heap, which never moves or frees an object, at the command's place in one history
     /// that only grows; what is freed is unreachable there; when a sweep ends, the heap holds exactly
-    /// what was reachable when its cycle began and what was made since; and a cycle ends soon.
+    /// what was reachable when its cycle began and what was made since; and a cycle ends soon. From a heap
+    /// that was just made no reply is the refusal for want of space, where the events keep to a demand that
+    /// fits its configuration (`space::fits`), or to a pace (`space::pace_fits`).
     pub fn run(&mut self, events: &[Event]) -> Result<(), NoMemory>
         ensures headline { AlwaysHolds self.old.course }
+        ensures space { FindsSpace self.old.course }
         ensures runs { RunsFront self.old.course events.now self.new.course result }
         ensures room { commands_in events.now ≤ self.old.room → IsOk result }
     {

@@ -9,6 +9,7 @@ use crate::objects::*;
 use crate::settings::MetronomeSettings;
 use crate::slots::*;
 use crate::text::*;
+use std::alloc::Global;
 use std::process::Abort;
 
 mod closing;
@@ -58,14 +59,28 @@ const SMALL: MetronomeSettings = MetronomeSettings {
     live: 1,
 };
 
-/// An open heap.
-fn opened(rt: &(impl Abort + AllocGlobal), settings: &MetronomeSettings) -> Metronome {
-    let mut heap = Metronome::closed(rt.alloc());
-    assert_eq!(rt; metronome_create(rt.alloc(), &mut heap, settings), 0);
-    heap
+/// An open heap, and what allocates for it.
+fn opened(rt: &(impl Abort + AllocGlobal), settings: &MetronomeSettings) -> (Global, Metronome) {
+    let alloc = rt.alloc();
+    let mut heap = Metronome::closed(alloc);
+    assert_eq!(rt; metronome_create(alloc, &mut heap, settings), 0);
+    (alloc, heap)
 }
 
 /// Compares an answer.
 fn is(rt: &impl Abort, answer: Answer, kind: u32, number: u64) {
     assert_eq!(rt; answer, Answer { kind, number });
+}
+
+/// Compares answers, each with a kind and a number.
+fn are(rt: &impl Abort, answers: &[(Answer, u32, u64)]) {
+    for (answer, kind, number) in answers {
+        is(rt, *answer, *kind, *number);
+    }
+}
+
+/// Compares all answers of a heap, and gives it back.
+fn answered(rt: &(impl Abort + AllocGlobal), mut heap: Metronome, answers: &[(Answer, u32, u64)]) {
+    are(rt, answers);
+    metronome_destroy(rt.alloc(), &mut heap);
 }

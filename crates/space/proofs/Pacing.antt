@@ -88,7 +88,7 @@ put_same g c l = (l, λ k. by_size k (cases_lt k (length g.objects)))
     by_size k (inr more) = ap (λ (o : Object). o.shape) (get_or_past (changed g c).objects k no_object (let z : length (changed g c).objects ≤ k = omega (arith, l, more) in z) ∙ sym (get_or_past g.objects k no_object more))
 
 -- what a change adds to the objects allocated since
-more_since : (g : Graph) (c : Change) (n class : ℕ) → n ≤ length g.objects → blocks_of (drop n (changed g c).objects) class ≤ blocks_of (drop n g.objects) class + asked_by c class
+pub more_since : (g : Graph) (c : Change) (n class : ℕ) → n ≤ length g.objects → blocks_of (drop n (changed g c).objects) class ≡ blocks_of (drop n g.objects) class + asked_by c class
 more_since g changes.Nothing n class low = omega arith
 more_since g (changes.Root cell id) n class low = omega arith
 more_since g (changes.Ref id i value) n class low = let e = blocks_same (drop n g.objects) (drop n (changed g (changes.Ref id i value)).objects) class (drop_same n g.objects _ (put_same g (changes.Ref id i value) (length-put g.objects id _))) in omega (arith, e)

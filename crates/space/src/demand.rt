@@ -15,8 +15,8 @@ pub const MOST_CLASS_PAGES: u128 = 2_000_000_000_000_000_000_010_000_000_000;
 /// objects need that are allocated from there, or from the start, up to the end of the next cycle's sweep.
 #[derive(Clone, Copy, Debug, PartialEq, Eq)]
 pub struct Demand {
-    pub live: [u32; CLASSES],
-    pub allocated: [u32; CLASSES],
+    pub live: [u64; CLASSES],
+    pub allocated: [u64; CLASSES],
 }
 
 impl Demand {

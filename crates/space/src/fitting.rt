@@ -7,7 +7,7 @@ use crate::pace::{MOST_QUANTA, Pace};
 use size_classes::{CLASSES, Config, LEAST_BUDGET, MOST_PAGES, PAGE_WORDS};
 
 /// How many pages may be left sparse: as many as a cycle may empty, and none where blocks are never moved.
-fn spare(config: &Config) -> u32
+pub fn spare(config: &Config) -> u32
     ensures { result ≡ spare_in config.now }
 {
     if config.defrag_below == 0 {

@@ -7,8 +7,8 @@ pub mod fitting;
 pub mod pace;
 pub mod steps;
 
-pub use demand::Demand;
-pub use fitting::{fits, least_pages, pace_fits, quanta};
+pub use demand::{Demand, pages_of_class};
+pub use fitting::{fits, least_pages, pace_fits, quanta, spare};
 pub use pace::Pace;
 
 #[cfg(test)]

@@ -31,17 +31,18 @@ fn config_of(rt: &impl Abort, pages: i64, moves: bool) -> Config {
 }
 
 /// A table by class: blocks of 4 words, and of 256.
-fn table(small: u32, large: u32) -> [u32; CLASSES] {
-    let mut blocks = [0u32; CLASSES];
+fn table(small: u64, large: u64) -> [u64; CLASSES] {
+    let mut blocks = [0u64; CLASSES];
     blocks[0] = small;
     blocks[37] = large;
     blocks
 }
 
-/// The same of a pace.
-fn wide_table(small: u64) -> [u64; CLASSES] {
-    let mut blocks = [0u64; CLASSES];
-    blocks[0] = small;
+/// What is live at a pace: 1000 blocks of 4 words, and 8 of 256.
+fn live_blocks() -> [u32; CLASSES] {
+    let mut blocks = [0u32; CLASSES];
+    blocks[0] = 1000;
+    blocks[37] = 8;
     blocks
 }
 
@@ -86,14 +87,14 @@ fn each_class_may_be_sparse(rt: HostRuntime) {
 #[test]
 fn paces_take_pages(rt: HostRuntime) {
     let slow = Pace {
-        live: table(1000, 8),
-        busy: wide_table(10),
-        idle: wide_table(100),
+        live: live_blocks(),
+        busy: table(10, 0),
+        idle: table(100, 0),
     };
     let fast = Pace {
-        live: table(1000, 8),
-        busy: wide_table(31),
-        idle: wide_table(100),
+        live: live_blocks(),
+        busy: table(31, 0),
+        idle: table(100, 0),
     };
     let config = config_of(&rt, 7, true);
     assert!(rt; quanta(&config, 7) == 59 && quanta(&config, 8) == 67);

@@ -1,11 +1,11 @@
 //! Reading replies.
 ghost use Rattle.std.specs.Prelude.{◌≡◌};
 ghost use Rattle.trace.specs.Spelling.{reply_word_text};
-ghost use Rattle.trace.specs.Reading.{refusal_in, reply_word_in, identity_and_shape_in, reply_arguments_in, long_reply_in, reply_in};
+ghost use Rattle.trace.specs.Reading.{refusal_in, reply_word_in, reply_arguments_in, long_reply_in, reply_in};
 
 use crate::commands::shape;
 use crate::field::{cut, word, word_field};
-use graph_heap::{Refusal, Reply, Shape};
+use graph_heap::{Refusal, Reply};
 
 /// The first word of a reply of several words.
 #[derive(Clone, Copy, Debug, PartialEq, Eq)]
@@ -79,18 +79,8 @@ fn refusal(number: u64) -> Option<Refusal>
         .find(|r| r.number() as u64 == number)
 }
 
-/// An identity and a shape.
-#[tactic(auto, unfolding(crate::specs::Reading::identity_and_shape_in))]
-fn identity_and_shape(bytes: &[u8]) -> Option<(u64, Shape)>
-    ensures { result ≡ identity_and_shape_in bytes.now }
-{
-    let (a, rest) = word_field(bytes)?;
-    let b = shape(rest)?;
-    Some((a, b))
-}
-
 /// What stands after the first word of a reply.
-#[tactic(auto, unfolding(crate::specs::Reading::reply_arguments_in))]
+#[tactic(auto, unfolding(crate::specs::Reading::reply_arguments_in, crate::specs::Reading::identity_and_shape_in))]
 fn reply_arguments(first: ReplyWord, bytes: &[u8]) -> Option<Reply>
     ensures { result ≡ reply_arguments_in first bytes.now }
 {
@@ -101,7 +91,9 @@ fn reply_arguments(first: ReplyWord, bytes: &[u8]) -> Option<Reply>
         ReplyWord::Kept => word(bytes).map(|n| Reply::Kept(n)),
         ReplyWord::KeptWord => word(bytes).map(|n| Reply::KeptWord(n)),
         ReplyWord::Described => {
-            identity_and_shape(bytes).map(|(id, shape)| Reply::Described(id, shape))
+            let (id, rest) = word_field(bytes)?;
+            let shape = shape(rest)?;
+            Some(Reply::Described(id, shape))
         }
         ReplyWord::Refused => {
             let n = word(bytes)?;

@@ -1,2 +1,3 @@
 pub mod Checking
 pub mod Listing
+pub mod Reading

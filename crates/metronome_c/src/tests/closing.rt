@@ -1,6 +1,5 @@
 //! Handles that are made, closed and sent.
 use super::*;
-use std::test::Fail;
 
 /// A value comes back that may go to another thread.
 fn sent<T: Send>(value: T) -> T {
@@ -74,7 +73,7 @@ fn faulty() -> [(MetronomeSettings, u32); 12] {
 }
 
 #[test]
-fn settings_are_refused_in_turn(rt: HostRuntime) -> Result<(), Fail> {
+fn settings_are_refused_in_turn(rt: HostRuntime) {
     let mut heap = Metronome::closed(rt.alloc());
     for (settings, status) in faulty() {
         assert_eq!(&rt; metronome_create(rt.alloc(), &mut heap, &settings), status);
@@ -83,39 +82,23 @@ fn settings_are_refused_in_turn(rt: HostRuntime) -> Result<(), Fail> {
     assert_eq!(&rt; metronome_create(rt.alloc(), &mut heap, &SMALL), 0);
     assert_eq!(&rt; metronome_create(rt.alloc(), &mut heap, &SMALL), 17);
     metronome_destroy(rt.alloc(), &mut heap);
-    Ok(())
 }
 
 #[test]
-fn a_destroyed_heap_is_closed_and_may_be_made_anew(rt: HostRuntime) -> Result<(), Fail> {
-    let mut heap = sent(opened(&rt, &SMALL));
-    is(
-        &rt,
-        metronome_new_plain(rt.alloc(), &mut heap, 0, 0, 0, 1),
-        MADE,
-        1,
-    );
-    metronome_destroy(rt.alloc(), &mut heap);
-    is(
-        &rt,
-        metronome_get(rt.alloc(), &mut heap, 0, 0, 0),
-        REFUSED,
-        16,
-    );
-    metronome_destroy(rt.alloc(), &mut heap);
-    assert_eq!(&rt; metronome_create(rt.alloc(), &mut heap, &SMALL), 0);
-    is(
-        &rt,
-        metronome_get(rt.alloc(), &mut heap, 0, 0, 0),
-        REFUSED,
-        2,
-    );
-    metronome_destroy(rt.alloc(), &mut heap);
-    Ok(())
+fn a_destroyed_heap_is_closed_and_may_be_made_anew(rt: HostRuntime) {
+    let (a, heap) = opened(&rt, &SMALL);
+    let mut h = sent(heap);
+    is(&rt, metronome_new_plain(a, &mut h, 0, 0, 0, 1), MADE, 1);
+    metronome_destroy(a, &mut h);
+    is(&rt, metronome_get(a, &mut h, 0, 0, 0), REFUSED, 16);
+    metronome_destroy(a, &mut h);
+    assert_eq!(&rt; metronome_create(a, &mut h, &SMALL), 0);
+    is(&rt, metronome_get(a, &mut h, 0, 0, 0), REFUSED, 2);
+    metronome_destroy(a, &mut h);
 }
 
 #[test]
-fn commands_of_a_closed_handle_are_refused(rt: HostRuntime) -> Result<(), Fail> {
+fn commands_of_a_closed_handle_are_refused(rt: HostRuntime) {
     let a = rt.alloc();
     let mut heap = Metronome::closed(a);
     let h = &mut heap;
@@ -144,11 +127,10 @@ fn commands_of_a_closed_handle_are_refused(rt: HostRuntime) -> Result<(), Fail> 
         is(&rt, answer, REFUSED, 16);
     }
     assert_eq!(&rt; shape, NO_SHAPE);
-    Ok(())
 }
 
 #[test]
-fn nothing_is_told_of_a_closed_handle(rt: HostRuntime) -> Result<(), Fail> {
+fn nothing_is_told_of_a_closed_handle(rt: HostRuntime) {
     let a = rt.alloc();
     let mut heap = Metronome::closed(a);
     let (mut phase, mut units, mut free) = (7, 7, 7);
@@ -172,5 +154,4 @@ fn nothing_is_told_of_a_closed_handle(rt: HostRuntime) -> Result<(), Fail> {
     assert_eq!(&rt; (phase, units, free), (7, 7, 7));
     assert_eq!(&rt; spent, QuantumSpent { units: 7, phase: 7 });
     assert_eq!(&rt; counts, before);
-    Ok(())
 }

@@ -1,6 +1,5 @@
 //! A cycle, by quanta.
 use super::*;
-use std::test::Fail;
 
 /// A quantum comes to this.
 fn spends(rt: &(impl Abort + AllocGlobal), heap: &mut Metronome, units: u32, phase: u32) {
@@ -10,9 +9,8 @@ fn spends(rt: &(impl Abort + AllocGlobal), heap: &mut Metronome, units: u32, pha
 }
 
 #[test]
-fn a_cycle_frees_what_is_dropped(rt: HostRuntime) -> Result<(), Fail> {
-    let a = rt.alloc();
-    let mut heap = opened(&rt, &SMALL);
+fn a_cycle_frees_what_is_dropped(rt: HostRuntime) {
+    let (a, mut heap) = opened(&rt, &SMALL);
     let h = &mut heap;
     let (mut phase, mut units, mut free) = (7, 7, 7);
     is(&rt, metronome_new_plain(a, h, 0, 0, 0, 252), MADE, 1);
@@ -31,13 +29,11 @@ fn a_cycle_frees_what_is_dropped(rt: HostRuntime) -> Result<(), Fail> {
     assert_eq!(&rt; metronome_free_pages(a, h, &mut free), 0);
     assert_eq!(&rt; free, 1);
     metronome_destroy(a, h);
-    Ok(())
 }
 
 #[test]
-fn budgets_are_tested(rt: HostRuntime) -> Result<(), Fail> {
-    let a = rt.alloc();
-    let mut heap = opened(&rt, &SMALL);
+fn budgets_are_tested(rt: HostRuntime) {
+    let (a, mut heap) = opened(&rt, &SMALL);
     let mut spent = QuantumSpent { units: 7, phase: 7 };
     for budget in [0, 255, 1000001] {
         assert_eq!(&rt; metronome_quantum(a, &mut heap, budget, &mut spent), 12);
@@ -46,13 +42,11 @@ fn budgets_are_tested(rt: HostRuntime) -> Result<(), Fail> {
     assert_eq!(&rt; metronome_quantum(a, &mut heap, 1000000, &mut spent), 0);
     assert_eq!(&rt; spent, QuantumSpent { units: 0, phase: 0 });
     metronome_destroy(a, &mut heap);
-    Ok(())
 }
 
 #[test]
-fn objects_are_counted(rt: HostRuntime) -> Result<(), Fail> {
-    let a = rt.alloc();
-    let mut heap = opened(&rt, &MetronomeSettings { pages: 4, ..SMALL });
+fn objects_are_counted(rt: HostRuntime) {
+    let (a, mut heap) = opened(&rt, &MetronomeSettings { pages: 4, ..SMALL });
     let h = &mut heap;
     let mut counts = Counts {
         pages: 0,
@@ -75,5 +69,4 @@ fn objects_are_counted(rt: HostRuntime) -> Result<(), Fail> {
         (2, 4, 0)
     );
     metronome_destroy(a, h);
-    Ok(())
 }

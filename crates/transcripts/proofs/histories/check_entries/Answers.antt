@@ -1,10 +1,11 @@
 use Rattle.std.proofs.Common.{[], ◌∷◌, ◌+◌, ap, ◌∙◌, sym, arith, refl, append-nil, length}
 use Rattle.std.proofs.lemmas.Result.{err_from_is_err_and}
 use Rattle.std.proofs.lemmas.List.{length_push}
-use Rattle.trace.proofs.GoingOver.{stays_same, stays_on, one_line, at_first, goes_on, ends_without, ends_over, ends_in, ends_at}
+use Rattle.trace.proofs.GoingOver.{one_line, at_first, goes_on, ends_without, ends_over, ends_in, ends_at}
 use Rattle.transcripts.specs.declared.histories.Checked.{Checked}
 use Rattle.transcripts.specs.Histories.{DoesNothing, DoesEntry, HistoryStops, IsWrong}
 use Rattle.transcripts.proofs.Checking.{checked}
+use Rattle.transcripts.proofs.Reading.{reading_at_first, reading_on}
 use Rattle.transcripts.proofs.histories.check_entries.Goals as goal
 
 pub loop-reader-init : goal.loop-reader-init
@@ -12,9 +13,7 @@ loop-reader-init g c = rw c.new-reader.ensures (record {
   done = at_first DoesNothing DoesEntry (g.S.Source.given c.args.source.now) (g.S.Source.ended c.args.source.now) c.args.reference.now;
   good = refl;
   few = omega arith;
-  behind = omega arith;
-  reads = refl;
-  input = stays_same (g.S.Source.input c.args.source.now);
+  reading = reading_at_first (g.S.Source.given c.args.source.now) (g.S.Source.failures c.args.source.now) (g.S.Source.input c.args.source.now);
 })
 
 pub returns-in_err-next_line-clause-checked : goal.returns-in_err-next_line-clause-checked
@@ -46,9 +45,7 @@ loop-reader-preserved-in-Skipped g c =
       done = goes_on i.done c.next_line.new.self _ _ _ (record { text = e.text; says = e.says; number = e.number; small = e.small }) c.if-branch.true _ c.line.ensures _ _ [] _ c.number.ensures (rw c.in-Skipped.is at c.in_ok-check_line.ensures);
       good = i.good ∙ ap length (sym (append-nil i.done.events));
       few = omega (arith, e.number, i.few);
-      behind = e.behind;
-      reads = omega (arith, e.cause, i.reads);
-      input = stays_on (g.S.Source.input c.args.source.now) _ _ i.input (e.input (refl {a = 0}));
+      reading = reading_on i.reading e.behind e.cause (e.input (refl {a = 0}));
     }
 
 pub loop-reader-preserved : goal.loop-reader-preserved
@@ -61,9 +58,7 @@ loop-reader-preserved g c =
       done = goes_on i.done c.next_line.new.self _ _ _ (record { text = e.text; says = e.says; number = e.number; small = e.small }) c.if-branch.true _ c.line.ensures _ _ (does.0 ∷ []) _ c.number.ensures does.1;
       good = ap (λ n. n + 1) i.good ∙ sym (length_push i.done.events does.0);
       few = omega (arith, more, i.few);
-      behind = e.behind;
-      reads = omega (arith, e.cause, i.reads);
-      input = stays_on (g.S.Source.input c.args.source.now) _ _ i.input (e.input (refl {a = 0}));
+      reading = reading_on i.reading e.behind e.cause (e.input (refl {a = 0}));
     }
 
 pub returns-in-Wrong-clause-checked : goal.returns-in-Wrong-clause-checked

@@ -1,7 +1,8 @@
-use Rattle.std.proofs.Common.{◌≡◌, ◌+◌, ◌-◌, ◌≤◌, ◌^◌, length}
-use Rattle.trace.specs.Streams.{given_by, Stays}
+use Rattle.std.proofs.Common.{◌≡◌, ◌-◌, ◌≤◌, ◌^◌, length}
+use Rattle.trace.specs.Streams.{given_by}
 use Rattle.trace.proofs.GoingOver.{SoFar}
 use Rattle.transcripts.specs.Histories.{DoesNothing, DoesEntry}
+use Rattle.transcripts.proofs.Reading.{IsReading}
 use Rattle.transcripts.proofs.histories.check_entries.Given as goal
 
 -- the entries of the lines so far are done, and no read has failed
@@ -10,9 +11,7 @@ invariant-loop-reader g l = record {
   done : SoFar DoesNothing DoesEntry (given_by g.S.Source.given g.S.Source.ended l.fn.source l.source) l.fn.reference l.reference l.reader l.version;
   good : l.good ≡ length done.events;
   few : l.good ≤ l.reader.number;
-  behind : l.reader.number + length l.reader.kept ≤ length (g.S.Source.given l.source);
-  reads : g.S.Source.failures l.source ≡ g.S.Source.failures l.fn.source;
-  input : Stays (g.S.Source.input l.fn.source) (g.S.Source.input l.source);
+  reading : IsReading (g.S.Source.given l.source) (g.S.Source.failures l.fn.source) (g.S.Source.failures l.source) (g.S.Source.input l.fn.source) (g.S.Source.input l.source) l.reader;
 }
 
 abbrev pub decreases-loop-reader : goal.decreases-loop-reader

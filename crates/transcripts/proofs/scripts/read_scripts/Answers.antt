@@ -1,8 +1,9 @@
 use Rattle.std.proofs.Common.{inl, inr, arith, ◌∙◌, subst, refl}
 use Rattle.std.proofs.lemmas.Result.{err_from_is_err_and}
-use Rattle.trace.proofs.GoingOver.{stays_same, stays_on, at_first, goes_on, ends_without, ends_over, ends_at}
+use Rattle.trace.proofs.GoingOver.{at_first, goes_on, ends_without, ends_over, ends_at}
 use Rattle.transcripts.specs.Scripts.{ReadScripts, AsksNothing, DoesScript, ScriptStops}
 use Rattle.transcripts.proofs.Listing.{empty_scripts, line_goes}
+use Rattle.transcripts.proofs.Reading.{reading_at_first, reading_on}
 use Rattle.transcripts.proofs.scripts.read_scripts.Goals as goal
 
 pub returns-in_err-scripts-clause-read : goal.returns-in_err-scripts-clause-read
@@ -15,9 +16,7 @@ loop-scripts-init g c = rw c.new-reader.ensures (record {
   done = at_first AsksNothing (DoesScript c.args.limits.now.mutators) (g.S.Source.given c.args.source.now) (g.S.Source.ended c.args.source.now) tt;
   are = c.in_ok-scripts.ensures.lists ∙ empty_scripts c.args.limits.now.mutators;
   len = c.in_ok-scripts.ensures.len;
-  behind = omega arith;
-  reads = refl;
-  input = stays_same (g.S.Source.input c.args.source.now);
+  reading = reading_at_first (g.S.Source.given c.args.source.now) (g.S.Source.failures c.args.source.now) (g.S.Source.input c.args.source.now);
 })
 
 pub returns-in_err-next_line-clause-read : goal.returns-in_err-next_line-clause-read
@@ -39,9 +38,7 @@ loop-scripts-preserved g c =
       done = goes_on i.done c.next_line.new.self _ _ _ (record { text = e.text; says = e.says; number = e.number; small = e.small }) c.if-branch.true _ c.line.ensures tt _ went.0 _ c.number.ensures went.1;
       are = went.2 i.done.events i.are;
       len = omega (arith, d.len, i.len);
-      behind = e.behind;
-      reads = omega (arith, e.cause, i.reads);
-      input = stays_on (g.S.Source.input c.args.source.now) _ _ i.input (e.input (refl {a = 0}));
+      reading = reading_on i.reading e.behind e.cause (e.input (refl {a = 0}));
     }
 
 pub returns-in_err-add_line-clause-read : goal.returns-in_err-add_line-clause-read

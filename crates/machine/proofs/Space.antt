@@ -1,0 +1,12 @@
+-- A heap that was just made has room for what fits its configuration.
+use Rattle.std.proofs.Common.{subst}
+use Rattle.heap_model.specs.Event.{Course, Runs}
+use Rattle.heap_model.specs.Led.{opened}
+use Rattle.space.proofs.Configured.{demand_configured, pace_configured}
+use Rattle.machine.specs.Space.{FindsSpace}
+
+pub finds_space : (r : Course) → FindsSpace r
+finds_space r = record {
+  demand = λ config es new d made runs keeps fits. demand_configured config r.heap made.heap made.settings es new d made.pages (subst (λ (from : Course). Runs from es new) made.course runs) keeps fits;
+  pace = λ config es new p made runs keeps fits. pace_configured config r.heap made.heap made.settings es new p made.pages made.budget (subst (λ (from : Course). Runs from es new) made.course runs) keeps fits;
+}

@@ -1,5 +1,5 @@
 -- Each line that keeps to a load keeps to its pace.
-use Rattle.std.proofs.Common.{◌≡◌, ℕ, ◌+◌, ◌-◌, ◌*◌, ◌<◌, ◌≤◌, inl, inr, Bool, true, false, max, if◌then◌else◌, List, [], ◌∷◌, Option, Some, None, ap, ◌∙◌, sym, subst, arith, refl}
+use Rattle.std.proofs.Common.{◌≡◌, ℕ, ◌+◌, ◌-◌, ◌*◌, ◌<◌, ◌≤◌, inl, inr, Bool, true, false, max, if◌then◌else◌, List, ◌∷◌, Option, Some, None, ap, ◌∙◌, sym, subst, arith, refl}
 use Rattle.std.specs.List.{last_or}
 use Rattle.std.proofs.Math.Nat.{mul-le-mul_left}
 use Rattle.graph_heap.specs.declared.command.Command.{Command}
@@ -19,11 +19,8 @@ use Rattle.space.specs.Pace.{Beat, next_beat, in_cycle, KeepsPace, AllKeepPace}
 use Rattle.space.proofs.Roomless.{asks_less}
 use Rattle.arrivals.specs.Load.{Load, clock_after, AsksFrom, Arrives, BeginsOften, AreBudgets, AllLive, pace_of}
 use Rattle.arrivals.proofs.Beats.{beats, beats_more, next_on, next_off, on_or_off, busy_phase}
+use Rattle.arrivals.proofs.Buckets.{from_here}
 use Rattle.arrivals.proofs.Dues.{EndsQuantum, ends_quantum, IsTimed, IsSoon, rests, dues_timed, due_soon, not_below}
-
-pub from_here : (l : Load) (clock : ℕ) (ls : List Line) → Arrives l clock ls → AsksFrom l clock (λ class. 0) clock ls
-from_here l clock [] a = tt
-from_here l clock (line ∷ ls) a = a.0
 
 pub since_is : (gap : ℕ) (ls : List Line) (a b : ℕ) → a ≡ b → BeginsOften gap a ls → BeginsOften gap b ls
 since_is gap ls a b e w = subst (λ z. BeginsOften gap z ls) e w

@@ -5,3 +5,8 @@ pub mod Playing
 pub mod Roomy
 pub mod Buckets
 pub mod Same
+pub mod Appending
+pub mod Windows
+pub mod Reading
+pub mod Checking
+pub mod Beginnings

@@ -16,7 +16,8 @@ use Rattle.player.specs.declared.style.Style.{Style}
 use Rattle.player.specs.Playing.{Stage, TellsVersionOf, PlaysText}
 use Rattle.arrivals.specs.Load.{Says}
 use Rattle.arrivals.proofs.Beats.{beats, keep_more, live_more}
-use Rattle.arrivals.proofs.Clocked.{IsFurther, line_keeps, budgets_left, clock_is, since_is, from_here}
+use Rattle.arrivals.proofs.Buckets.{from_here}
+use Rattle.arrivals.proofs.Clocked.{IsFurther, line_keeps, budgets_left, clock_is, since_is}
 
 -- What lines do, one after the other
 abbrev DoesLines : PlayerState → List Line → List Event → PlayerState → Type 0

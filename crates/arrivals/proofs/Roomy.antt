@@ -18,7 +18,7 @@ use Rattle.space.specs.Fitting.{FitsIn}
 use Rattle.space.specs.Room.{AllHaveRoom}
 use Rattle.space.proofs.Configured.{pace_configured}
 use Rattle.arrivals.specs.Load.{Load, KeepsLoad, AllLive, pace_of}
-use Rattle.arrivals.specs.New.{IsNew}
+use Rattle.player.specs.New.{IsNew}
 use Rattle.arrivals.proofs.Playing.{load_keeps}
 
 course_is : (h : HeapState) (history : List Entry) (place : ℕ) → history ≡ [] → place ≡ 0 → (record { heap = h; history = history; place = place }) ≡ opened h

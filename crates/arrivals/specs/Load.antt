@@ -68,10 +68,16 @@ AreBudgets k [] = Unit {0}
 AreBudgets k (lines.Quantum budget ∷ rest) = (k ≤ budget) × AreBudgets k rest
 AreBudgets k (line ∷ rest) = AreBudgets k rest
 
--- the lines that a text of a version says: the line that tells the version says none
+-- The line that tells the version says nothing, and another line says what it spells.
+abbrev pub SaysNothing : Unit {0} → Unit {0} → Type 0
+SaysNothing old new = Unit {0}
+
+abbrev pub SaysLine : Version → List ℕ → Unit {0} → List Line → Unit {0} → Type 0
+SaysLine version bytes old said new = (line : Line) × Spells version bytes line × (said ≡ line ∷ [])
+
+-- the lines that a text of a version says
 abbrev pub Says : List (List ℕ) → Version → List Line → Type 0
-Says text version said =
-    LinesDone (λ (old new : Unit {0}). Unit {0}) (λ (version : Version) (bytes : List ℕ) (old : Unit {0}) (said : List Line) (new : Unit {0}). (line : Line) × Spells version bytes line × (said ≡ line ∷ [])) tt text version said tt
+Says text version said = LinesDone SaysNothing SaysLine tt text version said tt
 
 -- Text keeps to a load, with quanta of at least k units: a property of the text alone.
 pub record KeepsLoad (l : Load) (k : ℕ) (text : List (List ℕ)) : Type 0 where

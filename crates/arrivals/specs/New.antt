@@ -1,16 +1,23 @@
--- A player before its first line.
-use Rattle.std.specs.Prelude.{◌≡◌, ◌*◌, []}
+-- What is played on a new player.
+use Rattle.std.specs.Prelude.{◌*◌, Result}
+use Rattle.graph_heap.specs.Graph.{opening}
 use Rattle.size_classes.specs.declared.config.Config.{Config}
-use Rattle.heap_model.specs.Opening.{IsOpening}
-use Rattle.heap_model.specs.Settings.{settings_of, settings_by}
-use Rattle.quanta.specs.Timetable as timetables
+use Rattle.size_classes.specs.Config.{limits_of}
+use Rattle.trace.specs.declared.fault.TextFault.{TextFault}
+use Rattle.trace.specs.Streams.{Given, Taken}
+use Rattle.player.specs.declared.style.Style.{Style}
+use Rattle.player.specs.New.{IsNew}
 use Rattle.player.specs.Player.{PlayerState}
+use Rattle.player.specs.Playing.{stage, Played}
+use Rattle.space.specs.Fitting.{FitsIn}
+use Rattle.space.specs.Room.{AllHaveRoom}
+use Rattle.arrivals.specs.Load.{Load, KeepsLoad, AllLive, pace_of}
 
--- what a new player of a configuration is
-pub record IsNew (config : Config) (p : PlayerState) : Type 0 where
-  pub heap : IsOpening p.course.heap
-  pub settings : settings_of p.course.heap ≡ settings_by config
-  pub history : p.course.history ≡ []
-  pub place : p.course.place ≡ 0
-  pub timetable : p.timetable ≡ timetables.opening config.collector_ticks config.mutator_ticks
-  pub budget : p.budget ≡ config.collector_ticks * config.rate
+-- What was played of an input on a new player of a configuration. Where the lines that were done keep to a load
+-- whose pace fits in the configuration's pages, no reply is the refusal for want of space.
+pub record PlayedNew (config : Config) (style : Style) (given : Given) (taken : Taken) (new : PlayerState) (result : Result (Unit {0}) TextFault) : Type 0 where
+  pub old : PlayerState
+  pub is_new : IsNew config old
+  pub played : Played style given (stage old taken.before) (stage new taken.after) result
+  pub room : (l : Load) → KeepsLoad l (config.collector_ticks * config.rate) played.over.lines → AllLive l.live (opening (limits_of config)) played.over.events
+      → FitsIn config (pace_of l config.collector_ticks config.mutator_ticks) config.pages → AllHaveRoom played.over.events

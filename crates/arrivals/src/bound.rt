@@ -1,5 +1,5 @@
-//! The laws of the space bound by the clock. Each function but the last does nothing: its contract is the law.
-ghost use Rattle.std.specs.Prelude.{◌≡◌, ℕ, ◌*◌, ◌≤◌, List, Result, IfOk};
+//! The laws of the space bound by the clock. Each function does nothing: its contract is the law.
+ghost use Rattle.std.specs.Prelude.{◌≡◌, ◌↔◌, ◌++◌, ℕ, ◌*◌, ◌≤◌, List};
 ghost use Rattle.graph_heap.specs.Graph.{opening};
 ghost use Rattle.size_classes.specs.declared.config.Config.{Config as Numbers};
 ghost use Rattle.size_classes.specs.Config.{limits_of};
@@ -8,21 +8,14 @@ ghost use Rattle.heap_model.specs.Event.{Event};
 ghost use Rattle.quanta.specs.Timetable as timetables;
 ghost use Rattle.trace.specs.declared.line.Line.{Line};
 ghost use Rattle.trace.specs.declared.version.Version.{Version};
-ghost use Rattle.trace.specs.declared.fault.TextFault.{TextFault};
-ghost use Rattle.trace.specs.Streams.{Given};
 ghost use Rattle.trace.specs.GoneOver.{LinesDone};
 ghost use Rattle.player.specs.declared.style.Style.{Style};
-ghost use Rattle.player.specs.Playing.{Stage, TellsVersionOf, PlaysText, Played};
+ghost use Rattle.player.specs.Playing.{Stage, TellsVersionOf, PlaysText};
 ghost use Rattle.space.specs.Fitting.{FitsIn};
 ghost use Rattle.space.specs.Room.{AllHaveRoom};
 ghost use Rattle.space.specs.Pace.{AllKeepPace, opening_beat};
-ghost use Rattle.arrivals.specs.New.{IsNew};
-ghost use Rattle.arrivals.specs.Load.{Load, Arrives, StaysInBucket, KeepsLoad, AllLive, pace_of};
-
-use graph_heap::NoMemory;
-use player::Player;
-use size_classes::Config;
-use std::alloc::Global;
+ghost use Rattle.player.specs.New.{IsNew};
+ghost use Rattle.arrivals.specs.Load.{Load, Arrives, StaysInBucket, Says, KeepsLoad, AllLive, pace_of};
 
 /// Where the lines of a text are played on a heap that was just made, and keep to a load, the events keep to
 /// its pace.
@@ -40,22 +33,14 @@ pub fn lines_find_room()
         → FitsIn config (pace_of l config.collector_ticks config.mutator_ticks) config.pages → AllHaveRoom es }
 {}
 
-/// So what is played of an input on a new player meets no refusal for want of space, where the lines that were
-/// done keep to a load whose pace fits.
-pub fn plays_find_room()
-    ensures { (config : Numbers) (style : Style) (given : Given) (old new : Stage) (result : Result (Unit {0}) TextFault) (l : Load) → IsNew config old.player → (played : Played style given old new result)
-        → KeepsLoad l (config.collector_ticks * config.rate) played.over.lines → AllLive l.live (opening (limits_of config)) played.over.events
-        → FitsIn config (pace_of l config.collector_ticks config.mutator_ticks) config.pages → AllHaveRoom played.over.events }
-{}
-
-/// A bucket that each tick drains is a bound on what arrives between any two times.
+/// A bucket that each tick drains stays within the burst just where what arrives between any two times is within
+/// the rate and the burst.
 pub fn buckets_bound_arrivals()
-    ensures { (l : Load) (said : List Line) → StaysInBucket l (λ class. 0) said → Arrives l 0 said }
+    ensures { (l : Load) (said : List Line) → StaysInBucket l (λ class. 0) said ↔ Arrives l 0 said }
 {}
 
-/// A new player, on which lines that keep to a load find room.
-pub fn new_player(alloc: Global, config: &Config) -> Result<Player, NoMemory>
-    ensures { IfOk result (IsNew config.now) }
-{
-    Player::new(alloc, config)
-}
+/// Of a text that says lines and keeps to a load each beginning keeps to it, as that of a trace of which not all
+/// lines could be played.
+pub fn beginnings_keep_to_loads()
+    ensures { (l : Load) (k : ℕ) (text more : List (List ℕ)) (version : Version) (said : List Line) → Says (text ++ more) version said → KeepsLoad l k (text ++ more) → KeepsLoad l k text }
+{}

@@ -1,6 +1,10 @@
 //! Figures worked out by hand.
+mod keeping;
+mod plays;
+
 use super::*;
 use size_classes::{CLASSES, Config, Settings};
+use std::process::Abort;
 
 const SETTINGS: Settings = Settings {
     pages: 7,
@@ -15,6 +19,13 @@ const SETTINGS: Settings = Settings {
     rate: 100,
     live: 1,
 };
+
+fn config(rt: &impl Abort) -> Config {
+    match Config::check(&SETTINGS) {
+        Ok(config) => config,
+        Err(_) => panic!(rt; "the settings are good"),
+    }
+}
 
 /// A table by class: blocks of 4 words.
 fn table(small: u32) -> [u32; CLASSES] {
@@ -32,9 +43,7 @@ fn loads_come_to_a_pace(rt: HostRuntime) {
         burst: table(5),
         gap: 40,
     };
-    let Ok(config) = Config::check(&SETTINGS) else {
-        panic!(rt; "the settings are good");
-    };
+    let config = config(&rt);
     let pace = load.pace(&config);
     assert!(rt; pace.live[0] == 1000 && pace.busy[0] == 47 && pace.idle[0] == 85);
     assert!(rt; pace.busy[1] == 0 && pace.idle[37] == 0);

@@ -1,4 +1,5 @@
 pub mod Player
+pub mod New
 pub mod Playing
 pub mod Ticking
 pub mod Closing

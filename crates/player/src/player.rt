@@ -1,11 +1,10 @@
 //! A player: a heap with its history, and the schedule of its collector.
-ghost use Rattle.std.specs.Prelude.{◌≡◌, ◌+◌, ◌*◌, ◌<◌, ◌≤◌, [], ◌∷◌, ◌↔◌, length, IfOk, IfErr, IsTrue, None};
+ghost use Rattle.std.specs.Prelude.{◌≡◌, ◌≤◌, [], ◌∷◌, ◌↔◌, IfOk, IfErr, IsTrue};
 ghost use Rattle.heap_model.specs.declared.phase.Phase.TheVariants as phases;
 ghost use Rattle.heap_model.specs.Event.{IsBudget, Command_done, Does};
-ghost use Rattle.heap_model.specs.Opening.{IsOpening};
-ghost use Rattle.heap_model.specs.Settings.{settings_of, settings_by};
 ghost use Rattle.quanta.specs.Timetable as timetables;
 ghost use Rattle.trace.specs.declared.line.Line.{Line};
+ghost use Rattle.player.specs.New.{IsNew};
 ghost use Rattle.player.specs.Player.{DoesLine};
 ghost use Rattle.player.specs.Ticking.{DueDone, Ticked, Begun, Spent};
 
@@ -67,12 +66,7 @@ fn is_idle(phase: Phase) -> bool
 impl Player {
     /// A new heap without history, at time 0. Only want of memory is refused.
     pub fn new(alloc: Global, config: &Config) -> Result<Player, NoMemory>
-        ensures heap { IfOk result (λ p. IsOpening p.course.heap) }
-        ensures settings { IfOk result (λ p. settings_of p.course.heap ≡ settings_by config.now) }
-        ensures history { IfOk result (λ p. p.course.history ≡ []) }
-        ensures place { IfOk result (λ p. p.course.place ≡ 0) }
-        ensures timetable { IfOk result (λ p. p.timetable ≡ timetables.opening config.now.collector_ticks config.now.mutator_ticks) }
-        ensures budget { IfOk result (λ p. p.budget ≡ config.now.collector_ticks * config.now.rate) }
+        ensures { IfOk result (IsNew config.now) }
     {
         Ok(Player {
             recorded: Recorded::new(alloc, config)?,
@@ -93,6 +87,14 @@ impl Player {
         ensures { timetables.with_reserved result.now 0 ≡ self.now.timetable }
     {
         &self.schedule
+    }
+
+    /// The budget of a quantum that is due, in units.
+    pub fn budget(&self) -> u32
+        ensures budget { result ≡ self.now.budget }
+        ensures within { IsBudget result }
+    {
+        self.budget
     }
 
     /// Does a command of a mutator. Where memory is refused for its entry, nothing has changed.

@@ -1,0 +1,20 @@
+use Rattle.std.proofs.Common.{◌≡◌, ◌+◌, ◌-◌, ◌≤◌, ◌^◌, length}
+use Rattle.trace.specs.Streams.{given_by, Stays}
+use Rattle.trace.proofs.GoingOver.{SoFar}
+use Rattle.arrivals.specs.Fitting.{load_in}
+use Rattle.arrivals.specs.Load.{SaysNothing, SaysLine}
+use Rattle.arrivals.proofs.Checking.{IsMeterOf}
+use Rattle.arrivals.proofs.keeping.keeps_load.Given as goal
+
+-- the lines so far keep to the load, and no read has failed
+abbrev pub invariant-loop-reader : goal.invariant-loop-reader
+invariant-loop-reader g l = record {
+  done : SoFar SaysNothing SaysLine (given_by g.S.Source.given g.S.Source.ended l.fn.source l.source) tt tt l.reader l.version;
+  meter : IsMeterOf (load_in l.load) l.budget done.events l.meter;
+  behind : l.reader.number + length l.reader.kept ≤ length (g.S.Source.given l.source);
+  reads : g.S.Source.failures l.source ≡ g.S.Source.failures l.fn.source;
+  input : Stays (g.S.Source.input l.fn.source) (g.S.Source.input l.source);
+}
+
+abbrev pub decreases-loop-reader : goal.decreases-loop-reader
+decreases-loop-reader g l = 2 ^ 64 - l.reader.number

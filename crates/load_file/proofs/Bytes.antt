@@ -1,0 +1,27 @@
+-- The document in bytes.
+use Rattle.std.proofs.Common.{◌≡◌, ℕ, ◌≤◌, Bool, true, false, cond, List, length, Option, None, nat_lt, refl, arith}
+use Rattle.std.proofs.lemmas.Bool.Decides.{nat_tests}
+use Rattle.std.proofs.lemmas.Str.{IsUtf8-from_is_utf8, is_utf8-from_IsUtf8}
+use Rattle.std.specs.Str.{IsUtf8, is_utf8}
+use Rattle.toml.specs.Data.{Members}
+use Rattle.toml.specs.Parse.{parse_document}
+use Rattle.command_line.specs.Document.{document_of}
+use Rattle.load_file.specs.Document.{fault_in, bytes_fault}
+
+-- what TOML reads in a text
+pub document_of-text : (bytes : List ℕ) (o : Option Members) → IsUtf8 bytes → parse_document bytes ≡ o → document_of bytes ≡ o
+document_of-text bytes o text e = rw (is_utf8-from_IsUtf8 bytes text) e
+
+-- what is no text is no document
+pub document_of-other : (bytes : List ℕ) → ¬ (IsUtf8 bytes) → document_of bytes ≡ None
+document_of-other bytes other = go (is_utf8 bytes) refl
+  where
+    go : (b : Bool) → is_utf8 bytes ≡ b → cond b (parse_document bytes) None ≡ None
+    go true e = absurd (other (IsUtf8-from_is_utf8 bytes e))
+    go false e = refl
+
+-- bytes that aren't too many have their document's fault
+pub bytes_fault-short : (bytes : List ℕ) (o : Option Members) → length bytes ≤ 65536 → document_of bytes ≡ o → bytes_fault bytes ≡ fault_in o
+bytes_fault-short bytes o short e =
+    let test : nat_lt 65536 (length bytes) ≡ false = grind (arith, nat_tests) in
+    rw (test, e) refl

@@ -1,0 +1,4 @@
+mod Bytes
+mod Classes
+mod Members
+mod Numbers

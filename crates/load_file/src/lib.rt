@@ -1,0 +1,15 @@
+//! What a program asks for by the clock, read from a document.
+#![tactic(auto)]
+
+mod fault;
+mod field;
+mod read;
+mod row;
+mod unknown;
+
+pub use fault::{DocumentFault, LoadFault, Place};
+pub use field::Field;
+pub use read::read_load;
+
+#[cfg(test)]
+mod tests;

@@ -1,0 +1,80 @@
+//! The load in a document.
+ghost use Rattle.std.specs.Prelude.{◌≡◌, pos, IfOk};
+ghost use Rattle.std.specs.Result.{result_err};
+ghost use Rattle.toml.specs.View.{table_view};
+ghost use Rattle.arrivals.specs.Fitting.{load_in};
+ghost use Rattle.load_file.specs.Document.{gap_fault, gap_of, document_fault, States, IsOpened, IsRead};
+
+use crate::fault::{DocumentFault, LoadFault, Place};
+use crate::row::{row_at, whole_number};
+use crate::unknown::{GAP, has_unknown_key};
+use arrivals::Load;
+use size_classes::{CLASSES, Class};
+use std::alloc::Global;
+use toml::Table;
+
+/// The most bytes that a document may have.
+const GREATEST_LENGTH: usize = 65536;
+
+/// The load that a document of these bytes states, or its first fault: it is too long; it isn't TOML; it has a key
+/// that isn't known, in a class's table or outside; the gap is missing, not a whole number, or out of range; then, class
+/// by class in the order of sizes, what stands at its size isn't a table, or a number in it isn't whole or out of range,
+/// live before rate before burst. Where memory is refused before that is known, it is no memory.
+pub fn read_load(alloc: Global, bytes: &[u8]) -> Result<Load, LoadFault>
+    ensures { IsRead bytes.now result }
+{
+    let document = open(alloc, bytes)?;
+    load_of(&document).map_err(LoadFault::Refused)
+}
+
+/// The document in these bytes.
+fn open(alloc: Global, bytes: &[u8]) -> Result<Table, LoadFault>
+    ensures { IsOpened bytes.now result }
+{
+    if bytes.len() > GREATEST_LENGTH {
+        return Err(LoadFault::Refused(DocumentFault::TooLong));
+    }
+    let Ok(text) = std::str::from_utf8(bytes) else {
+        return Err(LoadFault::Refused(DocumentFault::NotToml));
+    };
+    match toml::table_from_str(alloc, text) {
+        Ok(table) => Ok(table),
+        Err(error) if error.is_memory() => Err(LoadFault::NoMemory),
+        Err(_) => Err(LoadFault::Refused(DocumentFault::NotToml)),
+    }
+}
+
+/// The load that a document states, or its first fault.
+fn load_of(document: &Table) -> Result<Load, DocumentFault>
+    ensures fault { result_err result ≡ document_fault (table_view document.now) }
+    ensures load { IfOk result (λ load. States (table_view document.now) (load_in load)) }
+{
+    if has_unknown_key(document) {
+        return Err(DocumentFault::UnknownKey);
+    }
+    let gap = gap_in(document)?;
+    let mut load = Load {
+        live: [0; CLASSES],
+        rate: [0; CLASSES],
+        burst: [0; CLASSES],
+        gap,
+    };
+    for number in 0..CLASSES {
+        let row = row_at(document, Class::new(number as u8))?;
+        load.live[number] = row.live;
+        load.rate[number] = row.rate;
+        load.burst[number] = row.burst;
+    }
+    Ok(load)
+}
+
+/// The gap that a document states.
+fn gap_in(document: &Table) -> Result<u32, DocumentFault>
+    ensures fault { result_err result ≡ gap_fault (table_view document.now) }
+    ensures gap { IfOk result (λ gap. pos gap ≡ gap_of (table_view document.now)) }
+{
+    match document.get(GAP) {
+        Some(value) => whole_number(value, Place::Gap),
+        None => Err(DocumentFault::GapMissing),
+    }
+}

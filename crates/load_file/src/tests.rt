@@ -1,0 +1,2 @@
+//! Documents with what they state, and each fault.
+mod documents;

@@ -1,0 +1,11 @@
+//! What a user is told of a trace and a load.
+#![tactic(auto)]
+
+mod kept_text;
+mod live_text;
+mod report;
+
+pub use report::load_report;
+
+#[cfg(test)]
+mod tests;

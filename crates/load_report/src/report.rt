@@ -1,0 +1,41 @@
+//! All that is told of a trace and a load.
+ghost use Rattle.std.specs.Prelude.{IfOk, string_bytes};
+ghost use Rattle.arrivals.specs.Fitting.{load_in};
+ghost use Rattle.load_report.specs.Report.{IsNeedReport, IsLoadReport};
+
+use crate::kept_text::kept_line;
+use crate::live_text::live_told;
+use arrivals::{Kept, Load};
+use size_classes::Config;
+use space::Pace;
+use space_report::pace_report;
+use std::alloc::{AllocError, Global};
+
+/// What is told of the pages that a load needs.
+fn need_report(alloc: Global, config: &Config, load: &Load) -> Result<String, AllocError>
+    ensures { IfOk result (λ text. IsNeedReport config.now (load_in load.now) (string_bytes text)) }
+{
+    let pace = Some(load.pace(config));
+    pace_report(alloc, config, &pace, None)
+}
+
+/// What is told of a load in a heap of a configuration, and of a trace: whether the trace keeps to the load, or else
+/// the first line with which it breaks it, and how; of each class of which more blocks were live where a cycle began
+/// than the load has, its size in words and the blocks of both, or without a measured pace that these blocks are too
+/// many; and what is told of the pages that the load needs, as of the pace to which it comes.
+pub fn load_report(
+    alloc: Global,
+    config: &Config,
+    load: &Load,
+    kept: Kept,
+    pace: &Option<Pace>,
+) -> Result<String, AllocError>
+    ensures { IfOk result (λ text. IsLoadReport config.now load.now kept pace.now (string_bytes text)) }
+{
+    let mut text = kept_line(alloc, kept)?;
+    let live = live_told(alloc, load, pace)?;
+    text.push_str(live.as_str())?;
+    let need = need_report(alloc, config, load)?;
+    text.push_str(need.as_str())?;
+    Ok(text)
+}

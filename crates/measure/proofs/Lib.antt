@@ -1,0 +1,9 @@
+pub mod Counting
+pub mod Events
+pub mod Living
+pub mod Working
+pub mod Making
+pub mod Metering
+pub mod Summing
+pub mod Playing
+pub mod Texts

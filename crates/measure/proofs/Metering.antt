@@ -1,0 +1,456 @@
+-- What a meter holds after each event.
+use Rattle.std.proofs.Common.{◌≡◌, ℕ, ◌+◌, ◌<◌, ◌≤◌, ◌↔◌, ◌⊎◌, inl, inr, Bool, true, false, if◌then◌else◌, List, [], ◌∷◌, ◌++◌, length, drop, max, append-nil, arith, refl, ap, ◌∙◌, sym, subst}
+use Rattle.std.proofs.Math.Seq.{drop-length}
+use Rattle.std.specs.Prelude.{None, IfSome, slice_index}
+use Rattle.graph_heap.specs.declared.command.Limits.{Limits}
+use Rattle.graph_heap.specs.declared.command.Command.{Command}
+use Rattle.graph_heap.specs.declared.command.Reply.{Reply}
+use Rattle.graph_heap.specs.declared.command.Entry.{Entry}
+use Rattle.graph_heap.specs.declared.command.Change.{Change}
+use Rattle.graph_heap.specs.Graph.{Graph, opening, changed, root_cells}
+use Rattle.graph_heap.specs.Effect.{next_of}
+use Rattle.graph_heap.specs.History.{after_entry, IsEntryOf}
+use Rattle.graph_heap.specs.Reach.{Reaches}
+use Rattle.graph_heap.specs.Reaching.{AreReached}
+use Rattle.size_classes.specs.declared.class.TheConstants.{CLASSES}
+use Rattle.heap_model.specs.State.{HeapState}
+use Rattle.heap_model.specs.Opening.{IsOpening}
+use Rattle.heap_model.specs.Led.{opened}
+use Rattle.heap_model.specs.Event.{Course, Event, Command_done, Cycle_begun, Cycle_on, Enters, Begins, IsCourse, HaveBudgets, present_of, snapshot_of, room_for, change_by}
+use Rattle.heap_model.proofs.Left.{change_left}
+use Rattle.heap_model.proofs.Freed.{objects_stay}
+use Rattle.heap_model.proofs.Course.{founded, present_row, enters_step, enters_present, begins_present}
+use Rattle.heap_model.proofs.Agreements.{consistent_agrees}
+use Rattle.space.specs.Demand.{Demand, LiveWithin, blocks_of, blocks_by, asked_by, asked_for}
+use Rattle.space.specs.Tally.{Tally, opening_tally, after_event, is_tracing}
+use Rattle.space.specs.Pace.{Pace, Beat, opening_beat, next_beat, in_cycle}
+use Rattle.space.proofs.Pacing.{more_since}
+use Rattle.measure.specs.declared.meter.Meter.{Meter}
+use Rattle.measure.specs.Counts.{AreBlocks}
+use Rattle.measure.specs.Measured.{IsLeastDemand}
+use Rattle.measure.specs.Meter.{tally_after, beat_after, AllFit, Asks, Allocates, AreOf, Holds, Needs, Measures, Works}
+use Rattle.measure.proofs.Counting.{are_sum, are_max, are_same, max_sum}
+use Rattle.measure.proofs.Events.{tally_append, beat_append, demand_more, pace_more, Least, demand_live, demand_allocated, demand_same, pace_live, pace_busy, pace_idle, pace_same, quanta_keep, quanta_pace, quanta_budgets, budgets_append}
+use Rattle.measure.proofs.Living.{live_least}
+use Rattle.measure.proofs.Working.{quanta_tally, quanta_beat, quanta_present}
+use Rattle.measure.proofs.Making.{grown, not_grown, fit_after, fit_opening}
+
+-- before the first event
+pub opening_measures : (h : HeapState) (m : Meter) → IsOpening h → m.graph ≡ opening h.limits → m.on ≡ false → m.budget ≡ None → AreBlocks m.since_last (λ class. 0) → AreBlocks m.since_base (λ class. 0) → AreBlocks m.asked (λ class. 0)
+    → AreBlocks m.live (λ class. 0) → AreBlocks m.allocated (λ class. 0) → AreBlocks m.busy (λ class. 0) → AreBlocks m.idle (λ class. 0) → Measures h.limits [] (opened h) m
+opening_measures h m o graph off none last base asked live allocated busy idle = record {
+  are = record {
+    graph = refl;
+    same = refl;
+    on = sym (ap in_cycle o.phase);
+    rests = λ e. refl;
+    last = omega arith;
+    base = omega arith;
+    shapes = fit_opening h.limits;
+  };
+  holds = record { graph = graph; on = off; since_last = last; since_base = base; asked = asked };
+  needs = record {
+    most = record { live = λ class. 0; allocated = λ class. 0 };
+    pace = record { live = λ class. 0; busy = λ class. 0; idle = λ class. 0 };
+    demands = λ q. (λ w class l. (omega arith, omega arith), λ w. tt);
+    paces = λ q k. (λ w. (λ class l. (omega arith, omega arith, omega arith), tt), λ w. tt);
+    live = live;
+    allocated = allocated;
+    pace_live = live;
+    busy = busy;
+    idle = idle;
+    budget = λ k. subst (λ o. Unit {0} ↔ IfSome o (λ b. k ≤ b)) (sym none) (λ w. tt, λ w. tt);
+  };
+}
+
+pub not_more : (more : Bool) (a b : ℕ) → (a < b → more ≡ true) → more ≡ false → b ≤ a
+not_more more a b up off = elim (le_or b a) [
+  | inl h ↦ h
+  | inr h ↦ absurd (let z : true ≡ false = sym (up h) ∙ off in cc)
+]
+  where
+    le_or : (x y : ℕ) → (x ≤ y) ⊎ (y < x)
+    le_or x y = grind arith
+
+-- a command
+module _ (l : Limits) (es : List Event) (r new : Course) (m : ℕ) (c : Command) (reply : Reply) (old : Meter) (v : Measures l es r old) (w : IsCourse r) (e : Enters r m c reply new) where
+  abbrev g : Graph
+  g = present_of r
+
+  abbrev t : Tally
+  t = tally_after (opening_tally l) es
+
+  abbrev b : Beat
+  b = beat_after (opening_beat l) es
+
+  abbrev entry : Entry
+  entry = record { mutator = m; command = c; reply = reply }
+
+  abbrev change : Change
+  change = change_by (room_for r.heap c) g m c
+
+  abbrev event : Event
+  event = Command_done m c reply
+
+  phase_stays : new.heap.phase ≡ r.heap.phase
+  phase_stays = let q = change_left r.heap new.heap g change e.change in q.phase
+
+  steps : after_entry g entry ≡ changed g change
+  steps = (enters_step r new m c reply w e).1 ∙ (unfold next_of in refl)
+
+  -- the graph heap before and after
+  pub meter_graph : old.graph ≡ g
+  meter_graph = v.holds.graph ∙ v.are.graph
+
+  pub meter_row : length old.graph.roots ≡ root_cells old.graph.limits
+  meter_row = subst (λ (z : Graph). length z.roots ≡ root_cells z.limits) (sym meter_graph) (present_row r.heap g (snapshot_of r) w.stands.consistent)
+
+  pub meter_entry : IsEntryOf old.graph entry
+  meter_entry = subst (λ z. IsEntryOf z entry) (sym meter_graph) (enters_step r new m c reply w e).0
+
+  after_is : (z : Graph) → z ≡ g → after_entry z entry ≡ changed g change
+  after_is z s = ap (λ y. after_entry y entry) s ∙ steps
+
+  into : (z : Graph) → z ≡ g → after_entry z entry ≡ present_of new
+  into z s = after_is z s ∙ sym (enters_present r new m c reply w e)
+
+  longer : length g.objects ≤ length (present_of new).objects
+  longer =
+      let o = objects_stay g change in
+      let x : length (present_of new).objects ≡ length (changed g change).objects = ap (λ (z : Graph). length z.objects) (enters_present r new m c reply w e) in
+      omega (arith, o, x)
+
+  are_command : AreOf (after_event t event) (next_beat b event) new
+  are_command = record {
+    graph = into t.graph v.are.graph;
+    same = into b.graph v.are.same;
+    on = v.are.on ∙ ap in_cycle (sym phase_stays);
+    rests = λ off. v.are.rests (ap is_tracing (sym phase_stays) ∙ off);
+    last = (let q = v.are.last in let o = longer in omega (arith, q, o));
+    base = (let q = v.are.base in let o = longer in omega (arith, q, o));
+    shapes = subst AllFit (sym (enters_present r new m c reply w e)) (fit_after g change v.are.shapes (founded g (room_for r.heap c) m c (present_row r.heap g (snapshot_of r) w.stands.consistent)));
+  }
+
+  asked_same : (z : Graph) → z ≡ g → (class : ℕ) → asked_for z m c class ≡ asked_for g m c class
+  asked_same z s class = ap (λ y. asked_for y m c class) s
+
+  -- what the objects need since a place
+  since : (n class : ℕ) → n ≤ length g.objects → blocks_of (drop n (after_entry t.graph entry).objects) class ≡ blocks_of (drop n t.graph.objects) class + asked_by change class
+  since n class low =
+      let a = more_since g change n class low in
+      let x : blocks_of (drop n (after_entry t.graph entry).objects) class ≡ blocks_of (drop n (changed g change).objects) class = ap (λ (z : Graph). blocks_of (drop n z.objects) class) (after_is t.graph v.are.graph) in
+      let y : blocks_of (drop n t.graph.objects) class ≡ blocks_of (drop n g.objects) class = ap (λ (z : Graph). blocks_of (drop n z.objects) class) v.are.graph in
+      omega (arith, a, x, y)
+
+  module _ (asked : List ℕ) (a : AreBlocks asked (asked_for old.graph m c)) (mid : Meter) (s : Asks asked old mid) where
+    asked_is : AreBlocks asked (asked_for t.graph m c)
+    asked_is = are_same asked (asked_for old.graph m c) (asked_for t.graph m c) (λ class low. ap (λ z. asked_for z m c class) (sym v.holds.graph)) a
+
+    asked_beat : AreBlocks asked (asked_for b.graph m c)
+    asked_beat = are_same asked (asked_for old.graph m c) (asked_for b.graph m c) (λ class low. ap (λ z. asked_for z m c class) (v.are.same ∙ sym meter_graph)) a
+
+    abbrev wanted : ℕ → ℕ
+    wanted class = blocks_of (drop t.base t.graph.objects) class + asked_for t.graph m c class
+
+    abbrev now : ℕ → ℕ
+    now class = b.asked class + asked_for b.graph m c class
+
+    now_held : AreBlocks mid.asked now
+    now_held = are_sum old.asked asked mid.asked b.asked (asked_for b.graph m c) v.holds.asked asked_beat s.sum
+
+    abbrev most_new : Demand
+    most_new = record { live = v.needs.most.live; allocated = λ class. max (v.needs.most.allocated class) (wanted class) }
+
+    least_demand : IsLeastDemand l (es ++ event ∷ []) most_new
+    least_demand = demand_more l es (event ∷ []) v.needs.most most_new (λ q. Least wanted q.allocated) v.needs.demands (λ q. (λ k. k.0, λ k. (k, tt))) (demand_allocated v.needs.most wanted)
+
+    budgets : (k : ℕ) → HaveBudgets k (es ++ event ∷ []) ↔ IfSome mid.budget (λ budget. k ≤ budget)
+    budgets k =
+        let p = budgets_append k es (event ∷ []) in
+        let q = v.needs.budget k in
+        subst (λ o. HaveBudgets k (es ++ event ∷ []) ↔ IfSome o (λ budget. k ≤ budget)) (sym s.budget) (λ h. q.0 (p.0 h).0, λ h. p.1 (q.1 h, tt))
+
+    needs_by : (o : Bool) → b.on ≡ o → Needs l (es ++ event ∷ []) mid
+    needs_by true on =
+        let pace_new : Pace = record { live = v.needs.pace.live; busy = λ class. max (v.needs.pace.busy class) (now class); idle = v.needs.pace.idle } in
+        record {
+          most = most_new;
+          pace = pace_new;
+          demands = least_demand;
+          paces = pace_more l es (event ∷ []) v.needs.pace pace_new (λ q. Least now q.busy) v.needs.paces
+              (λ q k. (λ h. ((λ class low. subst (λ o. now class ≤ (if o then q.busy class else q.idle class)) on (h.0 class low)), tt), λ h. ((λ class low. subst (λ o. now class ≤ (if o then q.busy class else q.idle class)) (sym on) (h.0 class low)), tt)))
+              (pace_busy v.needs.pace now);
+          live = subst (λ z. AreBlocks z v.needs.most.live) (sym s.live) v.needs.live;
+          allocated = max_sum old.allocated old.since_base asked mid.allocated v.needs.most.allocated (blocks_of (drop t.base t.graph.objects)) (asked_for t.graph m c) v.needs.allocated v.holds.since_base asked_is s.allocated;
+          pace_live = subst (λ z. AreBlocks z v.needs.pace.live) (sym s.live) v.needs.pace_live;
+          busy = are_max old.busy mid.asked mid.busy v.needs.pace.busy now v.needs.busy now_held (s.busy (v.holds.on ∙ on));
+          idle = subst (λ z. AreBlocks z v.needs.pace.idle) (sym (s.not_idle (v.holds.on ∙ on))) v.needs.idle;
+          budget = budgets;
+        }
+    needs_by false off =
+        let pace_new : Pace = record { live = v.needs.pace.live; busy = v.needs.pace.busy; idle = λ class. max (v.needs.pace.idle class) (now class) } in
+        record {
+          most = most_new;
+          pace = pace_new;
+          demands = least_demand;
+          paces = pace_more l es (event ∷ []) v.needs.pace pace_new (λ q. Least now q.idle) v.needs.paces
+              (λ q k. (λ h. ((λ class low. subst (λ o. now class ≤ (if o then q.busy class else q.idle class)) off (h.0 class low)), tt), λ h. ((λ class low. subst (λ o. now class ≤ (if o then q.busy class else q.idle class)) (sym off) (h.0 class low)), tt)))
+              (pace_idle v.needs.pace now);
+          live = subst (λ z. AreBlocks z v.needs.most.live) (sym s.live) v.needs.live;
+          allocated = max_sum old.allocated old.since_base asked mid.allocated v.needs.most.allocated (blocks_of (drop t.base t.graph.objects)) (asked_for t.graph m c) v.needs.allocated v.holds.since_base asked_is s.allocated;
+          pace_live = subst (λ z. AreBlocks z v.needs.pace.live) (sym s.live) v.needs.pace_live;
+          busy = subst (λ z. AreBlocks z v.needs.pace.busy) (sym (s.not_busy (v.holds.on ∙ off))) v.needs.busy;
+          idle = are_max old.idle mid.asked mid.idle v.needs.pace.idle now v.needs.idle now_held (s.idle (v.holds.on ∙ off));
+          budget = budgets;
+        }
+
+    needs_now : Needs l (es ++ event ∷ []) mid
+    needs_now = needs_by b.on refl
+
+    module _ (step : Meter) (z : step ≡ record mid { graph = after_entry mid.graph entry }) where
+      step_graph : step.graph ≡ after_entry t.graph entry
+      step_graph = ap (λ (x : Meter). x.graph) z ∙ ap (λ x. after_entry x entry) (s.graph ∙ v.holds.graph)
+
+      grows_by : (length mid.graph.objects < length step.graph.objects) → length g.objects < length (changed g change).objects
+      grows_by more =
+          let x : length mid.graph.objects ≡ length g.objects = ap (λ (y : Graph). length y.objects) (s.graph ∙ meter_graph) in
+          let y : length step.graph.objects ≡ length (changed g change).objects = ap (λ (y : Graph). length y.objects) (step_graph ∙ after_is t.graph v.are.graph) in
+          omega (arith, x, y, more)
+
+      stays_by : (length step.graph.objects ≤ length mid.graph.objects) → length (changed g change).objects ≤ length g.objects
+      stays_by less =
+          let x : length mid.graph.objects ≡ length g.objects = ap (λ (y : Graph). length y.objects) (s.graph ∙ meter_graph) in
+          let y : length step.graph.objects ≡ length (changed g change).objects = ap (λ (y : Graph). length y.objects) (step_graph ∙ after_is t.graph v.are.graph) in
+          omega (arith, x, y, less)
+
+      needs_step : Needs l (es ++ event ∷ []) step
+      needs_step = subst (Needs l (es ++ event ∷ [])) (sym z) (record {
+        most = needs_now.most;
+        pace = needs_now.pace;
+        demands = needs_now.demands;
+        paces = needs_now.paces;
+        live = needs_now.live;
+        allocated = needs_now.allocated;
+        pace_live = needs_now.pace_live;
+        busy = needs_now.busy;
+        idle = needs_now.idle;
+        budget = needs_now.budget;
+      })
+
+      measured_by : (fin : Meter) → Holds (after_event t event) (next_beat b event) fin → Needs l (es ++ event ∷ []) fin → Measures l (es ++ event ∷ []) new fin
+      measured_by fin h n = record {
+        are = subst (λ x. AreOf x (beat_after (opening_beat l) (es ++ event ∷ [])) new) (sym (tally_append (opening_tally l) es (event ∷ []))) (subst (λ x. AreOf (after_event t event) x new) (sym (beat_append (opening_beat l) es (event ∷ []))) are_command);
+        holds = subst (λ x. Holds x (beat_after (opening_beat l) (es ++ event ∷ [])) fin) (sym (tally_append (opening_tally l) es (event ∷ []))) (subst (λ x. Holds (after_event t event) x fin) (sym (beat_append (opening_beat l) es (event ∷ []))) h);
+        needs = n;
+      }
+
+      -- an object was allocated
+      pub allocated_measures : (fin : Meter) → length mid.graph.objects < length step.graph.objects → Allocates asked step fin → Measures l (es ++ event ∷ []) new fin
+      allocated_measures fin more al = measured_by fin (record {
+        graph = ap (λ (x : Meter). x.graph) al.same ∙ step_graph;
+        on = ap (λ (x : Meter). x.on) (al.same) ∙ ap (λ (x : Meter). x.on) z ∙ s.on ∙ v.holds.on;
+        since_last = counts t.last fin.since_last v.are.last (are_sum step.since_last asked fin.since_last (blocks_of (drop t.last t.graph.objects)) (asked_for t.graph m c) (subst (λ y. AreBlocks y (blocks_of (drop t.last t.graph.objects))) (sym (ap (λ (x : Meter). x.since_last) z ∙ s.since_last)) v.holds.since_last) asked_is al.since_last);
+        since_base = counts t.base fin.since_base v.are.base (are_sum step.since_base asked fin.since_base (blocks_of (drop t.base t.graph.objects)) (asked_for t.graph m c) (subst (λ y. AreBlocks y (blocks_of (drop t.base t.graph.objects))) (sym (ap (λ (x : Meter). x.since_base) z ∙ s.since_base)) v.holds.since_base) asked_is al.since_base);
+        asked = subst (λ y. AreBlocks y now) (sym (ap (λ (x : Meter). x.asked) al.same ∙ ap (λ (x : Meter). x.asked) z)) now_held;
+      }) (subst (Needs l (es ++ event ∷ [])) (sym al.same) (record {
+        most = needs_step.most;
+        pace = needs_step.pace;
+        demands = needs_step.demands;
+        paces = needs_step.paces;
+        live = needs_step.live;
+        allocated = needs_step.allocated;
+        pace_live = needs_step.pace_live;
+        busy = needs_step.busy;
+        idle = needs_step.idle;
+        budget = needs_step.budget;
+      }))
+        where
+          counts : (n : ℕ) (held : List ℕ) → n ≤ length (present_of r).objects → AreBlocks held (λ class. blocks_of (drop n t.graph.objects) class + asked_for t.graph m c class) → AreBlocks held (blocks_of (drop n (after_entry t.graph entry).objects))
+          counts n held low h = are_same held _ _ (λ class small. since n class low ∙ ap (λ x. blocks_of (drop n t.graph.objects) class + x) (grown (room_for r.heap c) g m c class (grows_by more) ∙ sym (asked_same t.graph v.are.graph class))) h
+
+      -- none was
+      pub kept_measures : length step.graph.objects ≤ length mid.graph.objects → Measures l (es ++ event ∷ []) new step
+      kept_measures less = measured_by step (record {
+        graph = step_graph;
+        on = ap (λ (x : Meter). x.on) z ∙ s.on ∙ v.holds.on;
+        since_last = counts t.last step.since_last v.are.last (subst (λ y. AreBlocks y (blocks_of (drop t.last t.graph.objects))) (sym (ap (λ (x : Meter). x.since_last) z ∙ s.since_last)) v.holds.since_last);
+        since_base = counts t.base step.since_base v.are.base (subst (λ y. AreBlocks y (blocks_of (drop t.base t.graph.objects))) (sym (ap (λ (x : Meter). x.since_base) z ∙ s.since_base)) v.holds.since_base);
+        asked = subst (λ y. AreBlocks y now) (sym (ap (λ (x : Meter). x.asked) z)) now_held;
+      }) needs_step
+        where
+          counts : (n : ℕ) (held : List ℕ) → n ≤ length (present_of r).objects → AreBlocks held (blocks_of (drop n t.graph.objects)) → AreBlocks held (blocks_of (drop n (after_entry t.graph entry).objects))
+          counts n held low h = are_same held _ _ (λ class small. (let x = since n class low in let y = not_grown (room_for r.heap c) g m c class (stays_by less) in omega (arith, x, y))) h
+
+-- a beginning
+module _ (l : Limits) (es : List Event) (r new : Course) (old fin : Meter) (v : Measures l es r old) (w : IsCourse r) (e : Begins r new) where
+  abbrev begin_tally : Tally
+  begin_tally = tally_after (opening_tally l) es
+
+  abbrev begin_beat : Beat
+  begin_beat = beat_after (opening_beat l) es
+
+  pub begin_graph : old.graph ≡ present_of r
+  begin_graph = v.holds.graph ∙ v.are.graph
+
+  pub begin_fits : AllFit old.graph
+  begin_fits = subst AllFit (sym begin_graph) v.are.shapes
+
+  given_in : (z : Graph) → z ≡ present_of r → (id : ℕ) → Reaches z id → id ≤ length z.objects
+  given_in z s id = subst (λ y. Reaches y id → id ≤ length y.objects) (sym s) (λ reach. ((consistent_agrees r.heap (present_of r) (snapshot_of r) w.stands.consistent).given id reach).below)
+
+  module _ (ids : List ℕ) (all : AreReached old.graph ids) (blocks : List ℕ) (a : AreBlocks blocks (blocks_by old.graph ids)) where
+    abbrev needed_now : ℕ → ℕ
+    needed_now = blocks_by old.graph ids
+
+    live_in : (z : Graph) → z ≡ present_of r → (most : ℕ → ℕ) → LiveWithin z most ↔ Least needed_now most
+    live_in z s most = subst (λ y. LiveWithin y most ↔ Least needed_now most) (begin_graph ∙ sym s) (live_least old.graph ids most all (given_in old.graph begin_graph))
+
+    abbrev begin_demand : Demand
+    begin_demand = record { live = λ class. max (v.needs.most.live class) (needed_now class); allocated = v.needs.most.allocated }
+
+    abbrev begin_pace : Pace
+    begin_pace = record { live = λ class. max (v.needs.pace.live class) (needed_now class); busy = v.needs.pace.busy; idle = v.needs.pace.idle }
+
+    pub begun_measures : fin ≡ record old { live = fin.live; since_last = fin.since_last; asked = fin.asked; on = true } → ((class : ℕ) → class < CLASSES → slice_index fin.live class ≡ max (slice_index old.live class) (slice_index blocks class))
+        → AreBlocks fin.since_last (λ class. 0) → AreBlocks fin.asked (λ class. 0) → Measures l (es ++ Cycle_begun ∷ []) new fin
+    begun_measures same raised none_last none_asked = record {
+      are = subst (λ x. AreOf x (beat_after (opening_beat l) (es ++ Cycle_begun ∷ [])) new) (sym (tally_append (opening_tally l) es (Cycle_begun ∷ []))) (subst (λ x. AreOf (after_event begin_tally Cycle_begun) x new) (sym (beat_append (opening_beat l) es (Cycle_begun ∷ []))) (record {
+        graph = v.are.graph ∙ sym (begins_present r new e);
+        same = v.are.same ∙ sym (begins_present r new e);
+        on = sym (ap (λ (h : HeapState). in_cycle h.phase) e.heap);
+        rests = λ off. absurd (let z : true ≡ false = sym (ap (λ (h : HeapState). is_tracing h.phase) e.heap) ∙ off in cc);
+        last = (let x : length begin_tally.graph.objects ≡ length (present_of new).objects = ap (λ (z : Graph). length z.objects) (v.are.graph ∙ sym (begins_present r new e)) in omega (arith, x));
+        base = (let q = v.are.base in let x : length (present_of new).objects ≡ length (present_of r).objects = ap (λ (z : Graph). length z.objects) (begins_present r new e) in omega (arith, q, x));
+        shapes = subst AllFit (sym (begins_present r new e)) v.are.shapes;
+      }));
+      holds = subst (λ x. Holds x (beat_after (opening_beat l) (es ++ Cycle_begun ∷ [])) fin) (sym (tally_append (opening_tally l) es (Cycle_begun ∷ []))) (subst (λ x. Holds (after_event begin_tally Cycle_begun) x fin) (sym (beat_append (opening_beat l) es (Cycle_begun ∷ []))) (record {
+        graph = ap (λ (x : Meter). x.graph) same ∙ v.holds.graph;
+        on = ap (λ (x : Meter). x.on) same;
+        since_last = are_same fin.since_last _ _ (λ class low. ap (λ xs. blocks_of xs class) (drop-length begin_tally.graph.objects)) none_last;
+        since_base = subst (λ y. AreBlocks y (blocks_of (drop begin_tally.base begin_tally.graph.objects))) (sym (ap (λ (x : Meter). x.since_base) same)) v.holds.since_base;
+        asked = none_asked;
+      }));
+      needs = record {
+        most = begin_demand;
+        pace = begin_pace;
+        demands = demand_more l es (Cycle_begun ∷ []) v.needs.most begin_demand (λ q. Least needed_now q.live) v.needs.demands
+            (λ q. (λ k. (live_in begin_tally.graph v.are.graph q.live).0 k.0, λ k. ((live_in begin_tally.graph v.are.graph q.live).1 k, tt))) (demand_live v.needs.most needed_now);
+        paces = pace_more l es (Cycle_begun ∷ []) v.needs.pace begin_pace (λ q. Least needed_now q.live) v.needs.paces
+            (λ q k. (λ h. ((live_in begin_beat.graph v.are.same q.live).0 h.0, tt), λ h. ((live_in begin_beat.graph v.are.same q.live).1 h.0, tt))) (pace_live v.needs.pace needed_now);
+        live = are_max old.live blocks fin.live v.needs.most.live needed_now v.needs.live a raised;
+        allocated = subst (λ y. AreBlocks y v.needs.most.allocated) (sym (ap (λ (x : Meter). x.allocated) same)) v.needs.allocated;
+        pace_live = are_max old.live blocks fin.live v.needs.pace.live needed_now v.needs.pace_live a raised;
+        busy = subst (λ y. AreBlocks y v.needs.pace.busy) (sym (ap (λ (x : Meter). x.busy) same)) v.needs.busy;
+        idle = subst (λ y. AreBlocks y v.needs.pace.idle) (sym (ap (λ (x : Meter). x.idle) same)) v.needs.idle;
+        budget = λ k. (
+            let p = budgets_append k es (Cycle_begun ∷ []) in
+            let q = v.needs.budget k in
+            subst (λ o. HaveBudgets k (es ++ Cycle_begun ∷ []) ↔ IfSome o (λ budget. k ≤ budget)) (sym (ap (λ (x : Meter). x.budget) same)) (λ h. q.0 (p.0 h).0, λ h. p.1 (q.1 h, tt))
+            );
+      };
+    }
+
+-- quanta
+module _ (l : Limits) (es qs : List Event) (r new : Course) (old fin : Meter) (budget : ℕ) (v : Measures l es r old) (w : IsCourse r) (works : Works budget qs r new) where
+  abbrev work_tally : Tally
+  work_tally = tally_after (opening_tally l) es
+
+  abbrev work_beat : Beat
+  work_beat = beat_after (opening_beat l) es
+
+  present : present_of new ≡ present_of r
+  present = quanta_present budget qs r new works.each w works.runs
+
+  tally_is : tally_after work_tally qs ≡ (if is_tracing new.heap.phase then work_tally else record work_tally { base = work_tally.last })
+  tally_is = quanta_tally budget qs work_tally r new works.each works.runs v.are.rests
+
+  beat_is : (beat_after work_beat qs ≡ (if work_beat.on then record work_beat { on = in_cycle new.heap.phase; asked = λ class. 0 } else work_beat)) × ((beat_after work_beat qs).on ≡ in_cycle new.heap.phase)
+  beat_is = quanta_beat budget qs work_beat r new works.each works.some works.runs v.are.on
+
+  tally_by : (P : Tally → Type 0) → (is_tracing new.heap.phase ≡ true → P work_tally) → (is_tracing new.heap.phase ≡ false → P (record work_tally { base = work_tally.last })) → P (tally_after work_tally qs)
+  tally_by P on off = subst P (sym tally_is) (by (is_tracing new.heap.phase) refl)
+    where
+      by : (o : Bool) → is_tracing new.heap.phase ≡ o → P (if o then work_tally else record work_tally { base = work_tally.last })
+      by true e = on e
+      by false e = off e
+
+  beat_by : (P : Beat → Type 0) → (work_beat.on ≡ true → P (record work_beat { on = in_cycle new.heap.phase; asked = λ class. 0 })) → (work_beat.on ≡ false → P work_beat) → P (beat_after work_beat qs)
+  beat_by P on off = subst P (sym beat_is.0) (by work_beat.on refl)
+    where
+      by : (o : Bool) → work_beat.on ≡ o → P (if o then record work_beat { on = in_cycle new.heap.phase; asked = λ class. 0 } else work_beat)
+      by true e = on e
+      by false e = off e
+
+  are_worked : AreOf (tally_after work_tally qs) (beat_after work_beat qs) new
+  are_worked = record {
+    graph = tally_by (λ t. t.graph ≡ present_of new) (λ on. v.are.graph ∙ sym present) (λ off. v.are.graph ∙ sym present);
+    same = beat_by (λ b. b.graph ≡ present_of new) (λ on. v.are.same ∙ sym present) (λ off. v.are.same ∙ sym present);
+    on = beat_is.1;
+    rests = λ still. tally_by (λ t. t.base ≡ t.last) (λ on. absurd (let z : true ≡ false = sym on ∙ still in cc)) (λ off. refl);
+    last = (let x : length (present_of new).objects ≡ length (present_of r).objects = ap (λ (z : Graph). length z.objects) present in
+        tally_by (λ t. t.last ≤ length (present_of new).objects) (λ on. (let q = v.are.last in omega (arith, q, x))) (λ off. (let q = v.are.last in omega (arith, q, x))));
+    base = (let x : length (present_of new).objects ≡ length (present_of r).objects = ap (λ (z : Graph). length z.objects) present in
+        tally_by (λ t. t.base ≤ length (present_of new).objects) (λ on. (let q = v.are.base in omega (arith, q, x))) (λ off. (let q = v.are.last in omega (arith, q, x))));
+    shapes = subst AllFit (sym present) v.are.shapes;
+  }
+
+  pub quanta_measure : fin ≡ record old { on = fin.on; since_base = fin.since_base; asked = fin.asked; budget = fin.budget }
+      → (is_tracing new.heap.phase ≡ true → fin.since_base ≡ old.since_base) → (is_tracing new.heap.phase ≡ false → fin.since_base ≡ old.since_last)
+      → (old.on ≡ true → (fin.on ≡ in_cycle new.heap.phase) × AreBlocks fin.asked (λ class. 0)) → (old.on ≡ false → (fin.on ≡ old.on) × (fin.asked ≡ old.asked))
+      → ((k : ℕ) → IfSome fin.budget (λ n. k ≤ n) ↔ (IfSome old.budget (λ n. k ≤ n) × (k ≤ budget))) → Measures l (es ++ qs) new fin
+  quanta_measure same keeps moves on off least = record {
+    are = subst (λ x. AreOf x (beat_after (opening_beat l) (es ++ qs)) new) (sym (tally_append (opening_tally l) es qs)) (subst (λ x. AreOf (tally_after work_tally qs) x new) (sym (beat_append (opening_beat l) es qs)) are_worked);
+    holds = subst (λ x. Holds x (beat_after (opening_beat l) (es ++ qs)) fin) (sym (tally_append (opening_tally l) es qs)) (subst (λ x. Holds (tally_after work_tally qs) x fin) (sym (beat_append (opening_beat l) es qs)) (record {
+      graph = ap (λ (x : Meter). x.graph) same ∙ tally_by (λ t. old.graph ≡ t.graph) (λ z. v.holds.graph) (λ z. v.holds.graph);
+      on = beat_by (λ b. fin.on ≡ b.on) (λ z. (on (v.holds.on ∙ z)).0) (λ z. (off (v.holds.on ∙ z)).0 ∙ v.holds.on);
+      since_last = tally_by (λ t. AreBlocks fin.since_last (blocks_of (drop t.last t.graph.objects))) (λ z. last) (λ z. last);
+      since_base = tally_by (λ t. AreBlocks fin.since_base (blocks_of (drop t.base t.graph.objects)))
+          (λ z. subst (λ y. AreBlocks y (blocks_of (drop work_tally.base work_tally.graph.objects))) (sym (keeps z)) v.holds.since_base)
+          (λ z. subst (λ y. AreBlocks y (blocks_of (drop work_tally.last work_tally.graph.objects))) (sym (moves z)) v.holds.since_last);
+      asked = beat_by (λ b. AreBlocks fin.asked b.asked) (λ z. (on (v.holds.on ∙ z)).1) (λ z. subst (λ y. AreBlocks y work_beat.asked) (sym (off (v.holds.on ∙ z)).1) v.holds.asked);
+    }));
+    needs = subst (Needs l (es ++ qs)) (sym same) (record {
+      most = v.needs.most;
+      pace = v.needs.pace;
+      demands = demand_more l es qs v.needs.most v.needs.most (λ q. Unit {0}) v.needs.demands (λ q. (λ k. tt, λ k. quanta_keep q work_tally budget qs works.each)) (demand_same v.needs.most);
+      paces = pace_more l es qs v.needs.pace v.needs.pace (λ q. Unit {0}) v.needs.paces
+          (λ q k. (λ h. (tt, (quanta_pace q k work_beat budget qs works.each).0 h), λ h. (quanta_pace q k work_beat budget qs works.each).1 h.1)) (pace_same v.needs.pace);
+      live = v.needs.live;
+      allocated = v.needs.allocated;
+      pace_live = v.needs.pace_live;
+      busy = v.needs.busy;
+      idle = v.needs.idle;
+      budget = λ k. (
+          let p = budgets_append k es qs in
+          let q = quanta_budgets k budget qs works.each works.some in
+          let n = v.needs.budget k in
+          let f = least k in
+          (λ h. (let x = p.0 h in f.1 (n.0 x.0, q.0 x.1)), λ h. (let x = f.0 h in p.1 (n.1 x.0, q.1 x.1)))
+          );
+    });
+  }
+    where
+      last : AreBlocks fin.since_last (blocks_of (drop work_tally.last work_tally.graph.objects))
+      last = subst (λ y. AreBlocks y (blocks_of (drop work_tally.last work_tally.graph.objects))) (sym (ap (λ (x : Meter). x.since_last) same)) v.holds.since_last
+
+-- where nothing is done
+pub skip_measures : (l : Limits) (es : List Event) (r : Course) (m : Meter) → Measures l es r m → Measures l (es ++ []) r m
+skip_measures l es r m v = subst (λ x. Measures l x r m) (sym (append-nil es)) v
+
+pub goes_on_measures : (l : Limits) (es : List Event) (r : Course) (m : Meter) → Measures l es r m → Measures l (es ++ Cycle_on ∷ []) r m
+goes_on_measures l es r m v = record {
+  are = subst (λ x. AreOf x (beat_after (opening_beat l) (es ++ Cycle_on ∷ [])) r) (sym (tally_append (opening_tally l) es (Cycle_on ∷ []))) (subst (λ x. AreOf (tally_after (opening_tally l) es) x r) (sym (beat_append (opening_beat l) es (Cycle_on ∷ []))) v.are);
+  holds = subst (λ x. Holds x (beat_after (opening_beat l) (es ++ Cycle_on ∷ [])) m) (sym (tally_append (opening_tally l) es (Cycle_on ∷ []))) (subst (λ x. Holds (tally_after (opening_tally l) es) x m) (sym (beat_append (opening_beat l) es (Cycle_on ∷ []))) v.holds);
+  needs = record {
+    most = v.needs.most;
+    pace = v.needs.pace;
+    demands = demand_more l es (Cycle_on ∷ []) v.needs.most v.needs.most (λ q. Unit {0}) v.needs.demands (λ q. (λ k. tt, λ k. (tt, tt))) (demand_same v.needs.most);
+    paces = pace_more l es (Cycle_on ∷ []) v.needs.pace v.needs.pace (λ q. Unit {0}) v.needs.paces (λ q k. (λ h. (tt, tt), λ h. (tt, tt))) (pace_same v.needs.pace);
+    live = v.needs.live;
+    allocated = v.needs.allocated;
+    pace_live = v.needs.pace_live;
+    busy = v.needs.busy;
+    idle = v.needs.idle;
+    budget = λ k. (let p = budgets_append k es (Cycle_on ∷ []) in let q = v.needs.budget k in (λ h. q.0 (p.0 h).0, λ h. p.1 (q.1 h, tt)));
+  };
+}

@@ -1,0 +1,130 @@
+-- Quanta one after the other.
+use Rattle.std.proofs.Common.{◌≡◌, ℕ, ◌<◌, Bool, true, false, if◌then◌else◌, List, [], ◌∷◌, length, arith, refl, ap, ◌∙◌, sym}
+use Rattle.graph_heap.specs.Graph.{Graph}
+use Rattle.heap_model.specs.declared.phase.Phase.{Phase}
+use Rattle.heap_model.specs.declared.phase.Phase.TheVariants as phases
+use Rattle.heap_model.specs.State.{HeapState}
+use Rattle.heap_model.specs.Action.{Action, Scans_root, Ends_roots, Scans_header, Scans_cell, Ends_marking, Frees_block, Passes_block, Closes_page, Ends_sweep, Looks_at_page, Chooses_page, Chooses_none, Moves_block, Ends_moving, Chain, Nothing_done, Then}
+use Rattle.heap_model.specs.Event.{Course, Event, Command_done, Cycle_begun, Cycle_on, Quantum_done, Quantum_refused, Runs, Collects, IsCourse, present_of}
+use Rattle.heap_model.proofs.Stood.{idle_chain}
+use Rattle.heap_model.proofs.Course.{does_course, collects_present}
+use Rattle.space.specs.Tally.{Tally, is_tracing}
+use Rattle.space.specs.Pace.{Beat, next_beat, in_cycle}
+use Rattle.measure.specs.Meter.{tally_after, beat_after, AreQuanta}
+
+-- tracing that is on was on before
+traces_before : (h after : HeapState) (cost : ℕ) → Action h cost after → is_tracing after.phase ≡ true → is_tracing h.phase ≡ true
+traces_before h after cost (Scans_root next k e l sh) t = ap is_tracing e
+traces_before h after cost (Ends_roots next e l) t = ap is_tracing e
+traces_before h after cost (Scans_header part cell x front back e f n) t = ap is_tracing e
+traces_before h after cost (Scans_cell part cell new k e l w0 sh) t = ap is_tracing e
+traces_before h after cost (Ends_marking part cell e f n) t = ap is_tracing e
+traces_before h after cost (Frees_block page block p new e f was unmarked w0 pages) t = ap is_tracing e
+traces_before h after cost (Passes_block page block p e f l marked) t = ap is_tracing e
+traces_before h after cost (Closes_page page block new e l f w0 pages) t = ap is_tracing e
+traces_before h after cost (Ends_sweep page block e l) t = ap is_tracing e
+traces_before h after cost (Looks_at_page class page best chosen at l m) t = absurd (let z : false ≡ true = t in cc)
+traces_before h after cost (Chooses_page class page best chosen c p new at l m lk ch pg w0 pages) t = absurd (let z : false ≡ true = t in cc)
+traces_before h after cost (Chooses_none class page best chosen at l m ch) t = absurd (let z : false ≡ true = t in cc)
+traces_before h after cost (Moves_block class page block chosen i to j p q new e pg lv n pos at fr w0 pages) t = absurd (let z : false ≡ true = t in cc)
+traces_before h after cost (Ends_moving done) t = absurd (let z : false ≡ true = t in cc)
+
+chain_traces : (h after : HeapState) (spent : ℕ) → Chain h spent after → is_tracing after.phase ≡ true → is_tracing h.phase ≡ true
+chain_traces h after spent Nothing_done t = t
+chain_traces h after spent (Then u cost j k linked chain links action) t = chain_traces h j u chain (traces_before (record j { store = linked }) k cost action t)
+
+runs_trace : (budget : ℕ) (qs : List Event) (r new : Course) → AreQuanta budget qs → Runs r qs new → is_tracing new.heap.phase ≡ true → is_tracing r.heap.phase ≡ true
+runs_trace budget [] r new each runs t = ap (λ (x : Course). is_tracing x.heap.phase) (sym runs) ∙ t
+runs_trace budget (Quantum_done b units phase ∷ qs) r new each runs t = chain_traces r.heap runs.0.heap units runs.1.turn.chain (runs_trace budget qs runs.0 new each.1 runs.2 t)
+runs_trace budget (Command_done m c reply ∷ qs) r new each runs t = elim each [ ]
+runs_trace budget (Cycle_begun ∷ qs) r new each runs t = elim each [ ]
+runs_trace budget (Cycle_on ∷ qs) r new each runs t = elim each [ ]
+runs_trace budget (Quantum_refused b ∷ qs) r new each runs t = elim each [ ]
+
+-- the tally after them
+abbrev rested : Bool → Tally → Tally
+rested tracing t = if tracing then t else record t { base = t.last }
+
+rested_same : (b : Bool) (t : Tally) → (b ≡ false → t.base ≡ t.last) → t ≡ rested b t
+rested_same true t rest = refl
+rested_same false t rest = ap (λ z. record t { base = z }) (rest refl)
+
+rested_twice : (a b : Bool) (t : Tally) → (b ≡ true → a ≡ true) → rested b (rested a t) ≡ rested b t
+rested_twice true b t back = refl
+rested_twice false true t back = absurd (let z = back refl in cc)
+rested_twice false false t back = refl
+
+rested_rests : (b : Bool) (t : Tally) → b ≡ false → (rested b t).base ≡ (rested b t).last
+rested_rests true t e = absurd (cc)
+rested_rests false t e = refl
+
+pub quanta_tally : (budget : ℕ) (qs : List Event) (t : Tally) (r new : Course) → AreQuanta budget qs → Runs r qs new → (is_tracing r.heap.phase ≡ false → t.base ≡ t.last)
+    → tally_after t qs ≡ (if is_tracing new.heap.phase then t else record t { base = t.last })
+quanta_tally budget [] t r new each runs rest = rested_same (is_tracing r.heap.phase) t rest ∙ ap (λ (x : Course). rested (is_tracing x.heap.phase) t) (sym runs)
+quanta_tally budget (Quantum_done b units phase ∷ qs) t r new each runs rest =
+    let is : runs.0.heap.phase ≡ phase = runs.1.ends in
+    quanta_tally budget qs (rested (is_tracing phase) t) runs.0 new each.1 runs.2 (λ e. rested_rests (is_tracing phase) t (ap is_tracing (sym is) ∙ e))
+    ∙ rested_twice (is_tracing phase) (is_tracing new.heap.phase) t (λ e. ap is_tracing (sym is) ∙ runs_trace budget qs runs.0 new each.1 runs.2 e)
+quanta_tally budget (Command_done m c reply ∷ qs) t r new each runs rest = elim each [ ]
+quanta_tally budget (Cycle_begun ∷ qs) t r new each runs rest = elim each [ ]
+quanta_tally budget (Cycle_on ∷ qs) t r new each runs rest = elim each [ ]
+quanta_tally budget (Quantum_refused b ∷ qs) t r new each runs rest = elim each [ ]
+
+-- the beat after them
+idle_phase : (f : Phase) → in_cycle f ≡ false → f ≡ phases.Idle
+idle_phase phases.Idle e = refl
+idle_phase (phases.Roots next) e = absurd (cc)
+idle_phase (phases.Marking part cell) e = absurd (cc)
+idle_phase (phases.Sweeping page block) e = absurd (cc)
+idle_phase (phases.Moving m) e = absurd (cc)
+
+stays_idle : (r new : Course) (budget units : ℕ) (phase : Phase) → Collects r budget units phase new → in_cycle r.heap.phase ≡ false → in_cycle new.heap.phase ≡ false
+stays_idle r new budget units phase c off = ap (λ (h : HeapState). in_cycle h.phase) (idle_chain r.heap new.heap units c.turn.chain (idle_phase r.heap.phase off)).0 ∙ off
+
+pub runs_idle : (budget : ℕ) (qs : List Event) (b : Beat) (r new : Course) → AreQuanta budget qs → Runs r qs new → b.on ≡ false → in_cycle r.heap.phase ≡ false → (beat_after b qs ≡ b) × (in_cycle new.heap.phase ≡ false)
+runs_idle budget [] b r new each runs off idle = (refl, ap (λ (x : Course). in_cycle x.heap.phase) runs ∙ idle)
+runs_idle budget (Quantum_done given units phase ∷ qs) b r new each runs off idle =
+    let same : next_beat b (Quantum_done given units phase) ≡ b = ap (λ z. if z then record b { on = in_cycle phase; asked = λ class. 0 } else b) off in
+    let w = runs_idle budget qs b runs.0 new each.1 runs.2 off (stays_idle r runs.0 given units phase runs.1 idle) in
+    (ap (λ x. beat_after x qs) same ∙ w.0, w.1)
+runs_idle budget (Command_done m c reply ∷ qs) b r new each runs off idle = elim each [ ]
+runs_idle budget (Cycle_begun ∷ qs) b r new each runs off idle = elim each [ ]
+runs_idle budget (Cycle_on ∷ qs) b r new each runs off idle = elim each [ ]
+runs_idle budget (Quantum_refused given ∷ qs) b r new each runs off idle = elim each [ ]
+
+abbrev fresh : Graph → Bool → Beat
+fresh g on = record { graph = g; on = on; asked = λ class. 0 }
+
+fresh_beat : (budget : ℕ) (qs : List Event) (g : Graph) (on : Bool) (r new : Course) → AreQuanta budget qs → Runs r qs new → on ≡ in_cycle r.heap.phase → beat_after (fresh g on) qs ≡ fresh g (in_cycle new.heap.phase)
+fresh_beat budget [] g on r new each runs is = ap (fresh g) (is ∙ ap (λ (x : Course). in_cycle x.heap.phase) (sym runs))
+fresh_beat budget (Quantum_done given units phase ∷ qs) g true r new each runs is = fresh_beat budget qs g (in_cycle phase) runs.0 new each.1 runs.2 (ap in_cycle (sym runs.1.ends))
+fresh_beat budget (Quantum_done given units phase ∷ qs) g false r new each runs is = fresh_beat budget qs g false runs.0 new each.1 runs.2 (sym (stays_idle r runs.0 given units phase runs.1 (sym is)))
+fresh_beat budget (Command_done m c reply ∷ qs) g on r new each runs is = elim each [ ]
+fresh_beat budget (Cycle_begun ∷ qs) g on r new each runs is = elim each [ ]
+fresh_beat budget (Cycle_on ∷ qs) g on r new each runs is = elim each [ ]
+fresh_beat budget (Quantum_refused given ∷ qs) g on r new each runs is = elim each [ ]
+
+pub quanta_beat : (budget : ℕ) (qs : List Event) (b : Beat) (r new : Course) → AreQuanta budget qs → 0 < length qs → Runs r qs new → b.on ≡ in_cycle r.heap.phase
+    → (beat_after b qs ≡ (if b.on then record b { on = in_cycle new.heap.phase; asked = λ class. 0 } else b)) × ((beat_after b qs).on ≡ in_cycle new.heap.phase)
+quanta_beat budget [] b r new each some runs is = absurd (omega (arith, some))
+quanta_beat budget (Quantum_done given units phase ∷ qs) b r new each some runs is = by_on b.on refl
+  where
+    by_on : (o : Bool) → b.on ≡ o → (beat_after (if o then record b { on = in_cycle phase; asked = λ class. 0 } else b) qs ≡ (if o then record b { on = in_cycle new.heap.phase; asked = λ class. 0 } else b))
+        × ((beat_after (if o then record b { on = in_cycle phase; asked = λ class. 0 } else b) qs).on ≡ in_cycle new.heap.phase)
+    by_on true e = let w = fresh_beat budget qs b.graph (in_cycle phase) runs.0 new each.1 runs.2 (ap in_cycle (sym runs.1.ends)) in (w, ap (λ (x : Beat). x.on) w)
+    by_on false e =
+        let w = runs_idle budget qs b runs.0 new each.1 runs.2 e (stays_idle r runs.0 given units phase runs.1 (sym is ∙ e)) in (w.0, ap (λ (x : Beat). x.on) w.0 ∙ e ∙ sym w.1)
+quanta_beat budget (Command_done m c reply ∷ qs) b r new each some runs is = elim each [ ]
+quanta_beat budget (Cycle_begun ∷ qs) b r new each some runs is = elim each [ ]
+quanta_beat budget (Cycle_on ∷ qs) b r new each some runs is = elim each [ ]
+quanta_beat budget (Quantum_refused given ∷ qs) b r new each some runs is = elim each [ ]
+
+-- the graph heap stays
+pub quanta_present : (budget : ℕ) (qs : List Event) (r new : Course) → AreQuanta budget qs → IsCourse r → Runs r qs new → present_of new ≡ present_of r
+quanta_present budget [] r new each w runs = ap present_of runs
+quanta_present budget (Quantum_done given units phase ∷ qs) r new each w runs =
+    quanta_present budget qs runs.0 new each.1 (does_course r (Quantum_done given units phase) runs.0 w runs.1) runs.2 ∙ collects_present r runs.0 given units phase w runs.1
+quanta_present budget (Command_done m c reply ∷ qs) r new each w runs = elim each [ ]
+quanta_present budget (Cycle_begun ∷ qs) r new each w runs = elim each [ ]
+quanta_present budget (Cycle_on ∷ qs) r new each w runs = elim each [ ]
+quanta_present budget (Quantum_refused given ∷ qs) r new each w runs = elim each [ ]

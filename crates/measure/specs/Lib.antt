@@ -1,0 +1,4 @@
+pub mod Counts
+pub mod Measured
+pub mod Meter
+pub mod Measuring

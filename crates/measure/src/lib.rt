@@ -1,0 +1,15 @@
+//! What a trace needs of each size class: it is played on a new heap, while the graph heap is marked where each
+//! cycle begins, and what is asked for is counted.
+#![tactic(auto)]
+
+mod blocks;
+mod measured;
+mod measuring;
+mod meter;
+mod run;
+
+pub use measured::Measured;
+pub use measuring::measure;
+
+#[cfg(test)]
+mod tests;

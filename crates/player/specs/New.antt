@@ -1,0 +1,16 @@
+-- A player before its first line.
+use Rattle.std.specs.Prelude.{◌≡◌, ◌*◌, []}
+use Rattle.size_classes.specs.declared.config.Config.{Config}
+use Rattle.heap_model.specs.Opening.{IsOpening}
+use Rattle.heap_model.specs.Settings.{settings_of, settings_by}
+use Rattle.quanta.specs.Timetable as timetables
+use Rattle.player.specs.Player.{PlayerState}
+
+-- a player of a configuration at time 0: its heap is as at the start, and it has no history
+pub record IsNew (config : Config) (p : PlayerState) : Type 0 where
+  pub heap : IsOpening p.course.heap
+  pub settings : settings_of p.course.heap ≡ settings_by config
+  pub history : p.course.history ≡ []
+  pub place : p.course.place ≡ 0
+  pub timetable : p.timetable ≡ timetables.opening config.collector_ticks config.mutator_ticks
+  pub budget : p.budget ≡ config.collector_ticks * config.rate

@@ -1,0 +1,12 @@
+//! What a user is told of the pages that a program needs.
+#![tactic(auto)]
+
+mod demand_text;
+mod lines;
+mod pace_text;
+
+pub use demand_text::demand_report;
+pub use pace_text::pace_report;
+
+#[cfg(test)]
+mod tests;

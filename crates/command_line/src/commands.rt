@@ -6,12 +6,15 @@ use std::alloc::{AllocError, Global};
 pub fn program<'a>(alloc: Global) -> Result<Command<'a>, AllocError> {
     Command::new(alloc, "metronome")
         .about("A real-time garbage-collected heap: plays, checks and measures its traces")
+        .version("1.0")
         .subcommand_required(true)
         .subcommand(play(alloc)?)?
         .subcommand(check(alloc)?)?
         .subcommand(threads(alloc)?)?
         .subcommand(inspect(alloc)?)?
-        .subcommand(mmu(alloc)?)
+        .subcommand(mmu(alloc)?)?
+        .subcommand(draw(alloc)?)?
+        .subcommand(pages(alloc)?)
 }
 
 /// A file that a subcommand needs.
@@ -44,11 +47,17 @@ fn playing<'a>(alloc: Global, name: &'a str, about: &'a str) -> Result<Command<'
         .arg(trace(alloc))
 }
 
-fn play<'a>(alloc: Global) -> Result<Command<'a>, AllocError> {
-    let history = Arg::new(alloc, "history")
-        .long("history")
+/// A word that may be given or not.
+fn flag<'a>(alloc: Global, name: &'a str, help: &'a str) -> Arg<'a> {
+    Arg::new(alloc, name)
+        .long(name)
         .action(ArgAction::SetTrue)
-        .help("Write the entry of each command, and not its reply alone");
+        .help(help)
+}
+
+fn play<'a>(alloc: Global) -> Result<Command<'a>, AllocError> {
+    let help = "Write the entry of each command, and not its reply alone";
+    let history = flag(alloc, "history", help);
     playing(alloc, "play", "Play a trace and write its replies")?.arg(history)
 }
 
@@ -60,21 +69,34 @@ fn check<'a>(alloc: Global) -> Result<Command<'a>, AllocError> {
         .arg(history)
 }
 
+fn scripts<'a>(alloc: Global) -> Arg<'a> {
+    file(alloc, "SCRIPTS", "The scripts, or - for standard input")
+}
+
+/// A subcommand that runs scripts.
+fn running<'a>(alloc: Global, name: &'a str, about: &'a str) -> Result<Command<'a>, AllocError> {
+    Command::new(alloc, name)
+        .about(about)
+        .arg(config(alloc))?
+        .arg(scripts(alloc))
+}
+
 fn threads<'a>(alloc: Global) -> Result<Command<'a>, AllocError> {
-    let scripts = file(alloc, "SCRIPTS", "The scripts, or - for standard input");
     let turns = "Quanta of the collector, 0 to 10000 [default: 100]";
     let budget = "Units of each quantum, 256 to 1000000 [default: 256]";
-    Command::new(alloc, "threads")
-        .about("Run scripts on threads and write their history")
-        .arg(config(alloc))?
-        .arg(scripts)?
+    let about = "Run scripts on threads and write their history";
+    running(alloc, "threads", about)?
         .arg(number(alloc, "turns", "N", turns))?
         .arg(number(alloc, "budget", "B", budget))
 }
 
+/// How many event lines are played, if not all.
+fn after<'a>(alloc: Global) -> Arg<'a> {
+    number(alloc, "after", "N", "Play the first N event lines only")
+}
+
 fn inspect<'a>(alloc: Global) -> Result<Command<'a>, AllocError> {
-    let after = number(alloc, "after", "N", "Play the first N event lines only");
-    playing(alloc, "inspect", "Play a trace and report the heap")?.arg(after)
+    playing(alloc, "inspect", "Play a trace and report the heap")?.arg(after(alloc))
 }
 
 fn mmu<'a>(alloc: Global) -> Result<Command<'a>, AllocError> {
@@ -85,4 +107,29 @@ fn mmu<'a>(alloc: Global) -> Result<Command<'a>, AllocError> {
         .help("Windows, each of 1 to 1099511627776 ticks");
     let about = "Play a trace and write the least that mutators have of windows";
     playing(alloc, "mmu", about)?.arg(windows)
+}
+
+fn draw<'a>(alloc: Global) -> Result<Command<'a>, AllocError> {
+    let picture = Arg::new(alloc, "as")
+        .long("as")
+        .value_name("PICTURE")
+        .required(true)
+        .help("The picture: pages or utilisation");
+    playing(alloc, "draw", "Play a trace and draw a picture in SVG")?
+        .arg(picture)?
+        .arg(after(alloc))
+}
+
+fn pages<'a>(alloc: Global) -> Result<Command<'a>, AllocError> {
+    let help = "Tell what the pace needs, whenever its cycles begin";
+    let pace = flag(alloc, "pace", help);
+    let about = "Play a trace and tell how many pages suffice for it";
+    playing(alloc, "pages", about)?.arg(pace)?.arg(load(alloc))
+}
+
+/// The file of a load.
+fn load<'a>(alloc: Global) -> Arg<'a> {
+    Arg::new(alloc, "load").long("load").value_name("FILE").help(
+        "Tell what the load in this file needs, in TOML, and whether the trace keeps to it",
+    )
 }

@@ -17,7 +17,7 @@ pub enum ReadFault {
 /// Why words give no job.
 #[derive(Debug, PartialEq, Eq, Drop, Error)]
 pub enum WordsFault {
-    /// Help was asked for: the text, for standard output.
+    /// Help or the version was asked for: the text, for standard output.
     #[error("{0}")]
     Help(String),
     /// The words are refused: the text, for standard error.

@@ -1,5 +1,25 @@
 //! What the words of a command line ask for.
 
+/// Which picture of a heap is drawn.
+#[derive(Clone, Copy, Debug, PartialEq, Eq)]
+pub enum Picture {
+    /// The map of its pages.
+    Pages,
+    /// The utilisation of windows of all lengths.
+    Utilisation,
+}
+
+/// By what it is told how many pages suffice.
+#[derive(Clone, Copy, Debug, PartialEq, Eq)]
+pub enum Sizing<'a> {
+    /// What the trace needed.
+    Demand,
+    /// The pace at which it asked.
+    Pace,
+    /// The load in the file of this name.
+    Load(&'a str),
+}
+
 /// What the words of a command line ask for, with the names of its files. A file that is called `-`
 /// is standard input, but for the configuration.
 #[derive(Debug, PartialEq, Eq, Drop)]
@@ -33,5 +53,18 @@ pub enum Job<'a> {
         config: &'a str,
         trace: &'a str,
         windows: Vec<u64>,
+    },
+    /// Play a trace, or its first event lines, and draw a picture.
+    Draw {
+        config: &'a str,
+        trace: &'a str,
+        picture: Picture,
+        after: Option<u32>,
+    },
+    /// Play a trace, and tell how many pages suffice.
+    Pages {
+        config: &'a str,
+        trace: &'a str,
+        by: Sizing<'a>,
     },
 }

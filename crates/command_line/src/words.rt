@@ -5,7 +5,7 @@ ghost use Rattle.command_line.specs.Job.{IsInRange, IsWindow};
 
 use crate::commands::program;
 use crate::fault::WordsFault;
-use crate::job::Job;
+use crate::job::{Job, Picture, Sizing};
 use clap::ArgMatches;
 use clap::error::ErrorKind;
 use size_classes::{LEAST_BUDGET, MOST_BUDGET};
@@ -27,6 +27,8 @@ pub fn read_words<'a, S: AsStr>(alloc: Global, words: &'a [S]) -> Result<Job<'a>
         Some(("threads", found)) => threads(alloc, found),
         Some(("inspect", found)) => inspect(alloc, found),
         Some(("mmu", found)) => mmu(alloc, found),
+        Some(("draw", found)) => draw(alloc, found),
+        Some(("pages", found)) => pages(alloc, found),
         _ => Err(refused(alloc, "a subcommand is missing")),
     }
 }
@@ -108,6 +110,54 @@ fn mmu<'a>(alloc: Global, found: &ArgMatches<'a>) -> Result<Job<'a>, WordsFault>
         trace: file(alloc, found, "TRACE")?,
         windows,
     })
+}
+
+fn draw<'a>(alloc: Global, found: &ArgMatches<'a>) -> Result<Job<'a>, WordsFault>
+    ensures { IfOk result IsInRange }
+{
+    Ok(Job::Draw {
+        config: file(alloc, found, "CONFIG")?,
+        trace: file(alloc, found, "TRACE")?,
+        picture: picture(alloc, found.get_str("as").unwrap_or(""))?,
+        after: found.get_one("after"),
+    })
+}
+
+fn pages<'a>(alloc: Global, found: &ArgMatches<'a>) -> Result<Job<'a>, WordsFault>
+    ensures { IfOk result IsInRange }
+{
+    Ok(Job::Pages {
+        config: file(alloc, found, "CONFIG")?,
+        trace: file(alloc, found, "TRACE")?,
+        by: sizing(alloc, found.get_flag("pace"), found.get_str("load"))?,
+    })
+}
+
+/// By what pages are told: one way at most is asked for.
+fn sizing<'a>(alloc: Global, pace: bool, load: Option<&'a str>) -> Result<Sizing<'a>, WordsFault> {
+    match (pace, load) {
+        (false, None) => Ok(Sizing::Demand),
+        (true, None) => Ok(Sizing::Pace),
+        (false, Some(file)) => Ok(Sizing::Load(file)),
+        (true, Some(_)) => {
+            let why = "the argument '--pace' cannot be used with '--load <FILE>'";
+            Err(refused(alloc, why))
+        }
+    }
+}
+
+/// The picture of a name.
+fn picture(alloc: Global, name: &str) -> Result<Picture, WordsFault> {
+    match name {
+        "pages" => Ok(Picture::Pages),
+        "utilisation" => Ok(Picture::Utilisation),
+        _ => {
+            let why = format!(in alloc;
+                "invalid value '{name}' for '--as <PICTURE>': it is neither pages nor utilisation"
+            )?;
+            Err(refused(alloc, why.as_str()))
+        }
+    }
 }
 
 /// The ticks of each window.

@@ -1,3 +1,4 @@
 pub mod Finishing
 pub mod Writing
 pub mod Telling
+pub mod Sharing

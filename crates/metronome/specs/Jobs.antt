@@ -1,26 +1,23 @@
 -- What each subcommand reads and writes.
-use Rattle.std.specs.Prelude.{◌≡◌, ℕ, ◌*◌, Bool, true, false, ◌⊎◌, List, [], ◌∷◌, ◌++◌, map, replicate, Option, Some, None, Result, Ok, Err, codes, decimal}
+use Rattle.std.specs.Prelude.{◌≡◌, ℕ, Bool, true, false, ◌⊎◌, List, [], ◌∷◌, ◌++◌, map, replicate, Option, Some, None, Result, Ok, Err, codes, decimal}
 use Rattle.size_classes.specs.declared.config.Config.{Config}
 use Rattle.size_classes.specs.Config.{limits_of}
 use Rattle.graph_heap.specs.Graph.{Graph, opening}
 use Rattle.heap_model.specs.State.{HeapState}
-use Rattle.heap_model.specs.Opening.{IsOpening}
-use Rattle.quanta.specs.Timetable as timetables
 use Rattle.quanta.specs.Timetable.{Timetable}
 use Rattle.trace.specs.declared.fault.TextFault.{TextFault}
 use Rattle.trace.specs.declared.version.Version.{Version}
 use Rattle.trace.specs.Streams.{Given, Taken, GrowsByPart}
-use Rattle.command_line.specs.declared.job.Job.{Job}
-use Rattle.command_line.specs.declared.job.Job.TheVariants.{Play, Check, Threads, Inspect, Mmu}
 use Rattle.transcripts.specs.declared.histories.Checked.{Checked}
 use Rattle.transcripts.specs.declared.histories.Checked.TheVariants.{Good, Wrong}
 use Rattle.transcripts.specs.Histories.{EntriesChecked}
 use Rattle.transcripts.specs.Scripts.{ReadScripts, ScriptsRead}
 use Rattle.heap_server.specs.declared.play.Outcome.{Outcome}
-use Rattle.heap_model.specs.Settings.{settings_of, settings_by}
+use Rattle.heap_model.specs.Settings.{settings_by}
 use Rattle.heap_server.specs.Played.{IsOutcome}
 use Rattle.player.specs.declared.style.Style.{Style}
 use Rattle.player.specs.declared.style.Style.TheVariants.{Replies, Entries, Nothing}
+use Rattle.player.specs.New.{IsNew}
 use Rattle.player.specs.Player.{PlayerState}
 use Rattle.player.specs.Playing.{Stage, stage, Played, PlayedFirst, text_written}
 use Rattle.inspector.specs.Report.{report_of}
@@ -30,15 +27,6 @@ use Rattle.metronome.specs.declared.fault.RunFault.{RunFault}
 use Rattle.metronome.specs.declared.fault.RunFault.TheVariants.{Write, NoMemory, NotComplete}
 use Rattle.metronome.specs.Faults.{of_text}
 use Rattle.metronome.specs.Windows.{AllTold, FirstTold}
-
--- a player of a configuration at time 0: its heap is as at the start, and it has no history
-pub record IsNew (config : Config) (p : PlayerState) : Type 0 where
-  pub heap : IsOpening p.course.heap
-  pub settings : settings_of p.course.heap ≡ settings_by config
-  pub history : p.course.history ≡ []
-  pub place : p.course.place ≡ 0
-  pub timetable : p.timetable ≡ timetables.opening config.collector_ticks config.mutator_ticks
-  pub budget : p.budget ≡ config.collector_ticks * config.rate
 
 -- Memory was refused before anything was read or written.
 abbrev pub NotBegun : Given → Taken → Result Ending RunFault → Type 0
@@ -136,12 +124,3 @@ abbrev pub WindowsMeasured : List ℕ → Config → Given → Taken → Result 
 WindowsMeasured windows config given taken result =
     NotBegun given taken result
     ⊎ ((old : PlayerState) × (new : PlayerState) × (mid : List ℕ) × (how : Result (Unit {0}) TextFault) × IsNew config old × Played Nothing given (stage old taken.before) (stage new mid) how × ToldBehind how config new.timetable windows (record taken { before = mid }) result)
-
--- What the job of a command line reads and writes.
-abbrev pub JobDone : Job → Config → Given → Taken → Result Ending RunFault → Type 0
-JobDone (Play settings trace true) config given taken result = TracePlayed Entries config given taken result
-JobDone (Play settings trace false) config given taken result = TracePlayed Replies config given taken result
-JobDone (Check settings history) config given taken result = HistoryChecked config given taken result
-JobDone (Threads settings scripts turns budget) config given taken result = ScriptsRun turns budget config given taken result
-JobDone (Inspect settings trace after) config given taken result = HeapInspected after config given taken result
-JobDone (Mmu settings trace windows) config given taken result = WindowsMeasured windows.items config given taken result

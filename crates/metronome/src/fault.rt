@@ -1,12 +1,13 @@
 //! How a run ends.
 ghost use Rattle.std.specs.Prelude.{◌≡◌};
 ghost use Rattle.metronome.specs.declared.fault.RunFault.TheVariants as faults;
-ghost use Rattle.metronome.specs.Faults.{of_settings, of_text};
+ghost use Rattle.metronome.specs.Faults.{of_settings, of_load, of_text};
 ghost use Rattle.metronome.specs.Status.{ending_status, fault_status};
 
 use command_line::ReadFault;
 use graph_heap::NoMemory;
 use inspector::WriteFault;
+use load_file::{DocumentFault, LoadFault};
 use size_classes::ConfigFault;
 use std::alloc::{AllocError, AllocFailed};
 use thiserror::Error;
@@ -42,6 +43,9 @@ pub enum RunFault {
     /// The configuration is refused.
     #[error("config: {0}")]
     Config(ConfigFault),
+    /// The load is refused.
+    #[error("load: {0}")]
+    Load(DocumentFault),
     /// A line, by its number from 1, and what is wrong with it.
     #[error("line {0}: {1}")]
     Line(u64, LineFault),
@@ -66,7 +70,7 @@ impl RunFault {
     {
         match self {
             RunFault::Words(_) => 2,
-            RunFault::Config(_) => 3,
+            RunFault::Config(_) | RunFault::Load(_) => 3,
             RunFault::Line(..) => 4,
             RunFault::Read | RunFault::Write => 5,
             RunFault::NoMemory => 6,
@@ -106,6 +110,17 @@ impl From<ReadFault> for RunFault {
         match fault {
             ReadFault::Refused(why) => RunFault::Config(why),
             ReadFault::NoMemory => RunFault::NoMemory,
+        }
+    }
+}
+
+impl From<LoadFault> for RunFault {
+    ghost from_gives = { λ why fault. fault ≡ of_load why };
+
+    fn from(fault: LoadFault) -> RunFault {
+        match fault {
+            LoadFault::Refused(why) => RunFault::Load(why),
+            LoadFault::NoMemory => RunFault::NoMemory,
         }
     }
 }

@@ -167,7 +167,7 @@ fn write_entries<K: Sink>(sink: &mut K, history: &[Entry]) -> Result<(), WriteFa
 }
 
 /// Plays a trace, or its first event lines, and writes nothing.
-fn play_silently<S: Source, K: Sink>(
+pub(crate) fn play_silently<S: Source, K: Sink>(
     source: &mut S,
     sink: &mut K,
     player: &mut Player,

@@ -1,9 +1,12 @@
 //! The program: plays, checks, runs and inspects heaps, as its words ask.
 #![tactic(auto)]
 
+mod drawing_job;
 mod fault;
 mod files;
 mod jobs;
+mod load_job;
+mod pages_job;
 mod run;
 #[cfg(test)]
 mod tests;

@@ -3,13 +3,18 @@ ghost use Rattle.std.specs.Prelude.{◌≡◌, Result};
 ghost use Rattle.metronome.specs.declared.fault.Ending.{Ending};
 ghost use Rattle.metronome.specs.declared.fault.RunFault.{RunFault};
 ghost use Rattle.trace.specs.Streams.{given_by, taken_by};
-ghost use Rattle.metronome.specs.Jobs.{JobDone};
+ghost use Rattle.metronome.specs.Done.{JobDone};
 ghost use Rattle.metronome.specs.Status.{status_of};
 
+use crate::drawing_job::draw_job;
 use crate::fault::{Ending, RunFault};
 use crate::files::Opener;
 use crate::jobs::{check_job, inspect_job, mmu_job, play_job, threads_job};
-use command_line::{Job, WordsFault, read_config, read_words};
+use crate::load_job::load_job;
+use crate::pages_job::pages_job;
+use arrivals::Load;
+use command_line::{Job, Sizing, WordsFault, read_config, read_words};
+use load_file::read_load;
 use player::Style;
 use size_classes::Config;
 use std::alloc::Global;
@@ -17,9 +22,9 @@ use std::convert::AsStr;
 use std::io::{ErrorKind, Read, Write};
 use std::sync::Wait;
 use std::thread::Threads;
-use trace::{ReadSource, Sink, Source, WriteSink, write_all};
+use trace::{MemorySource, ReadSource, Sink, Source, WriteSink, write_all};
 
-/// The most bytes of a configuration that are read: one more than it may have.
+/// The most bytes of a configuration or a load that are read: one more than it may have.
 const CONFIG_BYTES: u64 = 65537;
 
 /// Runs the program: does what the words ask for, of which the first is the program's name, writes the fault to
@@ -87,6 +92,14 @@ where
     };
     let (settings, name) = files_of(&job);
     let config = configuration(alloc, opener, settings)?;
+    if let Job::Pages {
+        by: Sizing::Load(file),
+        ..
+    } = job
+    {
+        let load = load_of(alloc, opener, file)?;
+        return tell_load(alloc, opener, &config, &load, name, input, sink);
+    }
     if name == "-" {
         return work(rt, alloc, &job, &config, &mut ReadSource::new(input), sink);
     }
@@ -108,6 +121,18 @@ fn files_of<'a>(job: &Job<'a>) -> (&'a str, &'a str) {
         } => (config, scripts),
         Job::Inspect { config, trace, .. } => (config, trace),
         Job::Mmu { config, trace, .. } => (config, trace),
+        Job::Draw { config, trace, .. } => (config, trace),
+        Job::Pages { config, trace, .. } => (config, trace),
+    }
+}
+
+/// All bytes of a reader.
+fn bytes_of<R: Read + Drop>(alloc: Global, mut reader: R) -> Result<Vec<u8>, RunFault> {
+    let mut bytes = Vec::new(alloc);
+    match reader.read_to_end(&mut bytes) {
+        Ok(_) => Ok(bytes),
+        Err(error) if error.kind() == ErrorKind::OutOfMemory => Err(RunFault::NoMemory),
+        Err(_) => Err(RunFault::Read),
     }
 }
 
@@ -116,15 +141,45 @@ fn configuration<O: Opener>(alloc: Global, opener: &O, name: &str) -> Result<Con
     let Ok(file) = opener.open(name) else {
         return Err(RunFault::Read);
     };
-    let mut bytes = Vec::new(alloc);
-    match file.take(CONFIG_BYTES).read_to_end(&mut bytes) {
-        Ok(_) => Ok(read_config(alloc, bytes.as_slice())?),
-        Err(error) if error.kind() == ErrorKind::OutOfMemory => Err(RunFault::NoMemory),
-        Err(_) => Err(RunFault::Read),
-    }
+    let bytes = bytes_of(alloc, file.take(CONFIG_BYTES))?;
+    Ok(read_config(alloc, bytes.as_slice())?)
 }
 
-/// Does a job, from the source of the other file.
+/// The load that a file gives.
+fn load_of<O: Opener>(alloc: Global, opener: &O, name: &str) -> Result<Load, RunFault> {
+    let Ok(file) = opener.open(name) else {
+        return Err(RunFault::Read);
+    };
+    let bytes = bytes_of(alloc, file.take(CONFIG_BYTES))?;
+    Ok(read_load(alloc, bytes.as_slice())?)
+}
+
+/// Tells what a load needs, and whether the trace of a name keeps to it. The trace is read into memory, since it is gone
+/// over twice.
+fn tell_load<O: Opener, R: Read + Drop, K: Sink>(
+    alloc: Global,
+    opener: &O,
+    config: &Config,
+    load: &Load,
+    name: &str,
+    input: R,
+    sink: &mut K,
+) -> Result<Ending, RunFault> {
+    let text = if name == "-" {
+        bytes_of(alloc, input)?
+    } else {
+        let Ok(file) = opener.open(name) else {
+            return Err(RunFault::Read);
+        };
+        bytes_of(alloc, file)?
+    };
+    let mut source = MemorySource::new(text.as_slice());
+    let mut again = MemorySource::new(text.as_slice());
+    load_job(alloc, config, load, &mut source, &mut again, sink)
+}
+
+/// Does a job, from the source of the other file. A trace that is held against a load is gone over twice, which a source
+/// can't be: `tell_load` does that.
 fn work<S: Source, K: Sink, T: Threads + Wait + Sync>(
     rt: &T,
     alloc: Global,
@@ -144,5 +199,20 @@ fn work<S: Source, K: Sink, T: Threads + Wait + Sync>(
         }
         Job::Inspect { after, .. } => inspect_job(alloc, config, source, sink, *after),
         Job::Mmu { windows, .. } => mmu_job(alloc, config, source, sink, windows.as_slice()),
+        Job::Draw { picture, after, .. } => {
+            draw_job(alloc, config, source, sink, *picture, *after)
+        }
+        Job::Pages {
+            by: Sizing::Demand,
+            ..
+        } => pages_job(alloc, config, source, sink, false),
+        Job::Pages {
+            by: Sizing::Pace,
+            ..
+        } => pages_job(alloc, config, source, sink, true),
+        Job::Pages {
+            by: Sizing::Load(_),
+            ..
+        } => Err(RunFault::Read),
     }
 }

@@ -13,11 +13,14 @@ mod edges;
 mod failing;
 mod faults;
 mod joining;
+mod loading;
 mod many;
 mod memory;
+mod pictures;
 mod playing;
 mod racing;
 mod reporting;
+mod sizing;
 mod streams;
 mod windows;
 mod words;
@@ -36,6 +39,7 @@ impl<'a> Opener for Texts<'a> {
         match name {
             "config" => Ok(self.config.as_bytes()),
             "text" => Ok(self.text.as_bytes()),
+            "load" => Ok(LOAD.as_bytes()),
             _ => Err(io::Error::from(ErrorKind::NotFound)),
         }
     }
@@ -52,6 +56,9 @@ const MANY_SLOTS: &str = "pages = 4\nmutators = 2\nslots = 256\n";
 
 /// Two pages and two slots.
 const TWO_SLOTS: &str = "pages = 2\nmutators = 1\nslots = 2\n";
+
+/// A load: one live object of 4 words, and two that come at once and then no more.
+const LOAD: &str = "gap = 100\n[4]\nlive = 1\nburst = 2\n";
 
 /// Three pages, of which one is emptied in a cycle.
 const THREE_PAGES: &str =

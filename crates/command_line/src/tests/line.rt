@@ -1,5 +1,5 @@
 //! Command lines, with the jobs that they ask for and those that are refused.
-use crate::{Job, WordsFault, read_words};
+use crate::{Job, Picture, Sizing, WordsFault, read_words};
 use std::alloc::Global;
 use std::test::Fail;
 
@@ -130,6 +130,69 @@ fn inspect_has_a_number(rt: HostRuntime) {
         "4294967296",
     ];
     assert!(rt; is_refused(alloc, &past));
+}
+
+#[test]
+fn draw_has_a_picture(rt: HostRuntime) {
+    let alloc = rt.alloc();
+    let rows = [
+        ("pages", Picture::Pages),
+        ("utilisation", Picture::Utilisation),
+    ];
+    for (name, picture) in rows {
+        let words = [
+            "metronome",
+            "draw",
+            "a.toml",
+            "-",
+            "--as",
+            name,
+            "--after",
+            "7",
+        ];
+        let wanted = Job::Draw {
+            config: "a.toml",
+            trace: "-",
+            picture,
+            after: Some(7),
+        };
+        assert!(rt; asks(alloc, &words, &wanted), "{name}");
+    }
+    assert!(rt; is_refused(alloc, &["metronome", "draw", "a.toml", "-"]));
+    assert!(rt; is_refused(alloc, &["metronome", "draw", "a.toml", "-", "--as", "page"]));
+    assert!(rt; is_refused(alloc, &["metronome", "draw", "a.toml", "--as", "pages"]));
+}
+
+fn pages<'a>(by: Sizing<'a>) -> Job<'a> {
+    Job::Pages {
+        config: "a.toml",
+        trace: "-",
+        by,
+    }
+}
+
+#[test]
+fn pages_may_ask_for_the_pace_or_a_load(rt: HostRuntime) {
+    let alloc = rt.alloc();
+    let demand = ["metronome", "pages", "a.toml", "-"];
+    assert!(rt; asks(alloc, &demand, &pages(Sizing::Demand)));
+    let pace = ["metronome", "pages", "a.toml", "-", "--pace"];
+    assert!(rt; asks(alloc, &pace, &pages(Sizing::Pace)));
+    let load = ["metronome", "pages", "a.toml", "-", "--load", "l.toml"];
+    assert!(rt; asks(alloc, &load, &pages(Sizing::Load("l.toml"))));
+    let both = ["metronome", "pages", "a.toml", "-", "--load", "l", "--pace"];
+    assert!(rt; is_refused(alloc, &both));
+    assert!(rt; is_refused(alloc, &["metronome", "pages", "a.toml"]));
+    assert!(rt; is_refused(alloc, &["metronome", "pages", "a.toml", "-", "--load"]));
+}
+
+/// The version goes to standard output, as help does.
+#[test]
+fn the_version_is_asked_for(rt: HostRuntime) {
+    match read_words(rt.alloc(), &["metronome", "--version"]) {
+        Err(WordsFault::Help(text)) => assert!(rt; text.as_str() == "metronome 1.0\n"),
+        _ => panic!(rt; "the version is asked for"),
+    }
 }
 
 #[test]

@@ -9,9 +9,12 @@ const HELP: &str =
     \x20 threads  Run scripts on threads and write their history\n\
     \x20 inspect  Play a trace and report the heap\n\
     \x20 mmu      Play a trace and write the least that mutators have of windows\n\
+    \x20 draw     Play a trace and draw a picture in SVG\n\
+    \x20 pages    Play a trace and tell how many pages suffice for it\n\
     \x20 help     Print this message or the help of the given subcommand(s)\n\n\
     Options:\n\
-    \x20 -h, --help  Print help\n";
+    \x20 -h, --help     Print help\n\
+    \x20 -V, --version  Print version\n";
 
 /// Makes a run without files, and compares all that came of it.
 fn expect_words<T: Threads + Wait + Sync + Abort + AllocGlobal>(
@@ -41,7 +44,7 @@ fn help_is_an_output(rt: HostRuntime) -> Result<(), NoMemory> {
 #[test]
 fn refused_words_have_a_text(rt: HostRuntime) -> Result<(), NoMemory> {
     let none = "metronome: error: 'metronome' requires a subcommand but one was not provided\n  \
-        [subcommands: play, check, threads, inspect, mmu, help]\n\nUsage: metronome <COMMAND>\n\n\
+        [subcommands: play, check, threads, inspect, mmu, draw, pages, help]\n\nUsage: metronome <COMMAND>\n\n\
         For more information, try '--help'.\n";
     expect_words(&rt, &[], "", none, 2)?;
     let turns =

@@ -1,0 +1,4 @@
+pub mod Parts
+pub mod Squares
+pub mod Curves
+pub mod Samples

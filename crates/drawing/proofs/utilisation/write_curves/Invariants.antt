@@ -1,0 +1,10 @@
+use Rattle.std.proofs.Common.{◌≡◌}
+use Rattle.drawing.proofs.Curves.{SoFar}
+use Rattle.drawing.proofs.utilisation.write_curves.Given as goal
+
+-- the windows so far are written, and no call has failed
+abbrev pub invariant-loop-place : goal.invariant-loop-place
+invariant-loop-place g l = record {
+  written : SoFar (g.K.Sink.taken l.fn.sink) (g.K.Sink.taken l.sink) l.shares l.before l.place;
+  failures : g.K.Sink.failures l.sink ≡ g.K.Sink.failures l.fn.sink;
+}

@@ -1,0 +1,6 @@
+pub mod Captions
+pub mod Elements
+pub mod Frame
+pub mod PageMap
+pub mod Utilisation
+pub mod Samples

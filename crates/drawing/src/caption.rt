@@ -1,0 +1,137 @@
+//! The words that stand in pictures.
+ghost use Rattle.std.specs.Prelude.{◌≡◌, ◌≤◌, ◌+◌, ◌++◌, length, take};
+ghost use Rattle.drawing.specs.Captions.{words_text, phase_words, caption_text};
+
+use heap_model::phase::Phase;
+use trace::{put, put_named};
+
+/// Fixed words.
+#[derive(Clone, Copy, Debug, PartialEq, Eq)]
+pub enum Words {
+    PagesOfTheHeap,
+    PageInUse,
+    LeavingPage,
+    FreePage,
+    HeldBlocks,
+    FreeBlocks,
+    LeastUtilisation,
+    Measured,
+    Promised,
+    WindowTicks,
+    MutatorsShare,
+    HeapOverTime,
+    PagesInUse,
+    Objects,
+    SamplesOfRun,
+    Idle,
+    Roots,
+    Marking,
+    Sweeping,
+    Moving,
+}
+
+impl Words {
+    /// The name of a phase.
+    pub(crate) fn of_phase(phase: Phase) -> Words
+        ensures { result ≡ phase_words phase }
+    {
+        match phase {
+            Phase::Idle => Words::Idle,
+            Phase::Roots { .. } => Words::Roots,
+            Phase::Marking { .. } => Words::Marking,
+            Phase::Sweeping { .. } => Words::Sweeping,
+            Phase::Moving(_) => Words::Moving,
+        }
+    }
+
+    /// The words as they are written.
+    pub(crate) fn text(self) -> &'static [u8]
+        ensures text { result.now ≡ words_text self }
+        ensures short { length result.now ≤ 40 }
+    {
+        match self {
+            Words::PagesOfTheHeap => b"Pages of the heap",
+            Words::PageInUse => b"page in use",
+            Words::LeavingPage => b"leaving page",
+            Words::FreePage => b"free page",
+            Words::HeldBlocks => b"held blocks",
+            Words::FreeBlocks => b"free blocks",
+            Words::LeastUtilisation => b"Least share of the mutators",
+            Words::Measured => b"least measured",
+            Words::Promised => b"promised",
+            Words::WindowTicks => b"length of the window in ticks",
+            Words::MutatorsShare => b"share of the window",
+            Words::HeapOverTime => b"The heap over a run",
+            Words::PagesInUse => b"pages in use",
+            Words::Objects => b"objects",
+            Words::SamplesOfRun => b"samples of the run, in their order",
+            Words::Idle => b"idle",
+            Words::Roots => b"roots",
+            Words::Marking => b"marking",
+            Words::Sweeping => b"sweeping",
+            Words::Moving => b"moving",
+        }
+    }
+}
+
+/// Words and numbers that stand at a place of a picture.
+#[derive(Clone, Copy, Debug, PartialEq, Eq)]
+pub enum Caption {
+    /// Words alone.
+    Words(Words),
+    /// A number.
+    Number(u64),
+    /// A share in per cent.
+    Percent(u64),
+    /// How many words the blocks of a page have.
+    BlockWords(u64),
+    /// So many of all.
+    Part {
+        some: u64,
+        all: u64,
+    },
+    /// The state of a heap: its phase, the units of work in the cycle that is on, or else in the last
+    /// one, how many pages there are, and how many are free.
+    Heap {
+        phase: Words,
+        units: u64,
+        pages: u64,
+        free: u64,
+    },
+}
+
+/// Puts a caption at a place of an array, and answers the place after it.
+pub(crate) fn put_caption(out: &mut [u8], at: usize, caption: Caption) -> usize
+    requires { at + 150 ≤ length out.old }
+    ensures text { take result out.new ≡ take at out.old ++ caption_text caption }
+    ensures place { result ≤ at + 150 }
+{
+    match caption {
+        Caption::Words(words) => put(out, at, words.text()),
+        Caption::Number(n) => put_named(out, at, b"", n),
+        Caption::Percent(n) => {
+            let end = put_named(out, at, b"", n);
+            put(out, end, b" %")
+        }
+        Caption::BlockWords(n) => {
+            let end = put_named(out, at, b"", n);
+            put(out, end, b" words")
+        }
+        Caption::Part { some, all } => {
+            let end = put_named(out, at, b"", some);
+            put_named(out, end, b" of ", all)
+        }
+        Caption::Heap {
+            phase,
+            units,
+            pages,
+            free,
+        } => {
+            let end = put(out, at, b"phase ");
+            let end = put(out, end, phase.text());
+            let end = put_named(out, end, b", units ", units);
+            let end = put_named(out, end, b", pages ", pages);
+            put_named(out, end, b", free ", free)
+        }
+    }
+}

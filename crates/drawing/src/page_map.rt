@@ -1,0 +1,145 @@
+//! The map of the pages of a heap.
+ghost use Rattle.std.specs.Prelude.{◌≡◌, ◌<◌, ◌≤◌, ◌+◌, ◌++◌, OnOk, OnErr};
+ghost use Rattle.heap_model.specs.Pages.{page_at};
+ghost use Rattle.pages.specs.View.{view_of};
+ghost use Rattle.trace.specs.Streams.{GrowsByPart, failed};
+ghost use Rattle.drawing.specs.Elements.{svg_text};
+ghost use Rattle.drawing.specs.PageMap.{free_square, used_square, square, squares, map_frame, map_told, pages_picture};
+
+use crate::caption::{Caption, Words};
+use crate::colour::Colour;
+use crate::element::{Element, rectangle, text};
+use crate::frame::{frame, meaning, swatch};
+use crate::writing::{write_close, write_elements};
+use machine::Heap;
+use pages::PageView;
+use trace::{Sink, WriteFailed};
+
+/// The square of a free page.
+fn free_page(x: u32, y: u32, number: u32) -> [Element; 2]
+    requires within { (x ≤ 65536) × (y ≤ 65536) }
+    ensures { result ≡ free_square x y number }
+{
+    let name = Caption::Number(u64::from(number));
+    [
+        rectangle(x, y, 60, 60, Colour::Pale),
+        text(x + 4, y + 14, 11, name),
+    ]
+}
+
+/// The square of a page in use.
+fn used_page(x: u32, y: u32, number: u32, page: PageView) -> [Element; 6]
+    requires within { (x ≤ 65536) × (y ≤ 65536) }
+    requires held { page.held ≤ 512 }
+    ensures { result ≡ used_square x y number page }
+{
+    let held = page.held as u32;
+    let blocks = page.class.blocks_per_page();
+    let paper = if page.leaving {
+        Colour::Orange
+    } else {
+        Colour::Sky
+    };
+    let name = Caption::Number(u64::from(number));
+    let size = Caption::BlockWords(u64::from(page.class.size()));
+    let part = Caption::Part {
+        some: u64::from(held),
+        all: u64::from(blocks),
+    };
+    let bar = (52 * held).div_ceil(blocks);
+    [
+        rectangle(x, y, 60, 60, paper),
+        text(x + 4, y + 14, 11, name),
+        text(x + 4, y + 28, 9, size),
+        text(x + 4, y + 41, 9, part),
+        rectangle(x + 4, y + 46, 52, 10, Colour::Grey),
+        rectangle(x + 4, y + 46, bar, 10, Colour::Blue),
+    ]
+}
+
+/// Writes the square of a page.
+fn write_square<K: Sink>(heap: &Heap, number: u32, sink: &mut K) -> Result<(), WriteFailed>
+    requires { number < 4096 }
+    ensures ok { OnOk result (K.taken sink.new ≡ K.taken sink.old ++ svg_text (square number (view_of (page_at heap.now.store.pages number)))) }
+    ensures err { OnErr result (GrowsByPart (K.taken sink.old) (K.taken sink.new) (svg_text (square number (view_of (page_at heap.now.store.pages number))))) }
+    ensures cause { K.failures sink.new ≡ K.failures sink.old + failed result }
+{
+    let (x, y) = (20 + 64 * (number % 16), 110 + 64 * (number / 16));
+    match heap.page(number as usize) {
+        None => write_elements(sink, &free_page(x, y, number)),
+        Some(page) => write_elements(sink, &used_page(x, y, number, page)),
+    }
+}
+
+/// Writes the squares of all pages.
+fn write_squares<K: Sink>(heap: &Heap, sink: &mut K) -> Result<(), WriteFailed>
+    ensures ok { OnOk result (K.taken sink.new ≡ K.taken sink.old ++ svg_text (squares 0 heap.now.store.pages)) }
+    ensures err { OnErr result (GrowsByPart (K.taken sink.old) (K.taken sink.new) (svg_text (squares 0 heap.now.store.pages))) }
+    ensures cause { K.failures sink.new ≡ K.failures sink.old + failed result }
+{
+    for page in 0..heap.pages() {
+        write_square(heap, page as u32, sink)?;
+    }
+    Ok(())
+}
+
+/// Writes the title.
+fn write_frame<K: Sink>(heap: &Heap, sink: &mut K) -> Result<(), WriteFailed>
+    ensures ok { OnOk result (K.taken sink.new ≡ K.taken sink.old ++ svg_text (map_frame heap.now)) }
+    ensures err { OnErr result (GrowsByPart (K.taken sink.old) (K.taken sink.new) (svg_text (map_frame heap.now))) }
+    ensures cause { K.failures sink.new ≡ K.failures sink.old + failed result }
+{
+    let height = 126 + 64 * heap.pages().div_ceil(16) as u32;
+    write_elements(sink, &frame(1060, height, Words::PagesOfTheHeap))
+}
+
+/// What is told of the heap as a whole, and what the colours mean.
+fn told(heap: &Heap) -> [Element; 11]
+    ensures { result ≡ map_told heap.now }
+{
+    let summary = Caption::Heap {
+        phase: Words::of_phase(heap.phase()),
+        units: heap.units(),
+        pages: heap.pages() as u64,
+        free: heap.free_pages() as u64,
+    };
+    [
+        text(20, 52, 13, summary),
+        swatch(0, Colour::Pale),
+        meaning(0, Words::FreePage),
+        swatch(1, Colour::Sky),
+        meaning(1, Words::PageInUse),
+        swatch(2, Colour::Orange),
+        meaning(2, Words::LeavingPage),
+        swatch(3, Colour::Blue),
+        meaning(3, Words::HeldBlocks),
+        swatch(4, Colour::Grey),
+        meaning(4, Words::FreeBlocks),
+    ]
+}
+
+/// Writes what is told of the heap as a whole, and what the colours mean.
+fn write_told<K: Sink>(heap: &Heap, sink: &mut K) -> Result<(), WriteFailed>
+    ensures ok { OnOk result (K.taken sink.new ≡ K.taken sink.old ++ svg_text (map_told heap.now)) }
+    ensures err { OnErr result (GrowsByPart (K.taken sink.old) (K.taken sink.new) (svg_text (map_told heap.now))) }
+    ensures cause { K.failures sink.new ≡ K.failures sink.old + failed result }
+{
+    write_elements(sink, &told(heap))
+}
+
+/// Writes the map of the pages of a heap to a sink, as an SVG document of lines that end with LF: the
+/// phase, the units of work since the last cycle began, how many pages there are and how many are free,
+/// a legend, and 16 squares in a row, one for each page, with its number. The square of a page in use
+/// tells the words of a block and how many of its blocks are held, and a bar shows these; it has a colour
+/// of its own where the page is leaving. It takes no memory. After an error, which comes only where the
+/// sink failed, the sink has taken a beginning of the document.
+pub fn draw_pages<K: Sink>(heap: &Heap, sink: &mut K) -> Result<(), WriteFailed>
+    ensures ok { OnOk result (K.taken sink.new ≡ K.taken sink.old ++ pages_picture heap.now) }
+    ensures err { OnErr result (GrowsByPart (K.taken sink.old) (K.taken sink.new) (pages_picture heap.now)) }
+    ensures cause { K.failures sink.new ≡ K.failures sink.old + failed result }
+{
+    write_frame(heap, sink)?;
+    write_told(heap, sink)?;
+    write_squares(heap, sink)?;
+    write_close(sink)
+}

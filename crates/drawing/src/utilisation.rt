@@ -1,0 +1,156 @@
+//! The picture of the mutators' least shares of windows of all lengths.
+ghost use Rattle.std.specs.Prelude.{◌≡◌, ◌<◌, ◌≤◌, ◌+◌, ◌++◌, List, length, OnOk, OnErr};
+ghost use Rattle.trace.specs.Streams.{GrowsByPart, failed};
+ghost use Rattle.drawing.specs.Elements.{svg_text};
+ghost use Rattle.drawing.specs.Utilisation as utilisation;
+ghost use Rattle.drawing.specs.Utilisation.{AreShares, window_x, share_y, window_marks, curves, utilisation_picture};
+
+use crate::caption::{Caption, Words};
+use crate::colour::Colour;
+use crate::element::{Element, dot, line, rectangle, text};
+use crate::frame::{frame, meaning, swatch};
+use crate::measuring::put_shares;
+use crate::share::Share;
+use crate::writing::{write_close, write_elements};
+use quanta::Schedule;
+use size_classes::Config;
+use trace::{Sink, WriteFailed};
+
+/// Where a window stands on the logarithmic axis, by its place among the windows.
+fn x_of(place: u32) -> u32
+    requires { place < 64 }
+    ensures x { result ≡ window_x place }
+    ensures within { (80 ≤ result) × (result ≤ 2100) }
+{
+    let part = match place % 3 {
+        0 => 0,
+        1 => 27,
+        _ => 63,
+    };
+    80 + 90 * (place / 3) + part
+}
+
+/// How high a share in thousandths stands.
+fn y_of(permille: u64) -> u32
+    requires { permille ≤ 1000 }
+    ensures y { result ≡ share_y permille }
+    ensures within { (100 ≤ result) × (result ≤ 400) }
+{
+    400 - (3 * permille / 10) as u32
+}
+
+/// What is drawn of a window.
+fn marks(place: u32, before: &Share, now: &Share) -> [Element; 6]
+    requires { place < 64 }
+    ensures { result ≡ window_marks place before.now now.now }
+{
+    let (x1, x) = (x_of(place.saturating_sub(1)), x_of(place));
+    let (promised, measured) = (y_of(now.promised), y_of(now.measured));
+    [
+        line(x1, y_of(before.promised), x, promised, Colour::Orange),
+        line(x1, y_of(before.measured), x, measured, Colour::Blue),
+        rectangle(x - 5, promised - 5, 10, 10, Colour::Orange),
+        dot(x, measured, Colour::Blue),
+        line(x, 400, x, 405, Colour::Black),
+        text(x, 418 + 12 * (place % 3), 9, Caption::Number(now.window)),
+    ]
+}
+
+/// Writes what is drawn of each window.
+fn write_curves<K: Sink>(shares: &[Share], sink: &mut K) -> Result<(), WriteFailed>
+    requires { length shares.now < 64 }
+    ensures ok { OnOk result (K.taken sink.new ≡ K.taken sink.old ++ svg_text (curves shares.now)) }
+    ensures err { OnErr result (GrowsByPart (K.taken sink.old) (K.taken sink.new) (svg_text (curves shares.now))) }
+    ensures cause { K.failures sink.new ≡ K.failures sink.old + failed result }
+{
+    let Some(first) = shares.first() else {
+        return Ok(());
+    };
+    let mut before = *first;
+    for (place, now) in shares.iter().enumerate() {
+        write_elements(sink, &marks(place as u32, &before, now))?;
+        before = *now;
+    }
+    Ok(())
+}
+
+/// The axes with their units, and what the colours mean.
+fn axes() -> [Element; 19]
+    ensures { result ≡ utilisation.axes }
+{
+    [
+        swatch(0, Colour::Blue),
+        meaning(0, Words::Measured),
+        swatch(1, Colour::Orange),
+        meaning(1, Words::Promised),
+        line(80, 340, 1180, 340, Colour::Pale),
+        line(80, 280, 1180, 280, Colour::Pale),
+        line(80, 220, 1180, 220, Colour::Pale),
+        line(80, 160, 1180, 160, Colour::Pale),
+        line(80, 100, 1180, 100, Colour::Pale),
+        text(40, 404, 11, Caption::Percent(0)),
+        text(40, 344, 11, Caption::Percent(20)),
+        text(40, 284, 11, Caption::Percent(40)),
+        text(40, 224, 11, Caption::Percent(60)),
+        text(40, 164, 11, Caption::Percent(80)),
+        text(40, 104, 11, Caption::Percent(100)),
+        line(80, 100, 80, 400, Colour::Black),
+        line(80, 400, 1180, 400, Colour::Black),
+        text(40, 90, 11, Caption::Words(Words::MutatorsShare)),
+        text(80, 464, 11, Caption::Words(Words::WindowTicks)),
+    ]
+}
+
+/// Writes the title.
+fn write_frame<K: Sink>(sink: &mut K) -> Result<(), WriteFailed>
+    ensures ok { OnOk result (K.taken sink.new ≡ K.taken sink.old ++ svg_text utilisation.chart_frame) }
+    ensures err { OnErr result (GrowsByPart (K.taken sink.old) (K.taken sink.new) (svg_text utilisation.chart_frame)) }
+    ensures cause { K.failures sink.new ≡ K.failures sink.old + failed result }
+{
+    write_elements(sink, &frame(1200, 480, Words::LeastUtilisation))
+}
+
+/// Writes the axes.
+fn write_axes<K: Sink>(sink: &mut K) -> Result<(), WriteFailed>
+    ensures ok { OnOk result (K.taken sink.new ≡ K.taken sink.old ++ svg_text utilisation.axes) }
+    ensures err { OnErr result (GrowsByPart (K.taken sink.old) (K.taken sink.new) (svg_text utilisation.axes)) }
+    ensures cause { K.failures sink.new ≡ K.failures sink.old + failed result }
+{
+    write_elements(sink, &axes())
+}
+
+/// Writes the picture of shares.
+fn draw_shares<K: Sink>(shares: &[Share], sink: &mut K) -> Result<(), WriteFailed>
+    requires { length shares.now < 64 }
+    ensures ok { OnOk result (K.taken sink.new ≡ K.taken sink.old ++ utilisation_picture shares.now) }
+    ensures err { OnErr result (GrowsByPart (K.taken sink.old) (K.taken sink.new) (utilisation_picture shares.now)) }
+    ensures cause { K.failures sink.new ≡ K.failures sink.old + failed result }
+{
+    write_frame(sink)?;
+    write_axes(sink)?;
+    write_curves(shares, sink)?;
+    write_close(sink)
+}
+
+/// Writes the mutators' shares of windows of 1, 2, 5, 10, 20, 50 ticks and so on, up to the time that has
+/// passed, to a sink, as an SVG document of lines that end with LF: the length of a window goes to the
+/// right on a logarithmic axis, and up goes the share, in per cent, that the mutators had of any such
+/// window at least, beside what the schedule promises them. It takes no memory. After an error, which
+/// comes only where the sink failed, the sink has taken a beginning of the document.
+pub fn draw_utilisation<K: Sink>(
+    config: &Config,
+    schedule: &Schedule,
+    sink: &mut K,
+) -> Result<(), WriteFailed>
+    ensures drawn { (shares : List Share) × AreShares config.now schedule.now shares × OnOk result (K.taken sink.new ≡ K.taken sink.old ++ utilisation_picture shares) × OnErr result (GrowsByPart (K.taken sink.old) (K.taken sink.new) (utilisation_picture shares)) }
+    ensures cause { K.failures sink.new ≡ K.failures sink.old + failed result }
+{
+    let none = Share {
+        window: 0,
+        measured: 0,
+        promised: 0,
+    };
+    let mut shares = [none; 37];
+    let count = put_shares(config, schedule, &mut shares);
+    draw_shares(&shares[..count], sink)
+}

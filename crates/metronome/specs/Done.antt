@@ -1,0 +1,27 @@
+-- What the job of a command line reads and writes.
+use Rattle.std.specs.Prelude.{◌≡◌, true, false, Result, Err}
+use Rattle.size_classes.specs.declared.config.Config.{Config}
+use Rattle.trace.specs.Streams.{Given, Taken}
+use Rattle.command_line.specs.declared.job.Job.{Job}
+use Rattle.command_line.specs.declared.job.Sizing.TheVariants.{Demand, Pace, Load}
+use Rattle.command_line.specs.declared.job.Job.TheVariants.{Play, Check, Threads, Inspect, Mmu, Draw, Pages}
+use Rattle.player.specs.declared.style.Style.TheVariants.{Replies, Entries}
+use Rattle.metronome.specs.declared.fault.Ending.{Ending}
+use Rattle.metronome.specs.declared.fault.RunFault.{RunFault}
+use Rattle.metronome.specs.declared.fault.RunFault.TheVariants.{Read}
+use Rattle.metronome.specs.Jobs.{TracePlayed, HistoryChecked, ScriptsRun, HeapInspected, WindowsMeasured}
+use Rattle.metronome.specs.Drawn.{HeapDrawn}
+use Rattle.metronome.specs.Told.{PagesTold}
+
+abbrev pub JobDone : Job → Config → Given → Taken → Result Ending RunFault → Type 0
+JobDone (Play settings trace true) config given taken result = TracePlayed Entries config given taken result
+JobDone (Play settings trace false) config given taken result = TracePlayed Replies config given taken result
+JobDone (Check settings history) config given taken result = HistoryChecked config given taken result
+JobDone (Threads settings scripts turns budget) config given taken result = ScriptsRun turns budget config given taken result
+JobDone (Inspect settings trace after) config given taken result = HeapInspected after config given taken result
+JobDone (Mmu settings trace windows) config given taken result = WindowsMeasured windows.items config given taken result
+JobDone (Draw settings trace picture after) config given taken result = HeapDrawn picture after config given taken result
+JobDone (Pages settings trace Demand) config given taken result = PagesTold false config given taken result
+JobDone (Pages settings trace Pace) config given taken result = PagesTold true config given taken result
+-- a trace that is held against a load is read twice, which a source can't be
+JobDone (Pages settings trace (Load file)) config given taken result = (result ≡ Err Read) × (taken.after ≡ taken.before)

@@ -1,0 +1,43 @@
+//! Telling how many pages a trace needs.
+ghost use Rattle.std.specs.Prelude.{IfOk, string_bytes};
+ghost use Rattle.trace.specs.Streams.{given_by, taken_by};
+ghost use Rattle.metronome.specs.Told.{TellsPages, PagesTold};
+
+use crate::fault::{Ending, RunFault};
+use measure::{Measured, measure};
+use size_classes::Config;
+use space_report::{demand_report, pace_report};
+use std::alloc::{AllocError, Global};
+use trace::{Sink, Source, write_all};
+
+/// The lines of what a trace needed: of its demand, or of its pace.
+fn told(
+    alloc: Global,
+    config: &Config,
+    measured: &Measured,
+    pace: bool,
+) -> Result<String, AllocError>
+    ensures { IfOk result (λ text. TellsPages pace config.now measured.now (string_bytes text)) }
+{
+    if pace {
+        pace_report(alloc, config, &measured.pace, measured.budget)
+    } else {
+        demand_report(alloc, config, &measured.demand)
+    }
+}
+
+/// Plays a trace on a new heap, and writes what it needs of each size class and how many pages suffice.
+pub fn pages_job<S: Source, K: Sink>(
+    alloc: Global,
+    config: &Config,
+    source: &mut S,
+    sink: &mut K,
+    pace: bool,
+) -> Result<Ending, RunFault>
+    ensures { PagesTold pace config.now (given_by S.given S.ended source.old source.new) (taken_by K.taken sink.old sink.new) result }
+{
+    let measured = measure(alloc, config, source)?;
+    let text = told(alloc, config, &measured, pace)?;
+    write_all(sink, text.as_bytes())?;
+    Ok(Ending::Done)
+}

@@ -1,0 +1,25 @@
+use Rattle.std.proofs.Common.{◌≡◌, ◌+◌, ◌-◌, ◌≤◌, ◌^◌, [], length}
+use Rattle.trace.specs.Streams.{given_by, Stays}
+use Rattle.trace.proofs.GoingOver.{SoFar}
+use Rattle.player.specs.Player.{PlayerState}
+use Rattle.player.specs.declared.style.Style.TheVariants.{Nothing}
+use Rattle.player.specs.Playing.{stage, TellsVersionOf, PlaysText}
+use Rattle.player.specs.New.{IsNew}
+use Rattle.timeline.specs.Samples.{heaps_along}
+use Rattle.timeline.specs.Sampler.{IsAlong}
+use Rattle.timeline.proofs.taking.take_samples.Given as goal
+
+-- the lines so far are done on a new player, samples are taken along them, and no read has failed
+abbrev pub invariant-loop-sampler : goal.invariant-loop-sampler
+invariant-loop-sampler g l = record {
+  first : PlayerState;
+  fresh : IsNew l.config first;
+  done : SoFar (TellsVersionOf Nothing) (PlaysText Nothing) (given_by g.S.Source.given g.S.Source.ended l.fn.source l.source) (stage first []) (stage l.player []) l.reader l.version;
+  along : IsAlong (heaps_along (stage first []) done.lines l.version done.events (stage l.player []) done.done) l.sampler;
+  behind : l.reader.number + length l.reader.kept ≤ length (g.S.Source.given l.source);
+  reads : g.S.Source.failures l.source ≡ g.S.Source.failures l.fn.source;
+  input : Stays (g.S.Source.input l.fn.source) (g.S.Source.input l.source);
+}
+
+abbrev pub decreases-loop-sampler : goal.decreases-loop-sampler
+decreases-loop-sampler g l = 2 ^ 64 - l.reader.number

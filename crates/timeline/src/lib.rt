@@ -1,0 +1,13 @@
+//! A trace is played on a new heap, and samples of the heap are taken along the run.
+#![tactic(auto)]
+
+mod line;
+mod sampler;
+mod samples;
+mod taking;
+
+pub use samples::Samples;
+pub use taking::take_samples;
+
+#[cfg(test)]
+mod tests;

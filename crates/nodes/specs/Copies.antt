@@ -1,5 +1,6 @@
 -- Main copies and old copies, counted.
 use Rattle.std.specs.Prelude.{ℕ, zero, suc, ◌+◌, ◌*◌, Bool, ◌&&◌, not, ◌==◌, if◌then◌else◌, length}
+use Rattle.size_classes.specs.declared.class.TheConstants.{PAGE_WORDS}
 use Rattle.heap_model.specs.Store.{Store, is_held, node_of}
 use Rattle.nodes.specs.declared.nodes.counting.Copies.{Copies}
 
@@ -25,4 +26,4 @@ copies_below s address = record { objects = count_below (is_object s) address; p
 
 -- all copies
 abbrev pub copies_in : Store → Copies
-copies_in s = copies_below s (2048 * length s.pages)
+copies_in s = copies_below s (PAGE_WORDS * length s.pages)

@@ -41,9 +41,9 @@ module _ (rows : List (Option PageRecord)) (words : List ℕ) (t : Together rows
   pub held_told : (r : PageRecord) → Some r ≡ row_at rows k → r.held ≡ held_on (page_at (pages_in rows words) k)
   held_told r is = (held_count r (sym is)).0 ∙ ap (λ o. held_on (page_by words (2048 * k) o)) is ∙ ap held_on (sym here)
 
-  pub view_told : (r : PageRecord) → Some r ≡ row_at rows k → (let v : PageView = record { class = r.class; held = r.held; leaving = r.leaving } in Some v) ≡ view_of (page_at (pages_in rows words) k)
+  pub view_told : (r : PageRecord) → Some r ≡ row_at rows k → (let v : PageView = record { class = r.class; held = r.held; leaving = r.leaving; receiving = r.receiving } in Some v) ≡ view_of (page_at (pages_in rows words) k)
   view_told r is =
-      ap (λ n. let v : PageView = record { class = r.class; held = n; leaving = r.leaving } in Some v) (held_count r (sym is)).0
+      ap (λ n. let v : PageView = record { class = r.class; held = n; leaving = r.leaving; receiving = r.receiving } in Some v) (held_count r (sym is)).0
       ∙ ap (λ o. view_of (page_by words (2048 * k) o)) is ∙ ap view_of (sym here)
 
   pub none_told : {B : Type 0} (g : Option Page → B) (o : Option PageRecord) → o ≡ row_at rows k → o ≡ None → g (page_at (pages_in rows words) k) ≡ g None

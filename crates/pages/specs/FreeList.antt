@@ -1,6 +1,7 @@
 -- Free blocks, threaded through their headers.
 use Rattle.std.specs.Prelude.{◌≡◌, ℕ, zero, suc, ◌+◌, ◌*◌, ◌<◌, ◌≤◌, Bool, true, false, not, ◌==◌, List, map, length, slice_get, slice_set, slice_index, count_by, Some}
 use Rattle.std.specs.List.{range_with_len}
+use Rattle.size_classes.specs.declared.class.TheConstants.{PAGE_WORDS}
 use Rattle.size_classes.specs.Sizes.{size_of, blocks_in}
 
 -- what word 0 of a free block of a page in use holds, which is no address
@@ -33,4 +34,4 @@ pub record IsFreeList (words : List ℕ) (at class first held : ℕ) : Type 0 wh
 pub record SameOutside (old new : List ℕ) (at : ℕ) : Type 0 where
   pub len : length new ≡ length old
   pub below : (k : ℕ) → k < at → slice_index new k ≡ slice_index old k
-  pub above : (k : ℕ) → at + 2048 ≤ k → slice_index new k ≡ slice_index old k
+  pub above : (k : ℕ) → at + PAGE_WORDS ≤ k → slice_index new k ≡ slice_index old k

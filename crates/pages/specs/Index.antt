@@ -1,5 +1,7 @@
 -- What the table itself keeps: a record for each page, bits and numbers.
 use Rattle.std.specs.Prelude.{◌≡◌, ℕ, ◌-◌, ◌<◌, ◌≤◌, Bool, true, false, ◌&&◌, not, ◌==◌, nat_lt, if◌then◌else◌, List, map, length, slice_index, slice_index_or, Option, Some, None, IsSomeAnd, count_by, sum_by}
+use Rattle.size_classes.specs.declared.class.TheConstants.{CLASSES}
+use Rattle.size_classes.specs.declared.config.TheConstants.{MOST_PAGES}
 use Rattle.size_classes.specs.Sizes.{blocks_in}
 use Rattle.pages.specs.declared.bits.BitRow.{BitRow}
 use Rattle.pages.specs.declared.page.PageRecord.{PageRecord}
@@ -45,13 +47,13 @@ class_bit usable class k = slice_index (map (λ r. has_bit r k) usable) class
 
 -- the bits and the numbers are those of the rows
 pub record IsIndex (rows : List (Option PageRecord)) (usable : List BitRow) (free : BitRow) (free_blocks : List ℕ) (free_pages : ℕ) : Type 0 where
-  pub few : length rows ≤ 4096
-  pub classes : length usable ≡ 38
-  pub counts : length free_blocks ≡ 38
-  pub usable_bits : (class k : ℕ) → class < 38 → k < 4096 → class_bit usable class k ≡ bit (row_usable class (row_at rows k))
+  pub few : length rows ≤ MOST_PAGES
+  pub classes : length usable ≡ CLASSES
+  pub counts : length free_blocks ≡ CLASSES
+  pub usable_bits : (class k : ℕ) → class < CLASSES → k < MOST_PAGES → class_bit usable class k ≡ bit (row_usable class (row_at rows k))
   pub free_bits : (k : ℕ) → k < length rows → has_bit free k ≡ bit (row_free (row_at rows k))
-  pub free_past : (k : ℕ) → k < 4096 → length rows ≤ k → has_bit free k ≡ 0
-  pub blocks_are : (class : ℕ) → class < 38 → slice_index free_blocks class ≡ sum_by (row_free_on class) rows
+  pub free_past : (k : ℕ) → k < MOST_PAGES → length rows ≤ k → has_bit free k ≡ 0
+  pub blocks_are : (class : ℕ) → class < CLASSES → slice_index free_blocks class ≡ sum_by (row_free_on class) rows
   pub pages_are : free_pages ≡ count_by row_free rows
 
 -- the page closed: its marks go, and if no block is held it becomes free

@@ -1,6 +1,7 @@
 -- The records and the words together, as a list of pages.
 use Rattle.std.specs.Prelude.{◌≡◌, ℕ, ◌+◌, ◌*◌, ◌<◌, true, List, map, length, slice_get, slice_index, Option, Some, option_map, IfSome}
 use Rattle.std.specs.List.{enumerate_from}
+use Rattle.size_classes.specs.declared.class.TheConstants.{CLASSES, PAGE_WORDS}
 use Rattle.size_classes.specs.Sizes.{size_of}
 use Rattle.heap_model.specs.Pages.{Page, page_at}
 use Rattle.pages.specs.declared.page.PageRecord.{PageRecord}
@@ -12,20 +13,20 @@ abbrev pub page_by : List ℕ → ℕ → Option PageRecord → Option Page
 page_by words at = option_map (λ r. record { class = r.class; leaving = r.leaving; receiving = r.receiving; held = flags_of words at r.class })
 
 unfoldable pub pages_in : List (Option PageRecord) → List ℕ → List (Option Page)
-pages_in rows words = map (λ p. page_by words (2048 * p.0) p.1) (enumerate_from 0 rows)
+pages_in rows words = map (λ p. page_by words (PAGE_WORDS * p.0) p.1) (enumerate_from 0 rows)
 
 -- The table and the arena go together: there are 2048 words for each page, and each page in use has a
 -- list that runs through just its free blocks, each once.
 pub record Together (rows : List (Option PageRecord)) (words : List ℕ) : Type 0 where
-  pub len : length words ≡ 2048 * length rows
-  pub classes : (k : ℕ) → IfSome (row_at rows k) (λ r. r.class < 38)
-  pub each : (k : ℕ) → IfSome (row_at rows k) (λ r. IsFreeList words (2048 * k) r.class r.first r.held)
+  pub len : length words ≡ PAGE_WORDS * length rows
+  pub classes : (k : ℕ) → IfSome (row_at rows k) (λ r. r.class < CLASSES)
+  pub each : (k : ℕ) → IfSome (row_at rows k) (λ r. IsFreeList words (PAGE_WORDS * k) r.class r.first r.held)
 
 -- the words of the blocks that are held stay
 pub record KeepsHeld (pages : List (Option Page)) (old new : List ℕ) : Type 0 where
   pub len : length new ≡ length old
   pub each : (k : ℕ) (p : Page) (i j : ℕ) → page_at pages k ≡ Some p → slice_get p.held i ≡ Some true → j < size_of p.class
-      → slice_index new (2048 * k + i * size_of p.class + j) ≡ slice_index old (2048 * k + i * size_of p.class + j)
+      → slice_index new (PAGE_WORDS * k + i * size_of p.class + j) ≡ slice_index old (PAGE_WORDS * k + i * size_of p.class + j)
 
 -- what is told by the records alone holds of the pages, with whatever words they go together
 abbrev pub Tells : List (Option PageRecord) → (List (Option Page) → Type 0) → Type 0

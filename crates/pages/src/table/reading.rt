@@ -119,6 +119,7 @@ impl PageTable {
             class: row.class,
             held: row.held,
             leaving: row.leaving,
+            receiving: row.receiving,
         })
     }
 

@@ -11,6 +11,7 @@ abbrev pub words_text : Words → List ℕ
 words_text words.PagesOfTheHeap = codes "Pages of the heap"
 words_text words.PageInUse = codes "page in use"
 words_text words.LeavingPage = codes "leaving page"
+words_text words.ReceivingPage = codes "receiving page"
 words_text words.FreePage = codes "free page"
 words_text words.HeldBlocks = codes "held blocks"
 words_text words.FreeBlocks = codes "free blocks"
@@ -41,6 +42,7 @@ abbrev pub caption_text : Caption → List ℕ
 caption_text (captions.Words w) = words_text w
 caption_text (captions.Number n) = decimal n
 caption_text (captions.Percent n) = decimal n ++ codes " %"
+caption_text (captions.OldCopies n) = codes "old copies " ++ decimal n
 caption_text (captions.BlockWords n) = decimal n ++ codes " words"
 caption_text (captions.Part some all) = decimal some ++ codes " of " ++ decimal all
 caption_text (captions.Heap phase units pages free) = codes "phase " ++ words_text phase ++ codes ", units " ++ decimal units ++ codes ", pages " ++ decimal pages ++ codes ", free " ++ decimal free

@@ -4,11 +4,13 @@ use Rattle.std.specs.Int.{div_ceil}
 use Rattle.size_classes.specs.Sizes.{size_of, blocks_in}
 use Rattle.heap_model.specs.Pages.{Page, free_pages}
 use Rattle.heap_model.specs.State.{HeapState}
+use Rattle.nodes.specs.Copies.{copies_in}
 use Rattle.pages.specs.View.{view_of}
 use Rattle.pages.specs.declared.view.PageView.{PageView}
-use Rattle.drawing.specs.declared.colour.Colour.TheVariants.{Grey, Sky, Pale, Blue, Orange}
-use Rattle.drawing.specs.declared.caption.Words.TheVariants.{PagesOfTheHeap, PageInUse, LeavingPage, FreePage, HeldBlocks, FreeBlocks}
-use Rattle.drawing.specs.declared.caption.Caption.TheVariants.{Number, BlockWords, Part, Heap}
+use Rattle.drawing.specs.declared.colour.Colour.{Colour}
+use Rattle.drawing.specs.declared.colour.Colour.TheVariants.{Grey, Sky, Pale, Blue, Yellow, Orange}
+use Rattle.drawing.specs.declared.caption.Words.TheVariants.{PagesOfTheHeap, PageInUse, LeavingPage, ReceivingPage, FreePage, HeldBlocks, FreeBlocks}
+use Rattle.drawing.specs.declared.caption.Caption.TheVariants.{Number, OldCopies, BlockWords, Part, Heap}
 use Rattle.drawing.specs.declared.element.Element.{Element}
 use Rattle.drawing.specs.declared.element.Element.TheVariants.{Rectangle, Text, Close}
 use Rattle.drawing.specs.Captions.{phase_words}
@@ -30,11 +32,15 @@ bar_width held blocks = div_ceil (52 * held) blocks
 abbrev pub free_square : ℕ → ℕ → ℕ → List Element
 free_square x y number = Rectangle x y 60 60 Pale ∷ Text (x + 4) (y + 14) 11 (Number number) ∷ []
 
+-- the colour of a page in use: leaving pages have one of their own, and receiving ones
+abbrev pub paper_of : PageView → Colour
+paper_of v = if v.leaving then Orange else if v.receiving then Yellow else Sky
+
 -- the square of a page in use: its number, the words of a block, how many of its blocks are held, and a bar
--- of all blocks with the held ones at its left. That of a leaving page has a colour of its own.
+-- of all blocks with the held ones at its left
 abbrev pub used_square : ℕ → ℕ → ℕ → PageView → List Element
 used_square x y number v =
-    Rectangle x y 60 60 (if v.leaving then Orange else Sky)
+    Rectangle x y 60 60 (paper_of v)
     ∷ Text (x + 4) (y + 14) 11 (Number number)
     ∷ Text (x + 4) (y + 28) 9 (BlockWords (size_of v.class))
     ∷ Text (x + 4) (y + 41) 9 (Part v.held (blocks_in v.class))
@@ -58,13 +64,14 @@ map_height pages = 126 + 64 * div_ceil pages 16
 abbrev pub map_frame : HeapState → List Element
 map_frame h = frame 1060 (map_height (length h.store.pages)) PagesOfTheHeap
 
--- the phase, the units spent in the cycle that is on, or else in the last one, all pages, and the free ones; and
--- what the colours mean
+-- the phase, the units spent in the cycle that is on, or else in the last one, all pages, and the free ones; what
+-- the colours mean; and how many old copies there are
 abbrev pub map_told : HeapState → List Element
 map_told h =
     Text 20 52 13 (Heap (phase_words h.phase) h.units (length h.store.pages) (free_pages h.store.pages))
     ∷ swatch 0 Pale ∷ meaning 0 FreePage ∷ swatch 1 Sky ∷ meaning 1 PageInUse ∷ swatch 2 Orange ∷ meaning 2 LeavingPage
-    ∷ swatch 3 Blue ∷ meaning 3 HeldBlocks ∷ swatch 4 Grey ∷ meaning 4 FreeBlocks ∷ []
+    ∷ swatch 3 Yellow ∷ meaning 3 ReceivingPage ∷ swatch 4 Blue ∷ meaning 4 HeldBlocks ∷ swatch 5 Grey ∷ meaning 5 FreeBlocks
+    ∷ Text 800 78 12 (OldCopies (copies_in h.store).old) ∷ []
 
 abbrev pub page_map : HeapState → List Element
 page_map h = map_frame h ++ (map_told h ++ (squares 0 h.store.pages ++ Close ∷ []))

@@ -11,6 +11,7 @@ pub enum Words {
     PagesOfTheHeap,
     PageInUse,
     LeavingPage,
+    ReceivingPage,
     FreePage,
     HeldBlocks,
     FreeBlocks,
@@ -53,6 +54,7 @@ impl Words {
             Words::PagesOfTheHeap => b"Pages of the heap",
             Words::PageInUse => b"page in use",
             Words::LeavingPage => b"leaving page",
+            Words::ReceivingPage => b"receiving page",
             Words::FreePage => b"free page",
             Words::HeldBlocks => b"held blocks",
             Words::FreeBlocks => b"free blocks",
@@ -83,6 +85,8 @@ pub enum Caption {
     Number(u64),
     /// A share in per cent.
     Percent(u64),
+    /// How many old copies there are.
+    OldCopies(u64),
     /// How many words the blocks of a page have.
     BlockWords(u64),
     /// So many of all.
@@ -113,6 +117,7 @@ pub(crate) fn put_caption(out: &mut [u8], at: usize, caption: Caption) -> usize
             let end = put_named(out, at, b"", n);
             put(out, end, b" %")
         }
+        Caption::OldCopies(n) => put_named(out, at, b"old copies ", n),
         Caption::BlockWords(n) => {
             let end = put_named(out, at, b"", n);
             put(out, end, b" words")

@@ -4,7 +4,7 @@ ghost use Rattle.heap_model.specs.Pages.{page_at};
 ghost use Rattle.pages.specs.View.{view_of};
 ghost use Rattle.trace.specs.Streams.{GrowsByPart, failed};
 ghost use Rattle.drawing.specs.Elements.{svg_text};
-ghost use Rattle.drawing.specs.PageMap.{free_square, used_square, square, squares, map_frame, map_told, pages_picture};
+ghost use Rattle.drawing.specs.PageMap.{paper_of, free_square, used_square, square, squares, map_frame, map_told, pages_picture};
 
 use crate::caption::{Caption, Words};
 use crate::colour::Colour;
@@ -27,6 +27,19 @@ fn free_page(x: u32, y: u32, number: u32) -> [Element; 2]
     ]
 }
 
+/// The colour of the square of a page in use.
+fn paper(page: PageView) -> Colour
+    ensures { result ≡ paper_of page }
+{
+    if page.leaving {
+        Colour::Orange
+    } else if page.receiving {
+        Colour::Yellow
+    } else {
+        Colour::Sky
+    }
+}
+
 /// The square of a page in use.
 fn used_page(x: u32, y: u32, number: u32, page: PageView) -> [Element; 6]
     requires within { (x ≤ 65536) × (y ≤ 65536) }
@@ -35,11 +48,6 @@ fn used_page(x: u32, y: u32, number: u32, page: PageView) -> [Element; 6]
 {
     let held = page.held as u32;
     let blocks = page.class.blocks_per_page();
-    let paper = if page.leaving {
-        Colour::Orange
-    } else {
-        Colour::Sky
-    };
     let name = Caption::Number(u64::from(number));
     let size = Caption::BlockWords(u64::from(page.class.size()));
     let part = Caption::Part {
@@ -48,7 +56,7 @@ fn used_page(x: u32, y: u32, number: u32, page: PageView) -> [Element; 6]
     };
     let bar = (52 * held).div_ceil(blocks);
     [
-        rectangle(x, y, 60, 60, paper),
+        rectangle(x, y, 60, 60, paper(page)),
         text(x + 4, y + 14, 11, name),
         text(x + 4, y + 28, 9, size),
         text(x + 4, y + 41, 9, part),
@@ -94,7 +102,7 @@ fn write_frame<K: Sink>(heap: &Heap, sink: &mut K) -> Result<(), WriteFailed>
 }
 
 /// What is told of the heap as a whole, and what the colours mean.
-fn told(heap: &Heap) -> [Element; 11]
+fn told(heap: &Heap) -> [Element; 14]
     ensures { result ≡ map_told heap.now }
 {
     let summary = Caption::Heap {
@@ -111,10 +119,13 @@ fn told(heap: &Heap) -> [Element; 11]
         meaning(1, Words::PageInUse),
         swatch(2, Colour::Orange),
         meaning(2, Words::LeavingPage),
-        swatch(3, Colour::Blue),
-        meaning(3, Words::HeldBlocks),
-        swatch(4, Colour::Grey),
-        meaning(4, Words::FreeBlocks),
+        swatch(3, Colour::Yellow),
+        meaning(3, Words::ReceivingPage),
+        swatch(4, Colour::Blue),
+        meaning(4, Words::HeldBlocks),
+        swatch(5, Colour::Grey),
+        meaning(5, Words::FreeBlocks),
+        text(800, 78, 12, Caption::OldCopies(heap.copies().old as u64)),
     ]
 }
 
@@ -129,10 +140,11 @@ fn write_told<K: Sink>(heap: &Heap, sink: &mut K) -> Result<(), WriteFailed>
 
 /// Writes the map of the pages of a heap to a sink, as an SVG document of lines that end with LF: the
 /// phase, the units of work since the last cycle began, how many pages there are and how many are free,
-/// a legend, and 16 squares in a row, one for each page, with its number. The square of a page in use
-/// tells the words of a block and how many of its blocks are held, and a bar shows these; it has a colour
-/// of its own where the page is leaving. It takes no memory. After an error, which comes only where the
-/// sink failed, the sink has taken a beginning of the document.
+/// a legend with the number of old copies, and 16 squares in a row, one for each page, with its number. The
+/// square of a page in use tells the words of a block and how many of its blocks are held, and a bar shows
+/// these; it has a colour of its own where the page is leaving, and another where it is receiving. It takes
+/// no memory. After an error, which comes only where the sink failed, the sink has taken a beginning of the
+/// document.
 pub fn draw_pages<K: Sink>(heap: &Heap, sink: &mut K) -> Result<(), WriteFailed>
     ensures ok { OnOk result (K.taken sink.new ≡ K.taken sink.old ++ pages_picture heap.now) }
     ensures err { OnErr result (GrowsByPart (K.taken sink.old) (K.taken sink.new) (pages_picture heap.now)) }

@@ -57,10 +57,12 @@ const LEGEND: &str = "<rect x='20' y='66' width='14' height='14' fill='#eeeeee'/
     <text x='170' y='78' font-size='12'>page in use</text>\n\
     <rect x='280' y='66' width='14' height='14' fill='#e69f00'/>\n\
     <text x='300' y='78' font-size='12'>leaving page</text>\n\
-    <rect x='410' y='66' width='14' height='14' fill='#0072b2'/>\n\
-    <text x='430' y='78' font-size='12'>held blocks</text>\n\
-    <rect x='540' y='66' width='14' height='14' fill='#bbbbbb'/>\n\
-    <text x='560' y='78' font-size='12'>free blocks</text>\n";
+    <rect x='410' y='66' width='14' height='14' fill='#f0e442'/>\n\
+    <text x='430' y='78' font-size='12'>receiving page</text>\n\
+    <rect x='540' y='66' width='14' height='14' fill='#0072b2'/>\n\
+    <text x='560' y='78' font-size='12'>held blocks</text>\n\
+    <rect x='670' y='66' width='14' height='14' fill='#bbbbbb'/>\n\
+    <text x='690' y='78' font-size='12'>free blocks</text>\n";
 
 const SQUARES: &str = "<rect x='20' y='110' width='60' height='60' fill='#cfe3f3'/>\n\
     <text x='24' y='124' font-size='11'>0</text>\n\
@@ -82,7 +84,72 @@ fn two_objects_on_a_page(rt: HostRuntime) -> Result<(), Fail> {
     let mut sink = MemorySink::new(rt.alloc());
     assert_eq!(rt; draw_pages(&heap, &mut sink), Ok(()));
     let told = "<text x='20' y='52' font-size='13'>phase roots, units 0, pages 2, free 1</text>\n";
-    let wanted = format!(in rt.alloc(); "{HEAD}{told}{LEGEND}{SQUARES}")?;
+    let old = "<text x='800' y='78' font-size='12'>old copies 0</text>\n";
+    let wanted = format!(in rt.alloc(); "{HEAD}{told}{LEGEND}{old}{SQUARES}")?;
+    assert_eq!(rt; sink.bytes(), wanted.as_bytes());
+    Ok(())
+}
+
+const THREE_PAGES: Settings = Settings {
+    pages: 3,
+    mutators: 1,
+    slots: 12,
+    statics: 0,
+    live: 1,
+    defrag_below: 4,
+    defrag_pages: 1,
+    ..Settings::DEFAULTS
+};
+
+// Page 0 had eight arrays, lost two, and received the one of page 1, which is leaving, and still holds the
+// array's old copy.
+const MOVED: &str = "<rect x='20' y='110' width='60' height='60' fill='#f0e442'/>\n\
+    <text x='24' y='124' font-size='11'>0</text>\n\
+    <text x='24' y='138' font-size='9'>256 words</text>\n\
+    <text x='24' y='151' font-size='9'>7 of 8</text>\n\
+    <rect x='24' y='156' width='52' height='10' fill='#bbbbbb'/>\n\
+    <rect x='24' y='156' width='46' height='10' fill='#0072b2'/>\n\
+    <rect x='84' y='110' width='60' height='60' fill='#e69f00'/>\n\
+    <text x='88' y='124' font-size='11'>1</text>\n\
+    <text x='88' y='138' font-size='9'>256 words</text>\n\
+    <text x='88' y='151' font-size='9'>1 of 8</text>\n\
+    <rect x='88' y='156' width='52' height='10' fill='#bbbbbb'/>\n\
+    <rect x='88' y='156' width='7' height='10' fill='#0072b2'/>\n\
+    <rect x='148' y='110' width='60' height='60' fill='#cfe3f3'/>\n\
+    <text x='152' y='124' font-size='11'>2</text>\n\
+    <text x='152' y='138' font-size='9'>5 words</text>\n\
+    <text x='152' y='151' font-size='9'>1 of 409</text>\n\
+    <rect x='152' y='156' width='52' height='10' fill='#bbbbbb'/>\n\
+    <rect x='152' y='156' width='1' height='10' fill='#0072b2'/>\n\
+    </svg>\n";
+
+/// Nine arrays, of which eight fill a page, and an object that names the ninth.
+const NINE_ARRAYS: [&str; 15] = [
+    "0 new 0 words 252",
+    "0 new 1 words 252",
+    "0 new 2 words 252",
+    "0 new 3 words 252",
+    "0 new 4 words 252",
+    "0 new 5 words 252",
+    "0 new 6 words 252",
+    "0 new 7 words 252",
+    "0 new 8 words 252",
+    "0 new 9 plain 1 0",
+    "0 store 9 0 8",
+    "0 clear 0",
+    "0 clear 1",
+    "begin",
+    "quantum 1000",
+];
+
+#[test]
+fn a_block_is_moved(rt: HostRuntime) -> Result<(), Fail> {
+    let heap = played(&rt, &THREE_PAGES, &NINE_ARRAYS)?;
+    let mut sink = MemorySink::new(rt.alloc());
+    assert_eq!(rt; draw_pages(&heap, &mut sink), Ok(()));
+    let told = "<text x='20' y='52' font-size='13'>phase idle, units 823, pages 3, free 0</text>\n";
+    let old = "<text x='800' y='78' font-size='12'>old copies 1</text>\n";
+    let wanted = format!(in rt.alloc(); "{HEAD}{told}{LEGEND}{old}{MOVED}")?;
     assert_eq!(rt; sink.bytes(), wanted.as_bytes());
     Ok(())
 }

@@ -39,20 +39,27 @@ fn number<'a>(alloc: Global, name: &'a str, value: &'a str, help: &'a str) -> Ar
         .help(help)
 }
 
-/// A subcommand that plays a trace.
-fn playing<'a>(alloc: Global, name: &'a str, about: &'a str) -> Result<Command<'a>, AllocError> {
-    Command::new(alloc, name)
-        .about(about)
-        .arg(config(alloc))?
-        .arg(trace(alloc))
-}
-
 /// A word that may be given or not.
 fn flag<'a>(alloc: Global, name: &'a str, help: &'a str) -> Arg<'a> {
     Arg::new(alloc, name)
         .long(name)
         .action(ArgAction::SetTrue)
         .help(help)
+}
+
+/// Whether the progress is told, which each subcommand may be asked for.
+fn progress<'a>(alloc: Global) -> Arg<'a> {
+    let help = "Tell on standard error how many lines were read";
+    flag(alloc, "progress", help)
+}
+
+/// A subcommand that plays a trace.
+fn playing<'a>(alloc: Global, name: &'a str, about: &'a str) -> Result<Command<'a>, AllocError> {
+    Command::new(alloc, name)
+        .about(about)
+        .arg(config(alloc))?
+        .arg(trace(alloc))?
+        .arg(progress(alloc))
 }
 
 fn play<'a>(alloc: Global) -> Result<Command<'a>, AllocError> {
@@ -66,7 +73,8 @@ fn check<'a>(alloc: Global) -> Result<Command<'a>, AllocError> {
     Command::new(alloc, "check")
         .about("Check the replies of a history")
         .arg(config(alloc))?
-        .arg(history)
+        .arg(history)?
+        .arg(progress(alloc))
 }
 
 fn scripts<'a>(alloc: Global) -> Arg<'a> {
@@ -78,7 +86,8 @@ fn running<'a>(alloc: Global, name: &'a str, about: &'a str) -> Result<Command<'
     Command::new(alloc, name)
         .about(about)
         .arg(config(alloc))?
-        .arg(scripts(alloc))
+        .arg(scripts(alloc))?
+        .arg(progress(alloc))
 }
 
 fn threads<'a>(alloc: Global) -> Result<Command<'a>, AllocError> {
@@ -114,7 +123,7 @@ fn draw<'a>(alloc: Global) -> Result<Command<'a>, AllocError> {
         .long("as")
         .value_name("PICTURE")
         .required(true)
-        .help("The picture: pages or utilisation");
+        .help("The picture: pages, time or utilisation");
     playing(alloc, "draw", "Play a trace and draw a picture in SVG")?
         .arg(picture)?
         .arg(after(alloc))

@@ -61,10 +61,24 @@ pub enum Job<'a> {
         picture: Picture,
         after: Option<u32>,
     },
+    /// Play a trace, and draw its heap over its events.
+    DrawTime {
+        config: &'a str,
+        trace: &'a str,
+    },
     /// Play a trace, and tell how many pages suffice.
     Pages {
         config: &'a str,
         trace: &'a str,
         by: Sizing<'a>,
     },
+}
+
+/// What the words of a command line ask for, and whether its progress is told.
+#[derive(Debug, PartialEq, Eq, Drop)]
+pub struct Request<'a> {
+    /// What is to be done.
+    pub job: Job<'a>,
+    /// Whether standard error is told how many lines were read.
+    pub progress: bool,
 }

@@ -9,7 +9,7 @@ mod words;
 
 pub use document::read_config;
 pub use fault::{ReadFault, WordsFault};
-pub use job::{Job, Picture, Sizing};
+pub use job::{Job, Picture, Request, Sizing};
 pub use words::read_words;
 
 #[cfg(test)]

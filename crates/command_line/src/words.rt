@@ -1,11 +1,11 @@
 //! The words of the command line.
 ghost use Rattle.std.specs.Prelude.{◌≡◌, ◌<◌, ◌≤◌, IfOk, OnOk, length};
 ghost use Rattle.std.specs.List.{All};
-ghost use Rattle.command_line.specs.Job.{IsInRange, IsWindow};
+ghost use Rattle.command_line.specs.Job.{IsDrawing, IsInRange, IsWindow, picture_name};
 
 use crate::commands::program;
 use crate::fault::WordsFault;
-use crate::job::{Job, Picture, Sizing};
+use crate::job::{Job, Picture, Request, Sizing};
 use clap::ArgMatches;
 use clap::error::ErrorKind;
 use size_classes::{LEAST_BUDGET, MOST_BUDGET};
@@ -14,21 +14,34 @@ use std::convert::AsStr;
 
 /// What the words ask for, of which the first is the program's name. Where they ask for help, or are
 /// refused, the answer is the text for the user.
-pub fn read_words<'a, S: AsStr>(alloc: Global, words: &'a [S]) -> Result<Job<'a>, WordsFault>
-    ensures { IfOk result IsInRange }
+pub fn read_words<'a, S: AsStr>(alloc: Global, words: &'a [S]) -> Result<Request<'a>, WordsFault>
+    ensures { IfOk result (λ request. IsInRange request.job) }
 {
     let matches = match program(alloc)?.try_get_matches_from(words) {
         Ok(matches) => matches,
         Err(error) => return Err(fault_of(alloc, &error)),
     };
-    match matches.subcommand() {
-        Some(("play", found)) => play(alloc, found),
-        Some(("check", found)) => check(alloc, found),
-        Some(("threads", found)) => threads(alloc, found),
-        Some(("inspect", found)) => inspect(alloc, found),
-        Some(("mmu", found)) => mmu(alloc, found),
-        Some(("draw", found)) => draw(alloc, found),
-        Some(("pages", found)) => pages(alloc, found),
+    let Some((name, found)) = matches.subcommand() else {
+        return Err(refused(alloc, "a subcommand is missing"));
+    };
+    Ok(Request {
+        job: job_of(alloc, name, found)?,
+        progress: found.get_flag("progress"),
+    })
+}
+
+/// What the words of a subcommand ask for.
+fn job_of<'a>(alloc: Global, name: &str, found: &ArgMatches<'a>) -> Result<Job<'a>, WordsFault>
+    ensures { IfOk result IsInRange }
+{
+    match name {
+        "play" => play(alloc, found),
+        "check" => check(alloc, found),
+        "threads" => threads(alloc, found),
+        "inspect" => inspect(alloc, found),
+        "mmu" => mmu(alloc, found),
+        "draw" => draw(alloc, found),
+        "pages" => pages(alloc, found),
         _ => Err(refused(alloc, "a subcommand is missing")),
     }
 }
@@ -115,12 +128,36 @@ fn mmu<'a>(alloc: Global, found: &ArgMatches<'a>) -> Result<Job<'a>, WordsFault>
 fn draw<'a>(alloc: Global, found: &ArgMatches<'a>) -> Result<Job<'a>, WordsFault>
     ensures { IfOk result IsInRange }
 {
-    Ok(Job::Draw {
-        config: file(alloc, found, "CONFIG")?,
-        trace: file(alloc, found, "TRACE")?,
-        picture: picture(alloc, found.get_str("as").unwrap_or(""))?,
-        after: found.get_one("after"),
-    })
+    let config = file(alloc, found, "CONFIG")?;
+    let trace = file(alloc, found, "TRACE")?;
+    let name = found.get_str("as").unwrap_or("");
+    drawing(alloc, config, trace, name, found.get_one("after"))
+}
+
+/// What draws the picture of a name. A picture over the events is of all of them.
+fn drawing<'a>(
+    alloc: Global,
+    config: &'a str,
+    trace: &'a str,
+    name: &str,
+    after: Option<u32>,
+) -> Result<Job<'a>, WordsFault>
+    ensures range { IfOk result IsInRange }
+    ensures named { IfOk result (IsDrawing name.now after) }
+{
+    if name != "time" {
+        return Ok(Job::Draw {
+            config,
+            trace,
+            picture: picture(alloc, name)?,
+            after,
+        });
+    }
+    if after.is_some() {
+        let why = "the argument '--after <N>' cannot be used with '--as time'";
+        return Err(refused(alloc, why));
+    }
+    Ok(Job::DrawTime { config, trace })
 }
 
 fn pages<'a>(alloc: Global, found: &ArgMatches<'a>) -> Result<Job<'a>, WordsFault>
@@ -146,14 +183,16 @@ fn sizing<'a>(alloc: Global, pace: bool, load: Option<&'a str>) -> Result<Sizing
     }
 }
 
-/// The picture of a name.
-fn picture(alloc: Global, name: &str) -> Result<Picture, WordsFault> {
+/// The picture of a heap of a name.
+fn picture(alloc: Global, name: &str) -> Result<Picture, WordsFault>
+    ensures { IfOk result (λ picture. name.now ≡ picture_name picture) }
+{
     match name {
         "pages" => Ok(Picture::Pages),
         "utilisation" => Ok(Picture::Utilisation),
         _ => {
             let why = format!(in alloc;
-                "invalid value '{name}' for '--as <PICTURE>': it is neither pages nor utilisation"
+                "invalid value '{name}' for '--as <PICTURE>': it is none of pages, time and utilisation"
             )?;
             Err(refused(alloc, why.as_str()))
         }

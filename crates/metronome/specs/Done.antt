@@ -4,13 +4,14 @@ use Rattle.size_classes.specs.declared.config.Config.{Config}
 use Rattle.trace.specs.Streams.{Given, Taken}
 use Rattle.command_line.specs.declared.job.Job.{Job}
 use Rattle.command_line.specs.declared.job.Sizing.TheVariants.{Demand, Pace, Load}
-use Rattle.command_line.specs.declared.job.Job.TheVariants.{Play, Check, Threads, Inspect, Mmu, Draw, Pages}
+use Rattle.command_line.specs.declared.job.Job.TheVariants.{Play, Check, Threads, Inspect, Mmu, Draw, DrawTime, Pages}
 use Rattle.player.specs.declared.style.Style.TheVariants.{Replies, Entries}
 use Rattle.metronome.specs.declared.fault.Ending.{Ending}
 use Rattle.metronome.specs.declared.fault.RunFault.{RunFault}
 use Rattle.metronome.specs.declared.fault.RunFault.TheVariants.{Read}
 use Rattle.metronome.specs.Jobs.{TracePlayed, HistoryChecked, ScriptsRun, HeapInspected, WindowsMeasured}
 use Rattle.metronome.specs.Drawn.{HeapDrawn}
+use Rattle.metronome.specs.OverTime.{TimeDrawn}
 use Rattle.metronome.specs.Told.{PagesTold}
 
 abbrev pub JobDone : Job → Config → Given → Taken → Result Ending RunFault → Type 0
@@ -21,6 +22,7 @@ JobDone (Threads settings scripts turns budget) config given taken result = Scri
 JobDone (Inspect settings trace after) config given taken result = HeapInspected after config given taken result
 JobDone (Mmu settings trace windows) config given taken result = WindowsMeasured windows.items config given taken result
 JobDone (Draw settings trace picture after) config given taken result = HeapDrawn picture after config given taken result
+JobDone (DrawTime settings trace) config given taken result = TimeDrawn config given taken result
 JobDone (Pages settings trace Demand) config given taken result = PagesTold false config given taken result
 JobDone (Pages settings trace Pace) config given taken result = PagesTold true config given taken result
 -- a trace that is held against a load is read twice, which a source can't be

@@ -3,5 +3,7 @@ pub mod Jobs
 pub mod Status
 pub mod Windows
 pub mod Drawn
-pub mod Done
 pub mod Told
+pub mod OverTime
+pub mod Progress
+pub mod Done

@@ -7,9 +7,11 @@ mod files;
 mod jobs;
 mod load_job;
 mod pages_job;
+mod progress;
 mod run;
 #[cfg(test)]
 mod tests;
+mod time_job;
 
 use fault::RunFault;
 use files::HostFiles;

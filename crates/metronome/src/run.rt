@@ -1,5 +1,5 @@
 //! A run of the program.
-ghost use Rattle.std.specs.Prelude.{◌≡◌, Result};
+ghost use Rattle.std.specs.Prelude.{◌≡◌, [], Result};
 ghost use Rattle.metronome.specs.declared.fault.Ending.{Ending};
 ghost use Rattle.metronome.specs.declared.fault.RunFault.{RunFault};
 ghost use Rattle.trace.specs.Streams.{given_by, taken_by};
@@ -10,10 +10,12 @@ use crate::drawing_job::draw_job;
 use crate::fault::{Ending, RunFault};
 use crate::files::Opener;
 use crate::jobs::{check_job, inspect_job, mmu_job, play_job, threads_job};
-use crate::load_job::load_job;
+use crate::load_job::{load_job, told_load_job};
 use crate::pages_job::pages_job;
+use crate::progress::ToldSource;
+use crate::time_job::time_job;
 use arrivals::Load;
-use command_line::{Job, Sizing, WordsFault, read_config, read_words};
+use command_line::{Job, Request, Sizing, WordsFault, read_config, read_words};
 use load_file::read_load;
 use player::Style;
 use size_classes::Config;
@@ -48,7 +50,8 @@ where
     T: Threads + Wait + Sync,
     ensures { (how : Result Ending RunFault) × (result ≡ status_of how) }
 {
-    match perform(rt, alloc, words, opener, input, &mut WriteSink::new(output)) {
+    let mut sink = WriteSink::new(output);
+    match perform(rt, alloc, words, opener, input, &mut sink, errors) {
         Ok(ending) => ending.status(),
         Err(fault) => {
             tell(errors, &fault);
@@ -65,24 +68,26 @@ pub fn tell<E: Write>(errors: &mut E, fault: &RunFault) {
     };
 }
 
-/// Does what the words ask for.
-fn perform<S, O, R, K, T>(
+/// Does what the words ask for. Where they ask for progress, the error stream is told of the lines that are read.
+fn perform<S, O, R, K, E, T>(
     rt: &T,
     alloc: Global,
     words: &[S],
     opener: &O,
     input: R,
     sink: &mut K,
+    errors: &mut E,
 ) -> Result<Ending, RunFault>
 where
     S: AsStr,
     O: Opener,
     R: Read + Drop,
     K: Sink,
+    E: Write,
     T: Threads + Wait + Sync,
 {
-    let job = match read_words(alloc, words) {
-        Ok(job) => job,
+    let request = match read_words(alloc, words) {
+        Ok(request) => request,
         Err(WordsFault::Help(text)) => {
             write_all(sink, text.as_bytes())?;
             return Ok(Ending::Done);
@@ -90,23 +95,40 @@ where
         Err(WordsFault::Refused(text)) => return Err(RunFault::Words(text)),
         Err(WordsFault::NoMemory) => return Err(RunFault::NoMemory),
     };
-    let (settings, name) = files_of(&job);
+    obey(rt, alloc, &request, opener, input, sink, errors)
+}
+
+/// Does what a request says, with the files that it names.
+fn obey<O: Opener, R: Read + Drop, K: Sink, E: Write, T: Threads + Wait + Sync>(
+    rt: &T,
+    alloc: Global,
+    request: &Request,
+    opener: &O,
+    input: R,
+    sink: &mut K,
+    errors: &mut E,
+) -> Result<Ending, RunFault> {
+    let (settings, name) = files_of(&request.job);
     let config = configuration(alloc, opener, settings)?;
     if let Job::Pages {
         by: Sizing::Load(file),
         ..
-    } = job
+    } = request.job
     {
         let load = load_of(alloc, opener, file)?;
-        return tell_load(alloc, opener, &config, &load, name, input, sink);
+        let text = text_of(alloc, opener, name, input)?;
+        let bytes = text.as_slice();
+        return tell_load(alloc, request, &config, &load, bytes, sink, errors);
     }
     if name == "-" {
-        return work(rt, alloc, &job, &config, &mut ReadSource::new(input), sink);
+        let source = ReadSource::new(input);
+        return serve(rt, alloc, request, &config, source, sink, errors);
     }
     let Ok(file) = opener.open(name) else {
         return Err(RunFault::Read);
     };
-    work(rt, alloc, &job, &config, &mut ReadSource::new(file), sink)
+    let source = ReadSource::new(file);
+    serve(rt, alloc, request, &config, source, sink, errors)
 }
 
 /// The names of the configuration and of the other file.
@@ -122,6 +144,7 @@ fn files_of<'a>(job: &Job<'a>) -> (&'a str, &'a str) {
         Job::Inspect { config, trace, .. } => (config, trace),
         Job::Mmu { config, trace, .. } => (config, trace),
         Job::Draw { config, trace, .. } => (config, trace),
+        Job::DrawTime { config, trace } => (config, trace),
         Job::Pages { config, trace, .. } => (config, trace),
     }
 }
@@ -154,28 +177,63 @@ fn load_of<O: Opener>(alloc: Global, opener: &O, name: &str) -> Result<Load, Run
     Ok(read_load(alloc, bytes.as_slice())?)
 }
 
-/// Tells what a load needs, and whether the trace of a name keeps to it. The trace is read into memory, since it is gone
-/// over twice.
-fn tell_load<O: Opener, R: Read + Drop, K: Sink>(
+/// All bytes of the file of a name.
+fn text_of<O: Opener, R: Read + Drop>(
     alloc: Global,
     opener: &O,
-    config: &Config,
-    load: &Load,
     name: &str,
     input: R,
-    sink: &mut K,
-) -> Result<Ending, RunFault> {
-    let text = if name == "-" {
-        bytes_of(alloc, input)?
-    } else {
-        let Ok(file) = opener.open(name) else {
-            return Err(RunFault::Read);
-        };
-        bytes_of(alloc, file)?
+) -> Result<Vec<u8>, RunFault> {
+    if name == "-" {
+        return bytes_of(alloc, input);
+    }
+    let Ok(file) = opener.open(name) else {
+        return Err(RunFault::Read);
     };
-    let mut source = MemorySource::new(text.as_slice());
-    let mut again = MemorySource::new(text.as_slice());
-    load_job(alloc, config, load, &mut source, &mut again, sink)
+    bytes_of(alloc, file)
+}
+
+/// Tells what a load needs, and whether the trace of a text keeps to it. The text is gone over twice, and where progress is
+/// asked for, the error stream is told of the lines of the first time.
+fn tell_load<K: Sink, E: Write>(
+    alloc: Global,
+    request: &Request,
+    config: &Config,
+    load: &Load,
+    text: &[u8],
+    sink: &mut K,
+    errors: &mut E,
+) -> Result<Ending, RunFault> {
+    let mut source = MemorySource::new(text);
+    let mut again = MemorySource::new(text);
+    if request.progress {
+        told_load_job(alloc, config, load, source, &mut again, sink, errors)
+    } else {
+        load_job(alloc, config, load, &mut source, &mut again, sink)
+    }
+}
+
+/// Does the job of a request, from the source of the other file. Where progress is asked for, the error stream is told of
+/// the lines that are read; nothing else hangs on that.
+fn serve<S: Source + Drop, K: Sink, E: Write, T: Threads + Wait + Sync>(
+    rt: &T,
+    alloc: Global,
+    request: &Request,
+    config: &Config,
+    mut source: S,
+    sink: &mut K,
+    errors: &mut E,
+) -> Result<Ending, RunFault>
+    requires { S.given source ≡ [] }
+    ensures { (after : S) × JobDone request.now.job config.now (given_by S.given S.ended source after) (taken_by K.taken sink.old sink.new) result }
+{
+    let job = &request.job;
+    if request.progress {
+        let mut told = ToldSource::new(source, errors);
+        work(rt, alloc, job, config, &mut told, sink)
+    } else {
+        work(rt, alloc, job, config, &mut source, sink)
+    }
 }
 
 /// Does a job, from the source of the other file. A trace that is held against a load is gone over twice, which a source
@@ -202,6 +260,7 @@ fn work<S: Source, K: Sink, T: Threads + Wait + Sync>(
         Job::Draw { picture, after, .. } => {
             draw_job(alloc, config, source, sink, *picture, *after)
         }
+        Job::DrawTime { .. } => time_job(alloc, config, source, sink),
         Job::Pages {
             by: Sizing::Demand,
             ..

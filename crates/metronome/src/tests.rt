@@ -18,6 +18,7 @@ mod many;
 mod memory;
 mod pictures;
 mod playing;
+mod progress;
 mod racing;
 mod reporting;
 mod sizing;

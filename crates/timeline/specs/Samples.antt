@@ -1,5 +1,6 @@
 -- Samples of a heap along a run.
-use Rattle.std.specs.Prelude.{◌≡◌, ℕ, ◌*◌, ◌^◌, ◌<◌, ◌≤◌, Bool, true, false, if◌then◌else◌, List, [], ◌∷◌, ◌++◌, slice_get, option_map}
+use Rattle.std.specs.Prelude.{◌≡◌, ℕ, ◌*◌, ◌^◌, ◌<◌, ◌≤◌, max, Bool, true, false, if◌then◌else◌, List, [], ◌∷◌, ◌++◌, slice_get, option_map, unwrap_or}
+use Rattle.std.specs.List.{fold}
 use Rattle.heap_model.specs.declared.phase.Phase.{Phase}
 use Rattle.heap_model.specs.declared.phase.Phase.TheVariants as phases
 use Rattle.heap_model.specs.Event.{Event}
@@ -30,6 +31,10 @@ heaps_along old lines version events new (One_line_more before v next es more li
 -- sample i is of the heap at place i * stride, as far as there are heaps
 abbrev pub AreSamples : List HeapState → ℕ → List Sample → Type 0
 AreSamples heaps stride samples = (i : ℕ) → slice_get samples i ≡ option_map sampled (slice_get heaps (i * stride))
+
+-- the most objects of any sample of which they were counted
+abbrev pub greatest_objects : List Sample → ℕ
+greatest_objects samples = fold (λ most s. max most (unwrap_or s.objects 0)) 0 samples
 
 -- The least power of two with which there are at most MOST_SAMPLES samples of so many heaps.
 pub record IsStride (heaps stride : ℕ) : Type 0 where

@@ -1,5 +1,6 @@
 //! Samples of a heap along a run.
 ghost use Rattle.std.specs.Prelude.{◌≡◌, ◌-◌, ◌*◌, ◌/◌, ◌<◌, ◌^◌, ℕ, length, slice_get};
+ghost use Rattle.timeline.specs.Samples.{greatest_objects};
 
 use drawing::Sample;
 
@@ -25,6 +26,14 @@ fn keep_even(items: &mut Vec<Sample>)
 }
 
 impl Samples {
+    /// The most objects of any sample of which they were counted, and 0 where they were of none.
+    pub fn most_objects(&self) -> u64
+        ensures { result ≡ greatest_objects self.now.items.items }
+    {
+        let counts = self.items.iter().map(|sample| sample.objects.unwrap_or(0));
+        counts.max().unwrap_or(0)
+    }
+
     /// Keeps every second sample, the first one among them, and so doubles the stride.
     pub(crate) fn thin(&mut self)
         requires { self.old.stride * 2 < 2 ^ 64 }

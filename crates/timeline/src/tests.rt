@@ -60,6 +60,7 @@ fn a_cycle_frees_an_object(rt: HostRuntime) -> Result<(), Fail> {
     ];
     assert!(rt; samples.stride == 1);
     assert!(rt; samples.items.as_slice() == all.as_slice());
+    assert!(rt; samples.most_objects() == 2);
     Ok(())
 }
 
@@ -68,6 +69,30 @@ fn nothing_is_played(rt: HostRuntime) -> Result<(), Fail> {
     let samples = taken(&rt, "")?;
     assert!(rt; samples.stride == 1);
     assert!(rt; samples.items.as_slice() == [idle(0, 0)].as_slice());
+    assert!(rt; samples.most_objects() == 0);
+    Ok(())
+}
+
+/// The greatest count is the one in the middle, and samples without a count don't tell of objects.
+#[test]
+fn the_most_objects_are_those_of_one_sample(rt: HostRuntime) -> Result<(), Fail> {
+    let uncounted = Sample {
+        phase: Phase::Idle,
+        pages_in_use: 9,
+        objects: None,
+    };
+    let mut samples = Samples {
+        stride: 1,
+        items: Vec::new(rt.alloc()),
+    };
+    assert!(rt; samples.most_objects() == 0);
+    samples.items.push(uncounted)?;
+    assert!(rt; samples.most_objects() == 0);
+    for objects in [3, 1, 4, 1] {
+        samples.items.push(idle(1, objects))?;
+    }
+    samples.items.push(uncounted)?;
+    assert!(rt; samples.most_objects() == 4);
     Ok(())
 }
 

@@ -1,23 +1,8 @@
 //! Command lines, with the jobs that they ask for and those that are refused.
-use crate::{Job, Picture, Sizing, WordsFault, read_words};
+use super::{asks, is_refused, is_refused_by};
+use crate::{Job, Sizing, WordsFault, read_words};
 use std::alloc::Global;
 use std::test::Fail;
-
-/// Whether the words ask for a job.
-fn asks(alloc: Global, words: &[&str], wanted: &Job<'_>) -> bool {
-    match read_words(alloc, words) {
-        Ok(job) => job == *wanted,
-        Err(_) => false,
-    }
-}
-
-/// Whether the words are refused, with a text.
-fn is_refused(alloc: Global, words: &[&str]) -> bool {
-    match read_words(alloc, words) {
-        Err(WordsFault::Refused(text)) => text.as_str().starts_with("error: "),
-        _ => false,
-    }
-}
 
 /// Whether the words ask for help.
 fn asks_help(alloc: Global, words: &[&str]) -> bool {
@@ -132,37 +117,6 @@ fn inspect_has_a_number(rt: HostRuntime) {
     assert!(rt; is_refused(alloc, &past));
 }
 
-#[test]
-fn draw_has_a_picture(rt: HostRuntime) {
-    let alloc = rt.alloc();
-    let rows = [
-        ("pages", Picture::Pages),
-        ("utilisation", Picture::Utilisation),
-    ];
-    for (name, picture) in rows {
-        let words = [
-            "metronome",
-            "draw",
-            "a.toml",
-            "-",
-            "--as",
-            name,
-            "--after",
-            "7",
-        ];
-        let wanted = Job::Draw {
-            config: "a.toml",
-            trace: "-",
-            picture,
-            after: Some(7),
-        };
-        assert!(rt; asks(alloc, &words, &wanted), "{name}");
-    }
-    assert!(rt; is_refused(alloc, &["metronome", "draw", "a.toml", "-"]));
-    assert!(rt; is_refused(alloc, &["metronome", "draw", "a.toml", "-", "--as", "page"]));
-    assert!(rt; is_refused(alloc, &["metronome", "draw", "a.toml", "--as", "pages"]));
-}
-
 fn pages<'a>(by: Sizing<'a>) -> Job<'a> {
     Job::Pages {
         config: "a.toml",
@@ -207,7 +161,7 @@ fn mmu_has_windows(rt: HostRuntime) -> Result<(), Fail> {
         "1",
         "1099511627776",
     ];
-    let Ok(job) = read_words(alloc, &words) else {
+    let Ok(request) = read_words(alloc, &words) else {
         panic!(rt; "the words are good");
     };
     let wanted = Job::Mmu {
@@ -215,7 +169,7 @@ fn mmu_has_windows(rt: HostRuntime) -> Result<(), Fail> {
         trace: "-",
         windows: vec![in alloc; 22, 1, 1099511627776]?,
     };
-    assert!(rt; job == wanted);
+    assert!(rt; request.job == wanted && !request.progress);
     for window in ["0", "1099511627777", "x", "18446744073709551616"] {
         let words = ["metronome", "mmu", "a.toml", "-", "22", window];
         assert!(rt; is_refused(alloc, &words), "{window}");
@@ -252,13 +206,7 @@ fn help_is_asked_for(rt: HostRuntime) {
 #[test]
 fn a_number_is_refused_in_the_form_of_the_parser(rt: HostRuntime) {
     let words = ["metronome", "threads", "a", "b", "--turns", "10001"];
-    let Err(fault) = read_words(rt.alloc(), &words) else {
-        panic!(rt; "the number is too large");
-    };
-    let WordsFault::Refused(text) = fault else {
-        panic!(rt; "the words are refused");
-    };
     let wanted = "error: invalid value '10001' for '--turns <N>': 10001 is not in 0..=10000\n\n\
         For more information, try '--help'.\n";
-    assert!(rt; text.as_str() == wanted);
+    assert!(rt; is_refused_by(rt.alloc(), &words, wanted));
 }

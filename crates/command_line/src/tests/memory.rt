@@ -1,5 +1,5 @@
 //! Answers where memory may be refused: the answer that they have with ample memory, or want of memory.
-use crate::{Job, ReadFault, WordsFault, read_config, read_words};
+use crate::{Job, ReadFault, Request, WordsFault, read_config, read_words};
 use size_classes::ConfigFault;
 use std::process::Abort;
 
@@ -7,7 +7,34 @@ use std::process::Abort;
 fn a_job(rt: HostRuntime) {
     let words = ["metronome", "mmu", "a.toml", "-", "22", "15"];
     match read_words(rt.alloc(), &words) {
-        Ok(Job::Mmu { windows, .. }) => assert!(rt; windows.as_slice() == [22, 15].as_slice()),
+        Ok(
+            Request {
+                job: Job::Mmu { windows, .. },
+                ..
+            },
+        ) => assert!(rt; windows.as_slice() == [22, 15].as_slice()),
+        Err(WordsFault::NoMemory) => {}
+        _ => panic!(rt; "another answer"),
+    }
+}
+
+#[test]
+fn a_job_with_its_progress(rt: HostRuntime) {
+    let words = ["metronome", "draw", "a", "b", "--as", "time", "--progress"];
+    let job = Job::DrawTime {
+        config: "a",
+        trace: "b",
+    };
+    match read_words(rt.alloc(), &words) {
+        Ok(request) => assert!(rt; request.job == job && request.progress),
+        Err(fault) => assert!(rt; fault == WordsFault::NoMemory),
+    }
+}
+
+#[test]
+fn another_picture(rt: HostRuntime) {
+    match read_words(rt.alloc(), &["metronome", "draw", "a", "b", "--as", "page"]) {
+        Err(WordsFault::Refused(text)) => assert!(rt; is_whole(text.as_str())),
         Err(WordsFault::NoMemory) => {}
         _ => panic!(rt; "another answer"),
     }

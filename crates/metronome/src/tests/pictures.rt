@@ -1,4 +1,5 @@
 //! Pictures.
+use super::streams::Narrow;
 use super::*;
 
 /// Whether a run ended well, and wrote a picture that has all of these lines.
@@ -50,16 +51,89 @@ fn of_utilisation(rt: HostRuntime) -> Result<(), NoMemory> {
     Ok(())
 }
 
+/// One page of four is a quarter of 300 units, and one object of two, the most, is half of them. Where a cycle is on, the
+/// objects aren't counted.
+#[test]
+fn of_a_run(rt: HostRuntime) -> Result<(), NoMemory> {
+    let words = ["draw", "config", "-", "--as", "time"];
+    let trace = "version 2\n0 new 0 plain 0 0\n# more\n0 new 1 plain 0 0\nbegin\n";
+    let four = [
+        "<title>The heap over a run</title>\n",
+        "<text x='40' y='104' font-size='11'>4</text>\n",
+        "<text x='1090' y='104' font-size='11'>2</text>\n",
+        SAMPLES,
+    ];
+    assert!(rt; draws(&rt, &words, FOUR_PAGES, trace, &four)?);
+    Ok(())
+}
+
+/// What is drawn of a new heap, of one object, of two, and of the cycle that begins.
+const SAMPLES: &str = "<rect x='80' y='400' width='1' height='0' fill='#cfe3f3'/>\n\
+    <rect x='80' y='408' width='1' height='14' fill='#eeeeee'/>\n\
+    <circle cx='80' cy='400' r='3' fill='#0072b2'/>\n\
+    <rect x='81' y='325' width='1' height='75' fill='#cfe3f3'/>\n\
+    <rect x='81' y='408' width='1' height='14' fill='#eeeeee'/>\n\
+    <circle cx='81' cy='250' r='3' fill='#0072b2'/>\n\
+    <rect x='82' y='325' width='1' height='75' fill='#cfe3f3'/>\n\
+    <rect x='82' y='408' width='1' height='14' fill='#eeeeee'/>\n\
+    <circle cx='82' cy='100' r='3' fill='#0072b2'/>\n\
+    <rect x='83' y='325' width='1' height='75' fill='#cfe3f3'/>\n\
+    <rect x='83' y='408' width='1' height='14' fill='#f0e442'/>\n\
+    </svg>\n";
+
+/// The picture of a run is of all of it.
+#[test]
+fn of_a_part_of_a_run(rt: HostRuntime) -> Result<(), NoMemory> {
+    let wanted = Run {
+        words: &["draw", "config", "text", "--as", "time", "--after", "1"],
+        config: FOUR_PAGES,
+        text: "begin\n",
+        output: "",
+        errors: "metronome: error: the argument '--after <N>' cannot be used with '--as time'\n\n\
+            For more information, try '--help'.\n",
+        status: 2,
+    };
+    expect(&rt, &wanted)
+}
+
 /// Where a line is no event nothing is drawn.
 #[test]
 fn of_a_trace_in_fault(rt: HostRuntime) -> Result<(), NoMemory> {
-    let wanted = Run {
-        words: &["draw", "config", "text", "--as", "pages"],
-        config: ONE_PAGE,
-        text: "begin\nbegin now\n",
-        output: "",
-        errors: "metronome: line 2: not an event\n",
-        status: 4,
+    for words in [PAGES, TIME, PLAY] {
+        let wanted = Run {
+            words,
+            config: ONE_PAGE,
+            text: "begin\nbegin now\n",
+            output: "",
+            errors: "metronome: line 2: not an event\n",
+            status: 4,
+        };
+        expect(&rt, &wanted)?;
+    }
+    Ok(())
+}
+
+const PAGES: &[&str] = &["draw", "config", "text", "--as", "pages"];
+
+const TIME: &[&str] = &["draw", "config", "text", "--as", "time"];
+
+const PLAY: &[&str] = &["play", "config", "text"];
+
+/// Where a write fails, what was written before stands.
+#[test]
+fn of_a_run_without_room(rt: HostRuntime) -> Result<(), NoMemory> {
+    let alloc = rt.alloc();
+    let texts = Texts {
+        config: FOUR_PAGES,
+        text: "0 new 0 plain 0 0\n",
     };
-    expect(&rt, &wanted)
+    let words = ["metronome", "draw", "config", "text", "--as", "time"];
+    let mut output = Narrow::new(alloc, 9);
+    let mut errors = Vec::new(alloc);
+    let input = b"".as_slice();
+    let status = run(&rt, alloc, &words, &texts, input, &mut output, &mut errors);
+    assert_eq!(rt; output.bytes(), b"<svg xmln".as_slice());
+    assert_eq!(rt; errors.as_slice(), b"metronome: cannot write\n".as_slice());
+    assert_eq!(rt; status, 5);
+    Ok(())
 }

@@ -1,0 +1,23 @@
+use Rattle.std.proofs.Common.{List, Ok, refl, sym, subst}
+use Rattle.std.specs.Prelude.{Result}
+use Rattle.trace.specs.Streams.{GrowsByPart}
+use Rattle.drawing.specs.declared.sample.Sample.{Sample}
+use Rattle.drawing.specs.declared.over_time.Scale.{Scale}
+use Rattle.drawing.specs.Samples.{time_picture}
+use Rattle.metronome.specs.declared.fault.Ending.{Ending}
+use Rattle.metronome.specs.declared.fault.RunFault.{RunFault}
+use Rattle.metronome.specs.OverTime.{SamplesDrawn}
+use Rattle.metronome.proofs.Finishing.{failed_so}
+use Rattle.metronome.proofs.time_job.time_job.Goals as goal
+
+pub returns-in_err-draw_time : goal.returns-in_err-draw_time
+returns-in_err-draw_time g c =
+    let samples = c.in_ok-samples.samples in
+    let old = g.K.Sink.taken c.args.sink.now in
+    let new = g.K.Sink.taken c.draw_time.new.sink in
+    let Items : List Sample → Type 0 = λ items. GrowsByPart old new (time_picture c.scale-scale.result items) in
+    let Scaled : Scale → Type 0 = λ scale. GrowsByPart old new (time_picture scale samples.items.items) in
+    let Drawn : Result Ending RunFault → Type 0 = λ r. SamplesDrawn c.args.config.now (Ok samples) (record { before = old; after = new }) r in
+    let part = subst Scaled c.scale-scale.ensures (subst Items c.as_slice.ensures.value c.in_err-draw_time.ensures.err) in
+    let failed = failed_so c.from_residual-in_err-draw_time.result _ c.from_residual-in_err-draw_time.ensures.1 in
+    (Ok samples, c.in_ok-samples.ensures.taken, subst Drawn (sym failed) (refl, part))

@@ -1,0 +1,37 @@
+//! Drawing a heap over a run.
+ghost use Rattle.std.specs.Prelude.{◌≡◌};
+ghost use Rattle.trace.specs.Streams.{given_by, taken_by};
+ghost use Rattle.metronome.specs.OverTime.{scale_of, TimeDrawn};
+
+use crate::fault::{Ending, RunFault};
+use drawing::{Scale, draw_time};
+use size_classes::Config;
+use std::alloc::Global;
+use timeline::{Samples, take_samples};
+use trace::{Sink, Source};
+
+/// The scale of a picture of samples.
+fn scale(config: &Config, samples: &Samples) -> Scale
+    ensures { result ≡ scale_of config.now samples.now }
+{
+    Scale {
+        pages: u64::from(config.pages),
+        objects: samples.most_objects(),
+    }
+}
+
+/// Plays a trace on a new heap, and draws the samples of the run. The height of the picture stands for all pages of the
+/// heap, and for the most objects of any sample.
+pub fn time_job<S: Source, K: Sink>(
+    alloc: Global,
+    config: &Config,
+    source: &mut S,
+    sink: &mut K,
+) -> Result<Ending, RunFault>
+    ensures { TimeDrawn config.now (given_by S.given S.ended source.old source.new) (taken_by K.taken sink.old sink.new) result }
+{
+    let samples = take_samples(alloc, config, source)?;
+    let scale = scale(config, &samples);
+    draw_time(&scale, samples.items.as_slice(), sink)?;
+    Ok(Ending::Done)
+}

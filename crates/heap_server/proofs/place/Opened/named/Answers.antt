@@ -1,0 +1,8 @@
+use Rattle.std.proofs.Common.{rules}
+use Rattle.heap_server.proofs.place.Opened.named.Goals as goal
+
+pub invariant_of-result : goal.invariant_of-result
+invariant_of-result c = search rules
+
+pub invariant_of-result-2 : goal.invariant_of-result-2
+invariant_of-result-2 c = search rules

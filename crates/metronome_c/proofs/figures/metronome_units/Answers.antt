@@ -1,0 +1,5 @@
+use Rattle.std.proofs.Common.{rules}
+use Rattle.metronome_c.proofs.figures.metronome_units.Goals as goal
+
+pub returns : goal.returns
+returns c = search rules

@@ -11,14 +11,9 @@ const SETTINGS: Settings = Settings {
     pages: 7,
     mutators: 1,
     slots: 12,
-    statics: 0,
-    identities: 1000,
     defrag_below: 4,
     defrag_pages: 1,
-    collector_ticks: 10,
-    mutator_ticks: 12,
-    rate: 100,
-    live: 1,
+    ..Settings::DEFAULTS
 };
 
 /// What the load below needs: 21 ticks come to 21 + 5 blocks while a cycle is on, and 40 to 40 + 5 between two cycles. A

@@ -4,7 +4,7 @@ use graph_heap::NoMemory;
 use machine::Heap;
 use quanta::Schedule;
 use size_classes::{Config, Settings};
-use std::alloc::Global;
+use std::alloc::AllocError;
 use std::process::Abort;
 use std::test::Fail;
 use trace::{FailAt, Line, MemorySink, Version, WriteFailed, read_line};
@@ -74,6 +74,24 @@ const SQUARES: &str = "<rect x='20' y='110' width='60' height='60' fill='#cfe3f3
     <text x='88' y='124' font-size='11'>1</text>\n\
     </svg>\n";
 
+/// A text of these parts, one after the other.
+fn joined(rt: &impl AllocGlobal, parts: &[&str]) -> Result<String, AllocError> {
+    let mut text = String::new(rt.alloc());
+    for part in parts {
+        text.push_str(part)?;
+    }
+    Ok(text)
+}
+
+/// Draws the map of a heap, which must be of these parts.
+fn expect_map(rt: &(impl Abort + AllocGlobal), heap: &Heap, parts: &[&str]) -> Result<(), Fail> {
+    let mut sink = MemorySink::new(rt.alloc());
+    assert_eq!(rt; draw_pages(heap, &mut sink), Ok(()));
+    let wanted = joined(rt, parts)?;
+    assert_eq!(rt; sink.bytes(), wanted.as_bytes());
+    Ok(())
+}
+
 #[test]
 fn two_objects_on_a_page(rt: HostRuntime) -> Result<(), Fail> {
     let heap = played(
@@ -81,13 +99,9 @@ fn two_objects_on_a_page(rt: HostRuntime) -> Result<(), Fail> {
         &TWO_PAGES,
         &["0 new 0 plain 1 0", "0 new 1 plain 1 0", "begin"],
     )?;
-    let mut sink = MemorySink::new(rt.alloc());
-    assert_eq!(rt; draw_pages(&heap, &mut sink), Ok(()));
     let told = "<text x='20' y='52' font-size='13'>phase roots, units 0, pages 2, free 1</text>\n";
     let old = "<text x='800' y='78' font-size='12'>old copies 0</text>\n";
-    let wanted = format!(in rt.alloc(); "{HEAD}{told}{LEGEND}{old}{SQUARES}")?;
-    assert_eq!(rt; sink.bytes(), wanted.as_bytes());
-    Ok(())
+    expect_map(&rt, &heap, &[HEAD, told, LEGEND, old, SQUARES])
 }
 
 const THREE_PAGES: Settings = Settings {
@@ -145,13 +159,9 @@ const NINE_ARRAYS: [&str; 15] = [
 #[test]
 fn a_block_is_moved(rt: HostRuntime) -> Result<(), Fail> {
     let heap = played(&rt, &THREE_PAGES, &NINE_ARRAYS)?;
-    let mut sink = MemorySink::new(rt.alloc());
-    assert_eq!(rt; draw_pages(&heap, &mut sink), Ok(()));
     let told = "<text x='20' y='52' font-size='13'>phase idle, units 823, pages 3, free 0</text>\n";
     let old = "<text x='800' y='78' font-size='12'>old copies 1</text>\n";
-    let wanted = format!(in rt.alloc(); "{HEAD}{told}{LEGEND}{old}{MOVED}")?;
-    assert_eq!(rt; sink.bytes(), wanted.as_bytes());
-    Ok(())
+    expect_map(&rt, &heap, &[HEAD, told, LEGEND, old, MOVED])
 }
 
 #[test]
@@ -253,7 +263,7 @@ fn the_shares_of_three_quanta(rt: HostRuntime) -> Result<(), Fail> {
     let schedule = three_quanta(&rt, &config)?;
     let mut sink = MemorySink::new(rt.alloc());
     assert_eq!(rt; draw_utilisation(&config, &schedule, &mut sink), Ok(()));
-    let wanted = format!(in rt.alloc(); "{CHART_HEAD}{AXES}{CURVES}")?;
+    let wanted = joined(&rt, &[CHART_HEAD, AXES, CURVES])?;
     assert_eq!(rt; sink.bytes(), wanted.as_bytes());
     Ok(())
 }

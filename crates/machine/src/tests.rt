@@ -135,11 +135,6 @@ fn told(heap: &mut Recorded, command: Command) -> Result<Reply, NoMemory> {
     Ok(heap.call(0, command)?.entry().reply)
 }
 
-/// The reply to a request for an object of so many words.
-fn made(heap: &mut Recorded, dst: u32, words: u32) -> Result<Reply, NoMemory> {
-    told(heap, plain(dst, 0, words))
-}
-
 /// Spends a budget, and compares the units that were spent and whether no cycle is on afterwards.
 fn spend(rt: &impl Abort, heap: &mut Recorded, budget: u32, units: u32, is_over: bool) {
     let Ok(spent) = heap.quantum(budget) else {
@@ -164,19 +159,32 @@ fn cycle_at_once(rt: &impl Abort, heap: &mut Recorded, units: u32) {
 
 #[test]
 fn a_page_fills_up(rt: HostRuntime) -> Result<(), NoMemory> {
-    let mut heap = recorded(&rt, &ONE_PAGE)?;
-    for k in 0..8u32 {
-        assert!(rt; made(&mut heap, k, 252)? == Reply::Made(u64::from(k) + 1));
-    }
-    assert!(rt; made(&mut heap, 8, 252)? == Reply::Refused(Refusal::NoSpace));
+    let full = [
+        plain(0, 0, 252),
+        plain(1, 0, 252),
+        plain(2, 0, 252),
+        plain(3, 0, 252),
+        plain(4, 0, 252),
+        plain(5, 0, 252),
+        plain(6, 0, 252),
+        plain(7, 0, 252),
+    ];
+    let mut heap = heap_with(&rt, &ONE_PAGE, 0, &full, &[])?;
     let shape = Shape::Plain {
         refs: 0,
         words: 252,
     };
-    assert!(rt; told(&mut heap, Command::Describe { a: 7 })? == Reply::Described(8, shape));
-    assert!(rt; told(&mut heap, Command::Describe { a: 8 })? == Reply::Refused(Refusal::NullSlot));
-    assert!(rt; made(&mut heap, 8, 253)? == Reply::Refused(Refusal::TooLarge));
-    assert!(rt; told(&mut heap, get(0, 252))? == Reply::Refused(Refusal::BadIndex));
+    let steps = [
+        (plain(8, 0, 252), Reply::Refused(Refusal::NoSpace)),
+        (Command::Describe { a: 7 }, Reply::Described(8, shape)),
+        (
+            Command::Describe { a: 8 },
+            Reply::Refused(Refusal::NullSlot),
+        ),
+        (plain(8, 0, 253), Reply::Refused(Refusal::TooLarge)),
+        (get(0, 252), Reply::Refused(Refusal::BadIndex)),
+    ];
+    expect(&rt, &mut heap, 0, &steps)?;
     assert!(rt; heap.history().len() == 13);
     Ok(())
 }
@@ -184,22 +192,26 @@ fn a_page_fills_up(rt: HostRuntime) -> Result<(), NoMemory> {
 #[test]
 fn a_page_has_one_class(rt: HostRuntime) -> Result<(), NoMemory> {
     let mut heap = recorded(&rt, &ONE_PAGE)?;
-    assert!(rt; made(&mut heap, 0, 0)? == Reply::Made(1));
-    assert!(rt; made(&mut heap, 0, 1)? == Reply::Refused(Refusal::NoSpace));
-    Ok(())
+    let steps = [
+        (plain(0, 0, 0), Reply::Made(1)),
+        (plain(0, 0, 1), Reply::Refused(Refusal::NoSpace)),
+    ];
+    expect(&rt, &mut heap, 0, &steps)
 }
 
 #[test]
 fn words_are_kept(rt: HostRuntime) -> Result<(), NoMemory> {
     let mut heap = recorded(&rt, &ONE_PAGE)?;
-    assert!(rt; made(&mut heap, 0, 1)? == Reply::Made(1));
-    assert!(rt; told(&mut heap, put(0, 0, 7))? == Reply::Done);
-    assert!(rt; made(&mut heap, 1, 1)? == Reply::Made(2));
-    assert!(rt; told(&mut heap, get(0, 0))? == Reply::Word(7));
-    assert!(rt; told(&mut heap, get(1, 0))? == Reply::Word(0));
-    assert!(rt; told(&mut heap, Command::Clear { dst: 0 })? == Reply::Done);
-    assert!(rt; told(&mut heap, get(0, 0))? == Reply::Refused(Refusal::NullSlot));
-    let unknown = heap.call(1, Command::Clear { dst: 0 })?;
-    assert!(rt; unknown.entry().reply == Reply::Refused(Refusal::BadSlot));
-    Ok(())
+    let steps = [
+        (plain(0, 0, 1), Reply::Made(1)),
+        (put(0, 0, 7), Reply::Done),
+        (plain(1, 0, 1), Reply::Made(2)),
+        (get(0, 0), Reply::Word(7)),
+        (get(1, 0), Reply::Word(0)),
+        (Command::Clear { dst: 0 }, Reply::Done),
+        (get(0, 0), Reply::Refused(Refusal::NullSlot)),
+    ];
+    expect(&rt, &mut heap, 0, &steps)?;
+    let unknown = Reply::Refused(Refusal::BadSlot);
+    expect(&rt, &mut heap, 1, &[(Command::Clear { dst: 0 }, unknown)])
 }

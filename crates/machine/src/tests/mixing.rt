@@ -115,7 +115,7 @@ fn word_command_of(kind: usize, random: &mut Random, a: u32, b: u32) -> Command 
 
 /// What came of a mix: which kinds of commands were done, 14 for each mutator, how many cycles ended, and
 /// how many quanta ended in moving.
-#[derive(Clone, Copy, Debug, PartialEq, Eq)]
+#[derive(Clone, Copy)]
 struct Mixed {
     done: [bool; 28],
     cycles: u32,
@@ -227,8 +227,9 @@ fn expect_mixed(
 ) -> Result<(), NoMemory> {
     let (mixed, seen) = accepted(rt, settings)?;
     assert_eq!(rt; mixed.done, [true; 28]);
-    assert!(rt; mixed.cycles >= cycles, "{mixed:?}");
-    assert!(rt; (mixed.moving > 0) == moves, "{mixed:?}");
+    let (ended, moving) = (mixed.cycles, mixed.moving);
+    assert!(rt; ended >= cycles, "{ended} cycles");
+    assert!(rt; (moving > 0) == moves, "{moving} quanta that moved");
     assert_eq!(rt; seen, ALL_SEEN);
     Ok(())
 }

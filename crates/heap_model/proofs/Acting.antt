@@ -2,7 +2,7 @@
 use Rattle.std.proofs.Common.{◌≡◌, ◌≢◌, ℕ, ◌+◌, ◌-◌, ◌*◌, ◌/◌, ◌<◌, ◌≤◌, Bool, true, false, List, [], ◌∷◌, ◌++◌, length, get_or, set, drop, refl, ap, subst, sym, ◌∙◌, arith, ◌==◌, if◌then◌else◌, length-set}
 use Rattle.std.specs.Prelude.{Option, Some, None, slice_get}
 use Rattle.std.proofs.lemmas.Option.{slice_get_within, same_Some}
-use Rattle.graph_heap.specs.Graph.{Graph, root_cells}
+use Rattle.graph_heap.specs.Graph.{Graph}
 use Rattle.size_classes.specs.Parts.{part_cells, cells_of}
 use Rattle.size_classes.specs.Sizes.{size_of}
 use Rattle.graph_heap.specs.Shape.{ref_cells, word_cells}
@@ -12,7 +12,7 @@ use Rattle.heap_model.specs.declared.phase.Moving.TheVariants as moves
 use Rattle.heap_model.specs.Block.{Node, with_cell, with_colour}
 use Rattle.heap_model.specs.Pages.{ArePages, Page, page_at, with_held}
 use Rattle.heap_model.specs.Store.{Store, Writes, is_held, size_in, node_of, address_of}
-use Rattle.heap_model.specs.Core.{Name, null, PartGraph, Heap, Tracing}
+use Rattle.heap_model.specs.Core.{Name, null, PartGraph, Heap, Kept, Tracing}
 use Rattle.heap_model.specs.Cut.{view}
 use Rattle.heap_model.specs.Collector.{In_idle, In_marking, In_sweep, In_moves, Collector, done_of, Greys, Coherent}
 use Rattle.heap_model.specs.State.{HeapState, seen, width_at, same_colour, collector_by, collector_of, reference_of, is_receiving, is_left, page_of}
@@ -24,6 +24,7 @@ use Rattle.heap_model.proofs.Edits.{shade, set_root, set_cell, free}
 use Rattle.heap_model.proofs.Acts.{root_scanned, cell_scanned}
 use Rattle.heap_model.proofs.Collector.{acts, same_stands, placed_stands}
 use Rattle.heap_model.proofs.Seen.{held_put, field_kept, behind, write_seen, root_seen, cell_seen}
+use Rattle.heap_model.proofs.Agreements.{stepped}
 use Rattle.heap_model.proofs.Written.{whole_write, whole_cell, width_le}
 use Rattle.heap_model.proofs.Held.{set_page_here, page_within, is_page, held_block, block_within, size_some, page_of_place, index_same}
 
@@ -33,16 +34,7 @@ at_phase h p g s e c = subst (λ z. Coherent (collector_by (seen h) h.store.page
 
 -- the heap after an action, with the graph heaps as they were
 pub again : (h after : HeapState) (present snapshot : Graph) → Consistent h present snapshot → after.limits ≡ h.limits → after.live ≡ h.live → length after.roots ≡ length h.roots → IsWhole after.store → Coherent (collector_of after) (view present) (view snapshot) → Consistent after present snapshot
-again h after present snapshot c limits live roots whole parts = record {
-  limits = limits ∙ c.limits;
-  live = live ∙ c.live;
-  row = roots ∙ c.row ∙ ap root_cells (sym limits);
-  present_row = roots ∙ c.present_row;
-  snapshot_row = roots ∙ c.snapshot_row;
-  cells = c.cells;
-  whole = whole;
-  parts = parts;
-}
+again h after present snapshot c limits live roots whole parts = stepped h after present snapshot present snapshot c limits live roots refl refl refl c.snapshot_row c.cells whole parts
 
 -- a main copy is shaded
 colour_after : (h : HeapState) (new : Store) (x : ℕ) → x ≢ 0 → Writes h.store new (x - 1) (with_colour (node_of h.store (x - 1)) h.sense) → (z : ℕ) → (seen h).held z ≡ true
@@ -141,28 +133,31 @@ header_act h present snapshot part cell x front back c e f n =
 pub wide_within : (h : HeapState) (a : ℕ) → IsWhole h.store → is_held h.store a ≡ true → width_at (node_of h.store a) ≤ length (node_of h.store a).cells
 wide_within h a w l = let n = node_of h.store a in let e = w a l in let le = width_le (ref_cells n.shape) (word_cells n.shape) n.part in omega arith
 
+-- the part in scan is the main copy of a part that is kept, and the next cell is one of its cells
+in_scan : (m : Collector) (g s : PartGraph) (c : Coherent m g s) → (Tracing m.heap g s c.at (done_of m) m.heap.roots × Greys m) → m.column < m.heap.width m.scanning
+    → let n = m.heap.name m.scanning in Kept m.heap.roots s g n × ((m.scanning ≡ c.at n) × (m.column < g.width n))
+in_scan m g s c st l =
+    let b = c.base in
+    let x = m.scanning in
+    let n = m.heap.name x in
+    let k = st.0.marked_kept x st.1.scanning_held st.1.scanning_marked in
+    let e : x ≡ c.at n = st.0.marked_main x st.1.scanning_held st.1.scanning_marked in
+    (k, (e, (let v = b.width n k in let u = ap m.heap.width e in omega arith)))
+
 -- what the next cell of the part in scan forwards to is held
 pub scanned_held : (m : Collector) (g s : PartGraph) (c : Coherent m g s) → (Tracing m.heap g s c.at (done_of m) m.heap.roots × Greys m) → m.column < m.heap.width m.scanning → m.heap.held (m.heap.forward (m.heap.cell m.scanning m.column)) ≡ true
 scanned_held m g s c st l =
     let b = c.base in
-    let x = m.scanning in
-    let n = m.heap.name x in
-    let k = st.0.marked_kept x st.1.scanning_held st.1.scanning_marked in
-    let e : x ≡ c.at n = st.0.marked_main x st.1.scanning_held st.1.scanning_marked in
-    let i : m.column < g.width n = (let v = b.width n k in let u = ap m.heap.width e in omega arith) in
-    let same : m.heap.cell x m.column ≡ m.heap.cell (c.at n) m.column = ap (λ z. m.heap.cell z m.column) e in
-    ap m.heap.held (ap m.heap.forward same ∙ b.cell n m.column k i) ∙ b.held (g.target n m.column) (b.grows.kept_target n m.column k i)
+    let n = m.heap.name m.scanning in
+    let q = in_scan m g s c st l in
+    let same : m.heap.cell m.scanning m.column ≡ m.heap.cell (c.at n) m.column = ap (λ z. m.heap.cell z m.column) q.1.0 in
+    ap m.heap.held (ap m.heap.forward same ∙ b.cell n m.column q.0 q.1.1) ∙ b.held (g.target n m.column) (b.grows.kept_target n m.column q.0 q.1.1)
 
 -- and so is what it holds
 pub scanned_cell_held : (m : Collector) (g s : PartGraph) (c : Coherent m g s) → (Tracing m.heap g s c.at (done_of m) m.heap.roots × Greys m) → m.column < m.heap.width m.scanning → m.heap.held (m.heap.cell m.scanning m.column) ≡ true
 scanned_cell_held m g s c st l =
-    let b = c.base in
-    let x = m.scanning in
-    let n = m.heap.name x in
-    let k = st.0.marked_kept x st.1.scanning_held st.1.scanning_marked in
-    let e : x ≡ c.at n = st.0.marked_main x st.1.scanning_held st.1.scanning_marked in
-    let i : m.column < g.width n = (let v = b.width n k in let u = ap m.heap.width e in omega arith) in
-    ap (λ z. m.heap.held (m.heap.cell z m.column)) e ∙ b.cell_held n m.column k i
+    let q = in_scan m g s c st l in
+    ap (λ z. m.heap.held (m.heap.cell z m.column)) q.1.0 ∙ c.base.cell_held (m.heap.name m.scanning) m.column q.0 q.1.1
 
 -- what a write to the part in scan shows
 pub cell_blocks : (h : HeapState) (present snapshot : Graph) (part cell : ℕ) (new : Store) → Consistent h present snapshot → h.phase ≡ phases.Marking part cell → cell < (seen h).width part
@@ -180,7 +175,7 @@ cell_blocks h present snapshot part cell new c e l w =
     let within : cell < width_at (node_of h.store (part - 1)) = subst (λ z. cell < z) wide l in
     let inside : cell < length (node_of h.store (part - 1)).cells = (let q = wide_within h (part - 1) c.whole held in omega arith) in
     let blocks : SameBlocks (set_cell (seen h) part cell x) (seen h1) = subst (λ z. SameBlocks (set_cell (seen h) z cell x) (seen h1)) is (cell_seen h new (part - 1) cell x w inside within) in
-    (blocks, blocks.marked x (scanned_held m (view present) (view snapshot) c0 c0.stage l))
+    (blocks, blocks.says.marked x (scanned_held m (view present) (view snapshot) c0 c0.stage l))
 
 -- a reference cell is scanned
 pub cell_act : (h k : HeapState) (present snapshot : Graph) (part cell : ℕ) (new : Store) → Consistent h present snapshot → h.phase ≡ phases.Marking part cell → cell < (seen h).width part
@@ -261,13 +256,15 @@ all_kept h new held e kept = record {
   roots = refl;
   root = λ j m. refl;
   held = e;
-  forward = λ z m. kept _ 0 (λ y. y.forward + 1) z m;
-  name = λ z m. let f = λ (y : Node). let k : Name = record { identity = y.identity; part = y.part } in k in kept _ null f z m;
-  width = λ z m. kept _ 0 width_at z m;
-  words = λ z m. let f = λ (y : Node). drop (width_at y) y.cells in kept _ [] f z m;
-  shape = λ z m. let f = λ (y : Node). y.shape in kept _ _ f z m;
-  marked = λ z m. kept _ true (λ y. same_colour h.sense y.colour) z m;
-  cell = λ z i m b. kept _ 0 (λ y. get_or y.cells i 0) z m;
+  says = record {
+    forward = λ z m. kept _ 0 (λ y. y.forward + 1) z m;
+    name = λ z m. let f = λ (y : Node). let k : Name = record { identity = y.identity; part = y.part } in k in kept _ null f z m;
+    width = λ z m. kept _ 0 width_at z m;
+    words = λ z m. let f = λ (y : Node). drop (width_at y) y.cells in kept _ [] f z m;
+    shape = λ z m. let f = λ (y : Node). y.shape in kept _ _ f z m;
+    marked = λ z m. kept _ true (λ y. same_colour h.sense y.colour) z m;
+    cell = λ z i m b. kept _ 0 (λ y. get_or y.cells i 0) z m;
+  };
 }
 
 -- a block that isn't marked is freed

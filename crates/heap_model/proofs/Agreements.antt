@@ -1,16 +1,32 @@
 -- The invariant gives agreement.
 use Rattle.std.proofs.Common.{◌≡◌, ◌≢◌, ℕ, ◌<◌, ◌≤◌, Bool, true, false, [], length, refl, ap, subst, sym, ◌∙◌, arith, inl, inr, ◌==◌}
-use Rattle.graph_heap.specs.Graph.{Graph, no_object, object_of}
+use Rattle.graph_heap.specs.Graph.{Graph, no_object, object_of, root_cells}
 use Rattle.graph_heap.specs.Reach.{Reaches}
 use Rattle.heap_model.specs.Core.{Name, null, Reach, Kept}
 use Rattle.heap_model.specs.Agree.{Shows}
 use Rattle.heap_model.specs.Cut.{count_of, width_in, width_of, words_of, name_of, view}
-use Rattle.heap_model.specs.State.{HeapState, seen}
-use Rattle.heap_model.specs.Agreement.{Agrees, Consistent}
+use Rattle.heap_model.specs.Collector.{Coherent}
+use Rattle.heap_model.specs.State.{HeapState, seen, collector_of}
+use Rattle.heap_model.specs.Agreement.{HasItsCells, IsWhole, Agrees, Consistent}
 use Rattle.heap_model.specs.Written.{IsKnown}
 use Rattle.heap_model.proofs.Kept.{kept_null, reach_kept}
 use Rattle.heap_model.proofs.Agreed.{AgreesByParts, agreed}
 use Rattle.heap_model.proofs.Cut.{reaches_reach, reach_reaches, count_some, reach_zero}
+
+-- the invariant after a step, of which it is told what becomes of the heap and of the graph heaps
+pub stepped : (h after : HeapState) (present snapshot present' snapshot' : Graph) → Consistent h present snapshot → after.limits ≡ h.limits → after.live ≡ h.live → length after.roots ≡ length h.roots
+    → present'.limits ≡ present.limits → present'.live ≡ present.live → length present'.roots ≡ length present.roots → length h.roots ≡ length snapshot'.roots
+    → ((id : ℕ) → HasItsCells (object_of present'.objects id)) → IsWhole after.store → Coherent (collector_of after) (view present') (view snapshot') → Consistent after present' snapshot'
+stepped h after present snapshot present' snapshot' c limits live roots limits' live' roots' row cells whole parts = record {
+  limits = limits ∙ c.limits ∙ sym limits';
+  live = live ∙ c.live ∙ sym live';
+  row = roots ∙ c.row ∙ ap root_cells (sym limits);
+  present_row = roots ∙ c.present_row ∙ sym roots';
+  snapshot_row = roots ∙ row;
+  cells = cells;
+  whole = whole;
+  parts = parts;
+}
 
 -- what the graph heap reaches is kept, in parts
 pub part_kept : (h : HeapState) (present snapshot : Graph) (c : Consistent h present snapshot) (id part : ℕ) → Reaches present id → part < count_of (object_of present.objects id) → Kept (length h.roots) (view snapshot) (view present) (record { identity = id; part = part })

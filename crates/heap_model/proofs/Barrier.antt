@@ -116,7 +116,7 @@ puts_cell m g s x n i y v c kn ix l r kv iy =
 -- the parts of a new object are made
 pub made_done : (m : Collector) (h' : Heap) (ps : Parts) (a : ℕ → ℕ) (x : ℕ) → Makes m.heap ps a h' → m.heap.held x ≡ true → done_of (record m { heap = h' }) x ≡ done_of m x
 unfolding done_by
-made_done m h' ps a x w l = let e = w.stays.marked x l in let f = w.stays.width x l in grind arith
+made_done m h' ps a x w l = let e = w.stays.says.marked x l in let f = w.stays.says.width x l in grind arith
 
 made_greys : (m : Collector) (h' : Heap) (ps : Parts) (a : ℕ → ℕ) → Makes m.heap ps a h' → Greys m → Greys (record m { heap = h' })
 made_greys m h' ps a w q = record {

@@ -10,7 +10,7 @@ use Rattle.graph_heap.specs.Shape.{ref_cells}
 use Rattle.graph_heap.specs.Graph.{Object, Graph, no_object, object_of, put_object, with_ref, with_word, new_object, changed}
 use Rattle.size_classes.specs.Parts.{Run, pieces_of, spines_of, parts_in, run_of, first_by, count_by, part_in, column_in}
 use Rattle.size_classes.proofs.Cutting.{Pieces, Spines, pieces_are, spines_are, holds, cell_stands}
-use Rattle.heap_model.specs.Core.{Name, null, PartGraph}
+use Rattle.heap_model.specs.Core.{Name, PartGraph}
 use Rattle.heap_model.specs.Cut.{count_of, width_by, width_in, width_of, name_of, target_by, target_of, words_of, view}
 use Rattle.heap_model.proofs.Parts.{AreParts, link_by, link_name, made, parts_of}
 use Rattle.heap_model.proofs.Edits.{write_root, write_target, write_word}

@@ -224,7 +224,7 @@ begins m g s c =
 -- what doesn't show doesn't count
 pub same_done : (m : Collector) (h' : Heap) (x : ℕ) → SameBlocks m.heap h' → m.heap.held x ≡ true → done_of (record m { heap = h' }) x ≡ done_of m x
 unfolding done_by
-same_done m h' x e l = let p = e.marked x l in let q = e.width x l in grind arith
+same_done m h' x e l = let p = e.says.marked x l in let q = e.says.width x l in grind arith
 
 same_greys : (m : Collector) (h' : Heap) → SameBlocks m.heap h' → Greys m → Greys (record m { heap = h' })
 same_greys m h' e w = record { held = grind arith; marked = grind arith; scanning_held = grind arith; scanning_marked = grind arith; scanning_apart = w.scanning_apart; column = grind arith; once = w.once }

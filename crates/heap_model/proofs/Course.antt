@@ -77,6 +77,11 @@ module _ (r new : Course) (m : ℕ) (c : Command) (reply : Reply) (w : IsCourse 
   unfolding next_of
   enters_present = ap (λ z. after (opening z) new.history) enters_limits ∙ ap (after (opening r.heap.limits)) e.history ∙ after-push (opening r.heap.limits) r.history entry ∙ enters_step.1
 
+  -- what is the graph heap at present becomes the next
+  pub enters_graph : (z : Graph) → z ≡ present_of r → after_entry z entry ≡ present_of new
+  unfolding next_of
+  enters_graph z s = ap (λ y. after_entry y entry) s ∙ enters_step.1 ∙ sym enters_present
+
   enters_first : take new.place new.history ≡ take r.place r.history
   enters_first = ap (λ z. take z new.history) e.place ∙ ap (take r.place) e.history ∙ take-append-le r.place r.history (entry ∷ []) w.place
 

@@ -3,7 +3,7 @@ use Rattle.std.proofs.Common.{ap, ◌≡◌, ◌≢◌, ℕ, zero, suc, ◌+◌,
 use Rattle.std.specs.Prelude.{map, Option}
 use Rattle.std.specs.List.{AllByRecursion, IsDistinct, list_any}
 use Rattle.std.proofs.Math.Dec.{eqb}
-use Rattle.std.proofs.lemmas.Bool.{ne_eqb, eqb-true}
+use Rattle.std.proofs.lemmas.Bool.{ne_eqb}
 use Rattle.std.proofs.lemmas.List.{length-map}
 use Rattle.std.proofs.lemmas.Map.Steps.{length-le_from_distinct_below}
 use Rattle.graph_heap.specs.Graph.{Graph}
@@ -15,7 +15,6 @@ use Rattle.heap_model.specs.Core.{Heap}
 use Rattle.heap_model.specs.Collector.{contains, Once, Greys, Stage}
 use Rattle.heap_model.specs.Grey.{AreGrey}
 use Rattle.heap_model.specs.State.{HeapState, seen, collector_of, collector_by, progress_of}
-use Rattle.heap_model.specs.Store.{is_held}
 use Rattle.heap_model.specs.Cut.{view}
 use Rattle.heap_model.specs.Pages.{ArePages}
 use Rattle.heap_model.specs.Agreement.{IsWhole}

@@ -35,7 +35,7 @@ first_same h ps a k h1 h2 m e = record {
   stays = let s = m.stays in grind arith;
   parts = let o = m.parts in grind arith;
   apart = m.apart;
-  cell = λ p i b d. let u = m.parts.held p b in let w = m.parts.width p b in e.cell (a p) i u (omega arith) ∙ m.cell p i b d;
+  cell = λ p i b d. let u = m.parts.held p b in let w = m.parts.width p b in e.says.cell (a p) i u (omega arith) ∙ m.cell p i b d;
   part = m.part;
   others = λ x b. m.others x (sym (e.held x) ∙ b);
 }
@@ -117,13 +117,15 @@ add_seen h s t a p shape f l w =
       roots = refl;
       root = λ j m. refl;
       held = held_put s t a true w.held w.same;
-      forward = λ x m. add_field 0 (a + 1) (λ z. z.forward + 1) s t a n w refl x m;
-      name = λ x m. let g = λ (z : Node). let y : Name = record { identity = z.identity; part = z.part } in y in add_field null (record { identity = h.next; part = p }) g s t a n w refl x m;
-      width = λ x m. add_field 0 (width_of (new_object shape) p) width_at s t a n w (part_width_new shape p) x m;
-      words = λ x m. let g = λ (z : Node). drop (width_at z) z.cells in add_field [] (words_of (new_object shape) p) g s t a n w (part_words_new shape p f l) x m;
-      shape = λ x m. add_field (Plain 0 0) shape (λ z. z.shape) s t a n w refl x m;
-      marked = λ x m. add_field true true (λ z. same_colour h.sense z.colour) s t a n w (colour_same h.sense) x m;
-      cell = λ x i m b. add_field 0 0 (λ z. get_or z.cells i 0) s t a n w (no_refs (part_cells (cells_of shape) p) i) x m;
+      says = record {
+        forward = λ x m. add_field 0 (a + 1) (λ z. z.forward + 1) s t a n w refl x m;
+        name = λ x m. let g = λ (z : Node). let y : Name = record { identity = z.identity; part = z.part } in y in add_field null (record { identity = h.next; part = p }) g s t a n w refl x m;
+        width = λ x m. add_field 0 (width_of (new_object shape) p) width_at s t a n w (part_width_new shape p) x m;
+        words = λ x m. let g = λ (z : Node). drop (width_at z) z.cells in add_field [] (words_of (new_object shape) p) g s t a n w (part_words_new shape p f l) x m;
+        shape = λ x m. add_field (Plain 0 0) shape (λ z. z.shape) s t a n w refl x m;
+        marked = λ x m. add_field true true (λ z. same_colour h.sense z.colour) s t a n w (colour_same h.sense) x m;
+        cell = λ x i m b. add_field 0 0 (λ z. get_or z.cells i 0) s t a n w (no_refs (part_cells (cells_of shape) p) i) x m;
+      };
     }
 
 -- the blocks stay whole
@@ -194,20 +196,11 @@ parts_linked shape =
       back = λ p i l m n. linked_back (length o.refs + length o.words) p i n;
     })
 
+other_cells : (h1 h2 : Heap) (c1 c2 : ℕ → ℕ → ℕ) → SameBlocks h1 h2 → ((z k : ℕ) → h1.held z ≡ true → k < h1.width z → c2 z k ≡ c1 z k) → SameBlocks (record h1 { cell = c1 }) (record h2 { cell = c2 })
+other_cells h1 h2 c1 c2 e same = grind arith
+
 same_set : (h1 h2 : Heap) (x i y : ℕ) → SameBlocks h1 h2 → SameBlocks (set_cell h1 x i y) (set_cell h2 x i y)
-same_set h1 h2 x i y e = record {
-  next = e.next;
-  roots = e.roots;
-  root = e.root;
-  held = e.held;
-  forward = e.forward;
-  name = e.name;
-  width = e.width;
-  words = e.words;
-  shape = e.shape;
-  marked = e.marked;
-  cell = λ z k b d. ap (λ v. if (z == x) && (k == i) then y else v) (e.cell z k b d);
-}
+same_set h1 h2 x i y e = other_cells h1 h2 _ _ e (λ z k b d. ap (λ v. if (z == x) && (k == i) then y else v) (e.says.cell z k b d))
 
 pub making_first : (h : HeapState) (shape : Shape) (at : ℕ → ℕ) (k : ℕ) (new : Store) → fits shape ≡ true → IsWhole h.store → k ≤ parts_in (cells_of shape)
     → Making h.store shape h.sense h.next at k new → MakesFirst (seen h) (parts_of shape) (reference at) k (seen (record h { store = new }))

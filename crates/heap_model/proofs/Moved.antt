@@ -171,13 +171,15 @@ move_seen h new a b w = record {
   roots = refl;
   root = λ j m. refl;
   held = held_put h.store new b true w.held w.same;
-  forward = λ z m. move_forward_field h.store new a b w z m;
-  name = λ z m. let f = λ (y : Node). let k : Name = record { identity = y.identity; part = y.part } in k in move_field null f h.store new a b w (λ n v. refl) z m;
-  width = λ z m. move_field 0 width_at h.store new a b w (λ n v. refl) z m;
-  words = λ z m. let f = λ (y : Node). drop (width_at y) y.cells in move_field [] f h.store new a b w (λ n v. refl) z m;
-  shape = λ z m. let f = λ (y : Node). y.shape in move_field _ f h.store new a b w (λ n v. refl) z m;
-  marked = λ z m. move_field true (λ y. same_colour h.sense y.colour) h.store new a b w (λ n v. refl) z m;
-  cell = λ z i m k. move_field 0 (λ y. get_or y.cells i 0) h.store new a b w (λ n v. refl) z m;
+  says = record {
+    forward = λ z m. move_forward_field h.store new a b w z m;
+    name = λ z m. let f = λ (y : Node). let k : Name = record { identity = y.identity; part = y.part } in k in move_field null f h.store new a b w (λ n v. refl) z m;
+    width = λ z m. move_field 0 width_at h.store new a b w (λ n v. refl) z m;
+    words = λ z m. let f = λ (y : Node). drop (width_at y) y.cells in move_field [] f h.store new a b w (λ n v. refl) z m;
+    shape = λ z m. let f = λ (y : Node). y.shape in move_field _ f h.store new a b w (λ n v. refl) z m;
+    marked = λ z m. move_field true (λ y. same_colour h.sense y.colour) h.store new a b w (λ n v. refl) z m;
+    cell = λ z i m k. move_field 0 (λ y. get_or y.cells i 0) h.store new a b w (λ n v. refl) z m;
+  };
 }
 
 move_whole : (old new : Store) (a b : ℕ) → MovesBlock old new a b → is_held old a ≡ true → IsWhole old → IsWhole new

@@ -59,7 +59,7 @@ same_names : (h : Heap) → KeepsNames h h
 same_names h x l = (l, refl)
 
 kept_names : (h k : Heap) → SameBlocks h k → KeepsNames h k
-kept_names h k e x l = (e.held x ∙ l, e.name x l)
+kept_names h k e x l = (e.held x ∙ l, e.says.name x l)
 
 -- a block copied to a free one
 moved_names : (h k : Heap) (x y : ℕ) → h.held y ≡ false → SameBlocks (move h x y) k → KeepsNames h k
@@ -67,7 +67,7 @@ moved_names h k x y free e z l =
     let apart : (z == y) ≡ false = (let ne : z ≢ y = λ q. let t : true ≡ false = sym l ∙ ap h.held q ∙ free in cc in grind arith) in
     let held : (move h x y).held z ≡ true = rw apart l in
     let name : (move h x y).name z ≡ h.name z = rw apart refl in
-    (e.held z ∙ held, e.name z held ∙ name)
+    (e.held z ∙ held, e.says.name z held ∙ name)
 
 moves_on : (h after : HeapState) (cost : ℕ) (place : Place) → h.phase ≡ phases.Moving place → Action h cost after → Rests after.phase × KeepsNames (seen h) (seen after)
 moves_on h after cost place e (Scans_root next k f l sh) = absurd (let z : phases.Roots next ≡ phases.Moving place = sym f ∙ e in cc)

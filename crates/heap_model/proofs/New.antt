@@ -83,5 +83,5 @@ new_written h present snapshot new at j shape c f l rec making place =
     let x = get_or h.roots j 0 in
     let held : (seen h).held x ≡ true = b.root_held j l in
     let held_main : (seen h).held ((seen h).forward x) ≡ true = ap (seen h).held (b.root j l) ∙ b.held _ (b.grows.kept_root j l) in
-    let rec1 : IsRecorded h1 x = λ t. ap (seen h1).marked (mk.stays.forward x held) ∙ mk.stays.marked ((seen h).forward x) held_main ∙ rec t in
+    let rec1 : IsRecorded h1 x = λ t. ap (seen h1).marked (mk.stays.says.forward x held) ∙ mk.stays.says.marked ((seen h).forward x) held_main ∙ rec t in
     root_kept h1 (appended present shape) snapshot j (at 0 + 1) h.next k1 l rec1 kept main

@@ -1,5 +1,5 @@
 -- Blocks are threaded anew: the heap goes on to stand.
-use Rattle.std.proofs.Common.{◌≡◌, ℕ, ◌<◌, length, List, Option, refl, ap, subst, sym}
+use Rattle.std.proofs.Common.{◌≡◌, ◌<◌, length, List, Option, refl, ap, subst, sym}
 use Rattle.graph_heap.specs.Graph.{Graph}
 use Rattle.heap_model.specs.Action.{Relinks}
 use Rattle.heap_model.specs.Collector.{Coherent}

@@ -1,5 +1,6 @@
 use Rattle.std.proofs.Common.{◌≡◌, ℕ, ◌<◌, ◌≤◌, Bool, true, arith}
 use Rattle.heap_model.specs.Core.{Name, PartGraph, Heap, Reach, Grows, Base, Tracing, Sweeping, Resting, Moving, Left}
+use Rattle.heap_model.proofs.Stays.{SaysSame}
 use Rattle.heap_model.proofs.Kept.{kept_reach, kept_fresh}
 use Rattle.heap_model.proofs.Made.{old_target_kept, old_root_kept}
 
@@ -10,13 +11,7 @@ pub record SameBlocks (h h' : Heap) : Type 0 where
   pub roots : h'.roots ≡ h.roots
   pub root : (j : ℕ) → j < h.roots → h'.root j ≡ h.root j
   pub held : (x : ℕ) → h'.held x ≡ h.held x
-  pub forward : (x : ℕ) → h.held x ≡ true → h'.forward x ≡ h.forward x
-  pub name : (x : ℕ) → h.held x ≡ true → h'.name x ≡ h.name x
-  pub width : (x : ℕ) → h.held x ≡ true → h'.width x ≡ h.width x
-  pub words : (x : ℕ) → h.held x ≡ true → h'.words x ≡ h.words x
-  pub shape : (x : ℕ) → h.held x ≡ true → h'.shape x ≡ h.shape x
-  pub marked : (x : ℕ) → h.held x ≡ true → h'.marked x ≡ h.marked x
-  pub cell : (x i : ℕ) → h.held x ≡ true → i < h.width x → h'.cell x i ≡ h.cell x i
+  pub says : SaysSame h h'
 
 pub same_base : (h h' : Heap) (g s : PartGraph) (at : Name → ℕ) → SameBlocks h h' → Base h g s at → Base h' g s at
 same_base h h' g s at e b = let grows : Grows h'.roots s g = rw e.roots b.grows in grind arith

@@ -75,13 +75,15 @@ write_seen h new a colour cells words marked cell w same_words same_marks same_c
       roots = refl;
       root = λ j m. refl;
       held = λ x. ap (λ b. if x == 0 then true else b) (held_pages h.store new (x - 1) w.pages);
-      forward = λ x m. field_kept 0 (λ z. z.forward + 1) h.store new a n w x m (λ e. refl);
-      name = λ x m. let f = λ (z : Node). let y : Name = record { identity = z.identity; part = z.part } in y in field_kept null f h.store new a n w x m (λ e. refl);
-      width = λ x m. field_kept 0 width_at h.store new a n w x m (λ e. refl);
-      words = same_words;
-      shape = λ x m. let f = λ (z : Node). z.shape in field_kept _ f h.store new a n w x m (λ e. refl);
-      marked = same_marks;
-      cell = same_cells;
+      says = record {
+        forward = λ x m. field_kept 0 (λ z. z.forward + 1) h.store new a n w x m (λ e. refl);
+        name = λ x m. let f = λ (z : Node). let y : Name = record { identity = z.identity; part = z.part } in y in field_kept null f h.store new a n w x m (λ e. refl);
+        width = λ x m. field_kept 0 width_at h.store new a n w x m (λ e. refl);
+        words = same_words;
+        shape = λ x m. let f = λ (z : Node). z.shape in field_kept _ f h.store new a n w x m (λ e. refl);
+        marked = same_marks;
+        cell = same_cells;
+      };
     }
 
 -- a cell is written

@@ -17,7 +17,7 @@ use Rattle.heap_model.specs.Store.{Store, Writes, is_held, size_in, size_at, nod
 use Rattle.heap_model.specs.Core.{Heap}
 use Rattle.heap_model.specs.Cut.{view}
 use Rattle.heap_model.specs.Collector.{In_marking, In_moves, Collector, contains, Once}
-use Rattle.heap_model.specs.State.{HeapState, seen, width_at, collector_by, collector_of, progress_of, reference_of, is_left}
+use Rattle.heap_model.specs.State.{HeapState, seen, collector_by, collector_of, progress_of, reference_of, is_left}
 use Rattle.heap_model.specs.Agreement.{Consistent}
 use Rattle.heap_model.specs.Action.{Action, Scans_root, Ends_roots, Scans_header, Scans_cell, Ends_marking, Frees_block, Passes_block, Closes_page, Ends_sweep, Looks_at_page, Chooses_page, Chooses_none, Moves_block, Ends_moving, IsNext, closed, begun, Shades, Was_marked, Is_marked, KeepsBlocks, MovesBlock, goes_to, after_sweep, is_sparse, AtPass, In_pass, After_page, MovingDone, No_class, No_page}
 use Rattle.heap_model.specs.Units.{total, work, gone}
@@ -26,7 +26,7 @@ use Rattle.heap_model.proofs.Same.{SameBlocks}
 use Rattle.heap_model.proofs.Edits.{shade, set_cell, move}
 use Rattle.heap_model.proofs.Acts.{cell_scanned}
 use Rattle.heap_model.proofs.Collector.{same_done, stage_at, left_main, contains-middle, once_middle, placed_contains, placed_done}
-use Rattle.heap_model.proofs.Seen.{behind, cell_seen}
+use Rattle.heap_model.proofs.Seen.{behind}
 use Rattle.heap_model.proofs.Held.{set_page, page_within, block_within, is_page, held_at, size_some, page_of_place}
 use Rattle.heap_model.proofs.Acting.{at_phase, cell_blocks, same_shade, shaded_already, colour_seen, keeps_seen}
 use Rattle.heap_model.proofs.Moved.{move_seen, same_number, at_number, not_below, below_end}
@@ -39,7 +39,7 @@ unfolding work
 same_work m h' y e =
     let held = e.held y in
     elim (cases_Bool (m.heap.held y)) [
-      | inl l ↦ (let d = same_done m h' y e l in let q = e.marked y l in grind arith)
+      | inl l ↦ (let d = same_done m h' y e l in let q = e.says.marked y l in grind arith)
       | inr l ↦ grind arith
     ]
 
@@ -222,7 +222,7 @@ unfolding gone
 gone_same h k f g x e s =
     let held = e.held x in
     elim (cases_Bool (h.held x)) [
-      | inl l ↦ (let d = e.forward x l in let q = s l in grind arith)
+      | inl l ↦ (let d = e.says.forward x l in let q = s l in grind arith)
       | inr l ↦ grind arith
     ]
 

@@ -55,10 +55,11 @@ first_none h ps a = record {
   others = λ x l. inl l;
 }
 
--- part 0
-pub first_root : (h : Heap) (ps : Parts) (a : ℕ → ℕ) (holder seat : ℕ → ℕ) (k : ℕ) (h' : Heap) (y : ℕ) → AreLinked ps holder seat → k ≡ 0 → k < ps.count → MakesFirst h ps a k h' → h'.held y ≡ false → a k ≡ y
-    → MakesFirst h ps a (k + 1) (block_made h' y (record { identity = h.next; part = k }) ps.shape (ps.width k) (ps.words k))
-first_root h ps a holder seat k h' y w none few m free e = record {
+-- one part more, where the cells are told
+first_next : (h : Heap) (ps : Parts) (a : ℕ → ℕ) (k : ℕ) (h' : Heap) (y : ℕ) (cell : ℕ → ℕ → ℕ) → MakesFirst h ps a k h' → h'.held y ≡ false → a k ≡ y
+    → ((x i : ℕ) → h.held x ≡ true → cell x i ≡ h'.cell x i) → ((p i : ℕ) → p < k + 1 → i < ps.width p → cell (a p) i ≡ linked_to a (k + 1) (ps.link p i))
+    → MakesFirst h ps a (k + 1) (record (block_made h' y (record { identity = h.next; part = k }) ps.shape (ps.width k) (ps.words k)) { cell = cell })
+first_next h ps a k h' y cell m free e kept told = record {
   next = m.next;
   roots = m.roots;
   root = m.root;
@@ -66,10 +67,16 @@ first_root h ps a holder seat k h' y w none few m free e = record {
   stays = let s = m.stays in grind arith;
   parts = let s = m.stays in let o = m.parts in grind arith;
   apart = grind arith;
-  cell = λ p i l b. let q = w.back p i in grind arith;
+  cell = told;
   part = λ x. if x == y then k else m.part x;
   others = λ x l. let o = m.others x in grind arith;
 }
+
+-- part 0
+pub first_root : (h : Heap) (ps : Parts) (a : ℕ → ℕ) (holder seat : ℕ → ℕ) (k : ℕ) (h' : Heap) (y : ℕ) → AreLinked ps holder seat → k ≡ 0 → k < ps.count → MakesFirst h ps a k h' → h'.held y ≡ false → a k ≡ y
+    → MakesFirst h ps a (k + 1) (block_made h' y (record { identity = h.next; part = k }) ps.shape (ps.width k) (ps.words k))
+first_root h ps a holder seat k h' y w none few m free e =
+    first_next h ps a k h' y (λ x i. if x == y then 0 else h'.cell x i) m free e (λ x i l. let s = m.stays in grind arith) (λ p i l b. let q = w.back p i in grind arith)
 
 last_or : (p k : ℕ) → p < k + 1 → (p ≡ k) ⊎ (p < k)
 last_or p k l = grind arith
@@ -109,25 +116,16 @@ first_more h ps a holder seat k h' y w some few m free e =
     let t = w.there k some few in
     let stands = m.parts.held (holder k) t.0 in
     let was_free = m.free (holder k) t.0 in
-    record {
-      next = m.next;
-      roots = m.roots;
-      root = m.root;
-      free = grind arith;
-      stays = let s = m.stays in grind arith;
-      parts = let s = m.stays in let o = m.parts in grind arith;
-      apart = grind arith;
-      cell = λ p i l b. elim (last_or p k l) [
-        | inl z ↦ cell_last a k (a p) (a (holder k)) y i (seat k) (h'.cell (a p) i) (ps.link p i) (ap a z ∙ e) (λ x. unheld (h'.held y) (subst (λ r. h'.held r ≡ true) x stands) free)
-            (λ n. subst (λ r. r < ps.link p i) z (w.back p i (subst (λ r. r < ps.count) (sym z) few) b n).2)
-        | inr z ↦ cell_first a k (a p) (a (holder k)) y i (seat k) (h'.cell (a p) i) (ps.link p i) some e (λ x. unheld (h'.held y) (subst (λ r. h'.held r ≡ true) x (m.parts.held p z)) free)
-            (m.cell p i z b)
-            (λ x f. ap2 ps.link (m.apart p (holder k) z t.0 x) f ∙ t.2)
-            (λ x. let n : 0 < ps.link p i = subst (λ r. 0 < r) (sym x) some in let r = w.back p i (lt_trans p k ps.count z few) b n in (ap a (sym r.0 ∙ ap holder x), sym r.1 ∙ ap seat x))
-      ];
-      part = λ x. if x == y then k else m.part x;
-      others = λ x l. let o = m.others x in grind arith;
-    }
+    first_next h ps a k h' y (λ z i. if (z == a (holder k)) && (i == seat k) then y else (if z == y then 0 else h'.cell z i)) m free e
+    (λ x i l. let s = m.stays in grind arith)
+    (λ p i l b. elim (last_or p k l) [
+      | inl z ↦ cell_last a k (a p) (a (holder k)) y i (seat k) (h'.cell (a p) i) (ps.link p i) (ap a z ∙ e) (λ x. unheld (h'.held y) (subst (λ r. h'.held r ≡ true) x stands) free)
+          (λ n. subst (λ r. r < ps.link p i) z (w.back p i (subst (λ r. r < ps.count) (sym z) few) b n).2)
+      | inr z ↦ cell_first a k (a p) (a (holder k)) y i (seat k) (h'.cell (a p) i) (ps.link p i) some e (λ x. unheld (h'.held y) (subst (λ r. h'.held r ≡ true) x (m.parts.held p z)) free)
+          (m.cell p i z b)
+          (λ x f. ap2 ps.link (m.apart p (holder k) z t.0 x) f ∙ t.2)
+          (λ x. let n : 0 < ps.link p i = subst (λ r. 0 < r) (sym x) some in let r = w.back p i (lt_trans p k ps.count z few) b n in (ap a (sym r.0 ∙ ap holder x), sym r.1 ∙ ap seat x))
+    ])
 
 -- all parts, and all links
 pub first_all : (h : Heap) (ps : Parts) (a : ℕ → ℕ) (h' : Heap) → AreParts ps → MakesFirst h ps a ps.count h' → Makes h ps a (record h' { next = h.next + 1 })

@@ -109,7 +109,7 @@ header_units m words front back x w f e n some i = total_more (work m) (work (re
 pub made_work : (m : Collector) (h' : Heap) (ps : Parts) (a : ℕ → ℕ) (y : ℕ) → Makes m.heap ps a h' → work m y ≤ work (record m { heap = h' }) y
 unfolding work
 made_work m h' ps a y w = elim (cases_Bool (m.heap.held y)) [
-  | inl e ↦ (let d = made_done m h' ps a y w e in let k = w.stays.held y e in let f = w.stays.marked y e in grind arith)
+  | inl e ↦ (let d = made_done m h' ps a y w e in let k = w.stays.held y e in let f = w.stays.says.marked y e in grind arith)
   | inr e ↦ grind arith
 ]
 

@@ -1,5 +1,5 @@
 -- What mutators do takes no work away.
-use Rattle.std.proofs.Common.{Bool, List, ◌≡◌, ◌≢◌, ℕ, ◌+◌, ◌-◌, ◌*◌, ◌/◌, ◌<◌, ◌≤◌, inl, inr, true, length, set, refl, ap, subst, sym, ◌∙◌, arith, length-set}
+use Rattle.std.proofs.Common.{Bool, List, ◌≡◌, ◌≢◌, ℕ, ◌+◌, ◌-◌, ◌*◌, ◌/◌, ◌<◌, ◌≤◌, inl, inr, true, false, length, set, refl, ap, subst, sym, ◌∙◌, arith, length-set}
 use Rattle.std.proofs.lemmas.Bool.{cases_Bool, cases_eq}
 use Rattle.graph_heap.specs.declared.command.Shape.{Shape}
 use Rattle.graph_heap.specs.Shape.{fits}
@@ -10,6 +10,7 @@ use Rattle.heap_model.specs.Block.{with_cell}
 use Rattle.heap_model.specs.Pages.{page_at}
 use Rattle.heap_model.specs.Store.{Store, Writes, is_held, size_at, size_in, node_of}
 use Rattle.heap_model.specs.Core.{Heap}
+use Rattle.heap_model.specs.Collector.{contains}
 use Rattle.heap_model.specs.State.{HeapState, seen, width_at, collector_by, collector_of}
 use Rattle.heap_model.specs.Agreement.{IsWhole}
 use Rattle.heap_model.specs.Making.{MakesObject}
@@ -25,7 +26,7 @@ use Rattle.heap_model.proofs.Acting.{held_behind}
 use Rattle.heap_model.proofs.Shading.{shade_seen, shades_phase}
 use Rattle.heap_model.proofs.Units.{total_le, shaded_work, made_work}
 use Rattle.heap_model.proofs.Apart.{size_behind}
-use Rattle.heap_model.proofs.Spent.{same_work, total_same, gone_same, shaded_work_state, shades_grey, shades_units}
+use Rattle.heap_model.proofs.Spent.{same_work, gone_same, shaded_work_state, shades_grey, shades_units}
 
 pub more_within : (h after : HeapState) → DoesMore h after → IsWithin h h.phase → IsWithin after after.phase
 more_within h after w i = subst (λ z. IsWithin after z) (sym w.phase) (by_phase h.phase i)
@@ -47,33 +48,27 @@ more_within h after w i = subst (λ z. IsWithin after z) (sym w.phase) (by_phase
         let e : (chosen + class) * length h.store.pages ≡ (chosen + class) * length after.store.pages = ap (λ z. (chosen + class) * z) (sym p) in
         (omega arith, v.1, omega arith)
 
+-- with as many pages, and no less work and no less to move in any block
+no_less : (h after : HeapState) → after.units ≡ h.units → after.phase ≡ h.phase → after.defrag_pages ≡ h.defrag_pages → length after.roots ≡ length h.roots → length after.store.pages ≡ length h.store.pages → (contains h.grey 0 ≡ false → contains after.grey 0 ≡ false)
+    → ((x : ℕ) → work (collector_of h) x ≤ work (collector_of after) x) → ((x : ℕ) → gone (seen h) (size_behind h) x ≤ gone (seen after) (size_behind after) x) → DoesMore h after
+unfolding marking_work moving_work
+no_less h after units phase defrag roots pages grey one two = record { units = units; phase = phase; defrag = defrag; roots = roots; pages = pages; grey = grey; marking = in_pages _ _ one; moving = in_pages _ _ two }
+  where
+    in_pages : (f g : ℕ → ℕ) → ((x : ℕ) → f x ≤ g x) → total f (arena_words h + 1) ≤ total g (arena_words after + 1)
+    in_pages f g le = subst (λ z. total f (arena_words h + 1) ≤ total g (2048 * z + 1)) (sym pages) (total_le f g (arena_words h + 1) (λ x l. le x))
+
+-- and with as much of both
+as_much : (h after : HeapState) → after.units ≡ h.units → after.phase ≡ h.phase → after.defrag_pages ≡ h.defrag_pages → length after.roots ≡ length h.roots → length after.store.pages ≡ length h.store.pages → (contains h.grey 0 ≡ false → contains after.grey 0 ≡ false)
+    → ((x : ℕ) → work (collector_of h) x ≡ work (collector_of after) x) → ((x : ℕ) → gone (seen h) (size_behind h) x ≡ gone (seen after) (size_behind after) x) → DoesMore h after
+as_much h after units phase defrag roots many grey one two = no_less h after units phase defrag roots many grey (λ x. let e = one x in omega arith) (λ x. let e = two x in omega arith)
+
 -- who is live is no work
 pub live_more : (h : HeapState) (live : List Bool) → DoesMore h (record h { live = live })
-unfolding marking_work moving_work
-live_more h live = record {
-  units = refl;
-  phase = refl;
-  defrag = refl;
-  roots = refl;
-  pages = refl;
-  grey = λ n. n;
-  marking = total_same (work (collector_of h)) (work (collector_of (record h { live = live }))) (arena_words h + 1) (λ x. unfold work in refl);
-  moving = total_same (gone (seen h) (size_behind h)) (gone (seen (record h { live = live })) (size_behind h)) (arena_words h + 1) (λ x. unfold gone in refl);
-}
+live_more h live = as_much h (record h { live = live }) refl refl refl refl refl (λ n. n) (λ x. unfold work in refl) (λ x. unfold gone in refl)
 
 -- a root is written
 pub root_more : (h : HeapState) (j y : ℕ) → DoesMore h (record h { roots = set h.roots j y })
-unfolding marking_work moving_work
-root_more h j y = record {
-  units = refl;
-  phase = refl;
-  defrag = refl;
-  roots = length-set h.roots j y;
-  pages = refl;
-  grey = λ n. n;
-  marking = total_same (work (collector_of h)) (work (collector_of (record h { roots = set h.roots j y }))) (arena_words h + 1) (λ x. unfold work in refl);
-  moving = total_same (gone (seen h) (size_behind h)) (gone (seen (record h { roots = set h.roots j y })) (size_behind h)) (arena_words h + 1) (λ x. unfold gone in refl);
-}
+root_more h j y = as_much h (record h { roots = set h.roots j y }) refl refl refl (length-set h.roots j y) refl (λ n. n) (λ x. unfold work in refl) (λ x. unfold gone in refl)
 
 size_pages : (s t : Store) (b : ℕ) → t.pages ≡ s.pages → size_at t b ≡ size_at s b
 unfolding size_at
@@ -81,22 +76,11 @@ size_pages s t b e = ap (λ z. size_in (page_at z (b / 2048))) e
 
 -- a cell of a block is written
 pub cell_more : (h : HeapState) (new : Store) (b : Heap) → new.pages ≡ h.store.pages → ((x : ℕ) → work (collector_of h) x ≡ work (record (collector_of h) { heap = b }) x) → ((x : ℕ) → gone (seen h) (size_behind h) x ≡ gone b (size_behind h) x) → SameBlocks b (seen (record h { store = new })) → DoesMore h (record h { store = new })
-unfolding marking_work moving_work
 cell_more h new b pages w g e =
     let h1 : HeapState = record h { store = new } in
-    let many : length new.pages ≡ length h.store.pages = ap length pages in
     let one : (x : ℕ) → work (collector_of h) x ≡ work (collector_of h1) x = λ x. w x ∙ same_work (record (collector_of h) { heap = b }) (seen h1) x e ∙ ap (λ z. work (collector_by (seen h1) z h.phase h.grey) x) (sym pages) in
     let two : (x : ℕ) → gone (seen h) (size_behind h) x ≡ gone (seen h1) (size_behind h1) x = λ x. g x ∙ gone_same b (seen h1) (size_behind h) (size_behind h1) x e (λ l. sym (size_pages h.store new (x - 1) pages)) in
-    record {
-      units = refl;
-      phase = refl;
-      defrag = refl;
-      roots = refl;
-      pages = many;
-      grey = λ n. n;
-      marking = (let a = total_same (work (collector_of h)) (work (collector_of h1)) (arena_words h + 1) one in subst (λ z. total (work (collector_of h)) (arena_words h + 1) ≤ total (work (collector_of h1)) (2048 * z + 1)) (sym many) a);
-      moving = (let a = total_same (gone (seen h) (size_behind h)) (gone (seen h1) (size_behind h1)) (arena_words h + 1) two in subst (λ z. total (gone (seen h) (size_behind h)) (arena_words h + 1) ≤ total (gone (seen h1) (size_behind h1)) (2048 * z + 1)) (sym many) a);
-    }
+    as_much h h1 refl refl refl refl (ap length pages) (λ n. n) one two
 
 pub ref_more : (h : HeapState) (new : Store) (a i v : ℕ) → Writes h.store new a (with_cell (node_of h.store a) i v) → i < length (node_of h.store a).cells → i < width_at (node_of h.store a) → DoesMore h (record h { store = new })
 ref_more h new a i v w l lw = cell_more h new (set_cell (seen h) (a + 1) i v) w.pages (λ x. unfold work in refl) (λ x. unfold gone in refl) (cell_seen h new a i v w l lw)
@@ -106,23 +90,12 @@ word_more h new a c v w = cell_more h new (set_word (seen h) (a + 1) c v) w.page
 
 -- a main copy is shaded
 pub shade_more : (h after : HeapState) (x : ℕ) → Shades h x after → DoesMore h after
-unfolding marking_work moving_work
 shade_more h k x sh =
     let s = shades_units h k x sh in
     let pages = s.2 in
-    let many : length k.store.pages ≡ length h.store.pages = ap length pages in
     let one : (y : ℕ) → work (collector_of h) y ≡ work (collector_of k) y = λ y. sym (shaded_work (collector_of h) x y) ∙ shaded_work_state h k x h.phase sh y ∙ ap (λ z. work (collector_by (seen k) k.store.pages z k.grey) y) (sym (shades_phase h k x sh)) in
     let two : (y : ℕ) → gone (seen h) (size_behind h) y ≡ gone (seen k) (size_behind k) y = λ y. unmarked h x y ∙ gone_same (shade (seen h) x) (seen k) (size_behind h) (size_behind k) y (shade_seen h k x sh) (λ l. sym (size_pages h.store k.store (y - 1) pages)) in
-    record {
-      units = s.0;
-      phase = shades_phase h k x sh;
-      defrag = shades_defrag h k x sh;
-      roots = ap length s.1;
-      pages = many;
-      grey = shades_grey h k x sh;
-      marking = (let a = total_same (work (collector_of h)) (work (collector_of k)) (arena_words h + 1) one in subst (λ z. total (work (collector_of h)) (arena_words h + 1) ≤ total (work (collector_of k)) (2048 * z + 1)) (sym many) a);
-      moving = (let a = total_same (gone (seen h) (size_behind h)) (gone (seen k) (size_behind k)) (arena_words h + 1) two in subst (λ z. total (gone (seen h) (size_behind h)) (arena_words h + 1) ≤ total (gone (seen k) (size_behind k)) (2048 * z + 1)) (sym many) a);
-    }
+    as_much h k s.0 (shades_phase h k x sh) (shades_defrag h k x sh) (ap length s.1) (ap length pages) (shades_grey h k x sh) one two
   where
     shades_defrag : (h k : HeapState) (x : ℕ) → Shades h x k → k.defrag_pages ≡ h.defrag_pages
     shades_defrag h k x (Was_marked e) = refl
@@ -141,23 +114,13 @@ made_gone a b s t x held forward size zero = elim (cases_eq x 0) [
 -- a new object is made
 pub new_more : (h : HeapState) (new : Store) (at : ℕ → ℕ) (j : ℕ) (shape : Shape) → fits shape ≡ true → IsWhole h.store → MakesObject h.store shape h.sense h.next at new → length new.pages ≡ length h.store.pages
     → ((b : ℕ) → is_held h.store b ≡ true → size_at new b ≡ size_at h.store b) → DoesMore h (record h { store = new; next = h.next + 1; roots = set h.roots j (at 0 + 1) })
-unfolding marking_work moving_work
 new_more h new at j shape f whole making many sizes =
     let h1 : HeapState = record h { store = new; next = h.next + 1 } in
     let h2 : HeapState = record h { store = new; next = h.next + 1; roots = set h.roots j (at 0 + 1) } in
     let mk = makes_object h shape at new f whole making in
     let one : (x : ℕ) → work (collector_of h) x ≤ work (collector_of h2) x = λ x. let a = made_work (collector_of h) (seen h1) (parts_of shape) (reference at) x mk in let e = same_marks x in omega arith in
-    let two : (x : ℕ) → gone (seen h) (size_behind h) x ≤ gone (seen h2) (size_behind h2) x = λ x. made_gone (seen h) (seen h2) (size_behind h) (size_behind h2) x (λ l. mk.stays.held x l) (λ l. mk.stays.forward x l) (λ l some. sizes (x - 1) (held_behind h x (omega arith) l)) refl in
-    record {
-      units = refl;
-      phase = refl;
-      defrag = refl;
-      roots = length-set h.roots j (at 0 + 1);
-      pages = many;
-      grey = λ n. n;
-      marking = (let a = total_le (work (collector_of h)) (work (collector_of h2)) (arena_words h + 1) (λ x l. one x) in subst (λ z. total (work (collector_of h)) (arena_words h + 1) ≤ total (work (collector_of h2)) (2048 * z + 1)) (sym many) a);
-      moving = (let a = total_le (gone (seen h) (size_behind h)) (gone (seen h2) (size_behind h2)) (arena_words h + 1) (λ x l. two x) in subst (λ z. total (gone (seen h) (size_behind h)) (arena_words h + 1) ≤ total (gone (seen h2) (size_behind h2)) (2048 * z + 1)) (sym many) a);
-    }
+    let two : (x : ℕ) → gone (seen h) (size_behind h) x ≤ gone (seen h2) (size_behind h2) x = λ x. made_gone (seen h) (seen h2) (size_behind h) (size_behind h2) x (λ l. mk.stays.held x l) (λ l. mk.stays.says.forward x l) (λ l some. sizes (x - 1) (held_behind h x (omega arith) l)) refl in
+    no_less h h2 refl refl refl (length-set h.roots j (at 0 + 1)) many (λ n. n) one two
   where
     same_marks : (x : ℕ) → work (record (collector_of h) { heap = seen (record h { store = new; next = h.next + 1 }) }) x ≡ work (collector_of (record h { store = new; next = h.next + 1; roots = set h.roots j (at 0 + 1) })) x
     same_marks x = unfold work in refl

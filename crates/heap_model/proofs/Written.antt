@@ -24,7 +24,7 @@ use Rattle.heap_model.proofs.Collector.{same_stands}
 use Rattle.heap_model.proofs.Cut.{part_at, column_at, part_below, column_below, word_below}
 use Rattle.heap_model.proofs.Changes.{view-root, view-ref, view-word, object-put_same, object-put_other}
 use Rattle.heap_model.proofs.Seen.{held_pages, node_kept, behind, root_seen, cell_seen, word_seen}
-use Rattle.heap_model.proofs.Agreements.{part_kept, known_kept, kept_given}
+use Rattle.heap_model.proofs.Agreements.{stepped, part_kept, known_kept, kept_given}
 
 pub records-progress : (pages : List (Option Page)) (p : Phase) → is_tracing (progress_of pages p) ≡ records p
 records-progress pages phases.Idle = refl
@@ -46,16 +46,8 @@ root_kept h present snapshot j y v c l r k i =
     let c1 = puts_root m (view present) (view snapshot) j y (name_of v) c.parts l (λ t. r (sym (records-progress h.store.pages h.phase) ∙ t)) k i in
     let c2 = same_stands (record m { heap = set_root m.heap j y }) (seen h') (write_root (view present) j (name_of v)) (view snapshot) (root_seen h j y l) c1 in
     let l' : j < length present.roots = subst (λ z. j < z) c.present_row l in
-    record {
-      limits = c.limits;
-      live = c.live;
-      row = length-set h.roots j y ∙ c.row;
-      present_row = length-set h.roots j y ∙ c.present_row ∙ sym (length-set present.roots j v);
-      snapshot_row = length-set h.roots j y ∙ c.snapshot_row;
-      cells = c.cells;
-      whole = c.whole;
-      parts = subst (λ z. Coherent (collector_of h') z (view snapshot)) (sym (view-root present j v l')) c2;
-    }
+    stepped h h' present snapshot (changed present (changes.Root j v)) snapshot c refl refl (length-set h.roots j y) refl refl (length-set present.roots j v) c.snapshot_row c.cells c.whole
+    (subst (λ z. Coherent (collector_of h') z (view snapshot)) (sym (view-root present j v l')) c2)
 
 pub root_written : (h : HeapState) (present snapshot : Graph) (j y v : ℕ) → Consistent h present snapshot → j < length h.roots → IsRecorded h (get_or h.roots j 0) → IsKnown present v → IsMain (seen h) y (name_of v)
     → Consistent (record h { roots = set h.roots j y }) (changed present (changes.Root j v)) snapshot
@@ -84,6 +76,18 @@ cells_put g id o p l here all k = go (k == id) refl
 pub cells_sum : (o : Object) → HasItsCells o → length o.refs + length o.words ≡ cells_of o.shape
 cells_sum o k = let r = k.refs in let w = k.words in omega arith
 
+-- a store is written, where an object that is reached is put
+object_written : (h : HeapState) (present snapshot : Graph) (new : Store) (a id : ℕ) (n : Node) (o : Object) → Consistent h present snapshot → Reaches present id → Writes h.store new a n → IsWhole new → HasItsCells o
+    → (0 < id → id ≤ length present.objects → Coherent (record (collector_of h) { heap = seen (record h { store = new }) }) (view (record present { objects = put_object present.objects id o })) (view snapshot))
+    → Consistent (record h { store = new }) (record present { objects = put_object present.objects id o }) snapshot
+object_written h present snapshot new a id n o c r w whole here parts =
+    let h' : HeapState = record h { store = new } in
+    let put : Graph = record present { objects = put_object present.objects id o } in
+    let some = reaches_some present id r in
+    let given = kept_given h present snapshot c (name_of id) (known_kept h present snapshot c id (inr r)) in
+    stepped h h' present snapshot put snapshot c refl refl refl refl refl refl c.snapshot_row (cells_put present id o some given here c.cells) whole
+    (subst (λ z. Coherent (collector_by (seen h') z h.phase h.grey) (view put) (view snapshot)) (sym w.pages) (parts some given))
+
 -- a word cell is written
 pub word_written : (h : HeapState) (present snapshot : Graph) (new : Store) (address id k word : ℕ) → Consistent h present snapshot → Reaches present id → k < length (object_of present.objects id).words
     → IsMain (seen h) (address + 1) (record { identity = id; part = part_in (cells_of (object_of present.objects id).shape) k })
@@ -93,26 +97,13 @@ word_written h present snapshot new a id k word c r l i w =
     let o = object_of present.objects id in
     let m = collector_of h in
     let h' : HeapState = record h { store = new } in
-    let sum = cells_sum o (c.cells id) in
     let below : part_at o k < count_of o = word_below o k l in
-    let some = reaches_some present id r in
-    let given = kept_given h present snapshot c (name_of id) (known_kept h present snapshot c id (inr r)) in
     let n : Name = record { identity = id; part = part_at o k } in
-    let i' : IsMain (seen h) (a + 1) n = subst (λ z. IsMain (seen h) (a + 1) (record { identity = id; part = part_in z k })) (sym sum) i in
-    let w' = subst (λ z. Writes h.store new a (with_cell (node_of h.store a) (width_at (node_of h.store a) + column_in k) word)) (sym sum) w in
+    let i' : IsMain (seen h) (a + 1) n = subst (λ z. IsMain (seen h) (a + 1) (record { identity = id; part = part_in z k })) (sym (cells_sum o (c.cells id))) i in
     let c1 = puts_word m (view present) (view snapshot) (a + 1) n (column_at o k) word c.parts (part_kept h present snapshot c id (part_at o k) r below) i' in
-    let c2 = same_stands (record m { heap = set_word m.heap (a + 1) (column_at o k) word }) (seen h') (write_word (view present) n (column_at o k) word) (view snapshot) (word_seen h new a (column_at o k) word w') c1 in
-    let c3 = subst (λ z. Coherent (record m { heap = seen h' }) z (view snapshot)) (sym (view-word present id k word some given)) c2 in
-    record {
-      limits = c.limits;
-      live = c.live;
-      row = c.row;
-      present_row = c.present_row;
-      snapshot_row = c.snapshot_row;
-      cells = cells_put present id (with_word o k word) some given (record { refs = (c.cells id).refs; words = length-set o.words k word ∙ (c.cells id).words }) c.cells;
-      whole = whole_cell h.store new a _ word w c.whole;
-      parts = subst (λ z. Coherent (collector_by (seen h') z h.phase h.grey) (view (changed present (changes.Word id k word))) (view snapshot)) (sym w.pages) c3;
-    }
+    let c2 = same_stands (record m { heap = set_word m.heap (a + 1) (column_at o k) word }) (seen h') (write_word (view present) n (column_at o k) word) (view snapshot) (word_seen h new a (column_at o k) word w) c1 in
+    object_written h present snapshot new a id _ (with_word o k word) c r w (whole_cell h.store new a _ word w c.whole) (record { refs = (c.cells id).refs; words = length-set o.words k word ∙ (c.cells id).words })
+    (λ some given. subst (λ z. Coherent (record m { heap = seen h' }) z (view snapshot)) (sym (view-word present id k word some given)) c2)
 
 pub width_le : (refs words p : ℕ) → width_in refs words p ≤ part_cells (refs + words) p
 unfolding width_in
@@ -147,31 +138,17 @@ ref_written h present snapshot new a y id i v c r l ix rec kv iy w =
     let o = object_of present.objects id in
     let m = collector_of h in
     let h' : HeapState = record h { store = new } in
-    let sum = cells_sum o (c.cells id) in
     let below : part_at o i < count_of o = part_below o i l in
-    let some = reaches_some present id r in
-    let given = kept_given h present snapshot c (name_of id) (known_kept h present snapshot c id (inr r)) in
     let n : Name = record { identity = id; part = part_at o i } in
     let kn = part_kept h present snapshot c id (part_at o i) r below in
-    let ix' : IsMain (seen h) (a + 1) n = subst (λ z. IsMain (seen h) (a + 1) (record { identity = id; part = part_in z i })) (sym sum) ix in
-    let w' = subst (λ z. Writes h.store new a (with_cell (node_of h.store a) (column_in i) y)) (sym sum) w in
-    let rec' = subst (λ z. IsRecorded h (get_or (node_of h.store a).cells (column_in i) 0)) (sym sum) rec in
+    let ix' : IsMain (seen h) (a + 1) n = subst (λ z. IsMain (seen h) (a + 1) (record { identity = id; part = part_in z i })) (sym (cells_sum o (c.cells id))) ix in
     let within = column_within h present snapshot c a n kn ix' below in
     let column : column_at o i < width_of o (part_at o i) = column_below o i l in
     let column' : column_at o i < width_at (node_of h.store a) = subst (λ z. column_at o i < z) (sym within.0) column in
     let inside : column_at o i < length (node_of h.store a).cells = (let e = within.1 in omega arith) in
     let cell : (seen h).cell (a + 1) (column_at o i) ≡ get_or (node_of h.store a).cells (column_at o i) 0 = behind 0 (λ z. get_or (node_of h.store z).cells (column_at o i) 0) a in
-    let recorded : is_tracing m.phase ≡ true → m.heap.marked (m.heap.forward (m.heap.cell (a + 1) (column_at o i))) ≡ true = λ t. subst (λ z. m.heap.marked (m.heap.forward z) ≡ true) (sym cell) (rec' (sym (records-progress h.store.pages h.phase) ∙ t)) in
+    let recorded : is_tracing m.phase ≡ true → m.heap.marked (m.heap.forward (m.heap.cell (a + 1) (column_at o i))) ≡ true = λ t. subst (λ z. m.heap.marked (m.heap.forward z) ≡ true) (sym cell) (rec (sym (records-progress h.store.pages h.phase) ∙ t)) in
     let c1 = puts_cell m (view present) (view snapshot) (a + 1) n (column_at o i) y (name_of v) c.parts kn ix' column recorded (known_kept h present snapshot c v kv) iy in
-    let c2 = same_stands (record m { heap = set_cell m.heap (a + 1) (column_at o i) y }) (seen h') (write_target (view present) n (column_at o i) (name_of v)) (view snapshot) (cell_seen h new a (column_at o i) y w' inside column') c1 in
-    let c3 = subst (λ z. Coherent (record m { heap = seen h' }) z (view snapshot)) (sym (view-ref present id i v some given l)) c2 in
-    record {
-      limits = c.limits;
-      live = c.live;
-      row = c.row;
-      present_row = c.present_row;
-      snapshot_row = c.snapshot_row;
-      cells = cells_put present id (with_ref o i v) some given (record { refs = length-set o.refs i v ∙ (c.cells id).refs; words = (c.cells id).words }) c.cells;
-      whole = whole_cell h.store new a _ y w c.whole;
-      parts = subst (λ z. Coherent (collector_by (seen h') z h.phase h.grey) (view (changed present (changes.Ref id i v))) (view snapshot)) (sym w.pages) c3;
-    }
+    let c2 = same_stands (record m { heap = set_cell m.heap (a + 1) (column_at o i) y }) (seen h') (write_target (view present) n (column_at o i) (name_of v)) (view snapshot) (cell_seen h new a (column_at o i) y w inside column') c1 in
+    object_written h present snapshot new a id _ (with_ref o i v) c r w (whole_cell h.store new a _ y w c.whole) (record { refs = length-set o.refs i v ∙ (c.cells id).refs; words = (c.cells id).words })
+    (λ some given. subst (λ z. Coherent (record m { heap = seen h' }) z (view snapshot)) (sym (view-ref present id i v some given l)) c2)

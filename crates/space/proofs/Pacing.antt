@@ -14,10 +14,8 @@ use Rattle.graph_heap.specs.declared.command.Reply.{Reply}
 use Rattle.graph_heap.specs.declared.command.Refusal.{Refusal}
 use Rattle.graph_heap.specs.declared.command.Change.{Change}
 use Rattle.graph_heap.specs.declared.command.Change.TheVariants as changes
-use Rattle.graph_heap.specs.declared.command.Entry.{Entry}
 use Rattle.graph_heap.specs.Graph.{Object, Graph, object_of, no_object, new_object, changed}
-use Rattle.graph_heap.specs.Effect.{settled, next_of, slot_at, fitting, next_identity, admitted}
-use Rattle.graph_heap.specs.History.{after_entry}
+use Rattle.graph_heap.specs.Effect.{settled, slot_at, fitting, next_identity, admitted}
 use Rattle.size_classes.specs.Need.{needed}
 use Rattle.heap_model.specs.declared.phase.Phase.{Phase}
 use Rattle.heap_model.specs.declared.phase.Phase.TheVariants as phases
@@ -36,7 +34,7 @@ use Rattle.heap_model.proofs.Bound.{chain_limit, at_least, spent_more}
 use Rattle.heap_model.proofs.Left.{change_left}
 use Rattle.heap_model.proofs.Changes.{length-put}
 use Rattle.heap_model.proofs.Freed.{objects_stay}
-use Rattle.heap_model.proofs.Course.{enters_step, enters_present, begins_present, collects_present, does_course, opening_course}
+use Rattle.heap_model.proofs.Course.{enters_graph, enters_present, begins_present, collects_present, does_course, opening_course}
 use Rattle.space.specs.Demand.{LiveWithin, blocks_of, asked_for, asked_by}
 use Rattle.space.specs.Tally.{Tally, opening_tally, after_event, is_tracing, KeepsTo, AllKeepTo}
 use Rattle.space.specs.Placement.{KeepsShapes}
@@ -127,6 +125,14 @@ record IsPaced (r : Course) (t : Tally) (b : Beat) (p : Pace) (k limit n : ℕ) 
   since_last : (class : ℕ) → class < CLASSES → blocks_of (drop t.last t.graph.objects) class ≤ (if b.on then n * p.busy class else (limit / (k - 255) + 1) * p.busy class) + b.asked class
   since_base : (class : ℕ) → class < CLASSES → blocks_of (drop t.base t.graph.objects) class ≤ (if b.on then (limit / (k - 255) + 1) * p.busy class + p.idle class + n * p.busy class else (limit / (k - 255) + 1) * p.busy class) + b.asked class
 
+-- no cycle is on in idle alone
+pub idle_phase : (f : Phase) → in_cycle f ≡ false → f ≡ phases.Idle
+idle_phase phases.Idle e = refl
+idle_phase (phases.Roots next) e = absurd (cc)
+idle_phase (phases.Marking part cell) e = absurd (cc)
+idle_phase (phases.Sweeping page block) e = absurd (cc)
+idle_phase (phases.Moving m) e = absurd (cc)
+
 module _ (p : Pace) (k limit : ℕ) (great : 256 ≤ k) where
   most : ℕ
   most = limit / (k - 255) + 1
@@ -163,8 +169,8 @@ module _ (p : Pace) (k limit : ℕ) (great : 256 ≤ k) where
   paced_command : (r new : Course) (t : Tally) (b : Beat) (n m : ℕ) (c : Command) (reply : Reply) → IsCourse r → IsPaced r t b p k limit n → KeepsPace p k b (Command_done m c reply) → Enters r m c reply new
       → IsPaced new (after_event t (Command_done m c reply)) (next_beat b (Command_done m c reply)) p k limit n
   paced_command r new t b n m c reply w i keeps e = record {
-    graph = into t.graph i.graph;
-    same = into b.graph i.same;
+    graph = enters_graph r new m c reply w e t.graph i.graph;
+    same = enters_graph r new m c reply w e b.graph i.same;
     on = i.on ∙ ap in_cycle (sym left.phase);
     bound = left.limit ∙ i.bound;
     last = (let l = i.last in let q = longer in omega (arith, l, q));
@@ -181,30 +187,24 @@ module _ (p : Pace) (k limit : ℕ) (great : 256 ≤ k) where
       change : Change
       change = change_by (room_for r.heap c) g m c
 
-      entry : Entry
-      entry = record { mutator = m; command = c; reply = reply }
-
       left : LeavesCycle r.heap new.heap
       left = change_left r.heap new.heap g change e.change
 
-      next : next_of (room_for r.heap c) g m c ≡ changed g change
-      next = unfold next_of in refl
+      next : Graph
+      next = (after_event t (Command_done m c reply)).graph
 
-      changed_is : (z : Graph) → z ≡ g → after_entry z entry ≡ changed g change
-      changed_is z s = ap (λ y. after_entry y entry) s ∙ (enters_step r new m c reply w e).1 ∙ next
+      is : next ≡ changed g change
+      is = enters_graph r new m c reply w e t.graph i.graph ∙ enters_present r new m c reply w e
 
-      into : (z : Graph) → z ≡ g → after_entry z entry ≡ present_of new
-      into z s = changed_is z s ∙ sym (enters_present r new m c reply w e)
+      longer : length t.graph.objects ≤ length next.objects
+      longer = let o = objects_stay g change in let x : length next.objects ≡ length (changed g change).objects = ap (λ (z : Graph). length z.objects) is in let y : length t.graph.objects ≡ length g.objects = ap (λ (z : Graph). length z.objects) i.graph in omega (arith, o, x, y)
 
-      longer : length t.graph.objects ≤ length (after_entry t.graph entry).objects
-      longer = let o = objects_stay g change in let x : length (after_entry t.graph entry).objects ≡ length (changed g change).objects = ap (λ (z : Graph). length z.objects) (changed_is t.graph i.graph) in let y : length t.graph.objects ≡ length g.objects = ap (λ (z : Graph). length z.objects) i.graph in omega (arith, o, x, y)
-
-      more : (start : ℕ) → start ≤ length t.graph.objects → (class : ℕ) → blocks_of (drop start (after_entry t.graph entry).objects) class ≤ blocks_of (drop start t.graph.objects) class + asked_for b.graph m c class
+      more : (start : ℕ) → start ≤ length t.graph.objects → (class : ℕ) → blocks_of (drop start next.objects) class ≤ blocks_of (drop start t.graph.objects) class + asked_for b.graph m c class
       more start low class =
           let y : length t.graph.objects ≡ length g.objects = ap (λ (z : Graph). length z.objects) i.graph in
           let a = more_since g change start class (omega (arith, low, y)) in
           let d = command_less r.heap g m c class in
-          let x : blocks_of (drop start (after_entry t.graph entry).objects) class ≡ blocks_of (drop start (changed g change).objects) class = ap (λ (z : Graph). blocks_of (drop start z.objects) class) (changed_is t.graph i.graph) in
+          let x : blocks_of (drop start next.objects) class ≡ blocks_of (drop start (changed g change).objects) class = ap (λ (z : Graph). blocks_of (drop start z.objects) class) is in
           let v : blocks_of (drop start t.graph.objects) class ≡ blocks_of (drop start g.objects) class = ap (λ (z : Graph). blocks_of (drop start z.objects) class) i.graph in
           let u : asked_for b.graph m c class ≡ asked_for g m c class = ap (λ z. asked_for z m c class) i.same in
           omega (arith, a, d, x, v, u)
@@ -245,13 +245,6 @@ module _ (p : Pace) (k limit : ℕ) (great : 256 ≤ k) where
 
       stands : Stands new.heap (present_of r) (snapshot_of r)
       stands = stands_chain r.heap new.heap units (present_of r) (snapshot_of r) w.stands q.turn.chain
-
-      idle_phase : (f : Phase) → in_cycle f ≡ false → f ≡ phases.Idle
-      idle_phase phases.Idle e = refl
-      idle_phase (phases.Roots next) e = absurd (cc)
-      idle_phase (phases.Marking part cell) e = absurd (cc)
-      idle_phase (phases.Sweeping page block) e = absurd (cc)
-      idle_phase (phases.Moving m) e = absurd (cc)
 
       -- with no cycle on
       at_rest : b.on ≡ false → IsPaced new (if is_tracing phase then t else record t { base = t.last }) b p k limit n
@@ -306,48 +299,33 @@ module _ (p : Pace) (k limit : ℕ) (great : 256 ≤ k) where
               by_true false z a l = absurd (cc)
               by_true true z a l = let s = step_times n (p.busy class) in omega (arith, a, l, s)
 
-          tracing : (f : Phase) → new.heap.phase ≡ f → in_cycle f ≡ true → IsPaced new t (record b { on = true; asked = λ class. 0 }) p k limit (n + 1)
-          tracing f e o = record {
+          -- where the quantum ends, with the objects that are counted from then on
+          ended : (f : Phase) (o : Bool) (start : ℕ) → new.heap.phase ≡ f → in_cycle f ≡ o → start ≤ length t.graph.objects
+              → ((class : ℕ) → class < CLASSES → blocks_of (drop t.last t.graph.objects) class ≤ (if o then (n + 1) * p.busy class else (limit / (k - 255) + 1) * p.busy class))
+              → ((class : ℕ) → class < CLASSES → blocks_of (drop start t.graph.objects) class ≤ (if o then (limit / (k - 255) + 1) * p.busy class + p.idle class + (n + 1) * p.busy class else (limit / (k - 255) + 1) * p.busy class))
+              → IsPaced new (record t { base = start }) (record b { on = o; asked = λ class. 0 }) p k limit (n + 1)
+          ended f o start e is low last base = record {
             graph = i.graph ∙ sym present;
             same = i.same ∙ sym present;
-            on = sym (ap in_cycle e ∙ o);
+            on = sym (ap in_cycle e ∙ is);
             bound = bound;
             last = i.last;
-            base = i.base;
-            units = λ z. spent (λ idle. (let y : false ≡ true = sym (ap in_cycle idle) ∙ ap in_cycle e ∙ o in cc));
+            base = low;
+            units = λ on. spent (λ idle. (let y : false ≡ true = sym (ap in_cycle idle) ∙ ap in_cycle e ∙ is ∙ on in cc));
             asked = λ class small. omega arith;
-            since_last = λ class small. (let l = (since_last class small).0 in omega (arith, l));
-            since_base = λ class small. (let l = since_base class small in omega (arith, l));
+            since_last = λ class small. (let l = last class small in omega (arith, l));
+            since_base = λ class small. (let l = base class small in omega (arith, l));
           }
+
+          tracing : (f : Phase) → new.heap.phase ≡ f → in_cycle f ≡ true → IsPaced new t (record b { on = true; asked = λ class. 0 }) p k limit (n + 1)
+          tracing f e o = ended f true t.base e o i.base (λ class small. (since_last class small).0) since_base
 
           by_phase : (f : Phase) → new.heap.phase ≡ f → IsPaced new (if is_tracing f then t else record t { base = t.last }) (record b { on = in_cycle f; asked = λ class. 0 }) p k limit (n + 1)
           by_phase (phases.Roots next) e = tracing (phases.Roots next) e refl
           by_phase (phases.Marking part cell) e = tracing (phases.Marking part cell) e refl
           by_phase (phases.Sweeping page block) e = tracing (phases.Sweeping page block) e refl
-          by_phase (phases.Moving m) e = record {
-            graph = i.graph ∙ sym present;
-            same = i.same ∙ sym present;
-            on = sym (ap in_cycle e);
-            bound = bound;
-            last = i.last;
-            base = i.last;
-            units = λ z. spent (λ idle. (let y : false ≡ true = sym (ap in_cycle idle) ∙ ap in_cycle e in cc));
-            asked = λ class small. omega arith;
-            since_last = λ class small. (let l = (since_last class small).0 in omega (arith, l));
-            since_base = λ class small. (let l = (since_last class small).0 in omega (arith, l));
-          }
-          by_phase phases.Idle e = record {
-            graph = i.graph ∙ sym present;
-            same = i.same ∙ sym present;
-            on = sym (ap in_cycle e);
-            bound = bound;
-            last = i.last;
-            base = i.last;
-            units = λ z. absurd (cc);
-            asked = λ class small. omega arith;
-            since_last = λ class small. (let l = (since_last class small).1 in omega (arith, l));
-            since_base = λ class small. (let l = (since_last class small).1 in omega (arith, l));
-          }
+          by_phase (phases.Moving m) e = ended (phases.Moving m) true t.last e refl i.last (λ class small. (since_last class small).0) (λ class small. (let l = (since_last class small).0 in omega (arith, l)))
+          by_phase phases.Idle e = ended phases.Idle false t.last e refl i.last (λ class small. (since_last class small).1) (λ class small. (since_last class small).1)
 
       by_on : (o : Bool) → b.on ≡ o → (l : ℕ) × IsPaced new (if is_tracing phase then t else record t { base = t.last }) (if b.on then record b { on = in_cycle phase; asked = λ class. 0 } else b) p k limit l
       by_on true e = (n + 1, subst (λ z. IsPaced new (if is_tracing phase then t else record t { base = t.last }) (if z then record b { on = in_cycle phase; asked = λ class. 0 } else b) p k limit (n + 1)) (sym e) (at_work e))

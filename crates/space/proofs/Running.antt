@@ -10,12 +10,11 @@ use Rattle.graph_heap.specs.declared.command.Command.TheVariants as commands
 use Rattle.graph_heap.specs.declared.command.Reply.{Reply}
 use Rattle.graph_heap.specs.declared.command.Refusal.{Refusal}
 use Rattle.graph_heap.specs.declared.command.Change.{Change}
-use Rattle.graph_heap.specs.declared.command.Entry.{Entry}
 use Rattle.graph_heap.specs.Shape.{fits}
 use Rattle.graph_heap.specs.Graph.{Object, Graph, object_of, opening, changed}
 use Rattle.graph_heap.specs.Reach.{Reaches}
-use Rattle.graph_heap.specs.Effect.{settled, reply_of, next_of, slot_at, fitting, next_identity, admitted}
-use Rattle.graph_heap.specs.History.{after, after_entry, had_room}
+use Rattle.graph_heap.specs.Effect.{settled, reply_of, slot_at, fitting, next_identity, admitted}
+use Rattle.graph_heap.specs.History.{after, had_room}
 use Rattle.size_classes.specs.Need.{needed}
 use Rattle.heap_model.specs.declared.phase.Phase.{Phase}
 use Rattle.heap_model.specs.declared.phase.Phase.TheVariants as phases
@@ -43,7 +42,7 @@ use Rattle.heap_model.proofs.Settings.{change_settings}
 use Rattle.heap_model.proofs.Marks.{action_count}
 use Rattle.heap_model.proofs.Opening.{page_none}
 use Rattle.heap_model.proofs.Agreements.{consistent_agrees}
-use Rattle.heap_model.proofs.Course.{enters_step, enters_present, enters_snapshot, begins_present, collects_limits, collects_present, does_course, opening_course}
+use Rattle.heap_model.proofs.Course.{enters_graph, enters_present, enters_snapshot, begins_present, collects_limits, collects_present, does_course, opening_course}
 use Rattle.space.specs.Demand.{Demand, LiveWithin, blocks_of, blocks_for, asked_for, asked_by}
 use Rattle.space.specs.Tally.{Tally, opening_tally, after_event, is_tracing, KeepsTo, AllKeepTo, FindsRoom, NewFindsRoom, EveryNewFindsRoom}
 use Rattle.space.specs.Space.{pages_for, space_for, spare_of}
@@ -153,7 +152,7 @@ tracked_command : (r new : Course) (m : ℕ) (c : Command) (reply : Reply) (t : 
     → IsTracked new (after_event t (Command_done m c reply)) d spare × FindsRoom c reply
 tracked_command r new m c reply t d spare w k keeps e = (
   record {
-    graph = ap (λ z. after_entry z entry) k.graph ∙ (enters_step r new m c reply w e).1 ∙ next ∙ sym present;
+    graph = enters_graph r new m c reply w e t.graph k.graph;
     last = k.last ∙ ap (λ (z : Graph). length z.objects) (sym (enters_snapshot r new m c reply w e));
     live = subst (λ z. LiveWithin z d.live) (sym (enters_snapshot r new m c reply w e)) k.live;
     kept_last = subst (λ z. KeepsShapes z.objects (present_of new).objects) (sym (enters_snapshot r new m c reply w e)) (shapes_into _ _ _ objects (shapes_then _ _ _ k.kept_last (shapes_kept g change)));
@@ -175,12 +174,6 @@ tracked_command r new m c reply t d spare w k keeps e = (
 
     change : Change
     change = change_by (room_for r.heap c) g m c
-
-    entry : Entry
-    entry = record { mutator = m; command = c; reply = reply }
-
-    next : next_of (room_for r.heap c) g m c ≡ changed g change
-    next = unfold next_of in refl
 
     present : present_of new ≡ changed g change
     present = enters_present r new m c reply w e

@@ -20,6 +20,7 @@ use Rattle.heap_model.proofs.Left.{change_left}
 use Rattle.raw_heap.specs.Heap.{IsHeap}
 use Rattle.machine.specs.Plan.{IsPlanned}
 use Rattle.machine.specs.Reading.{IsRefCell, IsWordCell}
+use Rattle.machine.specs.declared.plan.Cell.{Cell}
 use Rattle.machine.specs.declared.plan.Write.{Write}
 use Rattle.machine.specs.declared.plan.Write.TheVariants as writes
 
@@ -29,6 +30,9 @@ present_agrees h w = consistent_agrees h w.present w.snapshot w.stands.consisten
 -- what is known of the value t for each graph heap, of the fields h at present
 pub at_present : (P : HeapState → Graph → Type 0) (h t : HeapState) → h ≡ t → (w : IsHeap h) → ((g : Graph) → Agrees t g → P t g) → P h w.present
 at_present P h t is w known = subst (λ (x : HeapState). (g : Graph) → Agrees x g → P x g) (sym is) known w.present (present_agrees h w)
+
+pub place_now : (Is : HeapState → Graph → ℕ → ℕ → Cell → Type 0) (h t : HeapState) → h ≡ t → (w : IsHeap h) (at : Cell) → ((g : Graph) → Agrees t g → (id : ℕ) × (i : ℕ) × Is t g id i at) → (id : ℕ) × (i : ℕ) × Is h w.present id i at
+place_now Is h t is w at = at_present (λ x g. (id : ℕ) × (i : ℕ) × Is x g id i at) h t is w
 
 -- no object becomes too large
 fits_changed : (g : Graph) (c : Change) → IsFounded g c → ((id : ℕ) → fits (object_of g.objects id).shape ≡ true) → (id : ℕ) → fits (object_of (changed g c).objects id).shape ≡ true

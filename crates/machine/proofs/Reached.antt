@@ -34,21 +34,36 @@ module _ (h t : HeapState) (is : h ≡ t) (w : IsHeap h) (root i : ℕ) (f : Fou
   abbrev IsPart : ℕ → Type 0
   IsPart p = p < count_of (object_of w.present.objects present_id)
 
-  pub ref_part : (place : Place) → ref_place f.shape i ≡ Ok place → IsPart place.part
+  ref_part : (place : Place) → ref_place f.shape i ≡ Ok place → IsPart place.part
   ref_part place at = ref_below h w.present (present_agrees h w) present_id f found_now i place at
 
-  pub word_part : (place : Place) → word_place f.shape i ≡ Ok place → IsPart place.part
+  word_part : (place : Place) → word_place f.shape i ≡ Ok place → IsPart place.part
   word_part place at = word_part_below h w.present (present_agrees h w) present_id f found_now i place at
 
+  -- what it takes to find the block of a part
+  abbrev CanReach : ℕ → Type 0
+  CanReach p =
+      (p < parts_in (cells_of f.shape)) × (p ≢ 0 → holder_of (cells_of f.shape) p ≢ 0 → Refers h.store f.block (seat_of (cells_of f.shape) (holder_of (cells_of f.shape) p)))
+      × (p ≢ 0 → Refers h.store (spine_at h.store (cells_of f.shape) f.block p) (seat_of (cells_of f.shape) p))
+
   module _ (p : ℕ) (below : IsPart p) where
-    pub within_parts : p < parts_in (cells_of f.shape)
+    within_parts : p < parts_in (cells_of f.shape)
     within_parts = parts_below h w.present (present_agrees h w) present_id f found_now p below
 
-    pub to_spine : p ≢ 0 → holder_of (cells_of f.shape) p ≢ 0 → Refers h.store f.block (seat_of (cells_of f.shape) (holder_of (cells_of f.shape) p))
+    to_spine : p ≢ 0 → holder_of (cells_of f.shape) p ≢ 0 → Refers h.store f.block (seat_of (cells_of f.shape) (holder_of (cells_of f.shape) p))
     to_spine = spine_refers h w.present (present_agrees h w) present_id f found_now p below w.stands.consistent.whole
 
-    pub to_part : p ≢ 0 → Refers h.store (spine_at h.store (cells_of f.shape) f.block p) (seat_of (cells_of f.shape) p)
+    to_part : p ≢ 0 → Refers h.store (spine_at h.store (cells_of f.shape) f.block p) (seat_of (cells_of f.shape) p)
     to_part = part_refers h w.present (present_agrees h w) present_id f found_now p below w.stands.consistent.whole
+
+    can_reach : CanReach p
+    can_reach = (within_parts, to_spine, to_part)
+
+  pub ref_reached : (place : Place) → ref_place f.shape i ≡ Ok place → CanReach place.part
+  ref_reached place at = can_reach place.part (ref_part place at)
+
+  pub word_reached : (place : Place) → word_place f.shape i ≡ Ok place → CanReach place.part
+  word_reached place at = can_reach place.part (word_part place at)
 
   -- the cell
   module _ (place : Place) (block : ℕ) (eb : block ≡ block_of h.store (cells_of f.shape) f.block place.part) where

@@ -5,16 +5,15 @@ use Rattle.graph_heap.specs.declared.command.Refusal.{Refusal}
 use Rattle.graph_heap.specs.declared.command.Reply.{Reply}
 use Rattle.graph_heap.specs.declared.command.Reply.TheVariants as replies
 use Rattle.graph_heap.specs.declared.command.Change.{Change}
-use Rattle.graph_heap.specs.declared.command.Change.TheVariants as changes
 use Rattle.graph_heap.specs.declared.command.Entry.{Entry}
-use Rattle.graph_heap.specs.Graph.{Graph, changed}
-use Rattle.graph_heap.specs.Effect.{◌>>=◌, is_join, admitted_to, deed_of, effect_of, settled, reply_of, next_of}
+use Rattle.graph_heap.specs.Graph.{Graph}
+use Rattle.graph_heap.specs.Effect.{◌>>=◌, is_join, admitted_to, deed_of, effect_of, reply_of, next_of}
 use Rattle.heap_model.specs.State.{HeapState}
 use Rattle.heap_model.specs.Agreement.{Agrees}
 use Rattle.heap_model.specs.Change.{DoesChange, Does_nothing}
 use Rattle.heap_model.specs.Event.{Course, Enters, present_of, change_by, room_for}
 use Rattle.machine.specs.declared.plan.Planned.{Planned}
-use Rattle.machine.specs.Plan.{PlansBy, Deeds, CanPerform, CanSettle, Settles, SettlesEach, DoesDeed}
+use Rattle.machine.specs.Plan.{Deeds, CanPerform, CanSettle, Settles, SettlesEach, DoesDeed}
 use Rattle.machine.proofs.Live.{effect_is}
 use Rattle.machine.proofs.Writing.{Performs}
 
@@ -33,44 +32,36 @@ pub settles_err : (h : HeapState) (e : Refusal) → SettlesEach h (Err e) (repli
 settles_err h e g done a plan =
     subst (λ (d : Result (Reply × Change) Refusal). Settles h g d (replies.Refused e) h) (sym plan) (record { reply = refl; change = Does_nothing; agrees = a })
 
--- the plan of a command can be settled, and then the command is done
+-- where the plan of a command is settled the command is done, also by another name
 module _ (h : HeapState) (m : ℕ) (c : Command) (planned : Result Planned Refusal) (plans : Deeds h m c planned) where
-  pub settles_deed : CanSettle h planned
-  settles_deed g a = (deed_of (room_for h c) g m c, plans g a)
+  pub deed_settled : (d : Command) → d ≡ c → (reply : Reply) (after : HeapState) → SettlesEach h planned reply after → DoesDeed h m d reply after
+  deed_settled d is reply after each = subst (λ (x : Command). DoesDeed h m x reply after) (sym is) (λ g a. each g (deed_of (room_for h c) g m c) a (plans g a))
 
-  pub deed_settled : (reply : Reply) (after : HeapState) → SettlesEach h planned reply after → DoesDeed h m c reply after
-  deed_settled reply after each g a = each g (deed_of (room_for h c) g m c) a (plans g a)
+-- what is promised of a command, by the reply and the heap after it
+pub record Steps (h : HeapState) (m : ℕ) (c : Command) (told : Reply) (after : HeapState) : Type 0 where
+  pub reply : (g : Graph) → Agrees h g → told ≡ reply_of (room_for h c) g m c
+  pub agrees : (g : Graph) → Agrees h g → Agrees after (next_of (room_for h c) g m c)
+  pub does : (g : Graph) → Agrees h g → DoesChange h g (change_by (room_for h c) g m c) after
 
--- the test of the mutator, of the fields h, which are seen as the value t
-pub told_here : (h t : HeapState) → h ≡ t → (m : ℕ) (c : Command) (joins : Bool) → joins ≡ is_join c → (r : Result Bool Refusal) → r ≡ admitted_to h.limits h.live m joins → r ≡ admitted_to t.limits t.live m (is_join c)
-told_here h t is m c joins e r told = subst (λ (x : HeapState). r ≡ admitted_to x.limits x.live m (is_join c)) is (told ∙ ap (admitted_to h.limits h.live m) e)
+steps_by : (h : HeapState) (m : ℕ) (c : Command) (told : Reply) (after : HeapState) → ((g : Graph) → Agrees h g → Settles h g (effect_of (room_for h c) g m c) told after) → Steps h m c told after
+unfolding reply_of next_of
+steps_by h m c told after s = record { reply = λ g a. (s g a).reply; agrees = λ g a. (s g a).agrees; does = λ g a. (s g a).change }
 
--- a command is settled as the mutator is admitted
-module _ (h : HeapState) (m : ℕ) (c : Command) (r : Result Bool Refusal) (is : r ≡ admitted_to h.limits h.live m (is_join c)) (reply : Reply) (after : HeapState) where
-  abbrev pub IsSettled : Type 0
-  IsSettled = (g : Graph) → Agrees h g → Settles h g (effect_of (room_for h c) g m c) reply after
+-- a command is settled as the mutator is admitted; the test is of the fields f, which are seen as the value h
+module _ (f h : HeapState) (seen_as : f ≡ h) (m : ℕ) (c : Command) (joins : Bool) (join : joins ≡ is_join c) (r : Result Bool Refusal) (told : r ≡ admitted_to f.limits f.live m joins) where
+  told_here : r ≡ admitted_to h.limits h.live m (is_join c)
+  told_here = subst (λ (x : HeapState). r ≡ admitted_to x.limits x.live m (is_join c)) seen_as (told ∙ ap (admitted_to f.limits f.live m) join)
 
-  pub reply_settled : IsSettled → (g : Graph) → Agrees h g → reply ≡ reply_of (room_for h c) g m c
-  unfolding reply_of
-  reply_settled s g a = (s g a).reply
+  effect_by : (g : Graph) → Agrees h g → (x : Result Bool Refusal) → r ≡ x → effect_of (room_for h c) g m c ≡ (x >>= λ b. deed_of (room_for h c) g m c)
+  effect_by g a x e = effect_is h g a m c r told_here ∙ ap (λ (y : Result Bool Refusal). y >>= λ b. deed_of (room_for h c) g m c) e
 
-  pub agrees_settled : IsSettled → (g : Graph) → Agrees h g → Agrees after (next_of (room_for h c) g m c)
-  unfolding next_of
-  agrees_settled s g a = (s g a).agrees
+  pub admitted_steps : (ok : Bool) → r ≡ Ok ok → (reply : Reply) (after : HeapState) → DoesDeed h m c reply after → Steps h m c reply after
+  admitted_steps ok e reply after deed =
+      steps_by h m c reply after (λ g a. subst (λ (d : Result (Reply × Change) Refusal). Settles h g d reply after) (sym (effect_by g a (Ok ok) e)) (deed g a))
 
-  pub does_settled : IsSettled → (g : Graph) → Agrees h g → DoesChange h g (change_by (room_for h c) g m c) after
-  does_settled s g a = (s g a).change
-
-  pub admitted_settled : (ok : Bool) → r ≡ Ok ok → DoesDeed h m c reply after → IsSettled
-  admitted_settled ok e deed g a =
-      subst (λ (d : Result (Reply × Change) Refusal). Settles h g d reply after)
-      (sym (effect_is h g a m c r is ∙ ap (λ (x : Result Bool Refusal). x >>= λ b. deed_of (room_for h c) g m c) e)) (deed g a)
-
-  pub refused_settled : (e : Refusal) → r ≡ Err e → reply ≡ replies.Refused e → after ≡ h → IsSettled
-  refused_settled e is_err told same g a =
-      subst (λ (d : Result (Reply × Change) Refusal). Settles h g d reply after)
-      (sym (effect_is h g a m c r is ∙ ap (λ (x : Result Bool Refusal). x >>= λ b. deed_of (room_for h c) g m c) is_err))
-      (subst (λ (k : HeapState). Settles h g (Err e) reply k) (sym same) (subst (λ (x : Reply). Settles h g (Err e) x h) (sym told) (settles_err h e g (Err e) a refl)))
+  pub refused_steps : (e : Refusal) → r ≡ Err e → Steps h m c (replies.Refused e) h
+  refused_steps e is_err =
+      steps_by h m c (replies.Refused e) h (λ g a. subst (λ (d : Result (Reply × Change) Refusal). Settles h g d (replies.Refused e) h) (sym (effect_by g a (Err e) is_err)) (settles_err h e g (Err e) a refl))
 
 -- a command that is done is entered
 pub enters : (r : Course) (m : ℕ) (c : Command) (reply : Reply) (after : HeapState) (history : List Entry)

@@ -1,7 +1,6 @@
 -- A heap that was just made has room for what fits its configuration.
 use Rattle.std.proofs.Common.{subst}
 use Rattle.heap_model.specs.Event.{Course, Runs}
-use Rattle.heap_model.specs.Led.{opened}
 use Rattle.space.proofs.Configured.{demand_configured, pace_configured}
 use Rattle.machine.specs.Space.{FindsSpace}
 

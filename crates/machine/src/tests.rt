@@ -71,6 +71,10 @@ fn compare_store(obj: u32, i: u32, expect: u32, new: u32) -> Command {
     }
 }
 
+fn clear(dst: u32) -> Command {
+    Command::Clear { dst }
+}
+
 fn get(obj: u32, i: u32) -> Command {
     Command::Get { obj, i }
 }
@@ -130,9 +134,19 @@ fn heap_with(
     Ok(heap)
 }
 
-/// The reply to a command of mutator 0.
-fn told(heap: &mut Recorded, command: Command) -> Result<Reply, NoMemory> {
-    Ok(heap.call(0, command)?.entry().reply)
+/// A heap on which so many arrays of words were made, which have the identities from 1 on: 256 for each mutator, one after
+/// the other in its slots.
+fn with_arrays(
+    rt: &(impl Abort + AllocGlobal),
+    settings: &Settings,
+    count: u32,
+) -> Result<Recorded, NoMemory> {
+    let mut heap = recorded(rt, settings)?;
+    for k in 0..count {
+        let made = Reply::Made(u64::from(k).saturating_add(1));
+        expect(rt, &mut heap, k / 256, &[(words(k % 256, 252), made)])?;
+    }
+    Ok(heap)
 }
 
 /// Spends a budget, and compares the units that were spent and whether no cycle is on afterwards.
@@ -145,16 +159,70 @@ fn spend(rt: &impl Abort, heap: &mut Recorded, budget: u32, units: u32, is_over:
     assert_eq!(rt; heap.heap().phase(), spent.phase);
 }
 
-/// Begins a cycle, and spends a first budget, all of it.
-fn start_cycle(rt: &impl Abort, heap: &mut Recorded, budget: u32) {
-    assert_eq!(rt; heap.begin(), Ok(()));
-    spend(rt, heap, budget, budget, false);
+/// What is done with a heap, or asked of it, and what must come of that.
+#[derive(Clone, Copy)]
+enum Turn {
+    /// A command of a mutator has this reply.
+    Call(u32, Command, Reply),
+    /// A cycle begins.
+    Begin,
+    /// No cycle begins, since one is on.
+    Busy,
+    /// Of a budget so many units are spent, and afterwards no cycle is on, or one still is.
+    Spend(u32, u32, bool),
+    /// A budget is refused.
+    OutOfRange(u32),
+    /// The cycle is in this phase.
+    Phase(Phase),
+    /// Blocks are being moved.
+    Moving,
+    /// So many units were spent on the cycle.
+    Units(u64),
+    /// So many objects are held.
+    Objects(usize),
+    /// So many pages are free.
+    FreePages(usize),
 }
 
-/// Does a whole cycle in one quantum, and compares the units that were spent.
-fn cycle_at_once(rt: &impl Abort, heap: &mut Recorded, units: u32) {
-    assert_eq!(rt; heap.begin(), Ok(()));
-    spend(rt, heap, 1000, units, true);
+/// The beginning of a cycle, with a first budget, all of which is spent.
+fn start_cycle(budget: u32) -> [Turn; 2] {
+    [Turn::Begin, Turn::Spend(budget, budget, false)]
+}
+
+/// A whole cycle in one quantum, and the units that are spent.
+fn cycle_at_once(units: u32) -> [Turn; 2] {
+    [Turn::Begin, Turn::Spend(1000, units, true)]
+}
+
+/// Takes turns with a heap, one after the other.
+fn play(rt: &impl Abort, heap: &mut Recorded, turns: &[Turn]) -> Result<(), NoMemory> {
+    for turn in turns {
+        match *turn {
+            Turn::Call(mutator, command, reply) => {
+                expect(rt, heap, mutator, &[(command, reply)])?;
+            }
+            Turn::Begin => assert_eq!(rt; heap.begin(), Ok(())),
+            Turn::Busy => assert_eq!(rt; heap.begin(), Err(Busy)),
+            Turn::Spend(budget, units, is_over) => spend(rt, heap, budget, units, is_over),
+            Turn::OutOfRange(budget) => {
+                assert_eq!(rt; heap.quantum(budget), Err(BudgetOutOfRange));
+            }
+            _ => stands(rt, heap.heap(), *turn),
+        }
+    }
+    Ok(())
+}
+
+/// What a turn asks of a heap.
+fn stands(rt: &impl Abort, heap: &Heap, turn: Turn) {
+    match turn {
+        Turn::Phase(phase) => assert_eq!(rt; heap.phase(), phase),
+        Turn::Moving => assert!(rt; matches!(heap.phase(), Phase::Moving(_))),
+        Turn::Units(units) => assert_eq!(rt; heap.units(), units),
+        Turn::Objects(objects) => assert_eq!(rt; heap.copies().objects, objects),
+        Turn::FreePages(pages) => assert_eq!(rt; heap.free_pages(), pages),
+        _ => {}
+    }
 }
 
 #[test]
@@ -208,10 +276,10 @@ fn words_are_kept(rt: HostRuntime) -> Result<(), NoMemory> {
         (plain(1, 0, 1), Reply::Made(2)),
         (get(0, 0), Reply::Word(7)),
         (get(1, 0), Reply::Word(0)),
-        (Command::Clear { dst: 0 }, Reply::Done),
+        (clear(0), Reply::Done),
         (get(0, 0), Reply::Refused(Refusal::NullSlot)),
     ];
     expect(&rt, &mut heap, 0, &steps)?;
     let unknown = Reply::Refused(Refusal::BadSlot);
-    expect(&rt, &mut heap, 1, &[(Command::Clear { dst: 0 }, unknown)])
+    expect(&rt, &mut heap, 1, &[(clear(0), unknown)])
 }

@@ -20,16 +20,20 @@ fn fill(heap: &mut Recorded, mutator: u32, slots: u32) -> Result<(), NoMemory> {
 }
 
 /// Overwrites some of a mutator's slots with null.
-fn clear(heap: &mut Recorded, mutator: u32, from: u32, to: u32) -> Result<(), NoMemory> {
+fn clear_slots(heap: &mut Recorded, mutator: u32, from: u32, to: u32) -> Result<(), NoMemory> {
     for dst in from..to {
-        heap.call(mutator, Command::Clear { dst })?;
+        heap.call(mutator, clear(dst))?;
     }
     Ok(())
 }
 
-/// How many objects the heap holds.
-fn objects(heap: &Recorded) -> usize {
-    heap.heap().copies().objects
+/// Overwrites ten of the first mutator's slots with null ten times, with a quantum after each time.
+fn clear_in_tenths(rt: &impl Abort, heap: &mut Recorded) -> Result<(), NoMemory> {
+    for tenth in 0..10u32 {
+        clear_slots(heap, 0, 10 * tenth, 10 * tenth + 10)?;
+        assert!(rt; heap.quantum(256).is_ok());
+    }
+    Ok(())
 }
 
 /// A cycle in which so many objects are overwritten before its first quantum: they are held when it ends,
@@ -37,14 +41,17 @@ fn objects(heap: &Recorded) -> usize {
 fn overwritten(rt: &(impl Abort + AllocGlobal), count: u32, units: u32) -> Result<(), NoMemory> {
     let mut heap = recorded(rt, &MANY_SLOTS)?;
     fill(&mut heap, 0, count)?;
-    assert_eq!(rt; heap.begin(), Ok(()));
-    clear(&mut heap, 0, 0, count)?;
-    spend(rt, &mut heap, 1000000, units, true);
-    assert_eq!(rt; objects(&heap), count as usize);
-    assert_eq!(rt; heap.begin(), Ok(()));
-    spend(rt, &mut heap, 1000000, 1031, true);
-    assert_eq!(rt; (objects(&heap), heap.heap().free_pages()), (0, 4));
-    Ok(())
+    play(rt, &mut heap, &[Turn::Begin])?;
+    clear_slots(&mut heap, 0, 0, count)?;
+    let turns = [
+        Turn::Spend(1000000, units, true),
+        Turn::Objects(count as usize),
+        Turn::Begin,
+        Turn::Spend(1000000, 1031, true),
+        Turn::Objects(0),
+        Turn::FreePages(4),
+    ];
+    play(rt, &mut heap, &turns)
 }
 
 #[test]
@@ -62,30 +69,46 @@ fn a_full_buffer_and_one_record_more_lose_none(rt: HostRuntime) -> Result<(), No
 fn quanta_between_the_records_change_no_unit(rt: HostRuntime) -> Result<(), NoMemory> {
     let mut heap = recorded(&rt, &MANY_SLOTS)?;
     fill(&mut heap, 0, 100)?;
-    assert_eq!(&rt; heap.begin(), Ok(()));
-    for tenth in 0..10u32 {
-        clear(&mut heap, 0, 10 * tenth, 10 * tenth + 10)?;
-        assert!(&rt; heap.quantum(256).is_ok());
+    play(&rt, &mut heap, &[Turn::Begin])?;
+    clear_in_tenths(&rt, &mut heap)?;
+    let ended = [
+        Turn::Phase(Phase::Idle),
+        Turn::Objects(100),
+        Turn::Units(1131),
+    ];
+    play(&rt, &mut heap, &ended)
+}
+
+/// Fills the slots of 64 mutators.
+fn fill_all(heap: &mut Recorded) -> Result<(), NoMemory> {
+    for mutator in 0..64 {
+        fill(heap, mutator, 65)?;
     }
-    assert!(&rt; heap.heap().phase() == Phase::Idle);
-    assert_eq!(&rt; (objects(&heap), heap.heap().units()), (100, 1131));
+    Ok(())
+}
+
+/// Overwrites the slots of 64 mutators with null.
+fn clear_all(heap: &mut Recorded) -> Result<(), NoMemory> {
+    for mutator in 0..64 {
+        clear_slots(heap, mutator, 0, 65)?;
+    }
     Ok(())
 }
 
 #[test]
 fn the_buffers_of_64_mutators_fill_between_two_quanta(rt: HostRuntime) -> Result<(), NoMemory> {
     let mut heap = recorded(&rt, &MANY_MUTATORS)?;
-    for mutator in 0..64 {
-        fill(&mut heap, mutator, 65)?;
-    }
-    start_cycle(&rt, &mut heap, 256);
-    for mutator in 0..64 {
-        clear(&mut heap, mutator, 0, 65)?;
-    }
-    spend(&rt, &mut heap, 1000000, 12691, true);
-    assert_eq!(&rt; (objects(&heap), heap.heap().units()), (4160, 12947));
-    assert_eq!(&rt; heap.begin(), Ok(()));
-    spend(&rt, &mut heap, 1000000, 8787, true);
-    assert_eq!(&rt; (objects(&heap), heap.heap().free_pages()), (0, 16));
-    Ok(())
+    fill_all(&mut heap)?;
+    play(&rt, &mut heap, &start_cycle(256))?;
+    clear_all(&mut heap)?;
+    let turns = [
+        Turn::Spend(1000000, 12691, true),
+        Turn::Objects(4160),
+        Turn::Units(12947),
+        Turn::Begin,
+        Turn::Spend(1000000, 8787, true),
+        Turn::Objects(0),
+        Turn::FreePages(16),
+    ];
+    play(&rt, &mut heap, &turns)
 }

@@ -1,7 +1,9 @@
 //! Cycles worked out by hand: what is freed, what is kept, and how many units that costs.
 
 use super::*;
+use graph_heap::Entry;
 use heap_model::phase::Phase;
+use std::alloc::Global;
 
 const TWO_SLOTS: Settings = Settings {
     pages: 2,
@@ -64,7 +66,7 @@ fn page_steps() -> [(Command, Reply); 13] {
             Command::Describe { a: 8 },
             Reply::Refused(Refusal::NullSlot),
         ),
-        (Command::Clear { dst: 3 }, Reply::Done),
+        (clear(3), Reply::Done),
         (words(3, 252), Reply::Made(9)),
     ]
 }
@@ -72,7 +74,7 @@ fn page_steps() -> [(Command, Reply); 13] {
 /// A heap in which slot 0 holds an object whose reference cell alone names another one, with 77 in it.
 fn linked(rt: &(impl Abort + AllocGlobal)) -> Result<Recorded, NoMemory> {
     let objects = [plain(0, 1, 0), plain(1, 0, 1)];
-    let steps = [put(1, 0, 77), store(0, 0, 1), Command::Clear { dst: 1 }];
+    let steps = [put(1, 0, 77), store(0, 0, 1), clear(1)];
     heap_with(rt, &MANY_SLOTS, 0, &objects, &steps)
 }
 
@@ -103,7 +105,7 @@ fn ring_of_a_cycle(rt: &(impl Abort + AllocGlobal)) -> Result<Recorded, NoMemory
 /// A heap of one page with two objects, of which a slot holds the second one.
 fn dropped(rt: &(impl Abort + AllocGlobal)) -> Result<Recorded, NoMemory> {
     let objects = [plain(0, 0, 1), plain(1, 0, 1)];
-    let steps = [Command::Clear { dst: 0 }];
+    let steps = [clear(0)];
     heap_with(rt, &ONE_PAGE_TWO_SLOTS, 0, &objects, &steps)
 }
 
@@ -119,7 +121,7 @@ fn moved_out() -> [(Command, Reply); 2] {
 fn moved_over() -> [(Command, Reply); 2] {
     [
         (Command::Copy { dst: 0, src: 100 }, Reply::Done),
-        (Command::Clear { dst: 100 }, Reply::Done),
+        (clear(100), Reply::Done),
     ]
 }
 
@@ -136,16 +138,13 @@ fn a_full_page_has_room_after_a_cycle(rt: HostRuntime) -> Result<(), NoMemory> {
     let mut heap = recorded(&rt, &ONE_PAGE)?;
     let steps = page_steps();
     expect(&rt, &mut heap, 0, &steps[..12])?;
-    assert_eq!(rt; heap.begin(), Ok(()));
-    spend(&rt, &mut heap, 256, 28, true);
+    play(&rt, &mut heap, &[Turn::Begin, Turn::Spend(256, 28, true)])?;
     expect(&rt, &mut heap, 0, &steps[12..])
 }
 
-#[test]
-fn events_are_done_in_their_order(rt: HostRuntime) -> Result<(), NoMemory> {
-    let mut heap = recorded(&rt, &ONE_PAGE)?;
-    let steps = page_steps();
-    let mut events = Vec::new(rt.alloc());
+/// Events of these commands, with a cycle before the last of thirteen.
+fn events_of(alloc: Global, steps: &[(Command, Reply)]) -> Result<Vec<Event>, NoMemory> {
+    let mut events = Vec::new(alloc);
     for (k, (command, _)) in steps.iter().enumerate() {
         if k == 12 {
             events.push(Event::Begin)?;
@@ -157,68 +156,97 @@ fn events_are_done_in_their_order(rt: HostRuntime) -> Result<(), NoMemory> {
             command,
         })?;
     }
+    Ok(events)
+}
+
+/// Compares entries of mutator 0 with their commands and replies.
+fn expect_entries(rt: &impl Abort, entries: &[Entry], steps: &[(Command, Reply)]) {
+    assert_eq!(rt; entries.len(), steps.len());
+    for (entry, (command, reply)) in entries.iter().zip(steps) {
+        let wanted = Entry {
+            mutator: 0,
+            command: *command,
+            reply: *reply,
+        };
+        assert_eq!(rt; *entry, wanted);
+    }
+}
+
+#[test]
+fn events_are_done_in_their_order(rt: HostRuntime) -> Result<(), NoMemory> {
+    let mut heap = recorded(&rt, &ONE_PAGE)?;
+    let steps = page_steps();
+    let events = events_of(rt.alloc(), &steps)?;
     assert_eq!(rt; events.len(), 15);
     assert_eq!(rt; heap.reserve(13), Ok(()));
     assert_eq!(rt; heap.run(events.as_slice()), Ok(()));
-    assert_eq!(rt; heap.history().len(), 13);
-    for (entry, (command, reply)) in heap.history().iter().zip(&steps) {
-        assert_eq!(rt; entry.mutator, 0);
-        assert_eq!(rt; entry.command, *command);
-        assert_eq!(rt; entry.reply, *reply, "{command:?}");
-    }
-    assert_eq!(rt; heap.heap().phase(), Phase::Idle);
-    assert_eq!(rt; heap.heap().units(), 28);
-    Ok(())
+    expect_entries(&rt, heap.history(), &steps);
+    play(&rt, &mut heap, &[Turn::Phase(Phase::Idle), Turn::Units(28)])
 }
 
 #[test]
 fn what_a_slot_held_is_kept(rt: HostRuntime) -> Result<(), NoMemory> {
     let mut heap = held(&rt)?;
-    start_cycle(&rt, &mut heap, 300);
+    play(&rt, &mut heap, &start_cycle(300))?;
     expect(&rt, &mut heap, 1, &moved_over())?;
-    spend(&rt, &mut heap, 1000, 629, true);
-    expect(&rt, &mut heap, 1, &[(get(0, 0), Reply::Word(78))])
+    let turns = [
+        Turn::Spend(1000, 629, true),
+        Turn::Call(1, get(0, 0), Reply::Word(78)),
+    ];
+    play(&rt, &mut heap, &turns)
 }
 
 #[test]
 fn what_a_cell_named_is_kept(rt: HostRuntime) -> Result<(), NoMemory> {
     let mut heap = linked(&rt)?;
-    start_cycle(&rt, &mut heap, 256);
+    play(&rt, &mut heap, &start_cycle(256))?;
     expect(&rt, &mut heap, 0, &moved_out())?;
-    for (units, is_over) in [(256, false), (256, false), (163, true)] {
-        spend(&rt, &mut heap, 256, units, is_over);
-    }
-    expect(&rt, &mut heap, 0, &[(get(2, 0), Reply::Word(77))])?;
-    assert_eq!(rt; heap.heap().units(), 931);
-    Ok(())
+    let turns = [
+        Turn::Spend(256, 256, false),
+        Turn::Spend(256, 256, false),
+        Turn::Spend(256, 163, true),
+        Turn::Call(0, get(2, 0), Reply::Word(77)),
+        Turn::Units(931),
+    ];
+    play(&rt, &mut heap, &turns)
 }
 
 #[test]
 fn a_ring_goes(rt: HostRuntime) -> Result<(), NoMemory> {
     let mut heap = ring(&rt)?;
     expect_done(&rt, &mut heap, 0, &CLEARS)?;
-    cycle_at_once(&rt, &mut heap, 416);
-    Ok(())
+    play(&rt, &mut heap, &cycle_at_once(416))
 }
 
 #[test]
 fn a_ring_stays_for_the_cycle_that_is_on(rt: HostRuntime) -> Result<(), NoMemory> {
-    let mut heap = ring_of_a_cycle(&rt)?;
-    spend(&rt, &mut heap, 1000, 420, true);
-    cycle_at_once(&rt, &mut heap, 416);
-    Ok(())
+    let turns = [
+        Turn::Spend(1000, 420, true),
+        Turn::Begin,
+        Turn::Spend(1000, 416, true),
+    ];
+    play(&rt, &mut ring_of_a_cycle(&rt)?, &turns)
 }
 
 #[test]
 fn what_is_made_behind_the_sweep_is_kept(rt: HostRuntime) -> Result<(), NoMemory> {
     let mut heap = dropped(&rt)?;
-    start_cycle(&rt, &mut heap, 256);
-    let page = 0;
-    let block = 251;
-    assert_eq!(rt; heap.heap().phase(), Phase::Sweeping { page, block });
+    let sweeping = Phase::Sweeping {
+        page: 0,
+        block: 251,
+    };
+    let first = [
+        Turn::Begin,
+        Turn::Spend(256, 256, false),
+        Turn::Phase(sweeping),
+    ];
+    play(&rt, &mut heap, &first)?;
     expect(&rt, &mut heap, 0, &made_late())?;
-    spend(&rt, &mut heap, 256, 160, true);
-    expect(&rt, &mut heap, 0, &[(get(0, 0), Reply::Word(9))])
+    let last = [
+        Turn::Spend(256, 160, true),
+        Turn::Call(0, get(0, 0), Reply::Word(9)),
+    ];
+    play(&rt, &mut heap, &last)
 }
 
 #[test]
@@ -249,8 +277,8 @@ fn units_of_a_ring_in_small_quanta(rt: HostRuntime) -> Result<(), NoMemory> {
 #[test]
 fn units_of_a_kept_ring_in_small_quanta(rt: HostRuntime) -> Result<(), NoMemory> {
     let mut heap = ring_of_a_cycle(&rt)?;
-    spend(&rt, &mut heap, 256, 256, false);
-    spend(&rt, &mut heap, 256, 164, true);
+    let first = [Turn::Spend(256, 256, false), Turn::Spend(256, 164, true)];
+    play(&rt, &mut heap, &first)?;
     cycle(&rt, &mut heap, 0, &[], 416)
 }
 

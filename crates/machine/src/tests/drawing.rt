@@ -14,7 +14,7 @@ const TWELVE_SLOTS: Settings = Settings {
 const COMMANDS: u32 = 20000;
 
 /// A linear congruential generator of 16 bits.
-#[derive(Clone, Copy, Debug, PartialEq, Eq)]
+#[derive(Clone, Copy)]
 struct Draw(u16);
 
 impl Draw {

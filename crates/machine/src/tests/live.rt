@@ -22,53 +22,47 @@ const MANY_ROOTS: Settings = Settings {
     ..MANY_SLOTS
 };
 
-/// How many objects the heap holds.
-fn objects(heap: &Recorded) -> usize {
-    heap.heap().copies().objects
-}
-
 #[test]
 fn a_mutator_joins_and_leaves(rt: HostRuntime) -> Result<(), NoMemory> {
     let mut heap = recorded(&rt, &ONE_LIVE)?;
     let not_live = Reply::Refused(Refusal::NotLive);
-    let first = [
-        (Command::Clear { dst: 9 }, not_live),
-        (Command::Join, Reply::Done),
-        (Command::Join, Reply::Refused(Refusal::AlreadyLive)),
-        (plain(0, 0, 1), Reply::Made(1)),
-        (put(0, 0, 5), Reply::Done),
-        (Command::StoreStatic { k: 0, src: 0 }, Reply::Done),
-        (Command::Leave, Reply::Done),
-        (get(0, 0), not_live),
+    let load = Command::LoadStatic { dst: 0, k: 0 };
+    let store = Command::StoreStatic { k: 0, src: 0 };
+    let turns = [
+        Turn::Call(1, clear(9), not_live),
+        Turn::Call(1, Command::Join, Reply::Done),
+        Turn::Call(1, Command::Join, Reply::Refused(Refusal::AlreadyLive)),
+        Turn::Call(1, plain(0, 0, 1), Reply::Made(1)),
+        Turn::Call(1, put(0, 0, 5), Reply::Done),
+        Turn::Call(1, store, Reply::Done),
+        Turn::Call(1, Command::Leave, Reply::Done),
+        Turn::Call(1, get(0, 0), not_live),
+        Turn::Call(0, load, Reply::Ref(1)),
+        Turn::Call(0, get(0, 0), Reply::Word(5)),
+        Turn::Call(2, Command::Join, Reply::Refused(Refusal::BadSlot)),
+        Turn::Call(1, Command::Join, Reply::Done),
+        Turn::Call(1, get(0, 0), Reply::Refused(Refusal::NullSlot)),
+        Turn::Call(0, Command::Leave, Reply::Done),
+        Turn::Call(0, Command::Leave, not_live),
     ];
-    expect(&rt, &mut heap, 1, &first)?;
-    let others = [
-        (Command::LoadStatic { dst: 0, k: 0 }, Reply::Ref(1)),
-        (get(0, 0), Reply::Word(5)),
-    ];
-    expect(&rt, &mut heap, 0, &others)?;
-    let beyond = Reply::Refused(Refusal::BadSlot);
-    expect(&rt, &mut heap, 2, &[(Command::Join, beyond)])?;
-    let again = [
-        (Command::Join, Reply::Done),
-        (get(0, 0), Reply::Refused(Refusal::NullSlot)),
-    ];
-    expect(&rt, &mut heap, 1, &again)?;
-    let last = [(Command::Leave, Reply::Done), (Command::Leave, not_live)];
-    expect(&rt, &mut heap, 0, &last)
+    play(&rt, &mut heap, &turns)
 }
 
 #[test]
 fn what_a_leaver_held_is_held_for_the_cycle(rt: HostRuntime) -> Result<(), NoMemory> {
     let mut heap = recorded(&rt, &MANY_SLOTS)?;
-    expect(&rt, &mut heap, 1, &[(plain(100, 0, 1), Reply::Made(1))])?;
-    start_cycle(&rt, &mut heap, 300);
-    expect(&rt, &mut heap, 1, &[(Command::Leave, Reply::Done)])?;
-    spend(&rt, &mut heap, 1000, 629, true);
-    assert_eq!(&rt; objects(&heap), 1);
-    cycle_at_once(&rt, &mut heap, 928);
-    assert_eq!(&rt; objects(&heap), 0);
-    Ok(())
+    let turns = [
+        Turn::Call(1, plain(100, 0, 1), Reply::Made(1)),
+        Turn::Begin,
+        Turn::Spend(300, 300, false),
+        Turn::Call(1, Command::Leave, Reply::Done),
+        Turn::Spend(1000, 629, true),
+        Turn::Objects(1),
+        Turn::Begin,
+        Turn::Spend(1000, 928, true),
+        Turn::Objects(0),
+    ];
+    play(&rt, &mut heap, &turns)
 }
 
 /// Mutator 0 holds 13 objects of which seven are dropped, on sparse pages, and mutator 1 holds 100.
@@ -87,12 +81,21 @@ fn filled(heap: &mut Recorded) -> Result<(), NoMemory> {
     Ok(())
 }
 
-/// Spends quanta until no cycle is on.
-fn finish(rt: &impl Abort, heap: &mut Recorded) {
-    for _ in 0..60u32 {
+/// Spends so many quanta.
+fn go_on(rt: &impl Abort, heap: &mut Recorded, quanta: u32) {
+    for _ in 0..quanta {
         assert!(rt; heap.quantum(256).is_ok());
     }
-    assert!(rt; heap.heap().phase() == Phase::Idle);
+}
+
+/// Spends quanta until no cycle is on, and then so many objects are held.
+fn finish(rt: &impl Abort, heap: &mut Recorded, objects: usize) -> Result<(), NoMemory> {
+    go_on(rt, heap, 60);
+    play(
+        rt,
+        heap,
+        &[Turn::Phase(Phase::Idle), Turn::Objects(objects)],
+    )
 }
 
 /// The whole history is one of the slow heap.
@@ -114,17 +117,13 @@ fn all_accepted(
 fn left_after(rt: &(impl Abort + AllocGlobal), quanta: u32) -> Result<Phase, NoMemory> {
     let mut heap = recorded(rt, &MANY_ROOTS)?;
     filled(&mut heap)?;
-    assert_eq!(rt; heap.begin(), Ok(()));
-    for _ in 0..quanta {
-        assert!(rt; heap.quantum(256).is_ok());
-    }
+    play(rt, &mut heap, &[Turn::Begin])?;
+    go_on(rt, &mut heap, quanta);
     let phase = heap.heap().phase();
-    expect(rt, &mut heap, 1, &[(Command::Leave, Reply::Done)])?;
-    finish(rt, &mut heap);
-    assert_eq!(rt; objects(&heap), 106);
-    assert_eq!(rt; heap.begin(), Ok(()));
-    finish(rt, &mut heap);
-    assert_eq!(rt; objects(&heap), 6);
+    expect_done(rt, &mut heap, 1, &[Command::Leave])?;
+    finish(rt, &mut heap, 106)?;
+    play(rt, &mut heap, &[Turn::Begin])?;
+    finish(rt, &mut heap, 6)?;
     let null = Reply::Refused(Refusal::NullSlot);
     let again = [
         (Command::Join, Reply::Done),

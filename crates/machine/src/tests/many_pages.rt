@@ -22,25 +22,17 @@ fn expect_held(rt: &impl Abort, heap: &Recorded, second: usize, last: usize) {
     assert_eq!(rt; held(heap, 65), last);
 }
 
-/// A heap whose pages are full of objects.
-fn full(rt: &(impl Abort + AllocGlobal)) -> Result<Recorded, NoMemory> {
-    let mut heap = recorded(rt, &MORE_PAGES)?;
-    for k in 0..528u32 {
-        let made = Reply::Made(u64::from(k).saturating_add(1));
-        expect(rt, &mut heap, k / 256, &[(words(k % 256, 252), made)])?;
-    }
-    assert_eq!(rt; heap.heap().free_pages(), 0);
-    Ok(heap)
-}
-
 #[test]
 fn blocks_of_pages_far_apart_are_found_again(rt: HostRuntime) -> Result<(), NoMemory> {
-    let mut heap = full(&rt)?;
-    let cleared = [Command::Clear { dst: 8 }];
-    expect_done(&rt, &mut heap, 0, &cleared)?;
-    expect_done(&rt, &mut heap, 2, &cleared)?;
-    assert_eq!(&rt; heap.begin(), Ok(()));
-    spend(&rt, &mut heap, 1000000, 1891, true);
+    let mut heap = with_arrays(&rt, &MORE_PAGES, 528)?;
+    let dropped = [
+        Turn::FreePages(0),
+        Turn::Call(0, clear(8), Reply::Done),
+        Turn::Call(2, clear(8), Reply::Done),
+        Turn::Begin,
+        Turn::Spend(1000000, 1891, true),
+    ];
+    play(&rt, &mut heap, &dropped)?;
     expect_held(&rt, &heap, 7, 7);
     expect(&rt, &mut heap, 0, &[(words(8, 252), Reply::Made(529))])?;
     expect_held(&rt, &heap, 8, 7);

@@ -39,13 +39,18 @@ fn of_a_heap(rt: HostRuntime) -> Result<(), NoMemory> {
     Ok(())
 }
 
+/// The reply to a command of mutator 0.
+fn told(heap: &mut Recorded, command: Command) -> Result<Reply, NoMemory> {
+    Ok(heap.call(0, command)?.entry().reply)
+}
+
 /// Calls for which room was made are all done.
 #[test]
 fn of_reserved_calls(rt: HostRuntime) -> Result<(), NoMemory> {
     let mut heap = recorded(&rt, &ONE_PAGE)?;
     heap.reserve(40)?;
     for k in 0..40usize {
-        assert!(&rt; told(&mut heap, Command::Clear { dst: 0 }).is_ok(), "{k}");
+        assert!(&rt; told(&mut heap, clear(0)).is_ok(), "{k}");
     }
     Ok(())
 }

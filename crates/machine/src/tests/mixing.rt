@@ -32,7 +32,7 @@ pub(super) const THREE_EMPTIED: Settings = Settings {
 pub(super) const COMMANDS: u32 = 3000;
 
 /// A linear congruential generator.
-#[derive(Clone, Copy, Debug, PartialEq, Eq)]
+#[derive(Clone, Copy)]
 pub(super) struct Random(pub(super) u64);
 
 impl Random {
@@ -158,7 +158,7 @@ fn mix(rt: &impl Abort, heap: &mut Recorded, limit: u64) -> Result<Mixed, NoMemo
 }
 
 /// What came in a history: want of room, an object made after that, and one of several parts.
-#[derive(Clone, Copy, Debug, PartialEq, Eq)]
+#[derive(Clone, Copy)]
 struct Seen {
     no_space: bool,
     made_after: bool,
@@ -212,12 +212,6 @@ fn accepted(
     Ok((mixed, seen))
 }
 
-const ALL_SEEN: Seen = Seen {
-    no_space: true,
-    made_after: true,
-    made_large: true,
-};
-
 /// Mixes commands on a heap of such settings: each kind is done, so many cycles end, and blocks move if they are to.
 fn expect_mixed(
     rt: &(impl Abort + AllocGlobal),
@@ -230,7 +224,8 @@ fn expect_mixed(
     let (ended, moving) = (mixed.cycles, mixed.moving);
     assert!(rt; ended >= cycles, "{ended} cycles");
     assert!(rt; (moving > 0) == moves, "{moving} quanta that moved");
-    assert_eq!(rt; seen, ALL_SEEN);
+    let was_seen = [seen.no_space, seen.made_after, seen.made_large];
+    assert_eq!(rt; was_seen, [true; 3]);
     Ok(())
 }
 

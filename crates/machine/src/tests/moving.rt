@@ -13,18 +13,12 @@ const THREE_PAGES: Settings = Settings {
 /// A heap with a page of eight arrays of words, of which two are dropped, with a ninth on a page of its
 /// own, and with an object on the third page, whose reference cell names the ninth.
 fn sparse(rt: &(impl Abort + AllocGlobal), settings: &Settings) -> Result<Recorded, NoMemory> {
-    let mut heap = recorded(rt, settings)?;
-    for k in 0..9u32 {
-        assert_eq!(rt;
-            told(&mut heap, words(k, 252))?,
-            Reply::Made(u64::from(k) + 1)
-        );
-    }
+    let mut heap = with_arrays(rt, settings, 9)?;
     let steps = [
         (plain(9, 1, 0), Reply::Made(10)),
         (store(9, 0, 8), Reply::Done),
-        (Command::Clear { dst: 0 }, Reply::Done),
-        (Command::Clear { dst: 1 }, Reply::Done),
+        (clear(0), Reply::Done),
+        (clear(1), Reply::Done),
     ];
     expect(rt, &mut heap, 0, &steps)?;
     Ok(heap)
@@ -33,7 +27,7 @@ fn sparse(rt: &(impl Abort + AllocGlobal), settings: &Settings) -> Result<Record
 /// Such a heap after a cycle, which has moved the ninth.
 fn moved(rt: &(impl Abort + AllocGlobal)) -> Result<Recorded, NoMemory> {
     let mut heap = sparse(rt, &THREE_PAGES)?;
-    cycle_at_once(rt, &mut heap, 823);
+    play(rt, &mut heap, &cycle_at_once(823))?;
     Ok(heap)
 }
 
@@ -55,23 +49,26 @@ fn seen_after() -> [(Command, Reply); 4] {
 fn a_moved_object_is_itself(rt: HostRuntime) -> Result<(), NoMemory> {
     let mut heap = moved(&rt)?;
     expect(&rt, &mut heap, 0, &seen_after())?;
-    cycle_at_once(&rt, &mut heap, 567);
-    Ok(())
+    play(&rt, &mut heap, &cycle_at_once(567))
 }
 
 #[test]
 fn a_move_waits_for_room(rt: HostRuntime) -> Result<(), NoMemory> {
     let mut heap = sparse(&rt, &THREE_PAGES)?;
-    start_cycle(&rt, &mut heap, 256);
-    assert_eq!(rt; heap.begin(), Err(Busy));
-    spend(&rt, &mut heap, 256, 256, false);
-    spend(&rt, &mut heap, 256, 54, false);
-    assert!(rt; matches!(heap.heap().phase(), Phase::Moving(_)));
-    assert_eq!(rt; heap.quantum(255), Err(BudgetOutOfRange));
-    spend(&rt, &mut heap, 256, 256, false);
-    spend(&rt, &mut heap, 256, 1, true);
-    spend(&rt, &mut heap, 256, 0, true);
-    assert_eq!(rt; heap.heap().units(), 823);
+    let turns = [
+        Turn::Begin,
+        Turn::Spend(256, 256, false),
+        Turn::Busy,
+        Turn::Spend(256, 256, false),
+        Turn::Spend(256, 54, false),
+        Turn::Moving,
+        Turn::OutOfRange(255),
+        Turn::Spend(256, 256, false),
+        Turn::Spend(256, 1, true),
+        Turn::Spend(256, 0, true),
+        Turn::Units(823),
+    ];
+    play(&rt, &mut heap, &turns)?;
     expect(&rt, &mut heap, 0, &seen_after())
 }
 
@@ -81,21 +78,19 @@ fn a_class_gets_another_pass(rt: HostRuntime) -> Result<(), NoMemory> {
         defrag_pages: 2,
         ..THREE_PAGES
     };
-    let mut heap = sparse(&rt, &settings)?;
-    cycle_at_once(&rt, &mut heap, 826);
-    Ok(())
+    play(&rt, &mut sparse(&rt, &settings)?, &cycle_at_once(826))
 }
 
 #[test]
 fn a_leaving_page_gets_no_object(rt: HostRuntime) -> Result<(), NoMemory> {
-    let mut heap = moved(&rt)?;
-    let before = [
-        (words(11, 252), Reply::Made(11)),
-        (words(10, 252), Reply::Refused(Refusal::NoSpace)),
+    let turns = [
+        Turn::Call(0, words(11, 252), Reply::Made(11)),
+        Turn::Call(0, words(10, 252), Reply::Refused(Refusal::NoSpace)),
+        Turn::Begin,
+        Turn::Spend(1000, 568, true),
+        Turn::Call(0, words(10, 252), Reply::Made(12)),
     ];
-    expect(&rt, &mut heap, 0, &before)?;
-    cycle_at_once(&rt, &mut heap, 568);
-    expect(&rt, &mut heap, 0, &[(words(10, 252), Reply::Made(12))])
+    play(&rt, &mut moved(&rt)?, &turns)
 }
 
 #[test]

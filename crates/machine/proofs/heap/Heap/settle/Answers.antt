@@ -1,4 +1,4 @@
-use Rattle.std.proofs.Common.{Result, Ok, sym, subst}
+use Rattle.std.proofs.Common.{Result, sym, subst}
 use Rattle.graph_heap.specs.declared.command.Refusal.{Refusal}
 use Rattle.graph_heap.specs.declared.command.Reply.TheVariants as replies
 use Rattle.heap_model.specs.State.{HeapState}

@@ -2,22 +2,16 @@ use Rattle.std.proofs.Common.{◌≡◌, ℕ, get_or, subst}
 use Rattle.graph_heap.specs.Graph.{Graph, object_of}
 use Rattle.heap_model.specs.State.{HeapState}
 use Rattle.heap_model.specs.Agreement.{Agrees}
-use Rattle.raw_heap.specs.Heap.{IsHeap}
-use Rattle.machine.specs.declared.plan.Cell.{Cell}
 use Rattle.machine.specs.Reading.{IsWordPlace}
-use Rattle.machine.proofs.Doing.{present_agrees, at_present}
+use Rattle.machine.proofs.Doing.{present_agrees, place_now}
 use Rattle.machine.proofs.Finding.{word_held, word_is}
 use Rattle.machine.proofs.heap.Heap.word_in.Goals as goal
 
--- the cell at present
-now : (h t : HeapState) → h ≡ t → (w : IsHeap h) (at : Cell) → ((g : Graph) → Agrees t g → (id : ℕ) × (i : ℕ) × IsWordPlace t g id i at) → (id : ℕ) × (i : ℕ) × IsWordPlace h w.present id i at
-now h t is w at = at_present (λ x g. (id : ℕ) × (i : ℕ) × IsWordPlace x g id i at) h t is w
-
 pub cell-requires-clause-held : goal.cell-requires-clause-held
-cell-requires-clause-held c = let p = now _ _ c.self.view_is c.self.invariant.heap c.args.at c.requires in word_held _ c.self.invariant.heap.present (present_agrees _ c.self.invariant.heap) p.0 p.1 c.args.at p.2
+cell-requires-clause-held c = let p = place_now IsWordPlace _ _ c.self.view_is c.self.invariant.heap c.args.at c.requires in word_held _ c.self.invariant.heap.present (present_agrees _ c.self.invariant.heap) p.0 p.1 c.args.at p.2
 
 pub cell-requires-clause-within : goal.cell-requires-clause-within
-cell-requires-clause-within c = (now _ _ c.self.view_is c.self.invariant.heap c.args.at c.requires).2.1.within
+cell-requires-clause-within c = (place_now IsWordPlace _ _ c.self.view_is c.self.invariant.heap c.args.at c.requires).2.1.within
 
 pub returns : goal.returns
 returns c = subst (λ (x : HeapState). (g : Graph) (id i : ℕ) → Agrees x g → IsWordPlace x g id i c.args.at → c.cell.result ≡ get_or (object_of g.objects id).words i 0) c.self.view_is

@@ -1,20 +1,19 @@
 -- Lines and one more: what they come to, and what they keep to.
-use Rattle.std.proofs.Common.{◌≡◌, ℕ, ◌+◌, ◌-◌, ◌*◌, ◌<◌, ◌≤◌, List, [], ◌∷◌, ◌++◌, subst, refl}
+use Rattle.std.proofs.Common.{◌≡◌, ℕ, ◌+◌, ◌-◌, ◌*◌, ◌<◌, ◌≤◌, List, [], ◌∷◌, ◌++◌, subst}
 use Rattle.size_classes.specs.declared.class.TheConstants.{CLASSES}
 use Rattle.trace.specs.declared.line.Line.{Line}
 use Rattle.trace.specs.declared.line.Line.TheVariants as lines
 use Rattle.space.specs.Room.{asks}
 use Rattle.arrivals.specs.Load.{Load, StaysInBucket, BeginsOften, AreBudgets}
 use Rattle.arrivals.specs.Metering.{level_after}
+use Rattle.arrivals.proofs.Steps.{along, along_append}
 
 -- the level of a class's bucket after lines
 abbrev pub level_of : Load → ℕ → ℕ → List Line → ℕ
-level_of l class level [] = level
-level_of l class level (line ∷ rest) = level_of l class (level_after l class level line) rest
+level_of l class level ls = along (level_after l class) level ls
 
 pub level_append : (l : Load) (class level : ℕ) (ls ms : List Line) → level_of l class level (ls ++ ms) ≡ level_of l class (level_of l class level ls) ms
-level_append l class level [] ms = refl
-level_append l class level (line ∷ ls) ms = level_append l class (level_after l class level line) ls ms
+level_append l class level ls ms = along_append (level_after l class) level ls ms
 
 -- the ticks since the last line `begin` after lines
 abbrev pub since_by : ℕ → Line → ℕ
@@ -23,12 +22,10 @@ since_by since (lines.Tick n) = since + n
 since_by since line = since
 
 abbrev pub since_of : ℕ → List Line → ℕ
-since_of since [] = since
-since_of since (line ∷ rest) = since_of (since_by since line) rest
+since_of since ls = along since_by since ls
 
 pub since_more : (since : ℕ) (ls : List Line) (line : Line) → since_of since (ls ++ line ∷ []) ≡ since_by (since_of since ls) line
-since_more since [] line = refl
-since_more since (x ∷ ls) line = since_more (since_by since x) ls line
+since_more since ls line = along_append since_by since ls (line ∷ [])
 
 module _ (l : Load) where
   pub stays_more : (ls : List Line) (level : ℕ → ℕ) (line : Line) → StaysInBucket l level ls → StaysInBucket l (λ class. level_of l class (level class) ls) (line ∷ []) → StaysInBucket l level (ls ++ line ∷ [])

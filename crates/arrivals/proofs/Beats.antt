@@ -5,15 +5,14 @@ use Rattle.heap_model.specs.declared.phase.Phase.TheVariants as phases
 use Rattle.heap_model.specs.Event.{Event, Command_done, Cycle_begun, Cycle_on, Quantum_done, Quantum_refused}
 use Rattle.space.specs.Pace.{Pace, Beat, next_beat, in_cycle, AllKeepPace}
 use Rattle.arrivals.specs.Load.{AllLive}
+use Rattle.arrivals.proofs.Steps.{along, along_append}
 
 -- where events lead
 abbrev pub beats : Beat → List Event → Beat
-beats b [] = b
-beats b (e ∷ es) = beats (next_beat b e) es
+beats b es = along next_beat b es
 
 pub beats_more : (b : Beat) (es : List Event) (e : Event) → beats b (es ++ e ∷ []) ≡ next_beat (beats b es) e
-beats_more b [] e = refl
-beats_more b (x ∷ es) e = beats_more (next_beat b x) es e
+beats_more b es e = along_append next_beat b es (e ∷ [])
 
 pub keep_more : (p : Pace) (k : ℕ) (b : Beat) (es fs : List Event) → AllKeepPace p k b es → AllKeepPace p k (beats b es) fs → AllKeepPace p k b (es ++ fs)
 keep_more p k b [] fs a c = c
@@ -46,13 +45,6 @@ live_more live b (Quantum_refused budget ∷ es) fs a = live_more live b es fs a
 pub on_or_off : (b : Bool) → (b ≡ true) ⊎ (b ≡ false)
 on_or_off true = inl refl
 on_or_off false = inr refl
-
-pub idle_phase : (f : Phase) → in_cycle f ≡ false → f ≡ phases.Idle
-idle_phase phases.Idle e = refl
-idle_phase (phases.Roots next) e = absurd (cc)
-idle_phase (phases.Marking part cell) e = absurd (cc)
-idle_phase (phases.Sweeping page block) e = absurd (cc)
-idle_phase (phases.Moving m) e = absurd (cc)
 
 pub busy_phase : (f : Phase) → f ≢ phases.Idle → in_cycle f ≡ true
 busy_phase phases.Idle e = absurd (e refl)

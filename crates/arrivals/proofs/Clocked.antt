@@ -153,15 +153,23 @@ module _ (l : Load) (c q k : ℕ) (some : 1 ≤ c) where
       same : after.timetable.clock ≡ p.timetable.clock
       same = w.clock
 
-      end : start_after q (last_or None after.timetable.intervals) ≡ start_after q (last_or None p.timetable.intervals)
-      end = ap (λ (z : List Interval). start_after q (last_or None z)) w.intervals
+      spaced : start_after q (last_or None after.timetable.intervals) < after.timetable.clock + c + q
+      spaced =
+          let before = i.soon.spaced in
+          let s = same in
+          let e : start_after q (last_or None after.timetable.intervals) ≡ start_after q (last_or None p.timetable.intervals) = ap (λ (z : List Interval). start_after q (last_or None z)) w.intervals in
+          omega (arith, before, e, s)
+
+      -- what was before is not later
+      not_later : (n : ℕ) → n ≤ p.timetable.clock → n ≤ after.timetable.clock
+      not_later n h = let s = same in omega (arith, s, h)
+
+      timed : (z : Beat) → z.on ≡ in_cycle course.heap.phase → (z.on ≡ false → after.timetable.due ≡ None) → IsTimed c q k after z
+      timed z on off = record { collector = w.collector ∙ i.timed.collector; mutator = w.mutator ∙ i.timed.mutator; budget = i.timed.budget; on = on; off = off }
 
       at_work : b.on ≡ true → IsFurther after (next_beat b (Quantum_done budget units phase)) ls
       at_work on =
-          let spaced = i.soon.spaced in
           let begun = i.begun in
-          let past = i.past in
-          let e = end in
           let s = same in
           let soon = i.soon.due on in
           let less = soon.2 in
@@ -171,12 +179,12 @@ module _ (l : Load) (c q k : ℕ) (some : 1 ≤ c) where
             last,
             (λ class. 0),
             record {
-              timed = record { collector = w.collector ∙ i.timed.collector; mutator = w.mutator ∙ i.timed.mutator; budget = i.timed.budget; on = sym (ap in_cycle does.ends); off = w.off };
-              soon = record { due = λ o. (soon.0, w.on o ∙ soon.1, omega (arith, less, begun)); spaced = omega (arith, spaced, e, s) };
+              timed = timed (record b { on = in_cycle phase; asked = λ class. 0 }) (sym (ap in_cycle does.ends)) w.off;
+              soon = record { due = λ o. (soon.0, w.on o ∙ soon.1, omega (arith, less, begun)); spaced = spaced };
               ahead = λ d o f. (let z = same_due p.timetable.due soon.0 d soon.1 (sym (w.on o) ∙ f) in omega (arith, s, z, ahead));
-              begun = omega (arith, s);
-              past = omega (arith, s, past);
-              since = λ o. past;
+              begun = not_later p.timetable.clock (omega arith);
+              past = not_later last i.past;
+              since = λ o. i.past;
               counted = λ class. omega arith;
             },
             subst (λ z. AsksFrom l p.timetable.clock (λ class. 0) z ls) (sym s) arrives.0,
@@ -185,27 +193,22 @@ module _ (l : Load) (c q k : ℕ) (some : 1 ≤ c) where
 
       at_rest : b.on ≡ false → IsFurther after (next_beat b (Quantum_done budget units phase)) ls
       at_rest off =
-          let spaced = i.soon.spaced in
-          let begun = i.begun in
-          let past = i.past in
-          let e = end in
-          let s = same in
           let still = rests p.course course b budget units phase off i.timed.on does in
           subst (λ z. IsFurther after z ls) (sym (next_off b budget units phase off)) (
             start,
             last,
             asked,
             record {
-              timed = record { collector = w.collector ∙ i.timed.collector; mutator = w.mutator ∙ i.timed.mutator; budget = i.timed.budget; on = i.timed.on ∙ sym (ap (λ (h : HeapState). in_cycle h.phase) still.0); off = λ o. w.off (ap in_cycle still.1) };
-              soon = record { due = λ o. absurd (let z : true ≡ false = sym o ∙ off in cc); spaced = omega (arith, spaced, e, s) };
+              timed = timed b (i.timed.on ∙ sym (ap (λ (h : HeapState). in_cycle h.phase) still.0)) (λ o. w.off (ap in_cycle still.1));
+              soon = record { due = λ o. absurd (let z : true ≡ false = sym o ∙ off in cc); spaced = spaced };
               ahead = λ d o f. absurd (let z : true ≡ false = sym o ∙ off in cc);
-              begun = omega (arith, s, begun);
-              past = omega (arith, s, past);
+              begun = not_later start i.begun;
+              past = not_later last i.past;
               since = i.since;
               counted = i.counted;
             },
-            subst (λ z. AsksFrom l start asked z ls) (sym s) from,
-            subst (λ z. BeginsOften l.gap (z - last) ls) (sym s) often,
+            subst (λ z. AsksFrom l start asked z ls) (sym same) from,
+            subst (λ z. BeginsOften l.gap (z - last) ls) (sym same) often,
           )
   line_keeps p b start last asked line ls es new i from often budgets arrives live (Ticks n fs r small w none) =
       let z = dues_timed c q k (p.timetable.clock + n) (pace_of l c q) p r b fs w i.timed in

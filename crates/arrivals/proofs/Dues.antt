@@ -12,7 +12,8 @@ use Rattle.quanta.specs.declared.interval.Interval.{Interval}
 use Rattle.quanta.proofs.Lasts.{last_or-append}
 use Rattle.player.specs.Player.{PlayerState, behind_quantum, placed, quantum_behind, QuantaDue, None_yet, One_more}
 use Rattle.space.specs.Pace.{Pace, Beat, next_beat, in_cycle, AllKeepPace}
-use Rattle.arrivals.proofs.Beats.{beats, beats_more, keep_more, next_on, on_or_off, idle_phase}
+use Rattle.space.proofs.Pacing.{idle_phase}
+use Rattle.arrivals.proofs.Beats.{beats, beats_more, keep_more, next_on, on_or_off}
 
 -- a quantum's end, by its phase: the timetable goes on, or the cycle has ended
 pub record EndsQuantum (phase : Phase) (t u : Timetable) : Type 0 where

@@ -1,3 +1,4 @@
+pub mod Steps
 pub mod Beats
 pub mod Dues
 pub mod Clocked

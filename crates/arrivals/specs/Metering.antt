@@ -6,9 +6,8 @@ use Rattle.trace.specs.declared.line.Line.{Line}
 use Rattle.trace.specs.declared.line.Line.TheVariants as lines
 use Rattle.trace.specs.declared.version.Version.{Version}
 use Rattle.trace.specs.declared.version.Version.TheVariants.{Second}
-use Rattle.trace.specs.declared.fault.LineFault.TheVariants.{NotAnEvent}
 use Rattle.trace.specs.declared.fault.TextFault.{TextFault}
-use Rattle.trace.specs.declared.fault.TextFault.TheVariants.{Line as At_line}
+use Rattle.trace.specs.Numbered.{IsNoEvent}
 use Rattle.trace.specs.Spelling.{TellsVersion, Spells}
 use Rattle.space.specs.Room.{asks}
 use Rattle.arrivals.specs.declared.keeping.Meter.{Meter}
@@ -58,9 +57,9 @@ Metered l k old (lines.Command m c) new (Some BeginsLate) = ((class : ℕ) → c
 Metered l k old (lines.Quantum budget) new (Some SmallQuantum) = budget < k
 Metered l k old line new (Some by) = ⊥
 
--- a fault at a line: no line of a trace is spelled so, and it doesn't tell the version
+-- a fault at a line
 abbrev pub NoEvent : Version → TextFault → List ℕ → ℕ → Unit {0} → Unit {0} → Type 0
-NoEvent version fault text number old new = (fault ≡ At_line number NotAnEvent) × ((x : Line) → Spells version text x → ⊥) × (¬ TellsVersion number text)
+NoEvent version fault text number old new = IsNoEvent version fault text number
 
 -- What came of the text of a line, with the version before it and after it: it tells that of the next, or is
 -- metered.

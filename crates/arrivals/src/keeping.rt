@@ -10,7 +10,7 @@ ghost use Rattle.arrivals.specs.Keeping.{LoadChecked};
 use crate::load::Load;
 use graph_heap::Command;
 use size_classes::{CLASSES, Class, Config, Need, parts_of};
-use trace::{Line, LineFault, LineReader, Source, TextFault, Version, read_line, tells_version};
+use trace::{Line, LineReader, Source, TextFault, Version, read_numbered};
 
 /// In which way a line breaks a load.
 #[derive(Clone, Copy, Debug, PartialEq, Eq)]
@@ -148,14 +148,10 @@ fn check_line(
     requires { IsWithin (load_in load.now) meter.old }
     ensures { TextMetered (load_in load.now) budget bytes.now number version.old version.new meter.old meter.new result }
 {
-    if tells_version(number, bytes) {
-        *version = Version::Second;
-        return Ok(None);
+    match read_numbered(bytes, number, version)? {
+        Some(line) => Ok(meter.note(&line, load, budget)),
+        None => Ok(None),
     }
-    let Some(line) = read_line(*version, bytes) else {
-        return Err(TextFault::Line(number, LineFault::NotAnEvent));
-    };
-    Ok(meter.note(&line, load, budget))
 }
 
 /// Reads the lines of a source, and tells whether they keep to a load, with quanta of no fewer units than those

@@ -8,7 +8,6 @@ use std::process::Abort;
 
 const SETTINGS: Settings = Settings {
     pages: 7,
-    mutators: 1,
     slots: 12,
     defrag_below: 4,
     defrag_pages: 1,
@@ -45,10 +44,8 @@ fn loads_come_to_a_pace(rt: HostRuntime) {
     assert!(rt; !load_fits(&config, &load));
     assert!(rt; least_pages_for(&config, &load).is_none());
     let slow = Load {
-        live: table(1000),
         rate: table(0),
-        burst: table(5),
-        gap: 40,
+        ..load
     };
     // 59 quanta over 7 pages: 1000 + 2 * 59 * 5 + 5 blocks are 4 pages, and one may be sparse; 34 quanta
     // over 4 pages: 1345 blocks are 3 pages, and one may be sparse.

@@ -23,11 +23,11 @@ use Rattle.heap_model.proofs.Course.{founded, present_row, enters_step, enters_p
 use Rattle.heap_model.proofs.Agreements.{consistent_agrees}
 use Rattle.space.specs.Demand.{Demand, LiveWithin, blocks_of, blocks_by, asked_by, asked_for}
 use Rattle.space.specs.Tally.{Tally, opening_tally, after_event, is_tracing}
-use Rattle.space.specs.Pace.{Pace, Beat, opening_beat, next_beat, in_cycle}
+use Rattle.space.specs.Pace.{Pace, Beat, AllKeepPace, opening_beat, next_beat, in_cycle}
 use Rattle.space.proofs.Pacing.{more_since}
 use Rattle.measure.specs.declared.meter.Meter.{Meter}
 use Rattle.measure.specs.Counts.{AreBlocks}
-use Rattle.measure.specs.Measured.{IsLeastDemand}
+use Rattle.measure.specs.Measured.{IsPaceWithin}
 use Rattle.measure.specs.Meter.{tally_after, beat_after, AllFit, Asks, Allocates, AreOf, Holds, Needs, Measures, Works}
 use Rattle.measure.proofs.Counting.{are_sum, are_max, are_same, max_sum}
 use Rattle.measure.proofs.Events.{tally_append, beat_append, demand_more, pace_more, Least, demand_live, demand_allocated, demand_same, pace_live, pace_busy, pace_idle, pace_same, quanta_keep, quanta_pace, quanta_budgets, budgets_append}
@@ -99,14 +99,11 @@ module _ (l : Limits) (es : List Event) (r new : Course) (m : ℕ) (c : Command)
   steps = (enters_step r new m c reply w e).1 ∙ (unfold next_of in refl)
 
   -- the graph heap before and after
-  pub meter_graph : old.graph ≡ g
+  meter_graph : old.graph ≡ g
   meter_graph = v.holds.graph ∙ v.are.graph
 
-  pub meter_row : length old.graph.roots ≡ root_cells old.graph.limits
+  meter_row : length old.graph.roots ≡ root_cells old.graph.limits
   meter_row = subst (λ (z : Graph). length z.roots ≡ root_cells z.limits) (sym meter_graph) (present_row r.heap g (snapshot_of r) w.stands.consistent)
-
-  pub meter_entry : IsEntryOf old.graph entry
-  meter_entry = subst (λ z. IsEntryOf z entry) (sym meter_graph) (enters_step r new m c reply w e).0
 
   after_is : (z : Graph) → z ≡ g → after_entry z entry ≡ changed g change
   after_is z s = ap (λ y. after_entry y entry) s ∙ steps
@@ -142,7 +139,10 @@ module _ (l : Limits) (es : List Event) (r new : Course) (m : ℕ) (c : Command)
       let y : blocks_of (drop n t.graph.objects) class ≡ blocks_of (drop n g.objects) class = ap (λ (z : Graph). blocks_of (drop n z.objects) class) v.are.graph in
       omega (arith, a, x, y)
 
-  module _ (asked : List ℕ) (a : AreBlocks asked (asked_for old.graph m c)) (mid : Meter) (s : Asks asked old mid) where
+  module _ (asked : List ℕ) (by_row : length old.graph.roots ≡ root_cells old.graph.limits → AreBlocks asked (asked_for old.graph m c)) (mid : Meter) (s : Asks asked old mid) where
+    a : AreBlocks asked (asked_for old.graph m c)
+    a = by_row meter_row
+
     asked_is : AreBlocks asked (asked_for t.graph m c)
     asked_is = are_same asked (asked_for old.graph m c) (asked_for t.graph m c) (λ class low. ap (λ z. asked_for z m c class) (sym v.holds.graph)) a
 
@@ -161,53 +161,53 @@ module _ (l : Limits) (es : List Event) (r new : Course) (m : ℕ) (c : Command)
     abbrev most_new : Demand
     most_new = record { live = v.needs.most.live; allocated = λ class. max (v.needs.most.allocated class) (wanted class) }
 
-    least_demand : IsLeastDemand l (es ++ event ∷ []) most_new
-    least_demand = demand_more l es (event ∷ []) v.needs.most most_new (λ q. Least wanted q.allocated) v.needs.demands (λ q. (λ k. k.0, λ k. (k, tt))) (demand_allocated v.needs.most wanted)
-
     budgets : (k : ℕ) → HaveBudgets k (es ++ event ∷ []) ↔ IfSome mid.budget (λ budget. k ≤ budget)
     budgets k =
         let p = budgets_append k es (event ∷ []) in
         let q = v.needs.budget k in
         subst (λ o. HaveBudgets k (es ++ event ∷ []) ↔ IfSome o (λ budget. k ≤ budget)) (sym s.budget) (λ h. q.0 (p.0 h).0, λ h. p.1 (q.1 h, tt))
 
+    -- what a pace gives while a cycle is on, or while none is
+    abbrev given : Bool → Pace → ℕ → ℕ
+    given o q class = if o then q.busy class else q.idle class
+
+    keeps_by : (o : Bool) → b.on ≡ o → (q : Pace) (k : ℕ) → AllKeepPace q k b (event ∷ []) ↔ (Least now (given o q) × HaveBudgets k (event ∷ []))
+    keeps_by o is q k = (λ h. ((λ class low. subst (λ y. now class ≤ given y q class) is (h.0 class low)), tt), λ h. ((λ class low. subst (λ y. now class ≤ given y q class) (sym is) (h.0 class low)), tt))
+
+    needs_with : (o : Bool) → b.on ≡ o → (busy idle : ℕ → ℕ) → ((q : Pace) → (IsPaceWithin v.needs.pace q × Least now (given o q)) ↔ IsPaceWithin (record { live = v.needs.pace.live; busy = busy; idle = idle }) q)
+        → AreBlocks mid.busy busy → AreBlocks mid.idle idle → Needs l (es ++ event ∷ []) mid
+    needs_with o is busy idle both are_busy are_idle =
+        let pace_new : Pace = record { live = v.needs.pace.live; busy = busy; idle = idle } in
+        record {
+          most = most_new;
+          pace = pace_new;
+          demands = demand_more l es (event ∷ []) v.needs.most most_new (λ q. Least wanted q.allocated) v.needs.demands (λ q. (λ k. k.0, λ k. (k, tt))) (demand_allocated v.needs.most wanted);
+          paces = pace_more l es (event ∷ []) v.needs.pace pace_new (λ q. Least now (given o q)) v.needs.paces (keeps_by o is) both;
+          live = subst (λ z. AreBlocks z v.needs.most.live) (sym s.live) v.needs.live;
+          allocated = max_sum old.allocated old.since_base asked mid.allocated v.needs.most.allocated (blocks_of (drop t.base t.graph.objects)) (asked_for t.graph m c) v.needs.allocated v.holds.since_base asked_is s.allocated;
+          pace_live = subst (λ z. AreBlocks z v.needs.pace.live) (sym s.live) v.needs.pace_live;
+          busy = are_busy;
+          idle = are_idle;
+          budget = budgets;
+        }
+
     needs_by : (o : Bool) → b.on ≡ o → Needs l (es ++ event ∷ []) mid
     needs_by true on =
-        let pace_new : Pace = record { live = v.needs.pace.live; busy = λ class. max (v.needs.pace.busy class) (now class); idle = v.needs.pace.idle } in
-        record {
-          most = most_new;
-          pace = pace_new;
-          demands = least_demand;
-          paces = pace_more l es (event ∷ []) v.needs.pace pace_new (λ q. Least now q.busy) v.needs.paces
-              (λ q k. (λ h. ((λ class low. subst (λ o. now class ≤ (if o then q.busy class else q.idle class)) on (h.0 class low)), tt), λ h. ((λ class low. subst (λ o. now class ≤ (if o then q.busy class else q.idle class)) (sym on) (h.0 class low)), tt)))
-              (pace_busy v.needs.pace now);
-          live = subst (λ z. AreBlocks z v.needs.most.live) (sym s.live) v.needs.live;
-          allocated = max_sum old.allocated old.since_base asked mid.allocated v.needs.most.allocated (blocks_of (drop t.base t.graph.objects)) (asked_for t.graph m c) v.needs.allocated v.holds.since_base asked_is s.allocated;
-          pace_live = subst (λ z. AreBlocks z v.needs.pace.live) (sym s.live) v.needs.pace_live;
-          busy = are_max old.busy mid.asked mid.busy v.needs.pace.busy now v.needs.busy now_held (s.busy (v.holds.on ∙ on));
-          idle = subst (λ z. AreBlocks z v.needs.pace.idle) (sym (s.not_idle (v.holds.on ∙ on))) v.needs.idle;
-          budget = budgets;
-        }
+        needs_with true on (λ class. max (v.needs.pace.busy class) (now class)) v.needs.pace.idle (pace_busy v.needs.pace now)
+        (are_max old.busy mid.asked mid.busy v.needs.pace.busy now v.needs.busy now_held (s.busy (v.holds.on ∙ on)))
+        (subst (λ z. AreBlocks z v.needs.pace.idle) (sym (s.not_idle (v.holds.on ∙ on))) v.needs.idle)
     needs_by false off =
-        let pace_new : Pace = record { live = v.needs.pace.live; busy = v.needs.pace.busy; idle = λ class. max (v.needs.pace.idle class) (now class) } in
-        record {
-          most = most_new;
-          pace = pace_new;
-          demands = least_demand;
-          paces = pace_more l es (event ∷ []) v.needs.pace pace_new (λ q. Least now q.idle) v.needs.paces
-              (λ q k. (λ h. ((λ class low. subst (λ o. now class ≤ (if o then q.busy class else q.idle class)) off (h.0 class low)), tt), λ h. ((λ class low. subst (λ o. now class ≤ (if o then q.busy class else q.idle class)) (sym off) (h.0 class low)), tt)))
-              (pace_idle v.needs.pace now);
-          live = subst (λ z. AreBlocks z v.needs.most.live) (sym s.live) v.needs.live;
-          allocated = max_sum old.allocated old.since_base asked mid.allocated v.needs.most.allocated (blocks_of (drop t.base t.graph.objects)) (asked_for t.graph m c) v.needs.allocated v.holds.since_base asked_is s.allocated;
-          pace_live = subst (λ z. AreBlocks z v.needs.pace.live) (sym s.live) v.needs.pace_live;
-          busy = subst (λ z. AreBlocks z v.needs.pace.busy) (sym (s.not_busy (v.holds.on ∙ off))) v.needs.busy;
-          idle = are_max old.idle mid.asked mid.idle v.needs.pace.idle now v.needs.idle now_held (s.idle (v.holds.on ∙ off));
-          budget = budgets;
-        }
+        needs_with false off v.needs.pace.busy (λ class. max (v.needs.pace.idle class) (now class)) (pace_idle v.needs.pace now)
+        (subst (λ z. AreBlocks z v.needs.pace.busy) (sym (s.not_busy (v.holds.on ∙ off))) v.needs.busy)
+        (are_max old.idle mid.asked mid.idle v.needs.pace.idle now v.needs.idle now_held (s.idle (v.holds.on ∙ off)))
 
     needs_now : Needs l (es ++ event ∷ []) mid
     needs_now = needs_by b.on refl
 
-    module _ (step : Meter) (z : step ≡ record mid { graph = after_entry mid.graph entry }) where
+    module _ (step : Meter) (by_entry : IsEntryOf mid.graph entry → step ≡ record mid { graph = after_entry mid.graph entry }) where
+      z : step ≡ record mid { graph = after_entry mid.graph entry }
+      z = by_entry (subst (λ x. IsEntryOf x entry) (sym (s.graph ∙ meter_graph)) (enters_step r new m c reply w e).0)
+
       step_graph : step.graph ≡ after_entry t.graph entry
       step_graph = ap (λ (x : Meter). x.graph) z ∙ ap (λ x. after_entry x entry) (s.graph ∙ v.holds.graph)
 

@@ -28,6 +28,8 @@ use Rattle.measure.specs.declared.run.Run.{Run}
 use Rattle.measure.specs.declared.meter.Meter.{Meter}
 use Rattle.measure.specs.Meter.{Measures, AreQuanta, Works}
 use Rattle.measure.specs.Measuring.{IsAt, LineMeasured}
+use Rattle.player.proofs.Ticking.{behind_same}
+use Rattle.space.proofs.Pacing.{idle_phase}
 use Rattle.measure.proofs.Metering.{skip_measures, goes_on_measures}
 
 -- what has been done so far is a course
@@ -77,18 +79,11 @@ command_enters p q line es m c reply (Ticks n fs r small w none) e = absurd (no_
 idle_or : (f : Phase) → in_cycle f ≡ true → f ≢ phases.Idle
 idle_or f on e = let z : true ≡ false = sym on ∙ ap in_cycle e in cc
 
-is_idle : (f : Phase) → in_cycle f ≡ false → f ≡ phases.Idle
-is_idle phases.Idle e = refl
-is_idle (phases.Roots next) e = absurd (cc)
-is_idle (phases.Marking part cell) e = absurd (cc)
-is_idle (phases.Sweeping page block) e = absurd (cc)
-is_idle (phases.Moving m) e = absurd (cc)
-
 pub begins_new : (p q : PlayerState) (line : Line) (es : List Event) → DoesLine p line es q → line ≡ lines.Begin → in_cycle p.course.heap.phase ≡ false → (es ≡ Cycle_begun ∷ []) × Begins p.course q.course
 begins_new p q line es Skips e off = absurd (cc)
 begins_new p q line es (Commands m c reply course d) e off = absurd (cc)
 begins_new p q line es (players.Begins course d) e off = (refl, d)
-begins_new p q line es (Goes_on d) e off = absurd (d.0 (is_idle p.course.heap.phase off))
+begins_new p q line es (Goes_on d) e off = absurd (d.0 (idle_phase p.course.heap.phase off))
 begins_new p q line es (Spends budget units phase course d) e off = absurd (cc)
 begins_new p q line es (Ticks n fs r small w none) e off = absurd (cc)
 
@@ -104,13 +99,6 @@ begins_on p q line es (Ticks n fs r small w none) e on = absurd (cc)
 same_budget : (due : ℕ) (phase : Phase) (q : PlayerState) (course : Course) → (quantum_behind q due phase course).budget ≡ q.budget
 same_budget due phase q course = refl
 
-behind_intervals : (phase : Phase) (t : Timetable) → (behind_quantum phase t).intervals ≡ t.intervals
-behind_intervals phases.Idle t = refl
-behind_intervals (phases.Roots next) t = refl
-behind_intervals (phases.Marking part cell) t = refl
-behind_intervals (phases.Sweeping page block) t = refl
-behind_intervals (phases.Moving m) t = refl
-
 quanta_push : (budget given units : ℕ) (phase : Phase) (es : List Event) → AreQuanta budget es → given ≡ budget → AreQuanta budget (es ++ Quantum_done given units phase ∷ [])
 quanta_push budget given units phase [] each e = (e, tt)
 quanta_push budget given units phase (Quantum_done b u f ∷ es) each e = (each.0, quanta_push budget given units phase es each.1 e)
@@ -124,7 +112,7 @@ pub due_quanta : (until : ℕ) (p : PlayerState) (es : List Event) (q : PlayerSt
 due_quanta until p es q None_yet = (refl, tt, refl, omega arith)
 due_quanta until p es q (One_more fs r due units phase course w is below d) =
     let k = due_quanta until p fs r w in
-    let i : length (behind_quantum phase (placed due r.timetable)).intervals ≡ length (placed due r.timetable).intervals = ap length (behind_intervals phase (placed due r.timetable)) in
+    let i : length (behind_quantum phase (placed due r.timetable)).intervals ≡ length (placed due r.timetable).intervals = ap (λ (t : Timetable). length t.intervals) (behind_same phase (placed due r.timetable)) in
     let j : length (placed due r.timetable).intervals ≡ length r.timetable.intervals + 1 = length-append r.timetable.intervals _ in
     let n = length-append fs (Quantum_done r.budget units phase ∷ []) in
     let o = k.3 in (

@@ -2,7 +2,6 @@
 use Rattle.std.proofs.Common.{◌≡◌, ℕ, ◌<◌, Bool, true, false, if◌then◌else◌, List, [], ◌∷◌, length, arith, refl, ap, ◌∙◌, sym}
 use Rattle.graph_heap.specs.Graph.{Graph}
 use Rattle.heap_model.specs.declared.phase.Phase.{Phase}
-use Rattle.heap_model.specs.declared.phase.Phase.TheVariants as phases
 use Rattle.heap_model.specs.State.{HeapState}
 use Rattle.heap_model.specs.Action.{Action, Scans_root, Ends_roots, Scans_header, Scans_cell, Ends_marking, Frees_block, Passes_block, Closes_page, Ends_sweep, Looks_at_page, Chooses_page, Chooses_none, Moves_block, Ends_moving, Chain, Nothing_done, Then}
 use Rattle.heap_model.specs.Event.{Course, Event, Command_done, Cycle_begun, Cycle_on, Quantum_done, Quantum_refused, Runs, Collects, IsCourse, present_of}
@@ -10,6 +9,7 @@ use Rattle.heap_model.proofs.Stood.{idle_chain}
 use Rattle.heap_model.proofs.Course.{does_course, collects_present}
 use Rattle.space.specs.Tally.{Tally, is_tracing}
 use Rattle.space.specs.Pace.{Beat, next_beat, in_cycle}
+use Rattle.space.proofs.Pacing.{idle_phase}
 use Rattle.measure.specs.Meter.{tally_after, beat_after, AreQuanta}
 
 -- tracing that is on was on before
@@ -71,13 +71,6 @@ quanta_tally budget (Cycle_on ∷ qs) t r new each runs rest = elim each [ ]
 quanta_tally budget (Quantum_refused b ∷ qs) t r new each runs rest = elim each [ ]
 
 -- the beat after them
-idle_phase : (f : Phase) → in_cycle f ≡ false → f ≡ phases.Idle
-idle_phase phases.Idle e = refl
-idle_phase (phases.Roots next) e = absurd (cc)
-idle_phase (phases.Marking part cell) e = absurd (cc)
-idle_phase (phases.Sweeping page block) e = absurd (cc)
-idle_phase (phases.Moving m) e = absurd (cc)
-
 stays_idle : (r new : Course) (budget units : ℕ) (phase : Phase) → Collects r budget units phase new → in_cycle r.heap.phase ≡ false → in_cycle new.heap.phase ≡ false
 stays_idle r new budget units phase c off = ap (λ (h : HeapState). in_cycle h.phase) (idle_chain r.heap new.heap units c.turn.chain (idle_phase r.heap.phase off)).0 ∙ off
 

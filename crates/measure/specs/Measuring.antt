@@ -5,7 +5,7 @@ use Rattle.size_classes.specs.declared.config.Config.{Config}
 use Rattle.heap_model.specs.State.{HeapState}
 use Rattle.heap_model.specs.Opening.{IsOpening}
 use Rattle.heap_model.specs.Led.{opened}
-use Rattle.heap_model.specs.Event.{Event, IsBudget, Runs}
+use Rattle.heap_model.specs.Event.{Event, Runs}
 use Rattle.quanta.specs.declared.schedule.TheConstants.{CLOCK_LIMIT}
 use Rattle.trace.specs.declared.line.Line.{Line}
 use Rattle.trace.specs.declared.line.Line.TheVariants as lines
@@ -50,11 +50,6 @@ abbrev pub TicksMeasured : ℕ → Run → Run → Result (Unit {0}) TickFault �
 TicksMeasured n old new (Ok done) = LineMeasured (lines.Tick n) old new (Ok tt)
 TicksMeasured n old new (Err faults.ClockSpent) = (CLOCK_LIMIT < old.player.timetable.clock + n) × (new.player ≡ old.player)
 TicksMeasured n old new (Err faults.NoMemory) = Unit {0}
-
--- the budget of a line of a quantum is one
-abbrev pub HasBudget : Line → Type 0
-HasBudget (lines.Quantum budget) = IsBudget budget
-HasBudget line = Unit {0}
 
 -- the same of a line of this number, which may stop with a fault
 abbrev pub EventMeasured : Line → ℕ → Run → Run → Result (Unit {0}) TextFault → Type 0

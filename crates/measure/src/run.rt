@@ -2,11 +2,11 @@
 ghost use Rattle.std.specs.Prelude.{◌≡◌, ◌++◌, List, [], Ok, IfOk};
 ghost use Rattle.heap_model.specs.Event.{Event, IsBudget};
 ghost use Rattle.player.specs.New.{IsNew};
-ghost use Rattle.player.specs.Player.{DoesLine};
+ghost use Rattle.player.specs.Player.{DoesLine, HasBudget};
 ghost use Rattle.heap_model.specs.State.{HeapState};
 ghost use Rattle.trace.specs.declared.line.Line.TheVariants as lines;
 ghost use Rattle.trace.specs.GoneOver.{reads_failed};
-ghost use Rattle.measure.specs.Measuring.{IsAt, LineMeasured, TicksMeasured, HasBudget, EventMeasured, TextMeasured};
+ghost use Rattle.measure.specs.Measuring.{IsAt, LineMeasured, TicksMeasured, EventMeasured, TextMeasured};
 
 use crate::meter::Meter;
 use graph_heap::{Command, NoMemory};
@@ -14,7 +14,7 @@ use heap_model::phase::Phase;
 use player::{Player, TickFault};
 use size_classes::Config;
 use std::alloc::Global;
-use trace::{Line, LineFault, TextFault, Version, read_line, tells_version};
+use trace::{Line, TextFault, Version, read_numbered};
 
 /// A player, and the meter of what it does.
 #[derive(Drop)]
@@ -97,13 +97,11 @@ fn measure_event(line: Line, number: u64, run: &mut Run) -> Result<(), TextFault
         Line::Command { mutator, command } => run.command(mutator, command)?,
         Line::Begin => run.begin()?,
         Line::Quantum(budget) => run.quantum(budget),
-        Line::Tick(ticks) => match run.tick(ticks) {
-            Ok(()) => {}
-            Err(TickFault::ClockSpent) => {
-                return Err(TextFault::Line(number, LineFault::ClockSpent));
+        Line::Tick(ticks) => {
+            if let Err(why) = run.tick(ticks) {
+                return Err(why.at_line(number));
             }
-            Err(TickFault::NoMemory) => return Err(TextFault::NoMemory),
-        },
+        }
     }
     Ok(())
 }
@@ -118,12 +116,8 @@ pub fn measure_line(
     ensures measured { TextMeasured bytes.now number version.old version.new run.old run.new result }
     ensures reads { reads_failed result ≡ 0 }
 {
-    if tells_version(number, bytes) {
-        *version = Version::Second;
-        return Ok(());
+    match read_numbered(bytes, number, version)? {
+        Some(line) => measure_event(line, number, run),
+        None => Ok(()),
     }
-    let Some(line) = read_line(*version, bytes) else {
-        return Err(TextFault::Line(number, LineFault::NotAnEvent));
-    };
-    measure_event(line, number, run)
 }

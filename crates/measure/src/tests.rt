@@ -21,6 +21,11 @@ const FOUR_PAGES: Settings = Settings {
     live: 1,
 };
 
+const ONE_PAGE: Settings = Settings {
+    pages: 1,
+    ..FOUR_PAGES
+};
+
 /// What is measured of a trace under settings.
 fn measured(
     rt: &(impl Abort + AllocGlobal),
@@ -35,7 +40,7 @@ fn measured(
 }
 
 /// A table by class: blocks of 4 words, of 5 and of 6, and of 256.
-fn table(blocks: [u64; 4]) -> [u64; CLASSES] {
+fn small_table(blocks: [u32; 4]) -> [u32; CLASSES] {
     let mut table = [0; CLASSES];
     table[0] = blocks[0];
     table[1] = blocks[1];
@@ -44,14 +49,33 @@ fn table(blocks: [u64; 4]) -> [u64; CLASSES] {
     table
 }
 
-/// The same of smaller numbers.
-fn small_table(blocks: [u32; 4]) -> [u32; CLASSES] {
-    let mut table = [0; CLASSES];
-    table[0] = blocks[0];
-    table[1] = blocks[1];
-    table[2] = blocks[2];
-    table[37] = blocks[3];
-    table
+/// The same of greater numbers.
+fn table(blocks: [u32; 4]) -> [u64; CLASSES] {
+    small_table(blocks).map(u64::from)
+}
+
+/// Compares what is measured of a trace on four pages: how many blocks live, which a demand and a pace say alike,
+/// are allocated, and are asked for while a cycle is on and between two; and the budget.
+fn check(
+    rt: &(impl Abort + AllocGlobal),
+    trace: &str,
+    [live, allocated, busy, idle]: [[u32; 4]; 4],
+    budget: u32,
+) -> Result<(), TextFault> {
+    let measured = measured(rt, &FOUR_PAGES, trace)?;
+    let demand = Demand {
+        live: table(live),
+        allocated: table(allocated),
+    };
+    let pace = Pace {
+        live: small_table(live),
+        busy: table(busy),
+        idle: table(idle),
+    };
+    assert!(rt; measured.demand == Some(demand));
+    assert!(rt; measured.pace == Some(pace));
+    assert!(rt; measured.budget == Some(budget));
+    Ok(())
 }
 
 /// Object 1 needs a block of 5 words, each other one of 4. When the cycle begins 1 and 2 can be reached. Up to
@@ -62,20 +86,8 @@ fn a_cycle_is_measured(rt: HostRuntime) -> Result<(), Fail> {
     let trace =
         "0 new 0 plain 1 0\n0 new 1 plain 0 0\n0 store 0 0 1\n0 clear 1\n0 new 2 plain 0 0\n\
         0 clear 2\nbegin\n0 new 1 plain 0 0\nbegin\nquantum 1000000\n0 new 3 plain 0 0\n# over\n";
-    let measured = measured(&rt, &FOUR_PAGES, trace)?;
-    let demand = Demand {
-        live: table([1, 1, 0, 0]),
-        allocated: table([3, 1, 0, 0]),
-    };
-    let pace = Pace {
-        live: small_table([1, 1, 0, 0]),
-        busy: table([1, 0, 0, 0]),
-        idle: table([2, 1, 0, 0]),
-    };
-    assert!(rt; measured.demand == Some(demand));
-    assert!(rt; measured.pace == Some(pace));
-    assert!(rt; measured.budget == Some(1000000));
-    Ok(())
+    let blocks = [[1, 1, 0, 0], [3, 1, 0, 0], [1, 0, 0, 0], [2, 1, 0, 0]];
+    Ok(check(&rt, trace, blocks, 1000000)?)
 }
 
 /// The sweep looks at the 512 blocks of a page, so that 400 units don't end it; in 1000 ticks 46 quanta may be
@@ -84,32 +96,16 @@ fn a_cycle_is_measured(rt: HostRuntime) -> Result<(), Fail> {
 fn quanta_in_ticks_are_measured(rt: HostRuntime) -> Result<(), Fail> {
     let trace = "begin\n0 new 0 plain 0 0\nquantum 400\n0 new 1 plain 0 0\n0 new 1 plain 0 0\n\
         tick 1000\n0 new 2 plain 0 0\n";
-    let measured = measured(&rt, &FOUR_PAGES, trace)?;
-    let demand = Demand {
-        live: table([0, 0, 0, 0]),
-        allocated: table([4, 0, 0, 0]),
-    };
-    let pace = Pace {
-        live: small_table([0, 0, 0, 0]),
-        busy: table([2, 0, 0, 0]),
-        idle: table([1, 0, 0, 0]),
-    };
-    assert!(rt; measured.demand == Some(demand));
-    assert!(rt; measured.pace == Some(pace));
-    assert!(rt; measured.budget == Some(300));
-    Ok(())
+    let blocks = [[0, 0, 0, 0], [4, 0, 0, 0], [2, 0, 0, 0], [1, 0, 0, 0]];
+    Ok(check(&rt, trace, blocks, 300)?)
 }
 
 /// An array of 253 words has a piece of 256 words and one of 5, and a spine of 6; on one page it is refused for
 /// want of space, and asked for all the same. What is refused for another cause isn't.
 #[test]
 fn what_is_refused_for_space_is_asked_for(rt: HostRuntime) -> Result<(), Fail> {
-    let settings = Settings {
-        pages: 1,
-        ..FOUR_PAGES
-    };
     let trace = "0 new 0 words 253\n0 new 4 plain 0 0\n0 new 0 plain 200 53\n1 new 0 plain 0 0\n";
-    let measured = measured(&rt, &settings, trace)?;
+    let measured = measured(&rt, &ONE_PAGE, trace)?;
     let demand = Demand {
         live: table([0, 0, 0, 0]),
         allocated: table([0, 1, 1, 1]),

@@ -1,6 +1,6 @@
 -- How plays end where what is written waits.
 use Rattle.std.proofs.Common.{◌≡◌, ℕ, ◌+◌, ◌-◌, ◌<◌, ◌≤◌, Bool, true, inl, inr, List, [], ◌++◌, length, take, arith, length-append, ap, ◌∙◌, sym, subst, refl}
-use Rattle.std.specs.Prelude.{◌⊎◌, Result, Ok, Err}
+use Rattle.std.specs.Prelude.{◌⊎◌, Option, Some, None, Result, Ok, Err}
 use Rattle.std.proofs.Math.Seq.{take-append-add}
 use Rattle.heap_model.specs.Event.{Event}
 use Rattle.trace.specs.declared.line.Line.{Line}
@@ -15,7 +15,7 @@ use Rattle.trace.specs.Streams.{Given, GrowsByPart}
 use Rattle.trace.proofs.GoingOver.{SoFar}
 use Rattle.player.specs.declared.style.Style.{Style}
 use Rattle.player.specs.Player.{PlayerState, entries_in}
-use Rattle.player.specs.Playing.{Stage, stage, TellsVersionOf, PlaysText, Stops, StopsText, CutShort, Played, PlayedFirst, text_written}
+use Rattle.player.specs.Playing.{Stage, stage, TellsVersionOf, PlaysText, Stops, StopsText, CutShort, Played, PlayedFirst, PlayedUpTo, text_written}
 use Rattle.player.specs.Closing.{Closes}
 use Rattle.player.proofs.Lines.{played, lines_written}
 
@@ -81,7 +81,7 @@ at_line style version count mid rest text more line new all next (e, inr stops) 
 left_behind : (style : Style) (version : Version) (count : ℕ) (mid : Stage) (rest : List ℕ) (ended : Bool) (new : Stage) (result : Result (Unit {0}) TextFault) → Ends (StopsText style version) count mid rest ended new result → LeftBehind style version count mid rest new
 left_behind style version count mid rest ended new (Ok all) e = same_left style version count mid rest new e.2
 left_behind style version count mid rest ended new (Err fault) (inl e) = same_left style version count mid rest new e.1
-left_behind style version count mid rest ended new (Err fault) (inr (text, more, whole, is, inl none)) = same_left style version count mid rest new none.3
+left_behind style version count mid rest ended new (Err fault) (inr (text, more, whole, is, inl none)) = same_left style version count mid rest new none.1
 left_behind style version count mid rest ended new (Err fault) (inr (text, more, whole, is, inr (line, spells, stops))) =
     at_line style version count mid rest text more line new (λ next. ((left style fault line (count + 1) mid new stops).0, inr next)) (λ s. (text, more, whole, is, inr (line, spells, s))) (left style fault line (count + 1) mid new stops)
 
@@ -111,7 +111,7 @@ module _ (style : Style) (given : Given) (old : Stage) (player : PlayerState) (t
     written = p.written;
   }
 
-  pub closed : (ended result : Result (Unit {0}) TextFault) → (ended ≡ Err Write → waiting ≡ []) → Closes taken taken' waiting ended result → Played style given old (stage player (taken ++ waiting)) ended → Played style given old (stage player taken') result
+  closed : (ended result : Result (Unit {0}) TextFault) → (ended ≡ Err Write → waiting ≡ []) → Closes taken taken' waiting ended result → Played style given old (stage player (taken ++ waiting)) ended → Played style given old (stage player taken') result
   closed ended result none (inl (e, same)) p = rw (e, same) p
   closed ended result none (inr (g, is)) p = rw is (cut_short ended none g p)
 
@@ -121,9 +121,14 @@ module _ (style : Style) (given : Given) (old : Stage) (n : ℕ) (player : Playe
   first_cut ended none g (inr (seen, more, first, whole, small, rest, count, end, how)) =
       inr (seen, more, cut_short style (record given { after = seen; ended = true }) old player taken taken' waiting low ended none g first, whole, small, rest, count, end, inr refl)
 
-  pub closed_first : (ended result : Result (Unit {0}) TextFault) → (ended ≡ Err Write → waiting ≡ []) → Closes taken taken' waiting ended result → PlayedFirst n style given old (stage player (taken ++ waiting)) ended → PlayedFirst n style given old (stage player taken') result
+  closed_first : (ended result : Result (Unit {0}) TextFault) → (ended ≡ Err Write → waiting ≡ []) → Closes taken taken' waiting ended result → PlayedFirst n style given old (stage player (taken ++ waiting)) ended → PlayedFirst n style given old (stage player taken') result
   closed_first ended result none (inl (e, same)) p = rw (e, same) p
   closed_first ended result none (inr (g, is)) p = rw is (first_cut ended none g p)
+
+pub closed_up_to : (most : Option ℕ) (style : Style) (given : Given) (old : Stage) (player : PlayerState) (taken taken' waiting : List ℕ) → length old.taken ≤ length taken → (ended result : Result (Unit {0}) TextFault) → (ended ≡ Err Write → waiting ≡ [])
+    → Closes taken taken' waiting ended result → PlayedUpTo most style given old (stage player (taken ++ waiting)) ended → PlayedUpTo most style given old (stage player taken') result
+closed_up_to None style given old player taken taken' waiting low = closed style given old player taken taken' waiting low
+closed_up_to (Some n) style given old player taken taken' waiting low = closed_first style given old n player taken taken' waiting low
 
 -- where a write failed
 pub write_counts : (r : Result (Unit {0}) TextFault) → r ≡ Err Write → 0 < reads_failed r + writes_failed r

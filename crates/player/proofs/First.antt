@@ -1,6 +1,6 @@
 -- Playing up to the line of the nth event.
-use Rattle.std.proofs.Common.{◌≡◌, ℕ, ◌+◌, Bool, true, false, not, ◌&&◌, cond, List, [], ◌∷◌, ◌++◌, inl, inr, append_assoc, append-nil, ap, ◌∙◌, sym, refl, subst, arith, Ok}
-use Rattle.std.specs.Prelude.{Some, IsTrue}
+use Rattle.std.proofs.Common.{◌≡◌, ◌≢◌, ℕ, zero, suc, ◌+◌, ◌-◌, ◌<◌, ◌≤◌, Bool, true, false, not, ◌&&◌, cond, List, [], ◌∷◌, ◌++◌, inl, inr, append_assoc, append-nil, ap, ◌∙◌, sym, refl, subst, arith, Ok}
+use Rattle.std.specs.Prelude.{Option, None, Some, Result, IsTrue, option_map}
 use Rattle.std.specs.List.{count_by}
 use Rattle.std.specs.Str.{bytes_eq}
 use Rattle.std.proofs.lemmas.Slice.Eq.{bytes_eq-Decides}
@@ -9,23 +9,23 @@ use Rattle.trace.specs.declared.line.Line.{Line}
 use Rattle.trace.specs.declared.line.Line.TheVariants as lines
 use Rattle.trace.specs.LineReader.{Lines}
 use Rattle.trace.specs.declared.version.Version.{Version}
+use Rattle.graph_heap.specs.declared.command.Command.{Command}
+use Rattle.machine.specs.declared.recorded.Receipt.{Receipt}
+use Rattle.trace.specs.Numbered.{LineRead}
 use Rattle.trace.specs.Spelling.{version_line, TellsVersion, Spells, is_skipped}
 use Rattle.trace.specs.Streams.{Given, text_of}
+use Rattle.trace.specs.declared.fault.TextFault.{TextFault}
 use Rattle.trace.proofs.Exact.{same_Some}
 use Rattle.trace.proofs.ReadLines.{unread}
 use Rattle.trace.proofs.GoingOver.{SoFar}
 use Rattle.player.specs.declared.style.Style.{Style}
-use Rattle.player.specs.Playing.{Stage, TellsVersionOf, PlaysText, PlayedFirst, is_event, EndAtEvent}
-use Rattle.player.proofs.Lines.{played}
-
--- a line that isn't read as skipped is an event's
-abbrev pub says : Line → Bool
-says lines.Skip = false
-says line = true
+use Rattle.player.specs.Player.{PlayerState}
+use Rattle.player.specs.Playing.{Stage, stage, TellsVersionOf, PlaysText, Played, PlayedFirst, PlayedUpTo, is_event, says_event, EndAtEvent, entry_of, LineDone, LinePlayed, written_of}
+use Rattle.player.proofs.Lines.{enters_nothing, played}
 
 -- a line that is read as another than a skipped one is neither skipped nor tells the version
-not_skipped : (text : List ℕ) (version : Version) (line : Line) (b : Bool) → is_skipped text ≡ b → ((x : Line) → Spells version text x → Some line ≡ Some x) → says line ≡ true → not b ≡ true
-not_skipped text version line true e only some = let no : true ≡ false = sym some ∙ ap says (same_Some _ _ (only lines.Skip e)) in absurd (cc)
+not_skipped : (text : List ℕ) (version : Version) (line : Line) (b : Bool) → is_skipped text ≡ b → ((x : Line) → Spells version text x → line ≡ x) → says_event line ≡ true → not b ≡ true
+not_skipped text version line true e only some = let no : true ≡ false = sym some ∙ ap says_event (only lines.Skip e) in absurd (cc)
 not_skipped text version line false e only some = refl
 
 not_told : (text : List ℕ) (version : Version) (line : Line) (b : Bool) → bytes_eq text version_line ≡ b → Spells version text line → not b ≡ true
@@ -35,12 +35,33 @@ not_told text version line false e spells = refl
 both : (a b : Bool) → a ≡ true → b ≡ true → true ≡ (a && b)
 both a b e f = rw (e, f) refl
 
-pub event_read : (text : List ℕ) (version : Version) (line : Line) → Spells version text line → ((x : Line) → Spells version text x → Some line ≡ Some x) → says line ≡ true → true ≡ is_event text
+pub event_read : (text : List ℕ) (version : Version) (line : Line) → Spells version text line → ((x : Line) → Spells version text x → line ≡ x) → says_event line ≡ true → true ≡ is_event text
 event_read text version line spells only some =
     both (not (is_skipped text)) (not (bytes_eq text version_line)) (not_skipped text version line (is_skipped text) refl only some) (not_told text version line (bytes_eq text version_line) refl spells)
 
-pub skip_read : (text : List ℕ) → IsTrue (is_skipped text) → false ≡ is_event text
+skip_read : (text : List ℕ) → IsTrue (is_skipped text) → false ≡ is_event text
 skip_read text skipped = sym (ap (λ b. not b && not (bytes_eq text version_line)) skipped)
+
+-- whether the line that was read is an event's
+pub line_read : (text : List ℕ) (version : Version) (line : Line) → Spells version text line → ((x : Line) → Spells version text x → line ≡ x) → says_event line ≡ is_event text
+line_read text version lines.Skip spells only = skip_read text spells
+line_read text version (lines.Command m c) spells only = event_read text version (lines.Command m c) spells only refl
+line_read text version lines.Begin spells only = event_read text version lines.Begin spells only refl
+line_read text version (lines.Quantum budget) spells only = event_read text version (lines.Quantum budget) spells only refl
+line_read text version (lines.Tick n) spells only = event_read text version (lines.Tick n) spells only refl
+
+-- what comes of the text of a line that was read and done
+pub went : (style : Style) (text taken taken' : List ℕ) (number : ℕ) (version next : Version) (line : Line) (old new : PlayerState) (receipt : Option Receipt) (event : Bool) → LineRead text number version next (Ok (Some line)) → LineDone line number old new (Ok receipt)
+    → taken' ≡ taken ++ written_of style (entry_of receipt) → event ≡ says_event line → LinePlayed style text number version next (stage old taken) (stage new taken') (Ok event)
+went style text taken taken' number version next line old new receipt event read done written is =
+    (done.0, inr (read.0, (line, read.1, (done.1, written ∙ ap (λ t. taken ++ written_of style t) (sym done.2)))), is ∙ line_read text version line read.1 read.2)
+
+-- the same of a line that is no command, of which nothing is written
+pub went_on : (style : Style) (text taken : List ℕ) (number : ℕ) (version next : Version) (line : Line) (old new : PlayerState) (receipt : Option Receipt) (event : Bool) → LineRead text number version next (Ok (Some line)) → LineDone line number old new (Ok receipt)
+    → ((m : ℕ) (c : Command) → line ≢ lines.Command m c) → event ≡ says_event line → LinePlayed style text number version next (stage old taken) (stage new taken) (Ok event)
+went_on style text taken number version next line old new receipt event read done other is =
+    let none = sym (enters_nothing old line done.0 new done.1 other) ∙ done.2 in
+    went style text taken taken number version next line old new receipt event read done (sym (append-nil taken) ∙ ap (λ t. taken ++ written_of style t) none) is
 
 pub told_read : (number : ℕ) (text : List ℕ) → TellsVersion number text → false ≡ is_event text
 told_read number text told = sym (ap is_event told.1)
@@ -70,3 +91,46 @@ first_done {style} {given} {old} {new} {reader} {version} so n count end = inr (
   end,
   inl refl,
 )
+
+-- How many events are left of at most so many, where there is a most.
+abbrev pub AreLeft : Option ℕ → ℕ → Option ℕ → Type 0
+AreLeft None count left = left ≡ None
+AreLeft (Some n) count left = (k : ℕ) × (left ≡ Some k) × (k + count ≡ n)
+
+pub left_at_first : (most : Option ℕ) → AreLeft most 0 most
+left_at_first None = refl
+left_at_first (Some n) = (n, refl, omega arith)
+
+-- as long as some are
+positive : (left : Option ℕ) (k : ℕ) → left ≡ Some k → left ≢ Some 0 → 1 ≤ k
+positive left zero e some = absurd (some e)
+positive left (suc k) e some = omega arith
+
+pub fewer : (most left : Option ℕ) (count : ℕ) → AreLeft most count left → left ≢ Some 0 → (n : ℕ) → most ≡ Some n → count < n
+fewer None left count are some n e = absurd (cc)
+fewer (Some m) left count are some n e = let sum = are.2 in omega (arith, sum, positive left are.0 are.1 some, same_Some m n e)
+
+-- after a line more
+abbrev pub left_after : Option ℕ → Bool → Option ℕ
+left_after left event = option_map (λ n. n - cond event 1 0) left
+
+pub left_on : (most left : Option ℕ) (count : ℕ) (event : Bool) → AreLeft most count left → left ≢ Some 0 → AreLeft most (count + cond event 1 0) (left_after left event)
+left_on None left count event are some = rw are refl
+left_on (Some n) left count true are some = let sum = are.2 in (are.0 - 1, ap (λ l. left_after l true) are.1, omega (arith, sum, positive left are.0 are.1 some))
+left_on (Some n) left count false are some = let sum = are.2 in (are.0 - 0, ap (λ l. left_after l false) are.1, omega (arith, sum))
+
+pub last_left : (left : Option ℕ) (event : Bool) (lines : List (List ℕ)) (line : List ℕ) → left ≢ Some 0 → event ≡ is_event line → left_after left event ≡ Some 0 → EndAtEvent (lines ++ line ∷ [])
+last_left left true lines line some is e = inr (lines, line, refl, sym is)
+last_left None false lines line some is e = absurd (cc)
+last_left (Some k) false lines line some is e = let none : k ≡ 0 = (let same = same_Some (k - 0) 0 e in omega (arith, same)) in absurd (some (ap Some none))
+
+-- what is played of the input, while some are left
+abbrev pub up_to : {style : Style} {given : Given} {old new : Stage} {result : Result (Unit {0}) TextFault} (most : Option ℕ) (p : Played style given old new result) → ((n : ℕ) → most ≡ Some n → count_by is_event p.over.lines < n) → PlayedUpTo most style given old new result
+up_to None p few = p
+up_to (Some n) p few = inl (p, few n refl)
+
+-- and once none is
+pub none_left : (style : Style) {given : Given} {old new : Stage} {reader : Lines} {version : Version} (so : SoFar (TellsVersionOf style) (PlaysText style) given old new reader version) (most left : Option ℕ) → AreLeft most (count_by is_event so.lines) left → left ≡ Some 0 → EndAtEvent so.lines
+    → PlayedUpTo most style given old new (Ok tt)
+none_left style so None left are none end = absurd (cc)
+none_left style so (Some n) left are none end = first_done so n (let sum = are.2 in omega (arith, sum, same_Some are.0 0 (sym are.1 ∙ none))) end

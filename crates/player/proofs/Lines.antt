@@ -1,7 +1,8 @@
 -- What lines do, one after the other.
-use Rattle.std.proofs.Common.{◌≡◌, ℕ, ◌+◌, inl, inr, List, [], ◌∷◌, ◌++◌, length, length-append, arith, append_assoc, append-nil, ap, ◌∙◌, sym, subst, refl}
+use Rattle.std.proofs.Common.{◌≡◌, ◌≢◌, ℕ, ◌+◌, inl, inr, List, [], ◌∷◌, ◌++◌, length, length-append, arith, append_assoc, append-nil, ap, ◌∙◌, sym, subst, refl}
 use Rattle.std.specs.Prelude.{◌⊎◌, Result, Err}
 use Rattle.std.proofs.lemmas.Grind.{flat_map-append}
+use Rattle.graph_heap.specs.declared.command.Command.{Command}
 use Rattle.graph_heap.specs.declared.command.Entry.{Entry}
 use Rattle.heap_model.specs.Event.{Course, Event, Command_done, Cycle_begun, Cycle_on, Quantum_done, Quantum_refused, Runs}
 use Rattle.machine.proofs.Courses.{runs_then}
@@ -15,6 +16,7 @@ use Rattle.trace.specs.GoneOver.{LinesDone, No_lines, One_line_more, GoneOver, E
 use Rattle.trace.specs.Streams.{Given}
 use Rattle.player.specs.Player.{PlayerState, QuantaDue, None_yet, One_more, DoesLine, Skips, Commands, Begins, Goes_on, Spends, Ticks, entries_in}
 use Rattle.player.specs.declared.style.Style.{Style}
+use Rattle.player.specs.declared.style.Style.TheVariants.{Nothing}
 use Rattle.player.specs.Playing.{Stage, TellsVersionOf, PlaysText, StopsText, CutShort, Played, written_line, written_of, written_version, text_written}
 
 -- the entries of more events, and what is written of them
@@ -99,19 +101,28 @@ played style given old new result over =
     let runs = lines_run style old over.mid over.lines over.version over.events over.done in
     record { over = over; runs = runs; grows = history_grows over.events old.player.course over.mid.player.course runs; written = lines_written style old over.mid over.lines over.version over.events over.done }
 
--- ticks write nothing
-tick_entries : (p : PlayerState) (line : Line) (es : List Event) (q : PlayerState) (n : ℕ) → DoesLine p line es q → line ≡ lines.Tick n → entries_in es ≡ []
-tick_entries p line es q n Skips e = refl
-tick_entries p line es q n (Commands m c reply course d) e = absurd (cc)
-tick_entries p line es q n (Begins course d) e = refl
-tick_entries p line es q n (Goes_on d) e = refl
-tick_entries p line es q n (Spends budget units phase course d) e = refl
-tick_entries p line es q n (Ticks k fs r small due none) e = due_entries (p.timetable.clock + k) p es r due
+-- only commands make entries
+pub enters_nothing : (p : PlayerState) (line : Line) (es : List Event) (q : PlayerState) → DoesLine p line es q → ((m : ℕ) (c : Command) → line ≢ lines.Command m c) → entries_in es ≡ []
+enters_nothing p line es q Skips other = refl
+enters_nothing p line es q (Commands m c reply course d) other = absurd (other m c refl)
+enters_nothing p line es q (Begins course d) other = refl
+enters_nothing p line es q (Goes_on d) other = refl
+enters_nothing p line es q (Spends budget units phase course d) other = refl
+enters_nothing p line es q (Ticks k fs r small due none) other = due_entries (p.timetable.clock + k) p es r due
 
-pub tick_written : (style : Style) (taken : List ℕ) (p q : PlayerState) (n : ℕ) (es : List Event) → DoesLine p (lines.Tick n) es q → taken ≡ taken ++ written_of style (entries_in es)
-tick_written style taken p q n es d = sym (append-nil taken) ∙ ap (λ t. taken ++ written_of style t) (sym (tick_entries p (lines.Tick n) es q n d refl))
+-- the entry of a receipt
+pub entered : (e : Entry) (m : ℕ) (c : Command) → e.mutator ≡ m → e.command ≡ c → entries_in (Command_done m c e.reply ∷ []) ≡ e ∷ []
+entered e m c p q = subst (λ k. entries_in (Command_done k c e.reply ∷ []) ≡ e ∷ []) p (subst (λ d. entries_in (Command_done e.mutator d e.reply ∷ []) ≡ e ∷ []) q refl)
+
+pub ticks_enter_nothing : (p q : PlayerState) (n : ℕ) (es : List Event) → DoesLine p (lines.Tick n) es q → entries_in es ≡ []
+ticks_enter_nothing p q n es d = enters_nothing p (lines.Tick n) es q d (λ m c e. cc)
 
 -- an end is an end where no write fails
 abbrev pub ends_so : {style : Style} {given : Given} {old new : Stage} {result : Result (Unit {0}) TextFault} → GoneOver (TellsVersionOf style) (PlaysText style) given old (λ version count events mid rest. Ends (StopsText style version) count mid rest given.ended new result) → Played style given old new result
 ends_so {style} {given} {old} {new} {result} over =
     played style given old new result (record { lines = over.lines; version = over.version; events = over.events; mid = over.mid; rest = over.rest; read = over.read; done = over.done; ends = inl over.ends })
+
+-- nothing is written of entries
+pub nothing_written : (entries : List Entry) → written_of Nothing entries ≡ []
+nothing_written [] = refl
+nothing_written (e ∷ entries) = nothing_written entries

@@ -15,12 +15,13 @@ abbrev pub left_until : ℕ → Option ℕ → ℕ
 left_until until None = 0
 left_until until (Some due) = until - due
 
-behind_clock : (phase : Phase) (t : Timetable) → (behind_quantum phase t).clock ≡ t.clock
-behind_clock phases.Idle t = refl
-behind_clock (phases.Roots next) t = refl
-behind_clock (phases.Marking part cell) t = refl
-behind_clock (phases.Sweeping page block) t = refl
-behind_clock (phases.Moving m) t = refl
+-- a quantum's end changes only when the next is due
+pub behind_same : (phase : Phase) (t : Timetable) → behind_quantum phase t ≡ record t { due = (behind_quantum phase t).due }
+behind_same phases.Idle t = refl
+behind_same (phases.Roots next) t = refl
+behind_same (phases.Marking part cell) t = refl
+behind_same (phases.Sweeping page block) t = refl
+behind_same (phases.Moving m) t = refl
 
 -- the next is due later, or none is
 behind_left : (phase : Phase) (t : Timetable) (until due : ℕ) → due < until → 1 ≤ t.collector_ticks → left_until until (behind_quantum phase (placed due t)).due < until - due
@@ -39,7 +40,7 @@ module _ (old new : PlayerState) (until : ℕ) (d : DueDone until old new (Ok tr
       (subst (λ o. left_until until (behind_quantum d.2 (placed d.0 old.timetable)).due < left_until until o) (sym d.4) l)
 
   pub clock_stays : new.timetable.clock ≡ old.timetable.clock
-  clock_stays = ap (λ (x : PlayerState). x.timetable.clock) d.7 ∙ behind_clock d.2 (placed d.0 old.timetable)
+  clock_stays = ap (λ (x : PlayerState). x.timetable.clock) d.7 ∙ ap (λ (t : Timetable). t.clock) (behind_same d.2 (placed d.0 old.timetable))
 
   pub one_more : (p : PlayerState) → (es : List Event) × QuantaDue until p es old → (es : List Event) × QuantaDue until p es new
   one_more p w =

@@ -5,7 +5,7 @@ use Rattle.graph_heap.specs.declared.command.Reply.{Reply}
 use Rattle.graph_heap.specs.declared.command.Entry.{Entry}
 use Rattle.heap_model.specs.declared.phase.Phase.{Phase}
 use Rattle.heap_model.specs.declared.phase.Phase.TheVariants as phases
-use Rattle.heap_model.specs.Event.{Course, Event, Command_done, Cycle_begun, Cycle_on, Quantum_done, Does}
+use Rattle.heap_model.specs.Event.{Course, Event, IsBudget, Command_done, Cycle_begun, Cycle_on, Quantum_done, Does}
 use Rattle.quanta.specs.declared.schedule.TheConstants.{CLOCK_LIMIT}
 use Rattle.quanta.specs.Timetable.{Timetable, first_due, due_below, with_reserved}
 use Rattle.trace.specs.declared.line.Line.{Line}
@@ -59,6 +59,11 @@ pub data DoesLine (p : PlayerState) : Line → List Event → PlayerState → Ty
       → DoesLine p (lines.Quantum budget) (Quantum_done budget units phase ∷ []) (record p { course = course; timetable = behind_quantum phase p.timetable })
   Ticks : (n : ℕ) (es : List Event) (q : PlayerState) → p.timetable.clock + n ≤ CLOCK_LIMIT → QuantaDue (p.timetable.clock + n) p es q → due_below (p.timetable.clock + n) q.timetable.due ≡ None
       → DoesLine p (lines.Tick n) es (record q { timetable = record q.timetable { clock = p.timetable.clock + n } })
+
+-- the budget of a line that has one
+abbrev pub HasBudget : Line → Type 0
+HasBudget (lines.Quantum budget) = IsBudget budget
+HasBudget line = Unit {0}
 
 -- the entries of the commands that are done
 abbrev pub entries_in : List Event → List Entry

@@ -1,22 +1,22 @@
 -- What it is to play a trace.
-use Rattle.std.specs.Prelude.{◌≡◌, ℕ, ◌+◌, ◌<◌, ◌≤◌, Bool, true, not, ◌&&◌, IsTrue, ◌⊎◌, List, [], ◌∷◌, ◌++◌, length, Some, Result, Ok, Err}
+use Rattle.std.specs.Prelude.{◌≡◌, ℕ, ◌+◌, ◌<◌, ◌≤◌, Bool, true, false, not, ◌&&◌, IsTrue, ◌⊎◌, List, [], ◌∷◌, ◌++◌, length, Option, None, Some, Result, Ok, Err}
 use Rattle.std.specs.List.{flat_map, count_by}
 use Rattle.std.specs.Str.{bytes_eq}
-use Rattle.graph_heap.specs.declared.command.Command.{Command}
-use Rattle.graph_heap.specs.declared.command.Reply.{Reply}
 use Rattle.graph_heap.specs.declared.command.Entry.{Entry}
 use Rattle.trace.specs.declared.line.Line.{Line}
 use Rattle.trace.specs.declared.line.Line.TheVariants as lines
-use Rattle.trace.specs.declared.fault.LineFault.TheVariants.{NotAnEvent, ClockSpent}
+use Rattle.trace.specs.declared.fault.LineFault.TheVariants.{ClockSpent}
 use Rattle.trace.specs.declared.fault.TextFault.{TextFault}
 use Rattle.trace.specs.declared.fault.TextFault.TheVariants.{Line as At_line, Write, NoMemory}
 use Rattle.trace.specs.declared.version.Version.{Version}
 use Rattle.trace.specs.declared.version.Version.TheVariants.{Second}
 use Rattle.trace.specs.GoneOver.{Goes, GoneOver, NextLine, Ends}
-use Rattle.trace.specs.Spelling.{version_line, TellsVersion, Spells, is_skipped, reply_text, entry_line}
+use Rattle.trace.specs.Numbered.{IsNoEvent}
+use Rattle.trace.specs.Spelling.{version_line, Spells, is_skipped, reply_text, entry_line}
 use Rattle.trace.specs.Streams.{Given, GrowsByPart}
-use Rattle.heap_model.specs.Event.{Event, Command_done, Runs}
+use Rattle.heap_model.specs.Event.{Event, Runs}
 use Rattle.quanta.specs.declared.schedule.TheConstants.{CLOCK_LIMIT}
+use Rattle.machine.specs.declared.recorded.Receipt.{Receipt}
 use Rattle.player.specs.Player.{PlayerState, QuantaDue, DoesLine, entries_in}
 use Rattle.player.specs.declared.style.Style.{Style}
 use Rattle.player.specs.declared.style.Style.TheVariants.{Replies, Entries, Nothing}
@@ -73,7 +73,7 @@ Stops style fault line number old new = ⊥
 -- the same of its text, of which no event may be a spelling, and which then doesn't tell the version
 abbrev pub StopsText : Style → Version → TextFault → List ℕ → ℕ → Stage → Stage → Type 0
 StopsText style version fault text number old new =
-    ((fault ≡ At_line number NotAnEvent) × ((x : Line) → Spells version text x → ⊥) × (¬ TellsVersion number text) × (new ≡ old))
+    (IsNoEvent version fault text number × (new ≡ old))
     ⊎ ((line : Line) × Spells version text line × Stops style fault line number old new)
 
 -- A write failed: after these lines no further one was done, or memory was refused for the next, too. Of their
@@ -95,6 +95,11 @@ pub record Played (style : Style) (given : Given) (old new : Stage) (result : Re
 abbrev pub is_event : List ℕ → Bool
 is_event text = not (is_skipped text) && not (bytes_eq text version_line)
 
+-- what a line says is an event, but where it is skipped
+abbrev pub says_event : Line → Bool
+says_event lines.Skip = false
+says_event line = true
+
 -- the last of the lines, if there is one, is that of an event
 abbrev pub EndAtEvent : List (List ℕ) → Type 0
 EndAtEvent lines = (lines ≡ []) ⊎ ((before : List (List ℕ)) × (last : List ℕ) × (lines ≡ before ++ last ∷ []) × IsTrue (is_event last))
@@ -109,12 +114,21 @@ PlayedFirst n style given old new result =
     ⊎ ((seen : List ℕ) × (more : List ℕ) × (first : Played style (record given { after = seen; ended = true }) old new result)
     × (given.after ≡ seen ++ more) × (length more ≤ 65536) × (first.over.rest ≡ []) × (count_by is_event first.over.lines ≡ n) × EndAtEvent first.over.lines × ((result ≡ Ok tt) ⊎ (result ≡ Err Write)))
 
--- What came of a command; and of a line, with the version before it and after it.
-abbrev pub CommandDone : Style → ℕ → Command → Stage → Stage → Result (Unit {0}) TextFault → Type 0
-CommandDone style m c old new (Ok done) =
-    (reply : Reply) × DoesLine old.player (lines.Command m c) (Command_done m c reply ∷ []) new.player × (new.taken ≡ old.taken ++ written_line style (record { mutator = m; command = c; reply = reply }))
-CommandDone style m c old new (Err NoMemory) = (new.player ≡ old.player) × (new.taken ≡ old.taken)
-CommandDone style m c old new (Err fault) = ⊥
+-- the same, where n may be none: then the whole input is played
+abbrev pub PlayedUpTo : Option ℕ → Style → Given → Stage → Stage → Result (Unit {0}) TextFault → Type 0
+PlayedUpTo None = Played
+PlayedUpTo (Some n) = PlayedFirst n
+
+-- the entry of a receipt, where there is one
+abbrev pub entry_of : Option Receipt → List Entry
+entry_of None = []
+entry_of (Some receipt) = receipt.entry ∷ []
+
+-- What came of a line of this number, whatever the style and the text before it; and of a line's text, with the
+-- version before it and after it.
+abbrev pub LineDone : Line → ℕ → PlayerState → PlayerState → Result (Option Receipt) TextFault → Type 0
+LineDone line number old new (Ok receipt) = (es : List Event) × DoesLine old line es new × (entries_in es ≡ entry_of receipt)
+LineDone line number old new (Err fault) = (style : Style) (taken : List ℕ) → Stops style fault line number (stage old taken) (stage new taken)
 
 abbrev pub LinePlayed : Style → List ℕ → ℕ → Version → Version → Stage → Stage → Result Bool TextFault → Type 0
 LinePlayed style text number version next old new (Ok event) =

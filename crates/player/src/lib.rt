@@ -7,6 +7,7 @@ mod player;
 mod playing;
 mod style;
 
+pub use line::{do_line, is_event};
 pub use player::{Player, TickFault};
 pub use playing::{play, play_first};
 pub use style::Style;

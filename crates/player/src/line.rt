@@ -2,15 +2,14 @@
 ghost use Rattle.std.specs.Prelude.{◌≡◌, ℕ, ◌+◌, ◌≤◌, ◌++◌, List, length};
 ghost use Rattle.trace.specs.GoneOver.{reads_failed, writes_failed};
 ghost use Rattle.trace.specs.declared.version.Version.TheVariants as versions;
-ghost use Rattle.player.specs.Playing.{stage, written_line, written_version, CommandDone, LinePlayed};
+ghost use Rattle.player.specs.Player.{HasBudget};
+ghost use Rattle.player.specs.Playing.{stage, written_line, written_version, says_event, LineDone, LinePlayed};
 
-use crate::player::{Player, TickFault};
+use crate::player::Player;
 use crate::style::Style;
-use graph_heap::{Command, Entry};
-use trace::{
-    Line, LineFault, TextFault, Version, WriteBuffer, read_line, tells_version, version_line,
-    write_entry,
-};
+use graph_heap::Entry;
+use machine::Receipt;
+use trace::{Line, TextFault, Version, WriteBuffer, read_numbered, version_line, write_entry};
 
 /// Adds the line of an entry, in a style, to what waits.
 fn add_line(waiting: &mut WriteBuffer, style: Style, entry: &Entry)
@@ -43,22 +42,36 @@ fn add_version(waiting: &mut WriteBuffer, style: Style)
     }
 }
 
-/// Does a command, and adds its line to what waits.
-fn play_command(
-    mutator: u32,
-    command: Command,
-    waiting: &mut WriteBuffer,
-    player: &mut Player,
-    style: Style,
-) -> Result<(), TextFault>
-    requires { length waiting.old + 256 ≤ 65536 }
-    ensures { CommandDone style mutator command (stage player.old waiting.old) (stage player.new waiting.new) result }
+/// Does what a line of this number says. Answers the receipt of a command.
+pub fn do_line(line: Line, number: u64, player: &mut Player) -> Result<Option<Receipt>, TextFault>
+    requires { HasBudget line }
+    ensures done { LineDone line number player.old player.new result }
+    // No write is in it that could fail, and no read.
+    ensures calls { (writes_failed result ≡ 0) × (reads_failed result ≡ 0) }
 {
-    let Ok(receipt) = player.call(mutator, command) else {
-        return Err(TextFault::NoMemory);
-    };
-    add_line(waiting, style, receipt.entry());
-    Ok(())
+    match line {
+        Line::Skip => Ok(None),
+        Line::Command { mutator, command } => Ok(Some(player.call(mutator, command)?)),
+        Line::Begin => {
+            player.begin();
+            Ok(None)
+        }
+        Line::Quantum(budget) => {
+            player.quantum(budget);
+            Ok(None)
+        }
+        Line::Tick(ticks) => match player.tick(ticks) {
+            Ok(()) => Ok(None),
+            Err(why) => Err(why.at_line(number)),
+        },
+    }
+}
+
+/// Whether a line says an event: all do but those that are skipped.
+pub fn is_event(line: Line) -> bool
+    ensures { result ≡ says_event line }
+{
+    !matches!(line, Line::Skip)
 }
 
 /// Does a line, and adds what is written of it to what waits, where there must be room for a line.
@@ -77,28 +90,15 @@ pub fn play_line(
     // No write is in it that could fail, and no read.
     ensures calls { (writes_failed result ≡ 0) × (reads_failed result ≡ 0) }
 {
-    if tells_version(number, bytes) {
-        *version = Version::Second;
+    let Some(line) = read_numbered(bytes, number, version)? else {
         add_version(waiting, style);
         return Ok(false);
-    }
-    let Some(line) = read_line(*version, bytes) else {
-        return Err(TextFault::Line(number, LineFault::NotAnEvent));
     };
-    match line {
-        Line::Skip => return Ok(false),
-        Line::Command { mutator, command } => play_command(
-            mutator, command, waiting, player, style,
-        )?,
-        Line::Begin => player.begin(),
-        Line::Quantum(budget) => player.quantum(budget),
-        Line::Tick(ticks) => match player.tick(ticks) {
-            Ok(()) => {}
-            Err(TickFault::ClockSpent) => {
-                return Err(TextFault::Line(number, LineFault::ClockSpent));
-            }
-            Err(TickFault::NoMemory) => return Err(TextFault::NoMemory),
-        },
+    if let Line::Command { mutator, command } = line {
+        let receipt = player.call(mutator, command)?;
+        add_line(waiting, style, receipt.entry());
+        return Ok(true);
     }
-    Ok(true)
+    do_line(line, number, player)?;
+    Ok(is_event(line))
 }

@@ -15,6 +15,7 @@ use quanta::{CLOCK_LIMIT, Schedule};
 use size_classes::Config;
 use std::alloc::Global;
 use std::marker::Model;
+use trace::{LineFault, TextFault};
 
 /// A heap with its history, and the schedule of its collector: when quanta are due, and the intervals
 /// that they took. Contracts see the course of the heap, the timetable, and the budget of a quantum.
@@ -53,6 +54,23 @@ impl From<NoMemory> for TickFault {
 
     fn from(_why: NoMemory) -> TickFault {
         TickFault::NoMemory
+    }
+}
+
+impl TickFault {
+    ghost use Rattle.trace.specs.declared.fault.LineFault.TheVariants as line_faults;
+    ghost use Rattle.trace.specs.declared.fault.TextFault.TheVariants as text_faults;
+    ghost use Rattle.player.specs.declared.player.TickFault.TheVariants as faults;
+
+    /// What is wrong with an input whose line of this number lets the ticks pass.
+    pub fn at_line(self, number: u64) -> TextFault
+        ensures spent { self ≡ faults.ClockSpent → result ≡ text_faults.Line number line_faults.ClockSpent }
+        ensures memory { self ≡ faults.NoMemory → result ≡ text_faults.NoMemory }
+    {
+        match self {
+            TickFault::ClockSpent => TextFault::Line(number, LineFault::ClockSpent),
+            TickFault::NoMemory => TextFault::NoMemory,
+        }
     }
 }
 

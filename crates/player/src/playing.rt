@@ -1,8 +1,8 @@
 //! Playing a trace.
-ghost use Rattle.std.specs.Prelude.{◌≡◌, ◌+◌, ◌<◌, ◌≤◌, ◌++◌, ◌⊎◌, [], length};
+ghost use Rattle.std.specs.Prelude.{◌≡◌, ◌≢◌, ◌+◌, ◌-◌, ◌<◌, ◌≤◌, ◌++◌, [], length, false, Some, IsTrue, option_map, if◌then◌else◌};
 ghost use Rattle.trace.specs.GoneOver.{reads_failed, writes_failed};
 ghost use Rattle.trace.specs.Streams.{Stays, given_by};
-ghost use Rattle.player.specs.Playing.{stage, Played, PlayedFirst};
+ghost use Rattle.player.specs.Playing.{stage, Played, PlayedFirst, PlayedUpTo};
 ghost use Rattle.player.specs.Closing.{Closes};
 
 use crate::line::play_line;
@@ -27,8 +27,29 @@ fn close<K: Sink>(
     }
 }
 
-/// Plays the lines of a source. What is written of them is written, or waits.
+/// Whether an event is left, or there is no most.
+fn is_any_left(left: Option<u32>) -> bool
+    ensures some { IsTrue result → left ≢ Some 0 }
+    ensures none { result ≡ false → left ≡ Some 0 }
+{
+    !matches!(left, Some(0))
+}
+
+/// How many events are left after a line, where there is a most.
+fn left_after(left: Option<u32>, is_event: bool) -> Option<u32>
+    requires { left ≢ Some 0 }
+    ensures { result ≡ option_map (λ n. n - (if is_event then 1 else 0)) left }
+{
+    match left {
+        Some(n) if is_event => Some(n - 1),
+        _ => left,
+    }
+}
+
+/// Plays the lines of a source, up to the line of the nth event where there is an n. What is written of them is
+/// written, or waits.
 fn play_lines<S: Source, K: Sink>(
+    n: Option<u32>,
     source: &mut S,
     sink: &mut K,
     waiting: &mut WriteBuffer,
@@ -36,7 +57,8 @@ fn play_lines<S: Source, K: Sink>(
     style: Style,
 ) -> Result<(), TextFault>
     requires { waiting.old ≡ [] }
-    ensures played { Played style (given_by S.given S.ended source.old source.new) (stage player.old (K.taken sink.old)) (stage player.new (K.taken sink.new ++ waiting.new)) result }
+    ensures played { PlayedUpTo n style (given_by S.given S.ended source.old source.new) (stage player.old (K.taken sink.old)) (stage player.new (K.taken sink.new ++ waiting.new)) result }
+    ensures none { n ≡ Some 0 → source.new ≡ source.old }
     ensures grows { length (K.taken sink.old) ≤ length (K.taken sink.new) }
     ensures nothing { 0 < reads_failed result + writes_failed result → waiting.new ≡ [] }
     ensures reads { S.failures source.new ≡ S.failures source.old + reads_failed result }
@@ -45,8 +67,9 @@ fn play_lines<S: Source, K: Sink>(
 {
     let mut reader = LineReader::new();
     let mut version = Version::First;
-    while reader.next_line_once_written(waiting, source, sink)? {
-        play_line(
+    let mut left = n;
+    while is_any_left(left) && reader.next_line_once_written(waiting, source, sink)? {
+        let is_event = play_line(
             reader.line(),
             reader.number(),
             &mut version,
@@ -54,8 +77,28 @@ fn play_lines<S: Source, K: Sink>(
             player,
             style,
         )?;
+        left = left_after(left, is_event);
     }
     Ok(())
+}
+
+/// Plays the lines of a source, up to the line of the nth event where there is an n, and writes what waits then.
+fn play_up_to<S: Source, K: Sink>(
+    n: Option<u32>,
+    source: &mut S,
+    sink: &mut K,
+    player: &mut Player,
+    style: Style,
+) -> Result<(), TextFault>
+    ensures played { PlayedUpTo n style (given_by S.given S.ended source.old source.new) (stage player.old (K.taken sink.old)) (stage player.new (K.taken sink.new)) result }
+    ensures none { n ≡ Some 0 → source.new ≡ source.old }
+    ensures reads { S.failures source.new ≡ S.failures source.old + reads_failed result }
+    ensures writes { K.failures sink.new ≡ K.failures sink.old + writes_failed result }
+    ensures input { reads_failed result ≡ 0 → Stays (S.input source.old) (S.input source.new) }
+{
+    let mut waiting = WriteBuffer::new();
+    let ended = play_lines(n, source, sink, &mut waiting, player, style);
+    close(&mut waiting, sink, ended)
 }
 
 /// Plays the lines of a source, and writes to a sink what the style says of each command: each line is
@@ -74,45 +117,7 @@ pub fn play<S: Source, K: Sink>(
     ensures writes { K.failures sink.new ≡ K.failures sink.old + writes_failed result }
     ensures input { reads_failed result ≡ 0 → Stays (S.input source.old) (S.input source.new) }
 {
-    let mut waiting = WriteBuffer::new();
-    let ended = play_lines(source, sink, &mut waiting, player, style);
-    close(&mut waiting, sink, ended)
-}
-
-/// Plays the lines of a source as `play_lines` does, up to the line of the nth event.
-fn play_first_lines<S: Source, K: Sink>(
-    n: u32,
-    source: &mut S,
-    sink: &mut K,
-    waiting: &mut WriteBuffer,
-    player: &mut Player,
-    style: Style,
-) -> Result<(), TextFault>
-    requires { waiting.old ≡ [] }
-    ensures played { PlayedFirst n style (given_by S.given S.ended source.old source.new) (stage player.old (K.taken sink.old)) (stage player.new (K.taken sink.new ++ waiting.new)) result }
-    ensures none { n ≡ 0 → source.new ≡ source.old }
-    ensures grows { length (K.taken sink.old) ≤ length (K.taken sink.new) }
-    ensures nothing { 0 < reads_failed result + writes_failed result → waiting.new ≡ [] }
-    ensures reads { S.failures source.new ≡ S.failures source.old + reads_failed result }
-    ensures writes { K.failures sink.new ≡ K.failures sink.old + writes_failed result }
-    ensures input { reads_failed result ≡ 0 → Stays (S.input source.old) (S.input source.new) }
-{
-    let mut reader = LineReader::new();
-    let mut version = Version::First;
-    let mut left = n;
-    while left > 0 && reader.next_line_once_written(waiting, source, sink)? {
-        if play_line(
-            reader.line(),
-            reader.number(),
-            &mut version,
-            waiting,
-            player,
-            style,
-        )? {
-            left -= 1;
-        }
-    }
-    Ok(())
+    play_up_to(None, source, sink, player, style)
 }
 
 /// Plays the lines of a source as `play` does, up to the line of the nth event, or all where there are
@@ -131,7 +136,5 @@ pub fn play_first<S: Source, K: Sink>(
     ensures writes { K.failures sink.new ≡ K.failures sink.old + writes_failed result }
     ensures input { reads_failed result ≡ 0 → Stays (S.input source.old) (S.input source.new) }
 {
-    let mut waiting = WriteBuffer::new();
-    let ended = play_first_lines(n, source, sink, &mut waiting, player, style);
-    close(&mut waiting, sink, ended)
+    play_up_to(Some(n), source, sink, player, style)
 }

@@ -1,12 +1,12 @@
 -- Lines in a buffer.
-use Rattle.std.proofs.Common.{◌≡◌, ◌≢◌, ℕ, ◌+◌, ◌-◌, ◌≤◌, ◌<◌, Bool, true, false, cond, eqb, List, ◌∷◌, ◌++◌, length, take, drop, Some, None, Option, nat_lt, arith, length-take, get_or-take, take-take, drop-drop, ap, ◌∙◌, sym, subst, refl}
+use Rattle.std.proofs.Common.{◌≡◌, ◌≢◌, ℕ, ◌+◌, ◌-◌, ◌≤◌, ◌<◌, Bool, true, false, cond, eqb, List, ◌∷◌, ◌++◌, length, take, drop, Some, None, Option, nat_lt, arith, length-take, get_or-take, take-take, drop-drop, append_assoc, ap, ◌∙◌, sym, subst, refl}
 use Rattle.std.specs.Prelude.{IfSome, IsNone, position, slice_range}
 use Rattle.std.specs.List.{position_or_len}
 use Rattle.std.proofs.lemmas.Bool.{eqb-true, eq-eqb, ltb-false}
 use Rattle.std.proofs.lemmas.List.{drop-take}
 use Rattle.std.proofs.lemmas.List.Sums.{fails_before_first}
 use Rattle.std.proofs.lemmas.List.Quantifiers.{position-Some}
-use Rattle.trace.specs.Streams.{NoLf, IsLine, FirstLf}
+use Rattle.trace.specs.Streams.{NoLf, IsLine, Comes, FirstLf}
 use Rattle.trace.proofs.Cuts.{whole, parted}
 
 abbrev is_lf : ℕ → Bool
@@ -79,3 +79,11 @@ module _ (buffer : List ℕ) (start end i : ℕ) (range : start ≤ end) (within
 -- few bytes without LF
 pub short_line : (xs : List ℕ) → length xs ≤ 256 → NoLf (take 257 xs) → IsLine xs
 short_line xs few none = (subst NoLf (whole 257 xs (omega (arith, few))) none, few)
+
+-- bytes that came one after the other
+pub comes_on : {given between given' kept text text' : List ℕ} → Comes given between kept text → Comes between given' text text' → Comes given given' kept text'
+comes_on {given = given} {kept = kept} p q = record {
+  more = p.more ++ q.more;
+  given_more = q.given_more ∙ ap (λ t. t ++ q.more) p.given_more ∙ append_assoc given p.more q.more;
+  makes = sym (append_assoc kept p.more q.more) ∙ ap (λ t. t ++ q.more) p.makes ∙ q.makes;
+}

@@ -5,7 +5,7 @@ use Rattle.trace.specs.declared.fault.TextFault.{TextFault}
 use Rattle.trace.specs.declared.version.Version.{Version}
 use Rattle.trace.specs.declared.version.Version.TheVariants.{First}
 use Rattle.trace.specs.GoneOver.{LinesRead, Goes, LinesDone, No_lines, One_line_more, GoneOver, NoLine, NextLine, Ends}
-use Rattle.trace.specs.LineReader.{Lines, text_by, Says, lines_by}
+use Rattle.trace.specs.LineReader.{Lines, lines_by, Hands}
 use Rattle.trace.specs.Streams.{Given, IsLine, Comes, Stays, text_of}
 use Rattle.trace.proofs.Cutting.{one_more}
 
@@ -62,13 +62,6 @@ module _ {S E : Type 0} (Tells : S → S → Type 0) (Does : Version → List �
     done = No_lines;
     counted = refl;
   }
-
--- what the reader says of its next line
-pub record Hands (given : Given) (old new : Lines) (result : Result Bool TextFault) : Type 0 where
-  pub text : Comes given.before given.after old.kept (text_by result new)
-  pub says : Says result new given.ended
-  pub number : new.number ≡ old.number + lines_by result
-  pub small : length (text_by result new) ≤ 65536
 
 -- a line has the next number
 pub one_line : (number : ℕ) (next : Lines) (b : Bool) → b ≡ true → next.number ≡ number + lines_by (Ok b) → next.number ≡ number + 1

@@ -11,3 +11,4 @@ pub mod Cutting
 pub mod ReadReplies
 pub mod ReadEntries
 pub mod GoingOver
+pub mod Reading

@@ -1,8 +1,8 @@
 -- What a reader of lines shows, and what its outcomes say.
-use Rattle.std.specs.Prelude.{◌≡◌, ℕ, Bool, true, false, IsTrue, List, [], ◌∷◌, ◌++◌, Result, Ok, Err}
+use Rattle.std.specs.Prelude.{◌≡◌, ℕ, ◌+◌, ◌≤◌, Bool, true, false, IsTrue, List, [], ◌∷◌, ◌++◌, length, Result, Ok, Err}
 use Rattle.trace.specs.declared.fault.TextFault.{TextFault}
 use Rattle.trace.specs.GoneOver.{NoLine}
-use Rattle.trace.specs.Streams.{IsLine}
+use Rattle.trace.specs.Streams.{Given, IsLine, Comes}
 
 -- the line handed out last, the bytes that came and aren't handed out yet, and how many lines were handed out
 pub record Lines : Type 0 where
@@ -29,3 +29,11 @@ abbrev pub lines_by : Result Bool TextFault → ℕ
 lines_by (Ok true) = 1
 lines_by (Ok false) = 0
 lines_by (Err e) = 0
+
+-- What a call for the next line does, with what its source gave meanwhile: what was kept and what came are the line
+-- and what is kept, which with what came after it fits into a buffer.
+pub record Hands (given : Given) (old new : Lines) (result : Result Bool TextFault) : Type 0 where
+  pub text : Comes given.before given.after old.kept (text_by result new)
+  pub says : Says result new given.ended
+  pub number : new.number ≡ old.number + lines_by result
+  pub small : length (text_by result new) ≤ 65536

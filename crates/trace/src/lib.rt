@@ -26,7 +26,7 @@ pub use entry::{EntryLine, read_entry};
 pub use fail_at::FailAt;
 pub use fault::{LineFault, TextFault};
 pub use laws::{one_cutting, one_more_line};
-pub use line::{Line, is_skipped, read_line};
+pub use line::{Line, is_skipped, read_line, read_numbered};
 pub use line_reader::LineReader;
 pub use memory::{MemorySink, MemorySource};
 pub use sink::{Sink, WriteFailed, write_all};

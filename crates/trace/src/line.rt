@@ -3,10 +3,12 @@ ghost use Rattle.std.specs.Prelude.{◌≡◌, IfSome};
 ghost use Rattle.trace.specs.declared.line.Line.{Line};
 ghost use Rattle.trace.specs.Spelling.{is_skipped, Spells};
 ghost use Rattle.trace.specs.Reading.{collector_in, line_in};
+ghost use Rattle.trace.specs.Numbered.{LineRead};
 
 use crate::commands::mutator_and_command;
+use crate::fault::{LineFault, TextFault};
 use crate::field::{cut, word};
-use crate::version::Version;
+use crate::version::{Version, tells_version};
 use graph_heap::Command;
 use quanta::CLOCK_LIMIT;
 
@@ -75,4 +77,24 @@ pub fn read_line(version: Version, bytes: &[u8]) -> Option<Line>
     ensures only { (line : Line) → Spells version bytes.now line → result ≡ Some line }
 {
     meaning(version, bytes)
+}
+
+/// Reads the line of this number, from 1, of a trace. Answers none for the line that tells the version, which is
+/// then that of the lines after it. A line that says nothing that a trace of its version may say is a fault.
+#[inline(always)]
+pub fn read_numbered(
+    bytes: &[u8],
+    number: u64,
+    version: &mut Version,
+) -> Result<Option<Line>, TextFault>
+    ensures { LineRead bytes.now number version.old version.new result }
+{
+    if tells_version(number, bytes) {
+        *version = Version::Second;
+        return Ok(None);
+    }
+    match read_line(*version, bytes) {
+        Some(line) => Ok(Some(line)),
+        None => Err(TextFault::Line(number, LineFault::NotAnEvent)),
+    }
 }

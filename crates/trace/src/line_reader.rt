@@ -1,6 +1,6 @@
 //! Cutting what a source gives into lines.
 ghost use Rattle.std.specs.Prelude.{true, false, ◌⊎◌, Ok, Err, ◌∷◌, ◌++◌, ◌≡◌, ◌==◌, ◌+◌, ◌-◌, ◌<◌, ◌≤◌, ◌^◌, [], length, take, slice_range, IfOk, IfSome, IsNone, OnOk, OnErr, IsTrue};
-ghost use Rattle.trace.specs.Streams.{failed, Comes, Stays, NoLf, IsLine, FirstLf, GrowsByPart};
+ghost use Rattle.trace.specs.Streams.{failed, Comes, Stays, NoLf, IsLine, FirstLf, GrowsByPart, given_by};
 
 use crate::fault::{LineFault, TextFault};
 use crate::field::place_of;
@@ -76,7 +76,7 @@ impl Model for LineReader {
 
 impl LineReader {
     ghost use Rattle.trace.specs.GoneOver.{reads_failed, writes_failed};
-    ghost use Rattle.trace.specs.LineReader.{text_by, Says, lines_by};
+    ghost use Rattle.trace.specs.LineReader.{Hands};
 
     /// A reader that has read nothing yet.
     pub fn new() -> LineReader
@@ -170,13 +170,9 @@ impl LineReader {
     pub fn next_line<S: Source>(&mut self, source: &mut S) -> Result<bool, TextFault>
         // The source has given the bytes that are kept, and at least one for each line.
         requires { self.old.number + length self.old.kept ≤ length (S.given source.old) }
-        ensures text { Comes (S.given source.old) (S.given source.new) self.old.kept (text_by result self.new) }
-        ensures says { Says result self.new (S.ended source.new) }
-        ensures number { self.new.number ≡ self.old.number + lines_by result }
+        ensures hands { Hands (given_by S.given S.ended source.old source.new) self.old self.new result }
         ensures behind { self.new.number + length self.new.kept ≤ length (S.given source.new) }
         ensures counted { self.new.number < 2 ^ 64 }
-        // With what came after it, the line fits into a buffer.
-        ensures small { length (text_by result self.new) ≤ 65536 }
         ensures cause { S.failures source.new ≡ S.failures source.old + reads_failed result }
         ensures input { reads_failed result ≡ 0 → Stays (S.input source.old) (S.input source.new) }
     {
@@ -209,12 +205,9 @@ impl LineReader {
         ensures whole { writes_failed result ≡ 0 → K.taken sink.new ++ waiting.new ≡ K.taken sink.old ++ waiting.old }
         ensures part { result ≡ Err TextFault.Write → GrowsByPart (K.taken sink.old) (K.taken sink.new) waiting.old × (waiting.new ≡ []) }
         ensures grows { length (K.taken sink.old) ≤ length (K.taken sink.new) }
-        ensures says { writes_failed result ≡ 0 → Says result self.new (S.ended source.new) }
-        ensures text { Comes (S.given source.old) (S.given source.new) self.old.kept (text_by result self.new) }
-        ensures number { self.new.number ≡ self.old.number + lines_by result }
+        ensures hands { writes_failed result ≡ 0 → Hands (given_by S.given S.ended source.old source.new) self.old self.new result }
         ensures behind { self.new.number + length self.new.kept ≤ length (S.given source.new) }
         ensures counted { self.new.number < 2 ^ 64 }
-        ensures small { writes_failed result ≡ 0 → length (text_by result self.new) ≤ 65536 }
         // Where a write failed, no line was handed out, and nothing was read.
         ensures stays { result ≡ Err TextFault.Write → (self.new ≡ self.old) × (source.new ≡ source.old) }
         ensures writes { K.failures sink.new ≡ K.failures sink.old + writes_failed result }

@@ -1,8 +1,9 @@
-use Rattle.std.proofs.Common.{Ok, arith, ◌∙◌, subst, refl}
+use Rattle.std.proofs.Common.{Ok, ◌∙◌, subst, refl}
 use Rattle.std.proofs.lemmas.Result.{err_from_is_err_and}
 use Rattle.trace.specs.declared.line.Line.{Line}
 use Rattle.trace.specs.Spelling.{Spells}
-use Rattle.trace.proofs.GoingOver.{stays_same, stays_on, at_first, goes_on, ends_without, ends_over, ends_in, ends_at}
+use Rattle.trace.proofs.Reading.{reading_at_first, reading_on}
+use Rattle.trace.proofs.GoingOver.{at_first, goes_on, ends_without, ends_over, ends_in, ends_at}
 use Rattle.arrivals.specs.declared.keeping.Kept.{Kept}
 use Rattle.arrivals.specs.Fitting.{load_in}
 use Rattle.arrivals.specs.Load.{SaysNothing, SaysLine}
@@ -15,9 +16,7 @@ pub loop-reader-init : goal.loop-reader-init
 loop-reader-init g c = rw c.new-reader.ensures (record {
   done = at_first SaysNothing SaysLine (g.S.Source.given c.args.source.now) (g.S.Source.ended c.args.source.now) tt;
   meter = meter_starts (load_in c.args.load.now) c.budget-budget.result c.new-meter.result c.new-meter.ensures.levels c.new-meter.ensures.since;
-  behind = omega arith;
-  reads = refl;
-  input = stays_same (g.S.Source.input c.args.source.now);
+  reading = reading_at_first (g.S.Source.given c.args.source.now) (g.S.Source.failures c.args.source.now) (g.S.Source.input c.args.source.now);
 })
 
 pub returns-in_err-next_line-clause-checked : goal.returns-in_err-next_line-clause-checked
@@ -26,14 +25,14 @@ returns-in_err-next_line-clause-checked g c =
     let e = c.in_err-next_line.ensures in
     let i = c.loop-reader.invariant in
     rw (p.1, p.2) (checked (load_in c.args.load.now) c.budget-budget.result _ _ _ c.loop-reader.meter c.budget-budget.ensures.budget
-    (ends_without i.done c.next_line.new.self _ _ Kept NoEvent _ (record { text = e.text; says = e.says; number = e.number; small = e.small })) i.meter)
+    (ends_without i.done c.next_line.new.self _ _ Kept NoEvent _ e.hands) i.meter)
 
 pub returns-clause-checked : goal.returns-clause-checked
 returns-clause-checked g c =
     let e = c.in_ok-next_line.ensures in
     let i = c.loop-reader.invariant in
     checked (load_in c.args.load.now) c.budget-budget.result _ _ _ c.loop-reader.meter c.budget-budget.ensures.budget
-    (ends_over i.done c.next_line.new.self _ _ _ (record { text = e.text; says = e.says; number = e.number; small = e.small }) c.if-branch.false _ (λ rest all. all)) i.meter
+    (ends_over i.done c.next_line.new.self _ _ _ e.hands c.if-branch.false _ (λ rest all. all)) i.meter
 
 pub returns-in_err-by-clause-checked : goal.returns-in_err-by-clause-checked
 returns-in_err-by-clause-checked g c =
@@ -41,7 +40,7 @@ returns-in_err-by-clause-checked g c =
     let e = c.in_ok-next_line.ensures in
     let i = c.loop-reader.invariant in
     rw (p.1, p.2) (checked (load_in c.args.load.now) c.budget-budget.result _ _ _ c.loop-reader.meter c.budget-budget.ensures.budget
-    (ends_at i.done c.next_line.new.self _ _ _ (record { text = e.text; says = e.says; number = e.number; small = e.small }) c.if-branch.true _ c.line.ensures Kept NoEvent _ _ tt c.number-number.ensures c.in_err-by.ensures) i.meter)
+    (ends_at i.done c.next_line.new.self _ _ _ e.hands c.if-branch.true _ c.line.ensures Kept NoEvent _ _ tt c.number-number.ensures c.in_err-by.ensures) i.meter)
 
 pub returns-in-Some-clause-checked : goal.returns-in-Some-clause-checked
 returns-in-Some-clause-checked g c =
@@ -51,7 +50,7 @@ returns-in-Some-clause-checked g c =
     let k = c.budget-budget.result in
     let b = line_breaks l k _ _ c.loop-reader.version _ i.done.events c.loop-reader.meter _ c.in-Some.by i.meter (rw c.in-Some.is at c.in_ok-by.ensures) in
     checked l k _ _ _ c.loop-reader.meter c.budget-budget.ensures.budget
-    (ends_in i.done c.next_line.new.self _ _ _ (record { text = e.text; says = e.says; number = e.number; small = e.small }) c.if-branch.true _ c.line.ensures
+    (ends_in i.done c.next_line.new.self _ _ _ e.hands c.if-branch.true _ c.line.ensures
     (λ bytes. (line : Line) × Spells c.loop-reader.version bytes line × BreaksBy l k i.done.events line c.in-Some.by) b _ (λ count rest next. (c.number-number.ensures ∙ count, next))) i.meter
 
 pub loop-reader-preserved : goal.loop-reader-preserved
@@ -63,9 +62,7 @@ loop-reader-preserved g c =
     let kept = subst (λ found. TextMetered l k c.line.result.now c.number-number.result c.loop-reader.version c.check_line.new.version c.loop-reader.meter c.check_line.new.meter (Ok found)) (not_some c.in_ok-by.field-0 c.in_default.not-Some) c.in_ok-by.ensures in
     let went = line_goes l k c.number-number.result c.line.result.now c.loop-reader.version c.check_line.new.version i.done.events c.loop-reader.meter c.check_line.new.meter i.meter kept in
     record {
-      done = goes_on i.done c.next_line.new.self _ _ _ (record { text = e.text; says = e.says; number = e.number; small = e.small }) c.if-branch.true _ c.line.ensures tt _ went.0 _ c.number-number.ensures went.1;
+      done = goes_on i.done c.next_line.new.self _ _ _ e.hands c.if-branch.true _ c.line.ensures tt _ went.0 _ c.number-number.ensures went.1;
       meter = went.2;
-      behind = e.behind;
-      reads = omega (arith, e.cause, i.reads);
-      input = stays_on (g.S.Source.input c.args.source.now) _ _ i.input (e.input (refl {a = 0}));
+      reading = reading_on i.reading e.behind e.cause (e.input (refl {a = 0}));
     }

@@ -1,6 +1,7 @@
-use Rattle.std.proofs.Common.{◌≡◌, ◌+◌, ◌-◌, ◌≤◌, ◌^◌, length}
-use Rattle.trace.specs.Streams.{given_by, Stays}
+use Rattle.std.proofs.Common.{◌-◌, ◌^◌}
+use Rattle.trace.specs.Streams.{given_by}
 use Rattle.trace.proofs.GoingOver.{SoFar}
+use Rattle.trace.proofs.Reading.{IsReading}
 use Rattle.arrivals.specs.Fitting.{load_in}
 use Rattle.arrivals.specs.Load.{SaysNothing, SaysLine}
 use Rattle.arrivals.proofs.Checking.{IsMeterOf}
@@ -11,9 +12,7 @@ abbrev pub invariant-loop-reader : goal.invariant-loop-reader
 invariant-loop-reader g l = record {
   done : SoFar SaysNothing SaysLine (given_by g.S.Source.given g.S.Source.ended l.fn.source l.source) tt tt l.reader l.version;
   meter : IsMeterOf (load_in l.load) l.budget done.events l.meter;
-  behind : l.reader.number + length l.reader.kept ≤ length (g.S.Source.given l.source);
-  reads : g.S.Source.failures l.source ≡ g.S.Source.failures l.fn.source;
-  input : Stays (g.S.Source.input l.fn.source) (g.S.Source.input l.source);
+  reading : IsReading (g.S.Source.given l.source) (g.S.Source.failures l.fn.source) (g.S.Source.failures l.source) (g.S.Source.input l.fn.source) (g.S.Source.input l.source) l.reader;
 }
 
 abbrev pub decreases-loop-reader : goal.decreases-loop-reader

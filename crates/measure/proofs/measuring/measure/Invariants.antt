@@ -1,6 +1,7 @@
-use Rattle.std.proofs.Common.{◌≡◌, ◌+◌, ◌-◌, ◌≤◌, ◌^◌, [], length}
-use Rattle.trace.specs.Streams.{given_by, Stays}
+use Rattle.std.proofs.Common.{◌-◌, ◌^◌, []}
+use Rattle.trace.specs.Streams.{given_by}
 use Rattle.trace.proofs.GoingOver.{SoFar}
+use Rattle.trace.proofs.Reading.{IsReading}
 use Rattle.player.specs.Player.{PlayerState}
 use Rattle.player.specs.declared.style.Style.TheVariants.{Nothing}
 use Rattle.player.specs.Playing.{stage, TellsVersionOf, PlaysText}
@@ -15,9 +16,7 @@ invariant-loop-run g l = record {
   fresh : IsNew l.config first;
   done : SoFar (TellsVersionOf Nothing) (PlaysText Nothing) (given_by g.S.Source.given g.S.Source.ended l.fn.source l.source) (stage first []) (stage l.run.player []) l.reader l.version;
   at : IsAt first.course.heap done.events l.run;
-  behind : l.reader.number + length l.reader.kept ≤ length (g.S.Source.given l.source);
-  reads : g.S.Source.failures l.source ≡ g.S.Source.failures l.fn.source;
-  input : Stays (g.S.Source.input l.fn.source) (g.S.Source.input l.source);
+  reading : IsReading (g.S.Source.given l.source) (g.S.Source.failures l.fn.source) (g.S.Source.failures l.source) (g.S.Source.input l.fn.source) (g.S.Source.input l.source) l.reader;
 }
 
 abbrev pub decreases-loop-run : goal.decreases-loop-run

@@ -1,5 +1,6 @@
 use Rattle.std.proofs.Common.{sym, subst, Ok}
-use Rattle.measure.specs.Measuring.{HasBudget, LineMeasured}
+use Rattle.player.specs.Player.{HasBudget}
+use Rattle.measure.specs.Measuring.{LineMeasured}
 use Rattle.measure.proofs.Texts.{skip_measured}
 use Rattle.measure.proofs.run.measure_event.Goals as goal
 

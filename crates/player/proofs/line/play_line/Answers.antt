@@ -1,56 +1,36 @@
-use Rattle.std.proofs.Common.{◌∷◌, ◌++◌, [], append-nil, append_assoc, inl, inr, refl, sym, subst, ap, ◌∙◌}
-use Rattle.heap_model.specs.Event.{Command_done, Quantum_done}
-use Rattle.trace.specs.declared.line.Line.TheVariants as lines
-use Rattle.trace.specs.declared.version.Version.TheVariants.{Second}
-use Rattle.trace.specs.Spelling.{Spells}
-use Rattle.player.specs.Player.{PlayerState, DoesLine, Skips, Spends}
-use Rattle.player.specs.Playing.{written_line, written_version}
-use Rattle.player.proofs.First.{says, event_read, skip_read, told_read}
-use Rattle.player.proofs.Lines.{tick_written}
+use Rattle.std.proofs.Common.{[], ◌∷◌, ◌++◌, Ok, Some, Option, append_assoc, append-nil, inr, refl, sym, subst, ap, ◌∙◌}
+use Rattle.std.proofs.lemmas.Result.{err_from_is_err_and}
+use Rattle.graph_heap.specs.declared.command.Entry.{Entry}
+use Rattle.heap_model.specs.Event.{Command_done}
+use Rattle.trace.specs.declared.line.Line.{Line}
+use Rattle.trace.specs.Numbered.{LineRead}
+use Rattle.player.specs.Player.{DoesLine}
+use Rattle.player.specs.Playing.{says_event, written_line}
+use Rattle.player.proofs.First.{went, went_on}
+use Rattle.player.proofs.Lines.{entered}
 use Rattle.player.proofs.line.play_line.Goals as goal
 
-pub returns-then-tells_version-clause-played : goal.returns-then-tells_version-clause-played
-returns-then-tells_version-clause-played c = λ before.
-    let told = c.tells_version.ensures.0 c.if-tells_version.true in
-    ([], inl (told, refl, refl, (refl, ap (λ t. before ++ t) c.add_version.ensures ∙ sym (append_assoc before c.args.waiting.now (written_version Second c.args.style)))), told_read c.args.number c.args.bytes.now told)
+pub returns-in-Command-clause-played : goal.returns-in-Command-clause-played
+returns-in-Command-clause-played c = λ before.
+    let read = subst (λ (o : Option Line). LineRead c.args.bytes.now c.args.number c.args.version.now c.read_numbered.new.version (Ok o)) c.in-Some.is c.in_ok-line.ensures in
+    let r = c.in_ok-receipt.receipt in
+    let call = c.in_ok-receipt.ensures in
+    let es = Command_done c.in-Command.mutator c.in-Command.command r.entry.reply ∷ [] in
+    let does = subst (λ (line : Line). DoesLine c.args.player.now line es c.call.new.self) (sym c.in-Command.is) call.does in
+    let line = written_line c.args.style r.entry in
+    let added = c.add_line.ensures ∙ ap (λ (e : Entry). c.args.waiting.now ++ written_line c.args.style e) c.entry.ensures in
+    went c.args.style c.args.bytes.now (before ++ c.args.waiting.now) (before ++ c.add_line.new.waiting) c.args.number c.args.version.now c.read_numbered.new.version c.in-Some.line c.args.player.now c.call.new.self (Some r) _ read
+    (es, does, entered r.entry c.in-Command.mutator c.in-Command.command call.entry.0 call.entry.1)
+    (ap (λ t. before ++ t) added ∙ sym (append_assoc before c.args.waiting.now line) ∙ ap (λ t. (before ++ c.args.waiting.now) ++ t) (sym (append-nil line))) (ap says_event (sym c.in-Command.is))
 
-pub returns-in-Skip-clause-played : goal.returns-in-Skip-clause-played
-returns-in-Skip-clause-played c = λ before.
-    let spells = subst (Spells c.args.version.now c.args.bytes.now) c.in-Skip.is c.in-Some.ensures.found in
-    ([], inr (refl, (lines.Skip, spells, (Skips, sym (append-nil (before ++ c.args.waiting.now))))), skip_read c.args.bytes.now spells)
+pub returns-in_err-do_line-clause-played : goal.returns-in_err-do_line-clause-played
+returns-in_err-do_line-clause-played c = λ before.
+    let p = err_from_is_err_and c.from_residual-in_err-do_line.result c.from_residual-in_err-do_line.ensures.1 in
+    let read = subst (λ (o : Option Line). LineRead c.args.bytes.now c.args.number c.args.version.now c.read_numbered.new.version (Ok o)) c.in-Some.is c.in_ok-line.ensures in
+    rw (p.1, p.2) (inr (c.in-Some.line, read.1, c.in_err-do_line.ensures.done c.args.style (before ++ c.args.waiting.now)))
 
-pub returns-in_ok-play_command-in-Command-clause-played : goal.returns-in_ok-play_command-in-Command-clause-played
-returns-in_ok-play_command-in-Command-clause-played c = λ before.
-    let d = c.in_ok-play_command-in-Command.ensures in
-    let m = c.in-Command.mutator in
-    let command = c.in-Command.command in
-    let line = written_line c.args.style (record { mutator = m; command = command; reply = d.0 }) in (
-      Command_done m command d.0 ∷ [],
-      inr (refl, (lines.Command m command, subst (Spells c.args.version.now c.args.bytes.now) c.in-Command.is c.in-Some.ensures.found, (d.1, ap (λ t. before ++ t) d.2 ∙ sym (append_assoc before c.args.waiting.now line) ∙ ap (λ t. (before ++ c.args.waiting.now) ++ t) (sym (append-nil line))))),
-      event_read c.args.bytes.now c.args.version.now c.in-Some.line c.in-Some.ensures.found c.in-Some.ensures.only (ap says c.in-Command.is),
-    )
-
-pub returns-in-Quantum-clause-played : goal.returns-in-Quantum-clause-played
-returns-in-Quantum-clause-played c = λ before.
-    let s = c.quantum.ensures in
-    let does = Quantum_done c.in-Quantum.budget s.0 s.1 ∷ [] in (
-      does,
-      inr (
-        refl,
-        (
-          lines.Quantum c.in-Quantum.budget,
-          subst (Spells c.args.version.now c.args.bytes.now) c.in-Quantum.is c.in-Some.ensures.found,
-          (subst (λ (x : PlayerState). DoesLine c.args.player.now (lines.Quantum c.in-Quantum.budget) does x) (sym s.4) (Spends c.in-Quantum.budget s.0 s.1 s.2 s.3), sym (append-nil (before ++ c.args.waiting.now))),
-        ),
-      ),
-      event_read c.args.bytes.now c.args.version.now c.in-Some.line c.in-Some.ensures.found c.in-Some.ensures.only (ap says c.in-Quantum.is),
-    )
-
-pub returns-in-Ok-clause-played : goal.returns-in-Ok-clause-played
-returns-in-Ok-clause-played c = λ before.
-    let t = c.in-Ok.ensures in
-    let n = c.in-Tick.ticks in (
-      t.0,
-      inr (refl, (lines.Tick n, subst (Spells c.args.version.now c.args.bytes.now) c.in-Tick.is c.in-Some.ensures.found, (t.1, tick_written c.args.style (before ++ c.args.waiting.now) c.args.player.now c.tick.new.self n t.0 t.1))),
-      event_read c.args.bytes.now c.args.version.now c.in-Some.line c.in-Some.ensures.found c.in-Some.ensures.only (ap says c.in-Tick.is),
-    )
+pub returns-clause-played : goal.returns-clause-played
+returns-clause-played c = λ before.
+    let read = subst (λ (o : Option Line). LineRead c.args.bytes.now c.args.number c.args.version.now c.read_numbered.new.version (Ok o)) c.in-Some.is c.in_ok-line.ensures in
+    went_on c.args.style c.args.bytes.now (before ++ c.args.waiting.now) c.args.number c.args.version.now c.read_numbered.new.version c.in-Some.line c.args.player.now c.do_line.new.player c.in_ok-do_line.field-0 c.is_event.result read c.in_ok-do_line.ensures.done
+    (λ m command. c.in_default-line.not-Command m command) c.is_event.ensures

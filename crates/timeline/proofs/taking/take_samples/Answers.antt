@@ -1,7 +1,8 @@
 use Rattle.std.proofs.Common.{[], ◌∷◌, ◌++◌, arith, refl, sym, ap, ◌∙◌, subst}
 use Rattle.std.proofs.lemmas.Result.{err_from_is_err_and}
 use Rattle.heap_model.specs.Event.{Course}
-use Rattle.trace.proofs.GoingOver.{stays_same, stays_on, at_first, goes_on, ends_without, ends_over, ends_at, one_line}
+use Rattle.trace.proofs.Reading.{reading_at_first, reading_on}
+use Rattle.trace.proofs.GoingOver.{at_first, goes_on, ends_without, ends_over, ends_at, one_line}
 use Rattle.player.specs.declared.style.Style.TheVariants.{Nothing}
 use Rattle.player.specs.Playing.{stage, TellsVersionOf, PlaysText, StopsText, is_event}
 use Rattle.player.proofs.Lines.{ends_so}
@@ -18,9 +19,7 @@ loop-sampler-init g c =
       fresh = c.in_ok-player.ensures;
       done = at_first (TellsVersionOf Nothing) (PlaysText Nothing) (g.S.Source.given c.args.source.now) (g.S.Source.ended c.args.source.now) (stage c.in_ok-player.player []);
       along = subst (λ x. IsAlong (x ∷ []) c.in_ok-sampler.sampler) (c.heap.ensures.heap ∙ ap (λ (x : Course). x.heap) c.recorded.ensures) c.in_ok-sampler.ensures;
-      behind = omega arith;
-      reads = refl;
-      input = stays_same (g.S.Source.input c.args.source.now);
+      reading = reading_at_first (g.S.Source.given c.args.source.now) (g.S.Source.failures c.args.source.now) (g.S.Source.input c.args.source.now);
     })
 
 pub returns-in_err-next_line-clause-taken : goal.returns-in_err-next_line-clause-taken
@@ -29,7 +28,7 @@ returns-in_err-next_line-clause-taken g c =
     let e = c.in_err-next_line.ensures in
     let i = c.loop-sampler.invariant in
     rw (p.1, p.2) (ends_taken c.args.config.now _ c.in_err-next_line.field-0.0 i.first _
-    (ends_so (ends_without i.done c.next_line.new.self _ _ (Unit {0}) (StopsText Nothing) _ (record { text = e.text; says = e.says; number = e.number; small = e.small }))) i.fresh)
+    (ends_so (ends_without i.done c.next_line.new.self _ _ (Unit {0}) (StopsText Nothing) _ e.hands)) i.fresh)
 
 pub returns-in_err-is_event-clause-taken : goal.returns-in_err-is_event-clause-taken
 returns-in_err-is_event-clause-taken g c =
@@ -38,7 +37,7 @@ returns-in_err-is_event-clause-taken g c =
     let i = c.loop-sampler.invariant in
     rw (p.1, p.2) (ends_taken c.args.config.now _ c.in_err-is_event.field-0.0 i.first _
     (ends_so
-    (ends_at i.done c.next_line.new.self _ _ _ (record { text = e.text; says = e.says; number = e.number; small = e.small }) c.if-branch.true _ c.line.ensures (Unit {0}) (StopsText Nothing) _ _ (stage c.play_line.new.player []) c.number.ensures c.in_err-is_event.ensures.played))
+    (ends_at i.done c.next_line.new.self _ _ _ e.hands c.if-branch.true _ c.line.ensures (Unit {0}) (StopsText Nothing) _ _ (stage c.play_line.new.player []) c.number.ensures c.in_err-is_event.ensures.played))
     i.fresh)
 
 pub event-requires : goal.event-requires
@@ -47,7 +46,7 @@ event-requires g c =
     let i = c.loop-sampler.invariant in
     let d = i.done in
     let few = heaps_few (stage i.first []) d.lines c.loop-sampler.version d.events (stage c.loop-sampler.player []) d.done in
-    let next = one_line c.loop-sampler.reader.number c.next_line.new.self c.in_ok-next_line.field-0 c.if-branch.true e.number in
+    let next = one_line c.loop-sampler.reader.number c.next_line.new.self c.in_ok-next_line.field-0 c.if-branch.true e.hands.number in
     (heaps_along (stage i.first []) d.lines c.loop-sampler.version d.events (stage c.loop-sampler.player []) d.done, i.along, omega (arith, few, next, d.counted, e.counted))
 
 pub loop-sampler-preserved : goal.loop-sampler-preserved
@@ -64,11 +63,9 @@ loop-sampler-preserved g c =
     record {
       first = i.first;
       fresh = i.fresh;
-      done = goes_on d c.next_line.new.self _ _ _ (record { text = e.text; says = e.says; number = e.number; small = e.small }) c.if-branch.true _ c.line.ensures (stage c.play_line.new.player []) _ played.0 _ c.number.ensures played.1;
+      done = goes_on d c.next_line.new.self _ _ _ e.hands c.if-branch.true _ c.line.ensures (stage c.play_line.new.player []) _ played.0 _ c.number.ensures played.1;
       along = heap_more heaps h c.event.new.self (is_event c.next_line.new.self.line) event taken;
-      behind = e.behind;
-      reads = omega (arith, e.cause, i.reads);
-      input = stays_on (g.S.Source.input c.args.source.now) _ _ i.input (e.input (refl {a = 0}));
+      reading = reading_on i.reading e.behind e.cause (e.input (refl {a = 0}));
     }
 
 pub loop-sampler-preserved-then-not-is_event : goal.loop-sampler-preserved-then-not-is_event
@@ -82,11 +79,9 @@ loop-sampler-preserved-then-not-is_event g c =
     record {
       first = i.first;
       fresh = i.fresh;
-      done = goes_on d c.next_line.new.self _ _ _ (record { text = e.text; says = e.says; number = e.number; small = e.small }) c.if-branch.true _ c.line.ensures (stage c.play_line.new.player []) _ played.0 _ c.number.ensures played.1;
+      done = goes_on d c.next_line.new.self _ _ _ e.hands c.if-branch.true _ c.line.ensures (stage c.play_line.new.player []) _ played.0 _ c.number.ensures played.1;
       along = no_heap_more heaps c.play_line.new.player.course.heap c.loop-sampler.sampler (is_event c.next_line.new.self.line) other i.along;
-      behind = e.behind;
-      reads = omega (arith, e.cause, i.reads);
-      input = stays_on (g.S.Source.input c.args.source.now) _ _ i.input (e.input (refl {a = 0}));
+      reading = reading_on i.reading e.behind e.cause (e.input (refl {a = 0}));
     }
 
 pub returns-clause-taken : goal.returns-clause-taken
@@ -95,7 +90,7 @@ returns-clause-taken g c =
     let i = c.loop-sampler.invariant in (
       i.first,
       stage c.loop-sampler.player [],
-      ends_so (ends_over i.done c.next_line.new.self _ _ _ (record { text = e.text; says = e.says; number = e.number; small = e.small }) c.if-branch.false _ (λ rest all. (all.0, all.1, refl))),
+      ends_so (ends_over i.done c.next_line.new.self _ _ _ e.hands c.if-branch.false _ (λ rest all. (all.0, all.1, refl))),
       i.fresh,
       (is_stride (heaps_along (stage i.first []) i.done.lines c.loop-sampler.version i.done.events (stage c.loop-sampler.player []) i.done.done) c.loop-sampler.sampler.samples.items.items c.loop-sampler.sampler.samples.stride c.loop-sampler.sampler.since i.along, i.along.each),
     )

@@ -1,6 +1,7 @@
-use Rattle.std.proofs.Common.{◌≡◌, ◌+◌, ◌-◌, ◌≤◌, ◌^◌, [], length}
-use Rattle.trace.specs.Streams.{given_by, Stays}
+use Rattle.std.proofs.Common.{◌-◌, ◌^◌, []}
+use Rattle.trace.specs.Streams.{given_by}
 use Rattle.trace.proofs.GoingOver.{SoFar}
+use Rattle.trace.proofs.Reading.{IsReading}
 use Rattle.player.specs.Player.{PlayerState}
 use Rattle.player.specs.declared.style.Style.TheVariants.{Nothing}
 use Rattle.player.specs.Playing.{stage, TellsVersionOf, PlaysText}
@@ -16,9 +17,7 @@ invariant-loop-sampler g l = record {
   fresh : IsNew l.config first;
   done : SoFar (TellsVersionOf Nothing) (PlaysText Nothing) (given_by g.S.Source.given g.S.Source.ended l.fn.source l.source) (stage first []) (stage l.player []) l.reader l.version;
   along : IsAlong (heaps_along (stage first []) done.lines l.version done.events (stage l.player []) done.done) l.sampler;
-  behind : l.reader.number + length l.reader.kept ≤ length (g.S.Source.given l.source);
-  reads : g.S.Source.failures l.source ≡ g.S.Source.failures l.fn.source;
-  input : Stays (g.S.Source.input l.fn.source) (g.S.Source.input l.source);
+  reading : IsReading (g.S.Source.given l.source) (g.S.Source.failures l.fn.source) (g.S.Source.failures l.source) (g.S.Source.input l.fn.source) (g.S.Source.input l.source) l.reader;
 }
 
 abbrev pub decreases-loop-sampler : goal.decreases-loop-sampler

@@ -2,7 +2,7 @@ use Rattle.std.proofs.Common.{◌≡◌, ◌-◌, ◌≤◌, ◌^◌, length}
 use Rattle.trace.specs.Streams.{given_by}
 use Rattle.trace.proofs.GoingOver.{SoFar}
 use Rattle.transcripts.specs.Histories.{DoesNothing, DoesEntry}
-use Rattle.transcripts.proofs.Reading.{IsReading}
+use Rattle.trace.proofs.Reading.{IsReading}
 use Rattle.transcripts.proofs.histories.check_entries.Given as goal
 
 -- the entries of the lines so far are done, and no read has failed

@@ -3,7 +3,7 @@ use Rattle.std.proofs.lemmas.Result.{err_from_is_err_and}
 use Rattle.trace.proofs.GoingOver.{at_first, goes_on, ends_without, ends_over, ends_at}
 use Rattle.transcripts.specs.Scripts.{ReadScripts, AsksNothing, DoesScript, ScriptStops}
 use Rattle.transcripts.proofs.Listing.{empty_scripts, line_goes}
-use Rattle.transcripts.proofs.Reading.{reading_at_first, reading_on}
+use Rattle.trace.proofs.Reading.{reading_at_first, reading_on}
 use Rattle.transcripts.proofs.scripts.read_scripts.Goals as goal
 
 pub returns-in_err-scripts-clause-read : goal.returns-in_err-scripts-clause-read
@@ -24,7 +24,7 @@ returns-in_err-next_line-clause-read g c =
     let p = err_from_is_err_and c.from_residual-in_err-next_line.result c.from_residual-in_err-next_line.ensures.1 in
     let e = c.in_err-next_line.ensures in
     rw (p.1, p.2) (inr (record {
-      over = ends_without c.loop-scripts.invariant.done c.next_line.new.self _ _ ReadScripts (ScriptStops c.args.limits.now.mutators) _ (record { text = e.text; says = e.says; number = e.number; small = e.small });
+      over = ends_without c.loop-scripts.invariant.done c.next_line.new.self _ _ ReadScripts (ScriptStops c.args.limits.now.mutators) _ e.hands;
       are = tt;
     }))
 
@@ -35,7 +35,7 @@ loop-scripts-preserved g c =
     let i = c.loop-scripts.invariant in
     let went = line_goes c.number.result c.line.result.now c.loop-scripts.version _ c.args.limits.now.mutators c.loop-scripts.scripts c.add_line.new.scripts i.len d.done in
     record {
-      done = goes_on i.done c.next_line.new.self _ _ _ (record { text = e.text; says = e.says; number = e.number; small = e.small }) c.if-branch.true _ c.line.ensures tt _ went.0 _ c.number.ensures went.1;
+      done = goes_on i.done c.next_line.new.self _ _ _ e.hands c.if-branch.true _ c.line.ensures tt _ went.0 _ c.number.ensures went.1;
       are = went.2 i.done.events i.are;
       len = omega (arith, d.len, i.len);
       reading = reading_on i.reading e.behind e.cause (e.input (refl {a = 0}));
@@ -48,7 +48,7 @@ returns-in_err-add_line-clause-read g c =
     let p = err_from_is_err_and c.from_residual-in_err-add_line.result c.from_residual-in_err-add_line.ensures.1 in
     let stops = subst (λ n. ScriptStops n c.loop-scripts.version c.in_err-add_line.field-0.0 c.line.result.now c.number.result tt tt) i.len c.in_err-add_line.ensures.done in
     rw (p.1, p.2) (inr (record {
-      over = ends_at i.done c.next_line.new.self _ _ _ (record { text = e.text; says = e.says; number = e.number; small = e.small }) c.if-branch.true _ c.line.ensures ReadScripts (ScriptStops c.args.limits.now.mutators) _ _ tt c.number.ensures stops;
+      over = ends_at i.done c.next_line.new.self _ _ _ e.hands c.if-branch.true _ c.line.ensures ReadScripts (ScriptStops c.args.limits.now.mutators) _ _ tt c.number.ensures stops;
       are = tt;
     }))
 
@@ -57,7 +57,7 @@ returns-clause-read g c =
     let e = c.in_ok-next_line.ensures in
     let i = c.loop-scripts.invariant in
     inr (record {
-      over = ends_over i.done c.next_line.new.self _ _ _ (record { text = e.text; says = e.says; number = e.number; small = e.small }) c.if-branch.false _ (λ rest all. (all.0, all.1, refl));
+      over = ends_over i.done c.next_line.new.self _ _ _ e.hands c.if-branch.false _ (λ rest all. (all.0, all.1, refl));
       are = (refl, i.are);
     })
 

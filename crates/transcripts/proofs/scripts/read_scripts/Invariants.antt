@@ -2,7 +2,7 @@ use Rattle.std.proofs.Common.{◌≡◌, ◌-◌, ◌^◌, vec_len}
 use Rattle.trace.specs.Streams.{given_by}
 use Rattle.trace.proofs.GoingOver.{SoFar}
 use Rattle.transcripts.specs.Scripts.{lists_in, scripts_of, AsksNothing, DoesScript}
-use Rattle.transcripts.proofs.Reading.{IsReading}
+use Rattle.trace.proofs.Reading.{IsReading}
 use Rattle.transcripts.proofs.scripts.read_scripts.Given as goal
 
 -- the scripts are those of the lines so far, and no read has failed

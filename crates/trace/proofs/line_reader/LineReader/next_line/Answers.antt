@@ -1,26 +1,46 @@
 use Rattle.std.proofs.Common.{◌≤◌, length, take, arith, refl, sym, subst, ap, Ok}
-use Rattle.trace.specs.Streams.{NoLf, IsLine}
+use Rattle.trace.specs.Streams.{NoLf, IsLine, Comes}
 use Rattle.trace.specs.LineReader.{Lines}
-use Rattle.trace.proofs.Feeds.{short_line}
+use Rattle.trace.proofs.Feeds.{short_line, comes_on}
 use Rattle.trace.proofs.line_reader.LineReader.next_line.Goals as goal
 
-pub returns-then-kept-gt-LONGEST-clause-says : goal.returns-then-kept-gt-LONGEST-clause-says
-returns-then-kept-gt-LONGEST-clause-says g c =
+pub returns-then-kept-gt-LONGEST-clause-hands : goal.returns-then-kept-gt-LONGEST-clause-hands
+returns-then-kept-gt-LONGEST-clause-hands g c =
+    let i = c.loop-self.invariant in
     let same = c.loop-self-test.ensures.same refl in
     let none : NoLf (take 257 c.cut_line.new.self.kept) = subst (λ (s : Lines). NoLf (take 257 s.kept)) (sym same) (c.loop-self-test.ensures.none refl) in
-    rw c.fault.ensures (refl, omega arith, none)
+    rw c.fault.ensures (record {
+      text = subst (λ (s : Lines). Comes (g.S.Source.given c.args.source.now) (g.S.Source.given c.loop-self.source) c.args.self.now.kept s.kept) (sym same) i.text;
+      says = (refl, omega arith, none);
+      number = omega (arith, ap (λ (s : Lines). s.number) same, i.number);
+      small = omega (arith, c.loop-self-test.ensures.small, ap (λ (s : Lines). length s.kept) same);
+    })
 
-pub returns-in-Ok-eq0-2-clause-says : goal.returns-in-Ok-eq0-2-clause-says
-returns-in-Ok-eq0-2-clause-says g c =
+pub returns-in-Ok-eq0-2-clause-hands : goal.returns-in-Ok-eq0-2-clause-hands
+returns-in-Ok-eq0-2-clause-hands g c =
+    let i = c.loop-self.invariant in
     let same = c.loop-self-test.ensures.same refl in
+    let fill = c.in-Ok-eq0.ensures in
     let none : NoLf (take 257 c.cut_line.new.self.kept) = subst (λ (s : Lines). NoLf (take 257 s.kept)) (sym same) (c.loop-self-test.ensures.none refl) in
     let few : length c.cut_line.new.self.kept ≤ 256 = omega arith in
-    let line = subst IsLine (sym (c.in-Ok-eq0.ensures.nothing (ap Ok c.in-Ok-eq0.field-0-test))) (short_line c.cut_line.new.self.kept few none) in
-    rw c.fault-in-Ok-eq0-2.ensures (refl, omega arith, line, c.in-Ok-eq0.ensures.end c.in-Ok-eq0.field-0-test)
+    let line = subst IsLine (sym (fill.nothing (ap Ok c.in-Ok-eq0.field-0-test))) (short_line c.cut_line.new.self.kept few none) in
+    rw c.fault-in-Ok-eq0-2.ensures (record {
+      text = comes_on i.text (subst (λ (s : Lines). Comes (g.S.Source.given c.loop-self.source) (g.S.Source.given c.fill.new.source) s.kept c.fill.new.self.kept) same fill.bytes);
+      says = (refl, omega arith, line, fill.end c.in-Ok-eq0.field-0-test);
+      number = omega (arith, ap (λ (s : Lines). s.number) same, fill.number, i.number);
+      small = fill.small;
+    })
 
-pub returns-in-Err-clause-says : goal.returns-in-Err-clause-says
-returns-in-Err-clause-says g c =
+pub returns-in-Err-clause-hands : goal.returns-in-Err-clause-hands
+returns-in-Err-clause-hands g c =
+    let i = c.loop-self.invariant in
     let same = c.loop-self-test.ensures.same refl in
+    let fill = c.in-Err.ensures in
     let none : NoLf (take 257 c.cut_line.new.self.kept) = subst (λ (s : Lines). NoLf (take 257 s.kept)) (sym same) (c.loop-self-test.ensures.none refl) in
     let few : length c.cut_line.new.self.kept ≤ 256 = omega arith in
-    subst IsLine (sym c.in-Err.ensures.none) (short_line c.cut_line.new.self.kept few none)
+    record {
+      text = comes_on i.text (subst (λ (s : Lines). Comes (g.S.Source.given c.loop-self.source) (g.S.Source.given c.fill.new.source) s.kept c.fill.new.self.kept) same fill.bytes);
+      says = subst IsLine (sym fill.none) (short_line c.cut_line.new.self.kept few none);
+      number = omega (arith, ap (λ (s : Lines). s.number) same, fill.number, i.number);
+      small = fill.small;
+    }

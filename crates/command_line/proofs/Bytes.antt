@@ -1,11 +1,10 @@
--- The document in the bytes of a file.
-use Rattle.std.proofs.Common.{◌≡◌, ℕ, ◌≤◌, Bool, true, false, cond, List, length, Option, None, nat_lt, refl, arith}
-use Rattle.std.proofs.lemmas.Bool.Decides.{nat_tests}
+-- The document in bytes, and its members.
+use Rattle.std.proofs.Common.{◌≡◌, ℕ, Bool, true, false, cond, List, Option, None, refl}
 use Rattle.std.proofs.lemmas.Str.{IsUtf8-from_is_utf8, is_utf8-from_IsUtf8}
 use Rattle.std.specs.Str.{IsUtf8, is_utf8}
 use Rattle.toml.specs.Data.{Members}
 use Rattle.toml.specs.Parse.{parse_document}
-use Rattle.command_line.specs.Document.{document_of, fault_in, file_fault}
+use Rattle.command_line.specs.TomlTable.{document_of}
 
 -- what TOML reads in a text
 pub document_of-text : (bytes : List ℕ) (o : Option Members) → IsUtf8 bytes → parse_document bytes ≡ o → document_of bytes ≡ o
@@ -18,9 +17,3 @@ document_of-other bytes other = go (is_utf8 bytes) refl
     go : (b : Bool) → is_utf8 bytes ≡ b → cond b (parse_document bytes) None ≡ None
     go true e = absurd (other (IsUtf8-from_is_utf8 bytes e))
     go false e = refl
-
--- a file that isn't too long has its document's fault
-pub file_fault-short : (bytes : List ℕ) (o : Option Members) → length bytes ≤ 65536 → document_of bytes ≡ o → file_fault bytes ≡ fault_in o
-file_fault-short bytes o short e =
-    let test : nat_lt 65536 (length bytes) ≡ false = grind (arith, nat_tests) in
-    rw (test, e) refl

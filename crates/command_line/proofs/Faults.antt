@@ -3,7 +3,8 @@ use Rattle.std.proofs.Common.{◌≡◌, false, List, [], ◌∷◌, ◌++◌, O
 use Rattle.size_classes.specs.declared.fault.ConfigFault.{ConfigFault}
 use Rattle.size_classes.specs.Config.{budget_fault}
 use Rattle.toml.specs.Data.{Members}
-use Rattle.command_line.specs.Document.{first_some, has_unknown_key, keys_faults, settings_of, document_fault}
+use Rattle.command_line.specs.Document.{has_unknown_key, keys_faults, settings_of, document_fault}
+use Rattle.command_line.specs.TomlTable.{first_some}
 
 -- the first of two lists is the first of one, else of the other
 pub first_some-append : (xs ys : List (Option ConfigFault)) (o : Option ConfigFault) → first_some xs ≡ o → first_some (xs ++ ys) ≡ elim o [ None ↦ first_some ys | Some fault ↦ Some fault ]

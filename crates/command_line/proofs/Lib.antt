@@ -1,3 +1,4 @@
 mod Bytes
 mod Faults
+mod Members
 mod Values

@@ -1,9 +1,7 @@
 -- What stands at a key of a document.
-use Rattle.std.proofs.Common.{◌≡◌, true, List, [], ◌∷◌, ◌||◌, not, Option, Some, None, refl, sym, ap, arith, String, Global}
+use Rattle.std.proofs.Common.{◌≡◌, true, Option, Some, None, refl, sym, ap, arith}
 use Rattle.std.proofs.lemmas.Int.{ints}
-use Rattle.std.specs.Prelude.{ℤ, pos, ◌≤ℤ◌, string_bytes, IfOk}
-use Rattle.std.specs.List.{list_any}
-use Rattle.std.specs.Map.{keys_of}
+use Rattle.std.specs.Prelude.{ℤ, pos, ◌≤ℤ◌, IfOk}
 use Rattle.std.specs.Option.{ok_or, unwrap_or}
 use Rattle.std.specs.Result.{result_err}
 use Rattle.size_classes.specs.declared.key.Key.{Key}
@@ -11,9 +9,7 @@ use Rattle.size_classes.specs.declared.key.Key.TheVariants.{Pages, Mutators, Slo
 use Rattle.size_classes.specs.declared.fault.ConfigFault.TheVariants as faults
 use Rattle.size_classes.specs.Keys.{name_of, row_of, is_between, is_allowed}
 use Rattle.toml.specs.Data.{Data, Members, get_member}
-use Rattle.toml.specs.View.{members_view}
-use Rattle.toml.specs.declared.value.Value.{Value}
-use Rattle.command_line.specs.Document.{value_fault, number_in, number_for, mutators_of, is_known, has_unknown_key}
+use Rattle.command_line.specs.Document.{value_fault, number_in, number_for, mutators_of}
 
 -- two values that are one
 some_same : (a b : ℤ) → Some a ≡ Some b → a ≡ b
@@ -46,11 +42,6 @@ missing_value m key (Some n) e = rw (← e) refl
 pub missing_within : (m : ℤ) (key : Key) (d : Option ℤ) → pos (row_of m key).least ≤ℤ (row_of m key).greatest → d ≡ (row_of m key).default → IfOk (ok_or d (faults.Missing key)) (λ n. is_allowed m key n ≡ true)
 missing_within m key None some e = tt
 missing_within m key (Some n) some e = default_within m key n some (sym e)
-
--- the keys of the map and the members of the document
-pub any_unknown : (entries : List (String Global × Value)) → list_any (λ k. not (is_known (string_bytes k))) (keys_of entries) ≡ has_unknown_key (members_view entries)
-any_unknown [] = refl
-any_unknown (e ∷ es) = ap (λ b. not (is_known (string_bytes e.0)) || b) (any_unknown es)
 
 -- the number at the key of the mutators is the same for any number of mutators
 same_number : (m n : ℤ) (d : Option Data) → number_in m Mutators d ≡ number_in n Mutators d

@@ -1,10 +1,8 @@
 -- What a configuration file says, and what is wrong with it.
-use Rattle.std.specs.Prelude.{◌≡◌, ℕ, ◌≤◌, nat_lt, ℤ, pos, ◌≤ℤ◌, Bool, false, not, ◌||◌, if◌then◌else◌, List, [], ◌∷◌, ◌++◌, map, length, Option, Some, None, is_some, Result, Ok, Err, String}
+use Rattle.std.specs.Prelude.{◌≡◌, ℕ, nat_lt, ℤ, pos, ◌≤ℤ◌, Bool, not, if◌then◌else◌, List, [], ◌∷◌, ◌++◌, map, length, Option, Some, None, is_some, Result, Ok, Err}
 use Rattle.std.specs.Option.{unwrap_or}
 use Rattle.std.specs.List.{list_any}
-use Rattle.std.specs.Str.{IsUtf8, is_utf8, bytes_eq}
-use Rattle.std.specs.BTreeMap.{BTreeMap}
-use Rattle.std.specs.declared.alloc.Global.{Global}
+use Rattle.std.specs.Str.{bytes_eq}
 use Rattle.size_classes.specs.declared.config.Config.{Config}
 use Rattle.size_classes.specs.declared.key.Key.{Key}
 use Rattle.size_classes.specs.declared.key.Key.TheVariants as keys_of_files
@@ -14,17 +12,12 @@ use Rattle.size_classes.specs.declared.fault.ConfigFault.TheVariants as faults
 use Rattle.size_classes.specs.declared.settings.Settings.{Settings}
 use Rattle.size_classes.specs.Keys.{name_of, row_of, is_allowed}
 use Rattle.size_classes.specs.Config.{budget_fault, IsOf}
-use Rattle.toml.specs.Data.{Data, as_integer, get_member, Members, no_members, member}
-use Rattle.toml.specs.Errors.{IsBlank}
-use Rattle.toml.specs.Parse.{parse_document}
-use Rattle.toml.specs.View.{table_view}
-use Rattle.toml.specs.declared.value.Value.{Value}
+use Rattle.toml.specs.Data.{Data, as_integer, get_member, Members}
 use Rattle.command_line.specs.declared.fault.ReadFault.{ReadFault}
 use Rattle.command_line.specs.declared.fault.ReadFault.TheVariants.{Refused, NoMemory}
-
--- the members of the document in these bytes, if they are UTF-8 and TOML reads a document in them
-abbrev pub document_of : List ℕ → Option Members
-document_of bytes = if is_utf8 bytes then parse_document bytes else None
+use Rattle.command_line.specs.declared.toml_table.OpenFault.{OpenFault}
+use Rattle.command_line.specs.declared.toml_table.OpenFault.TheVariants as openings
+use Rattle.command_line.specs.TomlTable.{document_of, NeedsMemory, any_member, first_some}
 
 -- it is the name of a key
 abbrev pub is_known : List ℕ → Bool
@@ -32,8 +25,7 @@ is_known name = list_any (λ key. bytes_eq (name_of key) name) ALL
 
 -- some member's key isn't known
 abbrev pub has_unknown_key : Members → Bool
-has_unknown_key no_members = false
-has_unknown_key (member name value rest) = not (is_known name) || has_unknown_key rest
+has_unknown_key document = any_member (λ name value. not (is_known name)) document
 
 -- the number at a key, or its default, in a file with this number of mutators
 abbrev pub number_in : ℤ → Key → Option Data → ℤ
@@ -79,12 +71,6 @@ settings_of document = record {
   live = number_for document keys_of_files.Live;
 }
 
--- the first that there is
-abbrev pub first_some : List (Option ConfigFault) → Option ConfigFault
-first_some [] = None
-first_some (None ∷ rest) = first_some rest
-first_some (Some fault ∷ rest) = Some fault
-
 -- for each key in turn, what is wrong with it
 abbrev pub keys_faults : Members → List (Option ConfigFault)
 keys_faults document = map (key_fault document) ALL
@@ -109,12 +95,6 @@ abbrev pub Configures : Option Members → Config → Type 0
 Configures None config = ⊥
 Configures (Some document) config = IsOf (settings_of document) config
 
--- a file for which memory may be refused: it isn't too long, and is a text with more in it than blanks
-pub record NeedsMemory (bytes : List ℕ) : Type 0 where
-  pub short : length bytes ≤ 65536
-  pub text : IsUtf8 bytes
-  pub said : ¬ (IsBlank bytes)
-
 -- what a file of these bytes is answered: a configuration where it has no fault, or its first fault,
 -- or no memory
 abbrev pub IsRead : List ℕ → Result Config ReadFault → Type 0
@@ -122,11 +102,8 @@ IsRead bytes (Ok config) = (file_fault bytes ≡ None) × Configures (document_o
 IsRead bytes (Err (Refused fault)) = file_fault bytes ≡ Some fault
 IsRead bytes (Err NoMemory) = NeedsMemory bytes
 
-abbrev pub Table : Type 0
-Table = BTreeMap (String Global) Value
-
--- the same, of the document alone
-abbrev pub IsOpened : List ℕ → Result Table ReadFault → Type 0
-IsOpened bytes (Ok table) = (length bytes ≤ 65536) × (document_of bytes ≡ Some (table_view table))
-IsOpened bytes (Err (Refused fault)) = file_fault bytes ≡ Some fault
-IsOpened bytes (Err NoMemory) = NeedsMemory bytes
+-- the fault of a file that opens no document
+abbrev pub read_fault : OpenFault → ReadFault
+read_fault openings.TooLong = Refused faults.TooLong
+read_fault openings.NotToml = Refused faults.NotToml
+read_fault openings.NoMemory = NoMemory

@@ -1,2 +1,3 @@
 pub mod Document
 pub mod Job
+pub mod TomlTable

@@ -53,13 +53,23 @@ fn progress<'a>(alloc: Global) -> Arg<'a> {
     flag(alloc, "progress", help)
 }
 
-/// A subcommand that plays a trace.
-fn playing<'a>(alloc: Global, name: &'a str, about: &'a str) -> Result<Command<'a>, AllocError> {
+/// A subcommand that goes over a file.
+fn over<'a>(
+    alloc: Global,
+    name: &'a str,
+    about: &'a str,
+    file: Arg<'a>,
+) -> Result<Command<'a>, AllocError> {
     Command::new(alloc, name)
         .about(about)
         .arg(config(alloc))?
-        .arg(trace(alloc))?
+        .arg(file)?
         .arg(progress(alloc))
+}
+
+/// A subcommand that plays a trace.
+fn playing<'a>(alloc: Global, name: &'a str, about: &'a str) -> Result<Command<'a>, AllocError> {
+    over(alloc, name, about, trace(alloc))
 }
 
 fn play<'a>(alloc: Global) -> Result<Command<'a>, AllocError> {
@@ -70,31 +80,15 @@ fn play<'a>(alloc: Global) -> Result<Command<'a>, AllocError> {
 
 fn check<'a>(alloc: Global) -> Result<Command<'a>, AllocError> {
     let history = file(alloc, "HISTORY", "The history, or - for standard input");
-    Command::new(alloc, "check")
-        .about("Check the replies of a history")
-        .arg(config(alloc))?
-        .arg(history)?
-        .arg(progress(alloc))
-}
-
-fn scripts<'a>(alloc: Global) -> Arg<'a> {
-    file(alloc, "SCRIPTS", "The scripts, or - for standard input")
-}
-
-/// A subcommand that runs scripts.
-fn running<'a>(alloc: Global, name: &'a str, about: &'a str) -> Result<Command<'a>, AllocError> {
-    Command::new(alloc, name)
-        .about(about)
-        .arg(config(alloc))?
-        .arg(scripts(alloc))?
-        .arg(progress(alloc))
+    over(alloc, "check", "Check the replies of a history", history)
 }
 
 fn threads<'a>(alloc: Global) -> Result<Command<'a>, AllocError> {
     let turns = "Quanta of the collector, 0 to 10000 [default: 100]";
     let budget = "Units of each quantum, 256 to 1000000 [default: 256]";
     let about = "Run scripts on threads and write their history";
-    running(alloc, "threads", about)?
+    let scripts = file(alloc, "SCRIPTS", "The scripts, or - for standard input");
+    over(alloc, "threads", about, scripts)?
         .arg(number(alloc, "turns", "N", turns))?
         .arg(number(alloc, "budget", "B", budget))
 }

@@ -4,15 +4,14 @@ ghost use Rattle.std.specs.Result.{result_err};
 ghost use Rattle.size_classes.specs.Keys.{is_allowed};
 ghost use Rattle.size_classes.specs.Config.{first_outside, IsOf};
 ghost use Rattle.toml.specs.View.{table_view};
-ghost use Rattle.command_line.specs.Document.{IsRead, IsOpened, is_known, has_unknown_key, mutators_of, key_fault, number_for, HasRange, settings_of, first_some, document_fault, keys_faults};
+ghost use Rattle.command_line.specs.Document.{IsRead, is_known, has_unknown_key, mutators_of, key_fault, number_for, HasRange, settings_of, document_fault, keys_faults};
+ghost use Rattle.command_line.specs.TomlTable.{first_some};
 
 use crate::fault::ReadFault;
+use crate::toml_table::{any_member, open_document};
 use size_classes::{Config, ConfigFault, Key, Settings};
 use std::alloc::Global;
 use toml::Table;
-
-/// The most bytes that a file may have.
-const GREATEST_LENGTH: usize = 65536;
 
 /// The configuration that a file of these bytes gives, checked, or the first fault: the file is too
 /// long, it isn't TOML, it names a key that isn't known; then for each key in turn it is missing, not
@@ -21,25 +20,8 @@ const GREATEST_LENGTH: usize = 65536;
 pub fn read_config(alloc: Global, bytes: &[u8]) -> Result<Config, ReadFault>
     ensures { IsRead bytes.now result }
 {
-    let document = open(alloc, bytes)?;
+    let document = open_document(alloc, bytes)?;
     config_in(&document).map_err(ReadFault::Refused)
-}
-
-/// The document in these bytes.
-fn open(alloc: Global, bytes: &[u8]) -> Result<Table, ReadFault>
-    ensures { IsOpened bytes.now result }
-{
-    if bytes.len() > GREATEST_LENGTH {
-        return Err(ReadFault::Refused(ConfigFault::TooLong));
-    }
-    let Ok(text) = std::str::from_utf8(bytes) else {
-        return Err(ReadFault::Refused(ConfigFault::NotToml));
-    };
-    match toml::table_from_str(alloc, text) {
-        Ok(table) => Ok(table),
-        Err(error) if error.is_memory() => Err(ReadFault::NoMemory),
-        Err(_) => Err(ReadFault::Refused(ConfigFault::NotToml)),
-    }
 }
 
 /// The configuration that a document gives, or its first fault.
@@ -58,7 +40,7 @@ fn config_in(document: &Table) -> Result<Config, ConfigFault>
 fn has_unknown_key(document: &Table) -> bool
     ensures { result ≡ has_unknown_key (table_view document.now) }
 {
-    document.keys().any(|key| !is_known(key.as_str()))
+    any_member(document, |key, _value| !is_known(key))
 }
 
 /// Whether it is the name of a key.

@@ -1,4 +1,5 @@
 //! Why a configuration file or a command line is refused.
+use crate::toml_table::OpenFault;
 use size_classes::ConfigFault;
 use std::alloc::{AllocError, AllocFailed};
 use thiserror::Error;
@@ -12,6 +13,21 @@ pub enum ReadFault {
     /// Memory was refused while the document was read.
     #[error("no memory")]
     NoMemory,
+}
+
+impl From<OpenFault> for ReadFault {
+    ghost use Rattle.std.specs.Prelude.{◌≡◌};
+    ghost use Rattle.command_line.specs.Document.{read_fault};
+
+    ghost from_gives = { λ opened fault. fault ≡ read_fault opened };
+
+    fn from(fault: OpenFault) -> ReadFault {
+        match fault {
+            OpenFault::TooLong => ReadFault::Refused(ConfigFault::TooLong),
+            OpenFault::NotToml => ReadFault::Refused(ConfigFault::NotToml),
+            OpenFault::NoMemory => ReadFault::NoMemory,
+        }
+    }
 }
 
 /// Why words give no job.

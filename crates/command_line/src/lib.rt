@@ -5,11 +5,13 @@ mod commands;
 mod document;
 mod fault;
 mod job;
+mod toml_table;
 mod words;
 
 pub use document::read_config;
 pub use fault::{ReadFault, WordsFault};
 pub use job::{Job, Picture, Request, Sizing};
+pub use toml_table::{OpenFault, any_member, open_document};
 pub use words::read_words;
 
 #[cfg(test)]

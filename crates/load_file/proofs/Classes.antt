@@ -5,8 +5,8 @@ use Rattle.std.proofs.lemmas.List.FromFn.{length-range_with_len, get_or-range_wi
 use Rattle.std.proofs.lemmas.List.Folds.{list_any_at}
 use Rattle.std.specs.List.{list_any, range_with_len}
 use Rattle.size_classes.specs.declared.class.TheConstants.{CLASSES}
+use Rattle.command_line.specs.TomlTable.{first_some}
 use Rattle.load_file.specs.declared.fault.DocumentFault.{DocumentFault}
-use Rattle.load_file.specs.Document.{first_some}
 use Rattle.load_file.specs.Keys.{classes}
 
 -- the first fault stands at a place, before which there is none

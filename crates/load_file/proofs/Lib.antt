@@ -1,4 +1,2 @@
-mod Bytes
 mod Classes
-mod Members
 mod Numbers

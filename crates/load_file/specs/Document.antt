@@ -1,5 +1,5 @@
 -- What load a document states, and what is wrong with it.
-use Rattle.std.specs.Prelude.{◌≡◌, ℕ, ◌<◌, ◌≤◌, nat_lt, ℤ, pos, if◌then◌else◌, List, [], ◌∷◌, map, length, Option, Some, None, Result, Ok, Err}
+use Rattle.std.specs.Prelude.{◌≡◌, ℕ, ◌<◌, nat_lt, ℤ, pos, if◌then◌else◌, List, ◌∷◌, map, length, Option, Some, None, Result, Ok, Err}
 use Rattle.std.specs.Option.{unwrap_or}
 use Rattle.size_classes.specs.declared.class.TheConstants.{CLASSES}
 use Rattle.size_classes.specs.Keys.{is_between}
@@ -8,8 +8,9 @@ use Rattle.arrivals.specs.declared.load.Load.{Load as LoadTable}
 use Rattle.arrivals.specs.Fitting.{load_in}
 use Rattle.arrivals.specs.Load.{Load}
 use Rattle.toml.specs.Data.{Data, as_integer, as_table, get_member, Members}
-use Rattle.toml.specs.View.{table_view}
-use Rattle.command_line.specs.Document.{document_of, NeedsMemory, Table}
+use Rattle.command_line.specs.declared.toml_table.OpenFault.{OpenFault}
+use Rattle.command_line.specs.declared.toml_table.OpenFault.TheVariants as openings
+use Rattle.command_line.specs.TomlTable.{document_of, NeedsMemory, first_some}
 use Rattle.load_file.specs.declared.fault.DocumentFault.{DocumentFault}
 use Rattle.load_file.specs.declared.fault.DocumentFault.TheVariants as faults
 use Rattle.load_file.specs.declared.fault.LoadFault.{LoadFault}
@@ -61,12 +62,6 @@ field_fault_in place (Some value) = number_fault place (as_integer value)
 abbrev pub field_fault : ℕ → Members → Field → Option DocumentFault
 field_fault size members field = field_fault_in (places.Class size field) (get_member (name_of field) members)
 
--- the first that there is
-abbrev pub first_some : List (Option DocumentFault) → Option DocumentFault
-first_some [] = None
-first_some (None ∷ rest) = first_some rest
-first_some (Some fault ∷ rest) = Some fault
-
 -- the first fault of a class's table, its numbers in the order of `Field::ALL`; or there is another thing than a table
 abbrev pub table_fault : ℕ → Option Members → Option DocumentFault
 table_fault size None = Some (faults.NotTable size)
@@ -106,8 +101,8 @@ IsRead bytes (Ok load) = (bytes_fault bytes ≡ None) × StatesAny (document_of 
 IsRead bytes (Err (Refused fault)) = bytes_fault bytes ≡ Some fault
 IsRead bytes (Err NoMemory) = NeedsMemory bytes
 
--- the same, of the document alone
-abbrev pub IsOpened : List ℕ → Result Table LoadFault → Type 0
-IsOpened bytes (Ok table) = (length bytes ≤ 65536) × (document_of bytes ≡ Some (table_view table))
-IsOpened bytes (Err (Refused fault)) = bytes_fault bytes ≡ Some fault
-IsOpened bytes (Err NoMemory) = NeedsMemory bytes
+-- the fault of bytes that open no document
+abbrev pub load_fault : OpenFault → LoadFault
+load_fault openings.TooLong = Refused faults.TooLong
+load_fault openings.NotToml = Refused faults.NotToml
+load_fault openings.NoMemory = NoMemory

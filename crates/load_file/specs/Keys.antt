@@ -1,11 +1,12 @@
 -- The keys of a document that states a load.
-use Rattle.std.specs.Prelude.{ℕ, Bool, false, not, ◌||◌, if◌then◌else◌, List, Option, Some, None, codes, decimal}
+use Rattle.std.specs.Prelude.{ℕ, Bool, not, if◌then◌else◌, List, Option, Some, None, codes, decimal}
 use Rattle.std.specs.Option.{unwrap_or}
 use Rattle.std.specs.List.{list_any, range_with_len}
 use Rattle.std.specs.Str.{bytes_eq}
 use Rattle.size_classes.specs.declared.class.TheConstants.{CLASSES}
 use Rattle.size_classes.specs.Sizes.{size_of}
-use Rattle.toml.specs.Data.{Data, as_table, Members, no_members, member}
+use Rattle.toml.specs.Data.{Data, as_table, Members, no_members}
+use Rattle.command_line.specs.TomlTable.{any_member}
 use Rattle.load_file.specs.declared.field.Field.{Field}
 use Rattle.load_file.specs.declared.field.Field.TheVariants.{Live, Rate, Burst}
 use Rattle.load_file.specs.declared.field.TheConstants.Field.{ALL}
@@ -37,8 +38,7 @@ is_field name = list_any (λ field. bytes_eq (name_of field) name) ALL
 
 -- some key of a class's table isn't known
 abbrev pub has_unknown_field : Members → Bool
-has_unknown_field no_members = false
-has_unknown_field (member name value rest) = not (is_field name) || has_unknown_field rest
+has_unknown_field members = any_member (λ name value. not (is_field name)) members
 
 -- the members of a table; there are none where no table is
 abbrev pub members_in : Option Data → Members
@@ -50,5 +50,4 @@ abbrev pub is_unknown : List ℕ → Data → Bool
 is_unknown name value = if is_size name then has_unknown_field (members_in (Some value)) else not (bytes_eq gap_name name)
 
 abbrev pub has_unknown_key : Members → Bool
-has_unknown_key no_members = false
-has_unknown_key (member name value rest) = is_unknown name value || has_unknown_key rest
+has_unknown_key document = any_member is_unknown document

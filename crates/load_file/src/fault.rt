@@ -1,5 +1,6 @@
 //! Why a document states no load.
 use crate::field::Field;
+use command_line::OpenFault;
 use std::fmt;
 use thiserror::Error;
 
@@ -51,4 +52,19 @@ pub enum LoadFault {
     /// Memory was refused while the document was read.
     #[error("no memory")]
     NoMemory,
+}
+
+impl From<OpenFault> for LoadFault {
+    ghost use Rattle.std.specs.Prelude.{◌≡◌};
+    ghost use Rattle.load_file.specs.Document.{load_fault};
+
+    ghost from_gives = { λ opened fault. fault ≡ load_fault opened };
+
+    fn from(fault: OpenFault) -> LoadFault {
+        match fault {
+            OpenFault::TooLong => LoadFault::Refused(DocumentFault::TooLong),
+            OpenFault::NotToml => LoadFault::Refused(DocumentFault::NotToml),
+            OpenFault::NoMemory => LoadFault::NoMemory,
+        }
+    }
 }

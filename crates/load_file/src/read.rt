@@ -3,18 +3,16 @@ ghost use Rattle.std.specs.Prelude.{◌≡◌, pos, IfOk};
 ghost use Rattle.std.specs.Result.{result_err};
 ghost use Rattle.toml.specs.View.{table_view};
 ghost use Rattle.arrivals.specs.Fitting.{load_in};
-ghost use Rattle.load_file.specs.Document.{gap_fault, gap_of, document_fault, States, IsOpened, IsRead};
+ghost use Rattle.load_file.specs.Document.{gap_fault, gap_of, document_fault, States, IsRead};
 
 use crate::fault::{DocumentFault, LoadFault, Place};
 use crate::row::{row_at, whole_number};
 use crate::unknown::{GAP, has_unknown_key};
 use arrivals::Load;
+use command_line::open_document;
 use size_classes::{CLASSES, Class};
 use std::alloc::Global;
 use toml::Table;
-
-/// The most bytes that a document may have.
-const GREATEST_LENGTH: usize = 65536;
 
 /// The load that a document of these bytes states, or its first fault: it is too long; it isn't TOML; it has a key
 /// that isn't known, in a class's table or outside; the gap is missing, not a whole number, or out of range; then, class
@@ -23,25 +21,8 @@ const GREATEST_LENGTH: usize = 65536;
 pub fn read_load(alloc: Global, bytes: &[u8]) -> Result<Load, LoadFault>
     ensures { IsRead bytes.now result }
 {
-    let document = open(alloc, bytes)?;
+    let document = open_document(alloc, bytes)?;
     load_of(&document).map_err(LoadFault::Refused)
-}
-
-/// The document in these bytes.
-fn open(alloc: Global, bytes: &[u8]) -> Result<Table, LoadFault>
-    ensures { IsOpened bytes.now result }
-{
-    if bytes.len() > GREATEST_LENGTH {
-        return Err(LoadFault::Refused(DocumentFault::TooLong));
-    }
-    let Ok(text) = std::str::from_utf8(bytes) else {
-        return Err(LoadFault::Refused(DocumentFault::NotToml));
-    };
-    match toml::table_from_str(alloc, text) {
-        Ok(table) => Ok(table),
-        Err(error) if error.is_memory() => Err(LoadFault::NoMemory),
-        Err(_) => Err(LoadFault::Refused(DocumentFault::NotToml)),
-    }
 }
 
 /// The load that a document states, or its first fault.

@@ -4,6 +4,7 @@ ghost use Rattle.toml.specs.View.{view, table_view};
 ghost use Rattle.load_file.specs.Keys.{is_field, is_size, has_unknown_field, is_unknown, has_unknown_key};
 
 use crate::field::Field;
+use command_line::any_member;
 use itoa::Buffer;
 use size_classes::{CLASSES, Class};
 use toml::{Table, Value};
@@ -22,7 +23,7 @@ fn is_field(name: &str) -> bool
 fn has_unknown_field(table: &Table) -> bool
     ensures { result ≡ has_unknown_field (table_view table.now) }
 {
-    table.keys().any(|key| !is_field(key.as_str()))
+    any_member(table, |key, _value| !is_field(key))
 }
 
 /// Whether it is the size of a class in decimal.
@@ -55,7 +56,5 @@ fn is_unknown(name: &str, value: &Value) -> bool
 pub(crate) fn has_unknown_key(document: &Table) -> bool
     ensures { result ≡ has_unknown_key (table_view document.now) }
 {
-    document
-        .iter()
-        .any(|(key, value)| is_unknown(key.as_str(), value))
+    any_member(document, is_unknown)
 }

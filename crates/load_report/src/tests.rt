@@ -6,16 +6,6 @@ use space::Pace;
 use std::process::Abort;
 use std::test::Fail;
 
-/// Seven pages, of which one may be left sparse in each class, and quanta of 1000 units, the ticks of which are ten.
-const SETTINGS: Settings = Settings {
-    pages: 7,
-    mutators: 1,
-    slots: 12,
-    defrag_below: 4,
-    defrag_pages: 1,
-    ..Settings::DEFAULTS
-};
-
 /// What the load below needs: 21 ticks come to 21 + 5 blocks while a cycle is on, and 40 to 40 + 5 between two cycles. A
 /// cycle over 7 pages takes 59 quanta: 1000 + 2 * 59 * 26 + 45 blocks are nine pages, and one may be sparse. Over 21 pages
 /// it takes 175, and 10145 blocks are twenty pages; over 20 it takes 167, and 9729 blocks are twenty too.
@@ -29,14 +19,21 @@ fn table(blocks: [u32; 3]) -> [u32; CLASSES] {
     table
 }
 
-/// Whether these lines are told of a load of 1000 blocks of 4 words, before those of the pages that it needs.
+/// Whether these lines are told of a load of 1000 blocks of 4 words, before those of the pages that it needs. There are
+/// seven pages, of which one may be left sparse in each class, and quanta of 1000 units, the ticks of which are ten.
 fn is_told(
     rt: &(impl Abort + AllocGlobal),
     kept: Kept,
     measured: Option<Pace>,
     lines: &str,
 ) -> bool {
-    let Ok(config) = Config::check(&SETTINGS) else {
+    let Ok(config) = Config::check(&Settings {
+        pages: 7,
+        slots: 12,
+        defrag_below: 4,
+        defrag_pages: 1,
+        ..Settings::DEFAULTS
+    }) else {
         panic!(rt; "the settings are good");
     };
     let load = Load {
@@ -61,56 +58,44 @@ fn measured(live: [u32; 3]) -> Option<Pace> {
 }
 
 #[test]
-fn traces_may_keep_to_a_load(rt: HostRuntime) {
-    assert!(rt;
-        is_told(
-            &rt,
-            Kept::Keeps,
-            measured([1000, 0, 0]),
-            "keeps to the load\n"
-        )
-    );
-}
-
-#[test]
 fn breaches_are_told(rt: HostRuntime) {
-    let by = Breach::Asks(Class::new(37));
-    let lines = "line 12: more blocks of 256 words are asked for than the rate and the burst\n";
-    assert!(rt;
-        is_told(
-            &rt,
-            Kept::Breaks { line: 12, by },
-            measured([0, 0, 0]),
-            lines
-        )
-    );
-    let by = Breach::BeginsLate;
-    let lines = "line 1: more ticks than the gap since the last begin\n";
-    assert!(rt;
-        is_told(
-            &rt,
-            Kept::Breaks { line: 1, by },
-            measured([0, 0, 0]),
-            lines
-        )
-    );
-    let by = Breach::SmallQuantum;
-    let lines = "line 345: a quantum of fewer units than the schedule gives\n";
-    assert!(rt;
-        is_told(
-            &rt,
-            Kept::Breaks { line: 345, by },
-            measured([0, 0, 0]),
-            lines
-        )
-    );
+    let rows = [
+        (
+            12,
+            Breach::Asks(Class::new(37)),
+            "line 12: more blocks of 256 words are asked for than the rate and the burst\n",
+        ),
+        (
+            1,
+            Breach::BeginsLate,
+            "line 1: more ticks than the gap since the last begin\n",
+        ),
+        (
+            345,
+            Breach::SmallQuantum,
+            "line 345: a quantum of fewer units than the schedule gives\n",
+        ),
+    ];
+    for (line, by, lines) in rows {
+        let kept = Kept::Breaks { line, by };
+        assert!(rt; is_told(&rt, kept, measured([0, 0, 0]), lines), "{lines}");
+    }
 }
 
 #[test]
-fn live_blocks_may_be_more(rt: HostRuntime) {
-    let lines =
-        "keeps to the load\nsize 4 live 1001, the load has 1000\nsize 256 live 2, the load has 0\n";
-    assert!(rt; is_told(&rt, Kept::Keeps, measured([1001, 0, 2]), lines));
-    let lines = "keeps to the load\nmore live blocks than can be counted\n";
-    assert!(rt; is_told(&rt, Kept::Keeps, None, lines));
+fn live_blocks_are_compared(rt: HostRuntime) {
+    let rows = [
+        (measured([1000, 0, 0]), "keeps to the load\n"),
+        (
+            measured([1001, 0, 2]),
+            "keeps to the load\nsize 4 live 1001, the load has 1000\nsize 256 live 2, the load has 0\n",
+        ),
+        (
+            None,
+            "keeps to the load\nmore live blocks than can be counted\n",
+        ),
+    ];
+    for (measured, lines) in rows {
+        assert!(rt; is_told(&rt, Kept::Keeps, measured, lines), "{lines}");
+    }
 }

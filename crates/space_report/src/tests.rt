@@ -9,7 +9,6 @@ use std::test::Fail;
 /// Seven pages, of which one may be left sparse in each class, and quanta of 1000 units.
 const SETTINGS: Settings = Settings {
     pages: 7,
-    mutators: 1,
     slots: 12,
     defrag_below: 4,
     defrag_pages: 1,
@@ -28,19 +27,42 @@ fn seven_pages<T: Abort>(rt: &T) -> Config {
 #[test]
 fn demands_are_told(rt: HostRuntime) {
     let config = seven_pages(&rt);
-    let mut demand = Demand {
+    let rows = [
+        (
+            8,
+            "size 4 live 1000 made 345 pages 4\nsize 256 live 1 made 8 pages 3\npages 7 of 7: suffice\n",
+        ),
+        (
+            16,
+            "size 4 live 1000 made 345 pages 4\nsize 256 live 1 made 16 pages 4\npages 8 of 7: do not suffice\n",
+        ),
+    ];
+    for (made, wanted) in rows {
+        let demand = Demand {
+            live: table(1000, 1),
+            allocated: table(345, made),
+        };
+        let told = demand_report(rt.alloc(), &config, &Some(demand));
+        assert!(rt; is_told(told, wanted), "{wanted}");
+    }
+}
+
+/// A table by class: blocks of 4 words, and of 256.
+fn table(small: u64, large: u64) -> [u64; CLASSES] {
+    let mut table = [0u64; CLASSES];
+    (table[0], table[37]) = (small, large);
+    table
+}
+
+/// A pace of blocks of 4 words alone.
+fn pace(live: u32, busy: u64, idle: u64) -> Option<Pace> {
+    let mut pace = Pace {
         live: [0; CLASSES],
-        allocated: [0; CLASSES],
+        busy: table(busy, 0),
+        idle: table(idle, 0),
     };
-    (demand.live[0], demand.allocated[0]) = (1000, 345);
-    (demand.live[37], demand.allocated[37]) = (1, 8);
-    let wanted =
-        "size 4 live 1000 made 345 pages 4\nsize 256 live 1 made 8 pages 3\npages 7 of 7: suffice\n";
-    assert!(rt; is_told(demand_report(rt.alloc(), &config, &Some(demand)), wanted));
-    demand.allocated[37] = 16;
-    let wanted =
-        "size 4 live 1000 made 345 pages 4\nsize 256 live 1 made 16 pages 4\npages 8 of 7: do not suffice\n";
-    assert!(rt; is_told(demand_report(rt.alloc(), &config, &Some(demand)), wanted));
+    pace.live[0] = live;
+    Some(pace)
 }
 
 const TOO_MANY: &str = "more blocks than can be counted: no number of pages suffices\n";
@@ -60,48 +82,36 @@ fn blocks_may_be_too_many(rt: HostRuntime) {
     assert!(rt; is_told(pace_report(rt.alloc(), &config, &None, None), TOO_MANY));
 }
 
-/// An empty heap needs no page; a quantum of 999 units is one too short for the schedule.
-#[test]
-fn quanta_may_be_short(rt: HostRuntime) {
-    let config = seven_pages(&rt);
-    let pace = Some(Pace {
-        live: [0; CLASSES],
-        busy: [0; CLASSES],
-        idle: [0; CLASSES],
-    });
-    let wanted =
-        "quanta 59 units 1000\na quantum had 999 units, fewer than the schedule gives: of such a run nothing is promised\npages 0 of 7: suffice\nleast pages 1\n";
-    assert!(rt; is_told(pace_report(rt.alloc(), &config, &pace, Some(999)), wanted));
-    let wanted = "quanta 59 units 1000\npages 0 of 7: suffice\nleast pages 1\n";
-    assert!(rt; is_told(pace_report(rt.alloc(), &config, &pace, None), wanted));
-}
-
-/// A cycle over seven pages takes 59 quanta: 1000 + 2 * 59 * 5 + 5 blocks are four pages; over four pages it takes
-/// 34, and 1345 blocks are three. At 47 blocks in a quantum 6631 blocks are 13 pages.
+/// An empty heap needs no page; a quantum of 999 units is one too short for the schedule. With 1000 live blocks a cycle
+/// over seven pages takes 59 quanta: 1000 + 2 * 59 * 5 + 5 blocks are four pages; over four pages it takes 34, and 1345
+/// blocks are three. At 47 blocks in a quantum 6631 blocks are 13 pages.
 #[test]
 fn paces_are_told(rt: HostRuntime) {
     let config = seven_pages(&rt);
-    let mut pace = Pace {
-        live: [0; CLASSES],
-        busy: [0; CLASSES],
-        idle: [0; CLASSES],
-    };
-    (pace.live[0], pace.busy[0], pace.idle[0]) = (1000, 5, 5);
-    let wanted =
-        "size 4 live 1000 busy 5 idle 5\nquanta 59 units 1000\npages 5 of 7: suffice\nleast pages 4\n";
-    assert!(rt;
-        is_told(
-            pace_report(rt.alloc(), &config, &Some(pace), Some(1000)),
-            wanted
-        )
-    );
-    (pace.busy[0], pace.idle[0]) = (47, 85);
-    let wanted =
-        "size 4 live 1000 busy 47 idle 85\nquanta 59 units 1000\npages 14 of 7: do not suffice\nno pages up to 4096 suffice: with each page more a cycle takes longer, in which more is made than a page holds\n";
-    assert!(rt;
-        is_told(
-            pace_report(rt.alloc(), &config, &Some(pace), Some(1000)),
-            wanted
-        )
-    );
+    let rows = [
+        (
+            pace(0, 0, 0),
+            Some(999),
+            "quanta 59 units 1000\na quantum had 999 units, fewer than the schedule gives: of such a run nothing is promised\npages 0 of 7: suffice\nleast pages 1\n",
+        ),
+        (
+            pace(0, 0, 0),
+            None,
+            "quanta 59 units 1000\npages 0 of 7: suffice\nleast pages 1\n",
+        ),
+        (
+            pace(1000, 5, 5),
+            Some(1000),
+            "size 4 live 1000 busy 5 idle 5\nquanta 59 units 1000\npages 5 of 7: suffice\nleast pages 4\n",
+        ),
+        (
+            pace(1000, 47, 85),
+            Some(1000),
+            "size 4 live 1000 busy 47 idle 85\nquanta 59 units 1000\npages 14 of 7: do not suffice\nno pages up to 4096 suffice: with each page more a cycle takes longer, in which more is made than a page holds\n",
+        ),
+    ];
+    for (pace, least, wanted) in rows {
+        let told = pace_report(rt.alloc(), &config, &pace, least);
+        assert!(rt; is_told(told, wanted), "{wanted}");
+    }
 }

@@ -14,114 +14,156 @@ fn fault_of(alloc: Global, bytes: &[u8]) -> Result<String, Fail> {
 }
 
 /// Expects of each file, with lines in front of it, the text of its fault.
-fn expect(rt: &impl Abort, alloc: Global, front: &str, rows: &[(&str, &str)]) -> Result<(), Fail> {
-    for (line, fault) in rows {
+fn expect_fault(
+    rt: &impl Abort,
+    alloc: Global,
+    front: &str,
+    fault: &str,
+    lines: &[&str],
+) -> Result<(), Fail> {
+    for line in lines {
         let text = format!(in alloc; "{front}{line}")?;
         let told = fault_of(alloc, text.as_bytes())?;
-        assert!(rt; told.as_str() == *fault, "of {text}: {told}");
+        assert!(rt; told.as_str() == fault, "of {text}: {told}");
     }
     Ok(())
 }
 
+/// The text of a fault, or nothing, and files that have it.
+type Row = (&'static str, &'static [&'static str]);
+
+/// Expects of the files of each row, with lines in front of them, the text of their fault.
+fn expect(rt: &impl Abort, alloc: Global, front: &str, rows: &[Row]) -> Result<(), Fail> {
+    for (fault, lines) in rows {
+        expect_fault(rt, alloc, front, fault, lines)?;
+    }
+    Ok(())
+}
+
+const FAULTS: &[Row] = &[
+    ("pages out of range", &["pages = 0\n", "pages = -1\n"]),
+    (
+        "pages not a whole number",
+        &["pages = \"4\"\n", "[pages]\nx = 1\n", "pages = 4.0\n"],
+    ),
+    ("unknown key", &["pages = 4\ncolour = 1\n"]),
+    ("mutators missing", &["pages = 4\n"]),
+    ("not TOML", &["pages = 4\npages = 5\n", "pages = \n"]),
+    ("pages missing", &["", "# nothing\n"]),
+];
+
+/// The first fault is told.
+const FIRST: &[Row] = &[
+    ("pages out of range", &["pages = 0\nmutators = 0\n"]),
+    (
+        "unknown key",
+        &["pages = 0\ncolour = 1\n", "[pages.colour]\n[colour]\n"],
+    ),
+    (
+        "slots missing",
+        &["rate = true\nmutators = 64\npages = 4096\n"],
+    ),
+];
+
+/// The same of files whose slots are no number.
+const FIRST_BESIDE_SLOTS: &[Row] = &[
+    ("pages out of range", &["mutators = 65\npages = 4097\n"]),
+    ("mutators out of range", &["mutators = 65\npages = 4096\n"]),
+    (
+        "slots not a whole number",
+        &["mutators = 64\npages = 4096\n"],
+    ),
+];
+
 /// Good required keys.
 const KEYS: &str = "pages = 4\nmutators = 2\nslots = 4\n";
 
-#[test]
-fn a_file_has_faults(rt: HostRuntime) -> Result<(), Fail> {
-    let rows = [
-        ("pages = 0\n", "pages out of range"),
-        ("pages = \"4\"\n", "pages not a whole number"),
-        ("pages = 4\ncolour = 1\n", "unknown key"),
-        ("pages = 4\n", "mutators missing"),
-        ("pages = 4\npages = 5\n", "not TOML"),
-        ("pages = \n", "not TOML"),
-        ("", "pages missing"),
-        ("# nothing\n", "pages missing"),
-        ("[pages]\nx = 1\n", "pages not a whole number"),
-        ("pages = 4.0\n", "pages not a whole number"),
-        ("pages = -1\n", "pages out of range"),
-    ];
-    expect(&rt, rt.alloc(), "", &rows)
-}
+/// A key has a range.
+const RANGES: &[Row] = &[
+    (
+        "",
+        &[
+            "statics = 256",
+            "identities = 1",
+            "identities = 9223372036854775807",
+            "defrag_below = 4097",
+            "defrag_pages = 4096",
+            "mutator_ticks = 1000000",
+        ],
+    ),
+    ("statics out of range", &["statics = 257", "statics = -1"]),
+    ("identities out of range", &["identities = 0"]),
+    ("defrag_below out of range", &["defrag_below = 4098"]),
+    ("defrag_pages out of range", &["defrag_pages = 4097"]),
+    ("mutator_ticks out of range", &["mutator_ticks = 0"]),
+];
+
+/// No more mutators are live than there are.
+const LIVE: &[Row] = &[
+    ("", &["live = 0", "live = 2"]),
+    (
+        "live out of range",
+        &[
+            "live = 3",
+            "live = -1",
+            "live = 9223372036854775807",
+            "live = 3\nrate = 25",
+        ],
+    ),
+    ("live not a whole number", &["live = \"2\""]),
+    ("rate out of range", &["live = 3\nrate = 0"]),
+    ("budget out of range", &["live = 2\nrate = 25"]),
+];
+
+/// The same where the mutators are given.
+const LIVE_OF_MUTATORS: &[Row] = &[
+    (
+        "mutators out of range",
+        &["mutators = 65\nlive = 66", "mutators = -5"],
+    ),
+    ("mutators not a whole number", &["mutators = 2.0\nlive = 1"]),
+    ("mutators missing", &["live = 1"]),
+    ("", &["mutators = 64\nlive = 64"]),
+    ("live out of range", &["mutators = 64\nlive = 65"]),
+];
+
+/// A budget has a range.
+const BUDGETS: &[Row] = &[
+    (
+        "budget out of range",
+        &[
+            "collector_ticks = 1",
+            "collector_ticks = 2",
+            "collector_ticks = 10001",
+            "rate = 25",
+        ],
+    ),
+    (
+        "",
+        &[
+            "collector_ticks = 3",
+            "collector_ticks = 10000",
+            "rate = 26",
+        ],
+    ),
+    (
+        "collector_ticks out of range",
+        &["collector_ticks = 1000001"],
+    ),
+    ("rate out of range", &["rate = 1000001"]),
+];
 
 #[test]
-fn the_first_fault_is_told(rt: HostRuntime) -> Result<(), Fail> {
-    let rows = [
-        ("pages = 0\nmutators = 0\n", "pages out of range"),
-        ("pages = 0\ncolour = 1\n", "unknown key"),
-        ("[pages.colour]\n[colour]\n", "unknown key"),
-        (
-            "rate = true\nmutators = 64\npages = 4096\n",
-            "slots missing",
-        ),
-    ];
-    expect(&rt, rt.alloc(), "", &rows)?;
-    let rows = [
-        ("mutators = 65\npages = 4097\n", "pages out of range"),
-        ("mutators = 65\npages = 4096\n", "mutators out of range"),
-        ("mutators = 64\npages = 4096\n", "slots not a whole number"),
-    ];
-    expect(&rt, rt.alloc(), "slots = true\n", &rows)
-}
-
-#[test]
-fn a_key_has_a_range(rt: HostRuntime) -> Result<(), Fail> {
-    let rows = [
-        ("statics = 256", ""),
-        ("statics = 257", "statics out of range"),
-        ("statics = -1", "statics out of range"),
-        ("identities = 1", ""),
-        ("identities = 0", "identities out of range"),
-        ("identities = 9223372036854775807", ""),
-        ("defrag_below = 4097", ""),
-        ("defrag_below = 4098", "defrag_below out of range"),
-        ("defrag_pages = 4096", ""),
-        ("defrag_pages = 4097", "defrag_pages out of range"),
-        ("mutator_ticks = 1000000", ""),
-        ("mutator_ticks = 0", "mutator_ticks out of range"),
-    ];
-    expect(&rt, rt.alloc(), KEYS, &rows)
-}
-
-#[test]
-fn no_more_are_live_than_there_are(rt: HostRuntime) -> Result<(), Fail> {
-    let rows = [
-        ("live = 0", ""),
-        ("live = 2", ""),
-        ("live = 3", "live out of range"),
-        ("live = -1", "live out of range"),
-        ("live = 9223372036854775807", "live out of range"),
-        ("live = \"2\"", "live not a whole number"),
-        ("live = 3\nrate = 0", "rate out of range"),
-        ("live = 3\nrate = 25", "live out of range"),
-        ("live = 2\nrate = 25", "budget out of range"),
-    ];
-    expect(&rt, rt.alloc(), KEYS, &rows)?;
-    let rows = [
-        ("mutators = 65\nlive = 66", "mutators out of range"),
-        ("mutators = -5", "mutators out of range"),
-        ("mutators = 2.0\nlive = 1", "mutators not a whole number"),
-        ("live = 1", "mutators missing"),
-        ("mutators = 64\nlive = 64", ""),
-        ("mutators = 64\nlive = 65", "live out of range"),
-    ];
-    expect(&rt, rt.alloc(), "pages = 4\nslots = 4\n", &rows)
-}
-
-#[test]
-fn a_budget_has_a_range(rt: HostRuntime) -> Result<(), Fail> {
-    let rows = [
-        ("collector_ticks = 1", "budget out of range"),
-        ("collector_ticks = 2", "budget out of range"),
-        ("collector_ticks = 3", ""),
-        ("collector_ticks = 10000", ""),
-        ("collector_ticks = 10001", "budget out of range"),
-        ("collector_ticks = 1000001", "collector_ticks out of range"),
-        ("rate = 25", "budget out of range"),
-        ("rate = 26", ""),
-        ("rate = 1000001", "rate out of range"),
-    ];
-    expect(&rt, rt.alloc(), KEYS, &rows)
+fn files_have_faults(rt: HostRuntime) -> Result<(), Fail> {
+    let alloc = rt.alloc();
+    expect(&rt, alloc, "", FAULTS)?;
+    expect(&rt, alloc, "", FIRST)?;
+    expect(&rt, alloc, "slots = true\n", FIRST_BESIDE_SLOTS)?;
+    expect(&rt, alloc, "pages = 4\nslots = 4\n", LIVE_OF_MUTATORS)?;
+    for rows in [RANGES, LIVE, BUDGETS] {
+        expect(&rt, alloc, KEYS, rows)?;
+    }
+    Ok(())
 }
 
 #[test]

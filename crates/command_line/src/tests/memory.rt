@@ -31,37 +31,34 @@ fn a_job_with_its_progress(rt: HostRuntime) {
     }
 }
 
-#[test]
-fn another_picture(rt: HostRuntime) {
-    match read_words(rt.alloc(), &["metronome", "draw", "a", "b", "--as", "page"]) {
+/// Whether it is a refusal to its last line.
+fn is_whole(text: &str) -> bool {
+    text.starts_with("error: ") && text.ends_with("For more information, try '--help'.\n")
+}
+
+/// Expects that the words are refused, or want of memory.
+fn expect_refusal(rt: &(impl Abort + AllocGlobal), words: &[&str]) {
+    match read_words(rt.alloc(), words) {
         Err(WordsFault::Refused(text)) => assert!(rt; is_whole(text.as_str())),
         Err(WordsFault::NoMemory) => {}
         _ => panic!(rt; "another answer"),
     }
+}
+
+#[test]
+fn another_picture(rt: HostRuntime) {
+    expect_refusal(&rt, &["metronome", "draw", "a", "b", "--as", "page"]);
 }
 
 #[test]
 fn a_number_out_of_range(rt: HostRuntime) {
     let words = ["metronome", "threads", "a.toml", "-", "--turns", "10001"];
-    match read_words(rt.alloc(), &words) {
-        Err(WordsFault::Refused(text)) => assert!(rt; is_whole(text.as_str())),
-        Err(WordsFault::NoMemory) => {}
-        _ => panic!(rt; "another answer"),
-    }
+    expect_refusal(&rt, &words);
 }
 
 #[test]
 fn a_word_too_many(rt: HostRuntime) {
-    match read_words(rt.alloc(), &["metronome", "check", "a.toml", "-", "b"]) {
-        Err(WordsFault::Refused(text)) => assert!(rt; is_whole(text.as_str())),
-        Err(WordsFault::NoMemory) => {}
-        _ => panic!(rt; "another answer"),
-    }
-}
-
-/// Whether it is a refusal to its last line.
-fn is_whole(text: &str) -> bool {
-    text.starts_with("error: ") && text.ends_with("For more information, try '--help'.\n")
+    expect_refusal(&rt, &["metronome", "check", "a.toml", "-", "b"]);
 }
 
 #[test]

@@ -1,8 +1,8 @@
-use Rattle.load_file.proofs.Bytes.{document_of-text, document_of-other, bytes_fault-short}
-use Rattle.load_file.proofs.read.open.Goals as goal
+use Rattle.command_line.proofs.Bytes.{document_of-text, document_of-other}
+use Rattle.command_line.proofs.toml_table.open_document.Goals as goal
 
 pub returns-in_default : goal.returns-in_default
-returns-in_default c = bytes_fault-short _ _ c.if-bytes-gt-GREATEST_LENGTH.false (document_of-other _ c.in_default.ensures.cases.0)
+returns-in_default c = (c.if-bytes-gt-GREATEST_LENGTH.false, document_of-other _ c.in_default.ensures.cases.0)
 
 pub returns-in-Ok-table_from_str : goal.returns-in-Ok-table_from_str
 returns-in-Ok-table_from_str c =

@@ -1,11 +1,12 @@
 -- Elements that are written one behind the other.
-use Rattle.std.proofs.Common.{◌≡◌, ℕ, ◌+◌, ◌<◌, ◌≤◌, List, [], ◌∷◌, ◌++◌, length, take, drop, get_or, map, ap, ◌∙◌, sym, subst, arith, append-nil, append_assoc, length-append}
+use Rattle.std.proofs.Common.{◌≡◌, ℕ, ◌+◌, ◌<◌, ◌≤◌, List, [], ◌∷◌, ◌++◌, length, take, drop, get_or, map, ap, ◌∙◌, sym, subst, arith, append-nil, append_assoc, length-append, refl}
 use Rattle.std.specs.Prelude.{Result, Ok, Err, OnErr}
 use Rattle.std.proofs.lemmas.Grind.{flat_map-append}
 use Rattle.std.proofs.lemmas.List.{take-append-le, take-append-drop, take_more, drop_more, map-append}
 use Rattle.std.proofs.Math.Seq.{take-append-add}
 use Rattle.trace.specs.Streams.{GrowsByPart, text_of}
 use Rattle.drawing.specs.declared.element.Element.{Element}
+use Rattle.drawing.specs.declared.element.Element.TheVariants.{Close}
 use Rattle.drawing.specs.Elements.{element_line, svg_text}
 
 -- what holds, holds at an error too
@@ -42,38 +43,59 @@ module _ (t0 t1 : List ℕ) (done : List Element) (so : t1 ≡ t0 ++ svg_text do
       ∙ ap (λ t. t0 ++ (a ++ t)) (sym (take-append-le g.0 b c few)) ∙ ap (λ t. t0 ++ t) (sym (take-append-add a (b ++ c) g.0)) in
       subst (GrowsByPart t0 t2) (sym all) (length a + g.0, within, grown)
 
--- four parts, written one behind the other
-module _ (a b c d : List Element) (t0 t1 : List ℕ) where
-  pub in_first : GrowsByPart t0 t1 (svg_text a) → GrowsByPart t0 t1 (svg_text (a ++ (b ++ (c ++ d))))
-  in_first g = part t0 t0 [] (none t0) t1 a (b ++ (c ++ d)) g
+-- Of all elements some are written, and the rest is to come.
+pub record SoFar (old new : List ℕ) (all rest : List Element) : Type 0 where
+  pub done : List Element
+  pub written : new ≡ old ++ svg_text done
+  pub still : all ≡ done ++ rest
 
-  module _ (one : t1 ≡ t0 ++ svg_text a) (t2 : List ℕ) where
-    pub in_second : GrowsByPart t1 t2 (svg_text b) → GrowsByPart t0 t2 (svg_text (a ++ (b ++ (c ++ d))))
-    in_second g = part t0 t1 a one t2 b (c ++ d) g
+pub none_yet : (old : List ℕ) (all : List Element) → SoFar old old all all
+none_yet old all = record { done = []; written = none old; still = refl }
 
-    module _ (two : t2 ≡ t1 ++ svg_text b) (t3 : List ℕ) where
-      both : t2 ≡ t0 ++ svg_text (a ++ b)
-      both = more t0 t1 a one t2 b two
+module _ (old mid : List ℕ) (all rest : List Element) (so : SoFar old mid all rest) (here behind : List Element) (is : rest ≡ here ++ behind) (new : List ℕ) where
+  split : all ≡ so.done ++ (here ++ behind)
+  split = so.still ∙ ap (λ xs. so.done ++ xs) is
 
-      pub in_third : GrowsByPart t2 t3 (svg_text c) → GrowsByPart t0 t3 (svg_text (a ++ (b ++ (c ++ d))))
-      in_third g =
-          let Part : List Element → Type 0 = λ xs. GrowsByPart t0 t3 (svg_text xs) in
-          subst Part (append_assoc a b (c ++ d)) (part t0 t2 (a ++ b) both t3 c d g)
+  -- with those that come next
+  pub further : new ≡ mid ++ svg_text here → SoFar old new all behind
+  further e = record { done = so.done ++ here; written = more old mid so.done so.written new here e; still = split ∙ sym (append_assoc so.done here behind) }
 
-      module _ (three : t3 ≡ t2 ++ svg_text c) (t4 : List ℕ) where
-        whole : (a ++ b) ++ c ++ d ≡ a ++ (b ++ (c ++ d))
-        whole = append_assoc (a ++ b) c d ∙ append_assoc a b (c ++ d)
+  -- with a part of them
+  pub cut_short : GrowsByPart mid new (svg_text here) → GrowsByPart old new (svg_text all)
+  cut_short g =
+      let Part : List Element → Type 0 = λ xs. GrowsByPart old new (svg_text xs) in
+      subst Part (sym split) (part old mid so.done so.written new here behind g)
 
-        first_three : t3 ≡ t0 ++ svg_text ((a ++ b) ++ c)
-        first_three = more t0 t2 (a ++ b) both t3 c three
+pub all_of : (old new : List ℕ) (all rest : List Element) → SoFar old new all rest → rest ≡ [] → new ≡ old ++ svg_text all
+all_of old new all rest so e = so.written ∙ ap (λ xs. old ++ svg_text xs) (sym (so.still ∙ ap (λ xs. so.done ++ xs) e ∙ append-nil so.done))
 
-        pub in_fourth : GrowsByPart t3 t4 (svg_text d) → GrowsByPart t0 t4 (svg_text (a ++ (b ++ (c ++ d))))
-        in_fourth g =
-            let Part : List Element → Type 0 = λ xs. GrowsByPart t0 t4 (svg_text xs) in
-            subst Part (ap (λ xs. ((a ++ b) ++ c) ++ xs) (append-nil d) ∙ whole) (part t0 t3 ((a ++ b) ++ c) first_three t4 d [] g)
+-- a picture: its frame, what it tells, what it shows, and its end
+module _ (head frame told shown : List Element) (is : head ≡ frame ++ told) (t0 t1 : List ℕ) where
+  after_head : frame ++ (told ++ (shown ++ Close ∷ [])) ≡ head ++ (shown ++ Close ∷ [])
+  after_head = sym (ap (λ xs. xs ++ (shown ++ Close ∷ [])) is ∙ append_assoc frame told (shown ++ Close ∷ []))
 
-        pub all_four : t4 ≡ t3 ++ svg_text d → t4 ≡ t0 ++ svg_text (a ++ (b ++ (c ++ d)))
-        all_four e = more t0 t3 ((a ++ b) ++ c) first_three t4 d e ∙ ap (λ xs. t0 ++ svg_text xs) whole
+  begun : SoFar t0 t0 (frame ++ (told ++ (shown ++ Close ∷ []))) (frame ++ (told ++ (shown ++ Close ∷ [])))
+  begun = none_yet t0 (frame ++ (told ++ (shown ++ Close ∷ [])))
+
+  pub in_head : GrowsByPart t0 t1 (svg_text head) → GrowsByPart t0 t1 (svg_text (frame ++ (told ++ (shown ++ Close ∷ []))))
+  in_head g = cut_short t0 t0 _ _ begun head (shown ++ Close ∷ []) after_head t1 g
+
+  module _ (one : t1 ≡ t0 ++ svg_text head) (t2 : List ℕ) where
+    headed : SoFar t0 t1 (frame ++ (told ++ (shown ++ Close ∷ []))) (shown ++ Close ∷ [])
+    headed = further t0 t0 _ _ begun head (shown ++ Close ∷ []) after_head t1 one
+
+    pub in_body : GrowsByPart t1 t2 (svg_text shown) → GrowsByPart t0 t2 (svg_text (frame ++ (told ++ (shown ++ Close ∷ []))))
+    in_body g = cut_short t0 t1 _ _ headed shown (Close ∷ []) refl t2 g
+
+    module _ (two : t2 ≡ t1 ++ svg_text shown) (t3 : List ℕ) where
+      drawn : SoFar t0 t2 (frame ++ (told ++ (shown ++ Close ∷ []))) (Close ∷ [])
+      drawn = further t0 t1 _ _ headed shown (Close ∷ []) refl t2 two
+
+      pub in_end : GrowsByPart t2 t3 (svg_text (Close ∷ [])) → GrowsByPart t0 t3 (svg_text (frame ++ (told ++ (shown ++ Close ∷ []))))
+      in_end g = cut_short t0 t2 _ _ drawn (Close ∷ []) [] refl t3 g
+
+      pub to_end : t3 ≡ t2 ++ svg_text (Close ∷ []) → t3 ≡ t0 ++ svg_text (frame ++ (told ++ (shown ++ Close ∷ [])))
+      to_end e = all_of t0 t3 _ _ (further t0 t2 _ _ drawn (Close ∷ []) [] refl t3 e) refl
 
 -- the first elements of a list are written
 module _ (t0 t1 : List ℕ) (all : List Element) (i : ℕ) (d : Element) (l : i < length all) (so : t1 ≡ t0 ++ svg_text (take i all)) (t2 : List ℕ) where

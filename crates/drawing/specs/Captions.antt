@@ -30,13 +30,17 @@ words_text words.Marking = codes "marking"
 words_text words.Sweeping = codes "sweeping"
 words_text words.Moving = codes "moving"
 
+-- of five values, that of a phase
+abbrev pub by_phase : {A : Type 0} → A → A → A → A → A → Phase → A
+by_phase idle roots marking sweeping moving phases.Idle = idle
+by_phase idle roots marking sweeping moving (phases.Roots next) = roots
+by_phase idle roots marking sweeping moving (phases.Marking part cell) = marking
+by_phase idle roots marking sweeping moving (phases.Sweeping page block) = sweeping
+by_phase idle roots marking sweeping moving (phases.Moving m) = moving
+
 -- the name of a phase
 abbrev pub phase_words : Phase → Words
-phase_words phases.Idle = words.Idle
-phase_words (phases.Roots next) = words.Roots
-phase_words (phases.Marking part cell) = words.Marking
-phase_words (phases.Sweeping page block) = words.Sweeping
-phase_words (phases.Moving m) = words.Moving
+phase_words phase = by_phase words.Idle words.Roots words.Marking words.Sweeping words.Moving phase
 
 abbrev pub caption_text : Caption → List ℕ
 caption_text (captions.Words w) = words_text w

@@ -1,7 +1,6 @@
 -- The picture of a heap over a run, from samples of it.
 use Rattle.std.specs.Prelude.{ℕ, ◌+◌, ◌-◌, ◌*◌, ◌/◌, min, max, Bool, if◌then◌else◌, List, [], ◌∷◌, ◌++◌, length, take, Option, Some, None}
 use Rattle.heap_model.specs.declared.phase.Phase.{Phase}
-use Rattle.heap_model.specs.declared.phase.Phase.TheVariants as phases
 use Rattle.heap_model.specs.Pages.{free_pages}
 use Rattle.heap_model.specs.State.{HeapState}
 use Rattle.nodes.specs.Copies.{copies_in}
@@ -14,6 +13,7 @@ use Rattle.drawing.specs.declared.element.Element.TheVariants.{Rectangle, Line, 
 use Rattle.drawing.specs.declared.sample.Sample.{Sample}
 use Rattle.drawing.specs.declared.over_time.Scale.{Scale}
 use Rattle.drawing.specs.declared.over_time.TheConstants.{MOST_SAMPLES}
+use Rattle.drawing.specs.Captions.{by_phase}
 use Rattle.drawing.specs.Elements.{svg_text}
 use Rattle.drawing.specs.Frame.{frame, swatch, meaning}
 
@@ -25,12 +25,9 @@ sample_of h counted = record {
   objects = if counted then Some (copies_in h.store).objects else None;
 }
 
+-- the colour of a phase
 abbrev pub phase_colour : Phase → Colour
-phase_colour phases.Idle = Pale
-phase_colour (phases.Roots next) = Yellow
-phase_colour (phases.Marking part cell) = Orange
-phase_colour (phases.Sweeping page block) = Green
-phase_colour (phases.Moving m) = Purple
+phase_colour phase = by_phase Pale Yellow Orange Green Purple phase
 
 -- how high a number stands, of 300 units for the greatest
 abbrev pub height_of : ℕ → ℕ → ℕ

@@ -1,8 +1,7 @@
 //! The words that stand in pictures.
 ghost use Rattle.std.specs.Prelude.{◌≡◌, ◌≤◌, ◌+◌, ◌++◌, length, take};
-ghost use Rattle.drawing.specs.Captions.{words_text, phase_words, caption_text};
+ghost use Rattle.drawing.specs.Captions.{words_text, caption_text};
 
-use heap_model::phase::Phase;
 use trace::{put, put_named};
 
 /// Fixed words.
@@ -32,19 +31,6 @@ pub enum Words {
 }
 
 impl Words {
-    /// The name of a phase.
-    pub(crate) fn of_phase(phase: Phase) -> Words
-        ensures { result ≡ phase_words phase }
-    {
-        match phase {
-            Phase::Idle => Words::Idle,
-            Phase::Roots { .. } => Words::Roots,
-            Phase::Marking { .. } => Words::Marking,
-            Phase::Sweeping { .. } => Words::Sweeping,
-            Phase::Moving(_) => Words::Moving,
-        }
-    }
-
     /// The words as they are written.
     pub(crate) fn text(self) -> &'static [u8]
         ensures text { result.now ≡ words_text self }

@@ -1,5 +1,5 @@
 //! The colours of pictures. They differ in lightness too, so that they print without colour.
-ghost use Rattle.std.specs.Prelude.{◌≡◌, ◌≤◌, length};
+ghost use Rattle.std.specs.Prelude.{◌≡◌};
 ghost use Rattle.drawing.specs.Elements.{colour_code};
 
 /// The colour of a shape.
@@ -19,9 +19,8 @@ pub enum Colour {
 
 impl Colour {
     /// The colour as SVG writes it.
-    pub(crate) fn code(self) -> &'static [u8]
-        ensures code { result.now ≡ colour_code self }
-        ensures short { length result.now ≤ 7 }
+    pub(crate) fn code(self) -> &'static [u8; 7]
+        ensures { result.now ≡ colour_code self }
     {
         match self {
             Colour::White => b"#ffffff",

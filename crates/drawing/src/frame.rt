@@ -1,20 +1,24 @@
 //! What all pictures have: a title on white paper, and a legend.
-ghost use Rattle.std.specs.Prelude.{◌≡◌, ◌<◌};
+ghost use Rattle.std.specs.Prelude.{◌≡◌, ◌<◌, ◌+◌, ◌++◌, OnOk, OnErr};
+ghost use Rattle.trace.specs.Streams.{GrowsByPart, failed};
+ghost use Rattle.drawing.specs.Elements.{svg_text};
 ghost use Rattle.drawing.specs.Frame as frames;
 
 use crate::caption::{Caption, Words};
 use crate::colour::Colour;
-use crate::element::{Element, rectangle, text};
+use crate::element::Element;
+use crate::writing::write_elements;
+use trace::{Sink, WriteFailed};
 
 /// The beginning of a picture of this width and height, with a title.
-pub(crate) fn frame(width: u32, height: u32, title: Words) -> [Element; 4]
+fn frame(width: u32, height: u32, title: Words) -> [Element; 4]
     ensures { result ≡ frames.frame width height title }
 {
     [
-        Element::Open { width, height },
+        Element::Open(width, height),
         Element::Title(title),
-        rectangle(0, 0, width, height, Colour::White),
-        text(20, 30, 20, Caption::Words(title)),
+        Element::Rectangle(0, 0, width, height, Colour::White),
+        Element::Text(20, 30, 20, Caption::Words(title)),
     ]
 }
 
@@ -23,7 +27,7 @@ pub(crate) fn swatch(place: u32, colour: Colour) -> Element
     requires { place < 16 }
     ensures { result ≡ frames.swatch place colour }
 {
-    rectangle(20 + 130 * place, 66, 14, 14, colour)
+    Element::Rectangle(20 + 130 * place, 66, 14, 14, colour)
 }
 
 /// What the colour at a place of the legend means.
@@ -31,5 +35,21 @@ pub(crate) fn meaning(place: u32, words: Words) -> Element
     requires { place < 16 }
     ensures { result ≡ frames.meaning place words }
 {
-    text(40 + 130 * place, 78, 12, Caption::Words(words))
+    Element::Text(40 + 130 * place, 78, 12, Caption::Words(words))
+}
+
+/// Writes the beginning of a picture of this width and height, with a title, and what it tells.
+pub(crate) fn write_head<K: Sink>(
+    width: u32,
+    height: u32,
+    title: Words,
+    told: &[Element],
+    sink: &mut K,
+) -> Result<(), WriteFailed>
+    ensures ok { OnOk result (K.taken sink.new ≡ K.taken sink.old ++ svg_text (frames.frame width height title ++ told.now)) }
+    ensures err { OnErr result (GrowsByPart (K.taken sink.old) (K.taken sink.new) (svg_text (frames.frame width height title ++ told.now))) }
+    ensures cause { K.failures sink.new ≡ K.failures sink.old + failed result }
+{
+    write_elements(sink, &frame(width, height, title))?;
+    write_elements(sink, told)
 }

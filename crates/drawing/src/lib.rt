@@ -5,6 +5,7 @@ mod caption;
 mod colour;
 mod element;
 mod frame;
+mod look;
 mod measuring;
 mod over_time;
 mod page_map;

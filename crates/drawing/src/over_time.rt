@@ -2,15 +2,15 @@
 ghost use Rattle.std.specs.Prelude.{◌≡◌, ◌<◌, ◌≤◌, ◌+◌, ◌++◌, length, OnOk, OnErr};
 ghost use Rattle.trace.specs.Streams.{GrowsByPart, failed};
 ghost use Rattle.drawing.specs.Elements.{svg_text};
-ghost use Rattle.drawing.specs.Samples.{phase_colour, height_of, sample_marks, samples_from, time_frame, time_axes, time_chart, time_picture};
+ghost use Rattle.drawing.specs.Samples.{height_of, sample_marks, samples_from, time_axes, time_chart, time_picture};
 
 use crate::caption::{Caption, Words};
 use crate::colour::Colour;
-use crate::element::{Element, dot, line, rectangle, text};
-use crate::frame::{frame, meaning, swatch};
+use crate::element::Element;
+use crate::frame::{meaning, swatch, write_head};
+use crate::look::look_of;
 use crate::sample::Sample;
 use crate::writing::{write_close, write_elements};
-use heap_model::phase::Phase;
 use trace::{Sink, WriteFailed};
 
 /// How many samples a picture has at most.
@@ -21,19 +21,6 @@ pub const MOST_SAMPLES: usize = 1000;
 pub struct Scale {
     pub pages: u64,
     pub objects: u64,
-}
-
-/// The colour of a phase.
-fn colour_of(phase: Phase) -> Colour
-    ensures { result ≡ phase_colour phase }
-{
-    match phase {
-        Phase::Idle => Colour::Pale,
-        Phase::Roots { .. } => Colour::Yellow,
-        Phase::Marking { .. } => Colour::Orange,
-        Phase::Sweeping { .. } => Colour::Green,
-        Phase::Moving(_) => Colour::Purple,
-    }
 }
 
 /// How high a number stands, of 300 units for the greatest.
@@ -56,12 +43,13 @@ fn write_sample<K: Sink>(
     ensures cause { K.failures sink.new ≡ K.failures sink.old + failed result }
 {
     let high = height(sample.pages_in_use, scale.pages);
-    let pages = rectangle(x, 400 - high, 1, high, Colour::Sky);
-    let phase = rectangle(x, 408, 1, 14, colour_of(sample.phase));
+    let pages = Element::Rectangle(x, 400 - high, 1, high, Colour::Sky);
+    let (_, colour) = look_of(sample.phase);
+    let phase = Element::Rectangle(x, 408, 1, 14, colour);
     match sample.objects {
         None => write_elements(sink, &[pages, phase]),
         Some(n) => {
-            let objects = dot(x, 400 - height(n, scale.objects), Colour::Blue);
+            let objects = Element::Dot(x, 400 - height(n, scale.objects), Colour::Blue);
             write_elements(sink, &[pages, phase, objects])
         }
     }
@@ -103,35 +91,17 @@ fn axes(scale: &Scale) -> [Element; 24]
         meaning(5, Words::Sweeping),
         swatch(6, Colour::Purple),
         meaning(6, Words::Moving),
-        line(80, 100, 80, 400, Colour::Black),
-        line(80, 400, 1080, 400, Colour::Black),
-        line(1080, 100, 1080, 400, Colour::Black),
-        text(20, 90, 11, Caption::Words(Words::PagesInUse)),
-        text(40, 104, 11, Caption::Number(scale.pages)),
-        text(40, 404, 11, Caption::Number(0)),
-        text(1090, 90, 11, Caption::Words(Words::Objects)),
-        text(1090, 104, 11, Caption::Number(scale.objects)),
-        text(1090, 404, 11, Caption::Number(0)),
-        text(80, 444, 11, Caption::Words(Words::SamplesOfRun)),
+        Element::Line(80, 100, 80, 400, Colour::Black),
+        Element::Line(80, 400, 1080, 400, Colour::Black),
+        Element::Line(1080, 100, 1080, 400, Colour::Black),
+        Element::Text(20, 90, 11, Caption::Words(Words::PagesInUse)),
+        Element::Text(40, 104, 11, Caption::Number(scale.pages)),
+        Element::Text(40, 404, 11, Caption::Number(0)),
+        Element::Text(1090, 90, 11, Caption::Words(Words::Objects)),
+        Element::Text(1090, 104, 11, Caption::Number(scale.objects)),
+        Element::Text(1090, 404, 11, Caption::Number(0)),
+        Element::Text(80, 444, 11, Caption::Words(Words::SamplesOfRun)),
     ]
-}
-
-/// Writes the title.
-fn write_frame<K: Sink>(sink: &mut K) -> Result<(), WriteFailed>
-    ensures ok { OnOk result (K.taken sink.new ≡ K.taken sink.old ++ svg_text time_frame) }
-    ensures err { OnErr result (GrowsByPart (K.taken sink.old) (K.taken sink.new) (svg_text time_frame)) }
-    ensures cause { K.failures sink.new ≡ K.failures sink.old + failed result }
-{
-    write_elements(sink, &frame(1200, 480, Words::HeapOverTime))
-}
-
-/// Writes the axes.
-fn write_axes<K: Sink>(scale: &Scale, sink: &mut K) -> Result<(), WriteFailed>
-    ensures ok { OnOk result (K.taken sink.new ≡ K.taken sink.old ++ svg_text (time_axes scale.now)) }
-    ensures err { OnErr result (GrowsByPart (K.taken sink.old) (K.taken sink.new) (svg_text (time_axes scale.now))) }
-    ensures cause { K.failures sink.new ≡ K.failures sink.old + failed result }
-{
-    write_elements(sink, &axes(scale))
 }
 
 /// Writes the picture of so many samples.
@@ -141,8 +111,7 @@ fn draw_samples<K: Sink>(scale: &Scale, samples: &[Sample], sink: &mut K) -> Res
     ensures err { OnErr result (GrowsByPart (K.taken sink.old) (K.taken sink.new) (svg_text (time_chart scale.now samples.now))) }
     ensures cause { K.failures sink.new ≡ K.failures sink.old + failed result }
 {
-    write_frame(sink)?;
-    write_axes(scale, sink)?;
+    write_head(1200, 480, Words::HeapOverTime, &axes(scale), sink)?;
     write_samples(scale, samples, sink)?;
     write_close(sink)
 }

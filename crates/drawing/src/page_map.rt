@@ -1,15 +1,16 @@
 //! The map of the pages of a heap.
-ghost use Rattle.std.specs.Prelude.{◌≡◌, ◌<◌, ◌≤◌, ◌+◌, ◌++◌, OnOk, OnErr};
+ghost use Rattle.std.specs.Prelude.{◌≡◌, ◌<◌, ◌≤◌, ◌+◌, ◌++◌, length, OnOk, OnErr};
 ghost use Rattle.heap_model.specs.Pages.{page_at};
 ghost use Rattle.pages.specs.View.{view_of};
 ghost use Rattle.trace.specs.Streams.{GrowsByPart, failed};
 ghost use Rattle.drawing.specs.Elements.{svg_text};
-ghost use Rattle.drawing.specs.PageMap.{paper_of, free_square, used_square, square, squares, map_frame, map_told, pages_picture};
+ghost use Rattle.drawing.specs.PageMap.{paper_of, free_square, used_square, square, squares, map_height, map_told, pages_picture};
 
 use crate::caption::{Caption, Words};
 use crate::colour::Colour;
-use crate::element::{Element, rectangle, text};
-use crate::frame::{frame, meaning, swatch};
+use crate::element::Element;
+use crate::frame::{meaning, swatch, write_head};
+use crate::look::look_of;
 use crate::writing::{write_close, write_elements};
 use machine::Heap;
 use pages::PageView;
@@ -22,8 +23,8 @@ fn free_page(x: u32, y: u32, number: u32) -> [Element; 2]
 {
     let name = Caption::Number(u64::from(number));
     [
-        rectangle(x, y, 60, 60, Colour::Pale),
-        text(x + 4, y + 14, 11, name),
+        Element::Rectangle(x, y, 60, 60, Colour::Pale),
+        Element::Text(x + 4, y + 14, 11, name),
     ]
 }
 
@@ -56,12 +57,12 @@ fn used_page(x: u32, y: u32, number: u32, page: PageView) -> [Element; 6]
     };
     let bar = (52 * held).div_ceil(blocks);
     [
-        rectangle(x, y, 60, 60, paper(page)),
-        text(x + 4, y + 14, 11, name),
-        text(x + 4, y + 28, 9, size),
-        text(x + 4, y + 41, 9, part),
-        rectangle(x + 4, y + 46, 52, 10, Colour::Grey),
-        rectangle(x + 4, y + 46, bar, 10, Colour::Blue),
+        Element::Rectangle(x, y, 60, 60, paper(page)),
+        Element::Text(x + 4, y + 14, 11, name),
+        Element::Text(x + 4, y + 28, 9, size),
+        Element::Text(x + 4, y + 41, 9, part),
+        Element::Rectangle(x + 4, y + 46, 52, 10, Colour::Grey),
+        Element::Rectangle(x + 4, y + 46, bar, 10, Colour::Blue),
     ]
 }
 
@@ -91,28 +92,26 @@ fn write_squares<K: Sink>(heap: &Heap, sink: &mut K) -> Result<(), WriteFailed>
     Ok(())
 }
 
-/// Writes the title.
-fn write_frame<K: Sink>(heap: &Heap, sink: &mut K) -> Result<(), WriteFailed>
-    ensures ok { OnOk result (K.taken sink.new ≡ K.taken sink.old ++ svg_text (map_frame heap.now)) }
-    ensures err { OnErr result (GrowsByPart (K.taken sink.old) (K.taken sink.new) (svg_text (map_frame heap.now))) }
-    ensures cause { K.failures sink.new ≡ K.failures sink.old + failed result }
+/// How high the map is.
+fn height(heap: &Heap) -> u32
+    ensures { result ≡ map_height (length heap.now.store.pages) }
 {
-    let height = 126 + 64 * heap.pages().div_ceil(16) as u32;
-    write_elements(sink, &frame(1060, height, Words::PagesOfTheHeap))
+    126 + 64 * heap.pages().div_ceil(16) as u32
 }
 
 /// What is told of the heap as a whole, and what the colours mean.
 fn told(heap: &Heap) -> [Element; 14]
     ensures { result ≡ map_told heap.now }
 {
+    let (phase, _) = look_of(heap.phase());
     let summary = Caption::Heap {
-        phase: Words::of_phase(heap.phase()),
+        phase,
         units: heap.units(),
         pages: heap.pages() as u64,
         free: heap.free_pages() as u64,
     };
     [
-        text(20, 52, 13, summary),
+        Element::Text(20, 52, 13, summary),
         swatch(0, Colour::Pale),
         meaning(0, Words::FreePage),
         swatch(1, Colour::Sky),
@@ -125,17 +124,8 @@ fn told(heap: &Heap) -> [Element; 14]
         meaning(4, Words::HeldBlocks),
         swatch(5, Colour::Grey),
         meaning(5, Words::FreeBlocks),
-        text(800, 78, 12, Caption::OldCopies(heap.copies().old as u64)),
+        Element::Text(800, 78, 12, Caption::OldCopies(heap.copies().old as u64)),
     ]
-}
-
-/// Writes what is told of the heap as a whole, and what the colours mean.
-fn write_told<K: Sink>(heap: &Heap, sink: &mut K) -> Result<(), WriteFailed>
-    ensures ok { OnOk result (K.taken sink.new ≡ K.taken sink.old ++ svg_text (map_told heap.now)) }
-    ensures err { OnErr result (GrowsByPart (K.taken sink.old) (K.taken sink.new) (svg_text (map_told heap.now))) }
-    ensures cause { K.failures sink.new ≡ K.failures sink.old + failed result }
-{
-    write_elements(sink, &told(heap))
 }
 
 /// Writes the map of the pages of a heap to a sink, as an SVG document of lines that end with LF: the
@@ -150,8 +140,7 @@ pub fn draw_pages<K: Sink>(heap: &Heap, sink: &mut K) -> Result<(), WriteFailed>
     ensures err { OnErr result (GrowsByPart (K.taken sink.old) (K.taken sink.new) (pages_picture heap.now)) }
     ensures cause { K.failures sink.new ≡ K.failures sink.old + failed result }
 {
-    write_frame(heap, sink)?;
-    write_told(heap, sink)?;
+    write_head(1060, height(heap), Words::PagesOfTheHeap, &told(heap), sink)?;
     write_squares(heap, sink)?;
     write_close(sink)
 }

@@ -1,115 +1,168 @@
 //! Pictures worked out by hand.
 use super::*;
-use graph_heap::NoMemory;
+use graph_heap::{Command, Shape};
 use machine::Heap;
 use quanta::Schedule;
 use size_classes::{Config, Settings};
 use std::alloc::AllocError;
 use std::process::Abort;
 use std::test::Fail;
-use trace::{FailAt, Line, MemorySink, Version, WriteFailed, read_line};
+use trace::{FailAt, MemorySink, WriteFailed};
 
-const TWO_PAGES: Settings = Settings {
-    pages: 2,
-    mutators: 1,
-    slots: 2,
-    statics: 0,
-    live: 1,
-    ..Settings::DEFAULTS
-};
-
-/// A heap that has done the lines of a trace.
-fn played(
-    rt: &(impl Abort + AllocGlobal),
-    settings: &Settings,
-    lines: &[&str],
-) -> Result<Heap, NoMemory> {
-    let Ok(config) = Config::check(settings) else {
-        panic!(rt; "the settings are good");
-    };
-    let mut heap = Heap::new(rt.alloc(), &config)?;
-    for line in lines {
-        match read_line(Version::Second, line.as_bytes()) {
-            Some(Line::Command { mutator, command }) => {
-                heap.step(mutator, command);
-            }
-            Some(Line::Begin) => {
-                let _begun = heap.begin();
-            }
-            Some(Line::Quantum(budget)) => {
-                let _spent = heap.quantum(budget);
-            }
-            _ => {}
-        }
-    }
-    Ok(heap)
-}
+/// Lines of a picture: a pattern, and rows of what stands in it in place of each `~`. Rows are parted by `;`,
+/// and their values by `|`.
+type Lines = (&'static str, &'static str);
 
 const HEAD: &str =
-    "<svg xmlns='http://www.w3.org/2000/svg' version='1.1' width='1060' height='190' viewBox='0 0 1060 190' font-family='sans-serif'>\n\
-    <title>Pages of the heap</title>\n\
-    <rect x='0' y='0' width='1060' height='190' fill='#ffffff'/>\n\
-    <text x='20' y='30' font-size='20'>Pages of the heap</text>\n";
+    "<svg xmlns='http://www.w3.org/2000/svg' version='1.1' width='~' height='~' viewBox='0 0 ~ ~' font-family='sans-serif'>\n\
+    <title>~</title>\n\
+    <rect x='0' y='0' width='~' height='~' fill='#ffffff'/>\n\
+    <text x='20' y='30' font-size='20'>~</text>\n";
 
-const LEGEND: &str = "<rect x='20' y='66' width='14' height='14' fill='#eeeeee'/>\n\
-    <text x='40' y='78' font-size='12'>free page</text>\n\
-    <rect x='150' y='66' width='14' height='14' fill='#cfe3f3'/>\n\
-    <text x='170' y='78' font-size='12'>page in use</text>\n\
-    <rect x='280' y='66' width='14' height='14' fill='#e69f00'/>\n\
-    <text x='300' y='78' font-size='12'>leaving page</text>\n\
-    <rect x='410' y='66' width='14' height='14' fill='#f0e442'/>\n\
-    <text x='430' y='78' font-size='12'>receiving page</text>\n\
-    <rect x='540' y='66' width='14' height='14' fill='#0072b2'/>\n\
-    <text x='560' y='78' font-size='12'>held blocks</text>\n\
-    <rect x='670' y='66' width='14' height='14' fill='#bbbbbb'/>\n\
-    <text x='690' y='78' font-size='12'>free blocks</text>\n";
+const SWATCH: &str = "<rect x='~' y='66' width='14' height='14' fill='~'/>\n\
+    <text x='~' y='78' font-size='12'>~</text>\n";
 
-const SQUARES: &str = "<rect x='20' y='110' width='60' height='60' fill='#cfe3f3'/>\n\
-    <text x='24' y='124' font-size='11'>0</text>\n\
-    <text x='24' y='138' font-size='9'>5 words</text>\n\
-    <text x='24' y='151' font-size='9'>2 of 409</text>\n\
-    <rect x='24' y='156' width='52' height='10' fill='#bbbbbb'/>\n\
-    <rect x='24' y='156' width='1' height='10' fill='#0072b2'/>\n\
-    <rect x='84' y='110' width='60' height='60' fill='#eeeeee'/>\n\
-    <text x='88' y='124' font-size='11'>1</text>\n\
-    </svg>\n";
+const TEXT: &str = "<text x='~' y='~' font-size='~'>~</text>\n";
 
-/// A text of these parts, one after the other.
-fn joined(rt: &impl AllocGlobal, parts: &[&str]) -> Result<String, AllocError> {
+const GRID: &str = "<line x1='80' y1='~' x2='1180' y2='~' stroke='#eeeeee'/>\n";
+
+const PERCENT: &str = "<text x='40' y='~' font-size='11'>~ %</text>\n";
+
+const AXIS: &str = "<line x1='80' y1='~' x2='~' y2='400' stroke='#000000'/>\n";
+
+const DOT: &str = "<circle cx='~' cy='~' r='3' fill='#0072b2'/>\n";
+
+const FREE_PAGE: &str = "<rect x='~' y='110' width='60' height='60' fill='#eeeeee'/>\n\
+    <text x='~' y='124' font-size='11'>~</text>\n";
+
+const USED_PAGE: &str = "<rect x='~' y='110' width='60' height='60' fill='~'/>\n\
+    <text x='~' y='124' font-size='11'>~</text>\n\
+    <text x='~' y='138' font-size='9'>~ words</text>\n\
+    <text x='~' y='151' font-size='9'>~ of ~</text>\n\
+    <rect x='~' y='156' width='52' height='10' fill='#bbbbbb'/>\n\
+    <rect x='~' y='156' width='~' height='10' fill='#0072b2'/>\n";
+
+const WINDOW: &str = "<line x1='~' y1='~' x2='~' y2='~' stroke='#e69f00'/>\n\
+    <line x1='~' y1='~' x2='~' y2='~' stroke='#0072b2'/>\n\
+    <rect x='~' y='~' width='10' height='10' fill='#e69f00'/>\n\
+    <circle cx='~' cy='~' r='3' fill='#0072b2'/>\n\
+    <line x1='~' y1='400' x2='~' y2='405' stroke='#000000'/>\n\
+    <text x='~' y='~' font-size='9'>~</text>\n";
+
+const SAMPLE: &str = "<rect x='~' y='~' width='1' height='~' fill='#cfe3f3'/>\n\
+    <rect x='~' y='408' width='1' height='14' fill='~'/>\n";
+
+const END: Lines = ("</svg>\n", "");
+
+/// Puts a pattern with the values of a row behind a text.
+fn push_row(text: &mut String, pattern: &str, row: &str) -> Result<(), AllocError> {
+    let mut values = row.split('|');
+    for piece in pattern.split('~') {
+        text.push_str(piece)?;
+        text.push_str(values.next().unwrap_or(""))?;
+    }
+    Ok(())
+}
+
+/// Puts lines behind a text.
+fn push_lines(text: &mut String, lines: Lines) -> Result<(), AllocError> {
+    let (pattern, rows) = lines;
+    for row in rows.split(';') {
+        push_row(text, pattern, row)?;
+    }
+    Ok(())
+}
+
+/// The text of lines.
+fn text_of(rt: &impl AllocGlobal, picture: &[Lines]) -> Result<String, AllocError> {
     let mut text = String::new(rt.alloc());
-    for part in parts {
-        text.push_str(part)?;
+    for lines in picture {
+        push_lines(&mut text, *lines)?;
     }
     Ok(text)
 }
 
-/// Draws the map of a heap, which must be of these parts.
-fn expect_map(rt: &(impl Abort + AllocGlobal), heap: &Heap, parts: &[&str]) -> Result<(), Fail> {
-    let mut sink = MemorySink::new(rt.alloc());
-    assert_eq!(rt; draw_pages(heap, &mut sink), Ok(()));
-    let wanted = joined(rt, parts)?;
+/// What a sink has taken must be these lines.
+fn expect(
+    rt: &(impl Abort + AllocGlobal),
+    sink: &MemorySink,
+    picture: &[Lines],
+) -> Result<(), Fail> {
+    let wanted = text_of(rt, picture)?;
     assert_eq!(rt; sink.bytes(), wanted.as_bytes());
     Ok(())
 }
 
+/// A heap on which a mutator has done commands.
+fn heap_after(
+    rt: &impl AllocGlobal,
+    settings: &Settings,
+    commands: &[Command],
+) -> Result<Heap, Fail> {
+    let mut heap = Heap::new(rt.alloc(), &Config::check(settings)?)?;
+    for command in commands {
+        heap.step(0, *command);
+    }
+    Ok(heap)
+}
+
+/// Makes an object with one reference.
+fn object(dst: u32) -> Command {
+    let shape = Shape::Plain { refs: 1, words: 0 };
+    Command::New { dst, shape }
+}
+
+/// Makes an array of which eight fill a page.
+fn array(dst: u32) -> Command {
+    let shape = Shape::WordArray(252);
+    Command::New { dst, shape }
+}
+
+/// Draws the map of a heap, which must be these lines.
+fn expect_map(rt: &(impl Abort + AllocGlobal), heap: &Heap, picture: &[Lines]) -> Result<(), Fail> {
+    let mut sink = MemorySink::new(rt.alloc());
+    assert_eq!(rt; draw_pages(heap, &mut sink), Ok(()));
+    expect(rt, &sink, picture)
+}
+
+const TWO_PAGES: Settings = Settings {
+    pages: 2,
+    slots: 2,
+    ..Settings::DEFAULTS
+};
+
+const MAP_HEAD: Lines = (
+    HEAD,
+    "1060|190|1060|190|Pages of the heap|1060|190|Pages of the heap",
+);
+
+const LEGEND: Lines = (
+    SWATCH,
+    "20|#eeeeee|40|free page;150|#cfe3f3|170|page in use;280|#e69f00|300|leaving page;\
+        410|#f0e442|430|receiving page;540|#0072b2|560|held blocks;\
+        670|#bbbbbb|690|free blocks",
+);
+
+const TWO_OBJECTS: [Lines; 7] = [
+    MAP_HEAD,
+    (TEXT, "20|52|13|phase roots, units 0, pages 2, free 1"),
+    LEGEND,
+    (TEXT, "800|78|12|old copies 0"),
+    (USED_PAGE, "20|#cfe3f3|24|0|24|5|24|2|409|24|24|1"),
+    (FREE_PAGE, "84|88|1"),
+    END,
+];
+
 #[test]
 fn two_objects_on_a_page(rt: HostRuntime) -> Result<(), Fail> {
-    let heap = played(
-        &rt,
-        &TWO_PAGES,
-        &["0 new 0 plain 1 0", "0 new 1 plain 1 0", "begin"],
-    )?;
-    let told = "<text x='20' y='52' font-size='13'>phase roots, units 0, pages 2, free 1</text>\n";
-    let old = "<text x='800' y='78' font-size='12'>old copies 0</text>\n";
-    expect_map(&rt, &heap, &[HEAD, told, LEGEND, old, SQUARES])
+    let mut heap = heap_after(&rt, &TWO_PAGES, &[object(0), object(1)])?;
+    let _begun = heap.begin();
+    expect_map(&rt, &heap, &TWO_OBJECTS)
 }
 
 const THREE_PAGES: Settings = Settings {
     pages: 3,
-    mutators: 1,
     slots: 12,
-    statics: 0,
-    live: 1,
     defrag_below: 4,
     defrag_pages: 1,
     ..Settings::DEFAULTS
@@ -117,66 +170,59 @@ const THREE_PAGES: Settings = Settings {
 
 // Page 0 had eight arrays, lost two, and received the one of page 1, which is leaving, and still holds the
 // array's old copy.
-const MOVED: &str = "<rect x='20' y='110' width='60' height='60' fill='#f0e442'/>\n\
-    <text x='24' y='124' font-size='11'>0</text>\n\
-    <text x='24' y='138' font-size='9'>256 words</text>\n\
-    <text x='24' y='151' font-size='9'>7 of 8</text>\n\
-    <rect x='24' y='156' width='52' height='10' fill='#bbbbbb'/>\n\
-    <rect x='24' y='156' width='46' height='10' fill='#0072b2'/>\n\
-    <rect x='84' y='110' width='60' height='60' fill='#e69f00'/>\n\
-    <text x='88' y='124' font-size='11'>1</text>\n\
-    <text x='88' y='138' font-size='9'>256 words</text>\n\
-    <text x='88' y='151' font-size='9'>1 of 8</text>\n\
-    <rect x='88' y='156' width='52' height='10' fill='#bbbbbb'/>\n\
-    <rect x='88' y='156' width='7' height='10' fill='#0072b2'/>\n\
-    <rect x='148' y='110' width='60' height='60' fill='#cfe3f3'/>\n\
-    <text x='152' y='124' font-size='11'>2</text>\n\
-    <text x='152' y='138' font-size='9'>5 words</text>\n\
-    <text x='152' y='151' font-size='9'>1 of 409</text>\n\
-    <rect x='152' y='156' width='52' height='10' fill='#bbbbbb'/>\n\
-    <rect x='152' y='156' width='1' height='10' fill='#0072b2'/>\n\
-    </svg>\n";
-
-/// Nine arrays, of which eight fill a page, and an object that names the ninth.
-const NINE_ARRAYS: [&str; 15] = [
-    "0 new 0 words 252",
-    "0 new 1 words 252",
-    "0 new 2 words 252",
-    "0 new 3 words 252",
-    "0 new 4 words 252",
-    "0 new 5 words 252",
-    "0 new 6 words 252",
-    "0 new 7 words 252",
-    "0 new 8 words 252",
-    "0 new 9 plain 1 0",
-    "0 store 9 0 8",
-    "0 clear 0",
-    "0 clear 1",
-    "begin",
-    "quantum 1000",
+const MOVED: [Lines; 6] = [
+    MAP_HEAD,
+    (TEXT, "20|52|13|phase idle, units 823, pages 3, free 0"),
+    LEGEND,
+    (TEXT, "800|78|12|old copies 1"),
+    (
+        USED_PAGE,
+        "20|#f0e442|24|0|24|256|24|7|8|24|24|46;84|#e69f00|88|1|88|256|88|1|8|88|88|7;\
+        148|#cfe3f3|152|2|152|5|152|1|409|152|152|1",
+    ),
+    END,
 ];
 
 #[test]
 fn a_block_is_moved(rt: HostRuntime) -> Result<(), Fail> {
-    let heap = played(&rt, &THREE_PAGES, &NINE_ARRAYS)?;
-    let told = "<text x='20' y='52' font-size='13'>phase idle, units 823, pages 3, free 0</text>\n";
-    let old = "<text x='800' y='78' font-size='12'>old copies 1</text>\n";
-    expect_map(&rt, &heap, &[HEAD, told, LEGEND, old, MOVED])
+    // Nine arrays, of which eight fill a page, and an object that names the ninth.
+    let commands = [
+        array(0),
+        array(1),
+        array(2),
+        array(3),
+        array(4),
+        array(5),
+        array(6),
+        array(7),
+        array(8),
+        object(9),
+        Command::Store {
+            obj: 9,
+            i: 0,
+            src: 8,
+        },
+        Command::Clear { dst: 0 },
+        Command::Clear { dst: 1 },
+    ];
+    let mut heap = heap_after(&rt, &THREE_PAGES, &commands)?;
+    let _begun = heap.begin();
+    let _spent = heap.quantum(1000);
+    expect_map(&rt, &heap, &MOVED)
 }
 
 #[test]
 fn a_write_fails(rt: HostRuntime) -> Result<(), Fail> {
-    let heap = played(&rt, &TWO_PAGES, &[])?;
+    let heap = heap_after(&rt, &TWO_PAGES, &[])?;
     let mut sink = FailAt::new(MemorySink::new(rt.alloc()), 5);
     assert_eq!(rt; draw_pages(&heap, &mut sink), Err(WriteFailed));
     assert!(rt; sink.has_failed());
-    assert_eq!(rt; sink.get_ref().bytes(), HEAD.as_bytes());
-    Ok(())
+    expect(&rt, sink.get_ref(), &[MAP_HEAD])
 }
 
 /// A schedule of quanta of 10 ticks with 12 ticks of the mutators between them, of which three are placed
 /// in 66 ticks.
-fn three_quanta(rt: &(impl Abort + AllocGlobal), config: &Config) -> Result<Schedule, Fail> {
+fn three_quanta(rt: &impl AllocGlobal, config: &Config) -> Result<Schedule, Fail> {
     let mut schedule = Schedule::new(rt.alloc(), config);
     schedule.start_cycle();
     for _ in 0..3u8 {
@@ -190,72 +236,36 @@ fn three_quanta(rt: &(impl Abort + AllocGlobal), config: &Config) -> Result<Sche
     Ok(schedule)
 }
 
-const CHART_HEAD: &str =
-    "<svg xmlns='http://www.w3.org/2000/svg' version='1.1' width='1200' height='480' viewBox='0 0 1200 480' font-family='sans-serif'>\n\
-    <title>Least share of the mutators</title>\n\
-    <rect x='0' y='0' width='1200' height='480' fill='#ffffff'/>\n\
-    <text x='20' y='30' font-size='20'>Least share of the mutators</text>\n\
-    <rect x='20' y='66' width='14' height='14' fill='#0072b2'/>\n\
-    <text x='40' y='78' font-size='12'>least measured</text>\n\
-    <rect x='150' y='66' width='14' height='14' fill='#e69f00'/>\n\
-    <text x='170' y='78' font-size='12'>promised</text>\n";
-
-const AXES: &str = "<line x1='80' y1='340' x2='1180' y2='340' stroke='#eeeeee'/>\n\
-    <line x1='80' y1='280' x2='1180' y2='280' stroke='#eeeeee'/>\n\
-    <line x1='80' y1='220' x2='1180' y2='220' stroke='#eeeeee'/>\n\
-    <line x1='80' y1='160' x2='1180' y2='160' stroke='#eeeeee'/>\n\
-    <line x1='80' y1='100' x2='1180' y2='100' stroke='#eeeeee'/>\n\
-    <text x='40' y='404' font-size='11'>0 %</text>\n\
-    <text x='40' y='344' font-size='11'>20 %</text>\n\
-    <text x='40' y='284' font-size='11'>40 %</text>\n\
-    <text x='40' y='224' font-size='11'>60 %</text>\n\
-    <text x='40' y='164' font-size='11'>80 %</text>\n\
-    <text x='40' y='104' font-size='11'>100 %</text>\n\
-    <line x1='80' y1='100' x2='80' y2='400' stroke='#000000'/>\n\
-    <line x1='80' y1='400' x2='1180' y2='400' stroke='#000000'/>\n\
-    <text x='40' y='90' font-size='11'>share of the window</text>\n\
-    <text x='80' y='464' font-size='11'>length of the window in ticks</text>\n";
-
 // Of windows of 1, 2, 5 and 10 ticks the mutators have none, since a quantum may take all of them; of 20
 // they have 10, which are half, and of 50, with two quanta and 6 ticks of a third at most, 24, or 480
 // thousandths. That is also what the schedule promises.
-const CURVES: &str = "<line x1='80' y1='400' x2='80' y2='400' stroke='#e69f00'/>\n\
-    <line x1='80' y1='400' x2='80' y2='400' stroke='#0072b2'/>\n\
-    <rect x='75' y='395' width='10' height='10' fill='#e69f00'/>\n\
-    <circle cx='80' cy='400' r='3' fill='#0072b2'/>\n\
-    <line x1='80' y1='400' x2='80' y2='405' stroke='#000000'/>\n\
-    <text x='80' y='418' font-size='9'>1</text>\n\
-    <line x1='80' y1='400' x2='107' y2='400' stroke='#e69f00'/>\n\
-    <line x1='80' y1='400' x2='107' y2='400' stroke='#0072b2'/>\n\
-    <rect x='102' y='395' width='10' height='10' fill='#e69f00'/>\n\
-    <circle cx='107' cy='400' r='3' fill='#0072b2'/>\n\
-    <line x1='107' y1='400' x2='107' y2='405' stroke='#000000'/>\n\
-    <text x='107' y='430' font-size='9'>2</text>\n\
-    <line x1='107' y1='400' x2='143' y2='400' stroke='#e69f00'/>\n\
-    <line x1='107' y1='400' x2='143' y2='400' stroke='#0072b2'/>\n\
-    <rect x='138' y='395' width='10' height='10' fill='#e69f00'/>\n\
-    <circle cx='143' cy='400' r='3' fill='#0072b2'/>\n\
-    <line x1='143' y1='400' x2='143' y2='405' stroke='#000000'/>\n\
-    <text x='143' y='442' font-size='9'>5</text>\n\
-    <line x1='143' y1='400' x2='170' y2='400' stroke='#e69f00'/>\n\
-    <line x1='143' y1='400' x2='170' y2='400' stroke='#0072b2'/>\n\
-    <rect x='165' y='395' width='10' height='10' fill='#e69f00'/>\n\
-    <circle cx='170' cy='400' r='3' fill='#0072b2'/>\n\
-    <line x1='170' y1='400' x2='170' y2='405' stroke='#000000'/>\n\
-    <text x='170' y='418' font-size='9'>10</text>\n\
-    <line x1='170' y1='400' x2='197' y2='250' stroke='#e69f00'/>\n\
-    <line x1='170' y1='400' x2='197' y2='250' stroke='#0072b2'/>\n\
-    <rect x='192' y='245' width='10' height='10' fill='#e69f00'/>\n\
-    <circle cx='197' cy='250' r='3' fill='#0072b2'/>\n\
-    <line x1='197' y1='400' x2='197' y2='405' stroke='#000000'/>\n\
-    <text x='197' y='430' font-size='9'>20</text>\n\
-    <line x1='197' y1='250' x2='233' y2='256' stroke='#e69f00'/>\n\
-    <line x1='197' y1='250' x2='233' y2='256' stroke='#0072b2'/>\n\
-    <rect x='228' y='251' width='10' height='10' fill='#e69f00'/>\n\
-    <circle cx='233' cy='256' r='3' fill='#0072b2'/>\n\
-    <line x1='233' y1='400' x2='233' y2='405' stroke='#000000'/>\n\
-    <text x='233' y='442' font-size='9'>50</text>\n\
-    </svg>\n";
+const SHARES: [Lines; 8] = [
+    (
+        HEAD,
+        "1200|480|1200|480|Least share of the mutators|1200|480|Least share of the mutators",
+    ),
+    (
+        SWATCH,
+        "20|#0072b2|40|least measured;150|#e69f00|170|promised",
+    ),
+    (GRID, "340|340;280|280;220|220;160|160;100|100"),
+    (PERCENT, "404|0;344|20;284|40;224|60;164|80;104|100"),
+    (AXIS, "100|80;400|1180"),
+    (
+        TEXT,
+        "40|90|11|share of the window;80|464|11|length of the window in ticks",
+    ),
+    (
+        WINDOW,
+        "80|400|80|400|80|400|80|400|75|395|80|400|80|80|80|418|1;\
+        80|400|107|400|80|400|107|400|102|395|107|400|107|107|107|430|2;\
+        107|400|143|400|107|400|143|400|138|395|143|400|143|143|143|442|5;\
+        143|400|170|400|143|400|170|400|165|395|170|400|170|170|170|418|10;\
+        170|400|197|250|170|400|197|250|192|245|197|250|197|197|197|430|20;\
+        197|250|233|256|197|250|233|256|228|251|233|256|233|233|233|442|50",
+    ),
+    END,
+];
 
 #[test]
 fn the_shares_of_three_quanta(rt: HostRuntime) -> Result<(), Fail> {
@@ -263,43 +273,39 @@ fn the_shares_of_three_quanta(rt: HostRuntime) -> Result<(), Fail> {
     let schedule = three_quanta(&rt, &config)?;
     let mut sink = MemorySink::new(rt.alloc());
     assert_eq!(rt; draw_utilisation(&config, &schedule, &mut sink), Ok(()));
-    let wanted = joined(&rt, &[CHART_HEAD, AXES, CURVES])?;
-    assert_eq!(rt; sink.bytes(), wanted.as_bytes());
-    Ok(())
+    expect(&rt, &sink, &SHARES)
 }
 
-const TIME_HEAD: &str =
-    "<svg xmlns='http://www.w3.org/2000/svg' version='1.1' width='1200' height='480' viewBox='0 0 1200 480' font-family='sans-serif'>\n\
-    <title>The heap over a run</title>\n\
-    <rect x='0' y='0' width='1200' height='480' fill='#ffffff'/>\n\
-    <text x='20' y='30' font-size='20'>The heap over a run</text>\n";
+const TIME_HEAD: Lines = (
+    HEAD,
+    "1200|480|1200|480|The heap over a run|1200|480|The heap over a run",
+);
 
 // One of two pages in use is half of the height, and one object of four a quarter.
-const SAMPLES: &str = "<rect x='80' y='400' width='1' height='0' fill='#cfe3f3'/>\n\
-    <rect x='80' y='408' width='1' height='14' fill='#eeeeee'/>\n\
-    <circle cx='80' cy='400' r='3' fill='#0072b2'/>\n\
-    <rect x='81' y='250' width='1' height='150' fill='#cfe3f3'/>\n\
-    <rect x='81' y='408' width='1' height='14' fill='#f0e442'/>\n\
-    <rect x='82' y='250' width='1' height='150' fill='#cfe3f3'/>\n\
-    <rect x='82' y='408' width='1' height='14' fill='#eeeeee'/>\n\
-    <circle cx='82' cy='325' r='3' fill='#0072b2'/>\n\
-    </svg>\n";
+const SAMPLES: [Lines; 5] = [
+    (SAMPLE, "80|400|0|80|#eeeeee"),
+    (DOT, "80|400"),
+    (SAMPLE, "81|250|150|81|#f0e442;82|250|150|82|#eeeeee"),
+    (DOT, "82|325"),
+    END,
+];
 
 #[test]
 fn three_samples_of_a_run(rt: HostRuntime) -> Result<(), Fail> {
-    let lines = ["0 new 0 plain 1 0", "begin"];
-    let samples = [
-        Sample::of(&played(&rt, &TWO_PAGES, &[])?, true),
-        Sample::of(&played(&rt, &TWO_PAGES, &lines)?, false),
-        Sample::of(&played(&rt, &TWO_PAGES, &lines[..1])?, true),
-    ];
+    let empty = heap_after(&rt, &TWO_PAGES, &[])?;
+    let mut heap = heap_after(&rt, &TWO_PAGES, &[object(0)])?;
+    let last = Sample::of(&heap, true);
+    let _begun = heap.begin();
+    let samples = [Sample::of(&empty, true), Sample::of(&heap, false), last];
     let mut sink = MemorySink::new(rt.alloc());
     let scale = Scale {
         pages: 2,
         objects: 4,
     };
     assert_eq!(rt; draw_time(&scale, &samples, &mut sink), Ok(()));
-    assert!(rt; sink.bytes().starts_with(TIME_HEAD.as_bytes()));
-    assert!(rt; sink.bytes().ends_with(SAMPLES.as_bytes()));
+    let head = text_of(&rt, &[TIME_HEAD])?;
+    let drawn = text_of(&rt, &SAMPLES)?;
+    assert!(rt; sink.bytes().starts_with(head.as_bytes()));
+    assert!(rt; sink.bytes().ends_with(drawn.as_bytes()));
     Ok(())
 }

@@ -7,8 +7,8 @@ ghost use Rattle.drawing.specs.Utilisation.{AreShares, window_x, share_y, window
 
 use crate::caption::{Caption, Words};
 use crate::colour::Colour;
-use crate::element::{Element, dot, line, rectangle, text};
-use crate::frame::{frame, meaning, swatch};
+use crate::element::Element;
+use crate::frame::{meaning, swatch, write_head};
 use crate::measuring::put_shares;
 use crate::share::Share;
 use crate::writing::{write_close, write_elements};
@@ -47,12 +47,12 @@ fn marks(place: u32, before: &Share, now: &Share) -> [Element; 6]
     let (x1, x) = (x_of(place.saturating_sub(1)), x_of(place));
     let (promised, measured) = (y_of(now.promised), y_of(now.measured));
     [
-        line(x1, y_of(before.promised), x, promised, Colour::Orange),
-        line(x1, y_of(before.measured), x, measured, Colour::Blue),
-        rectangle(x - 5, promised - 5, 10, 10, Colour::Orange),
-        dot(x, measured, Colour::Blue),
-        line(x, 400, x, 405, Colour::Black),
-        text(x, 418 + 12 * (place % 3), 9, Caption::Number(now.window)),
+        Element::Line(x1, y_of(before.promised), x, promised, Colour::Orange),
+        Element::Line(x1, y_of(before.measured), x, measured, Colour::Blue),
+        Element::Rectangle(x - 5, promised - 5, 10, 10, Colour::Orange),
+        Element::Dot(x, measured, Colour::Blue),
+        Element::Line(x, 400, x, 405, Colour::Black),
+        Element::Text(x, 418 + 12 * (place % 3), 9, Caption::Number(now.window)),
     ]
 }
 
@@ -83,40 +83,22 @@ fn axes() -> [Element; 19]
         meaning(0, Words::Measured),
         swatch(1, Colour::Orange),
         meaning(1, Words::Promised),
-        line(80, 340, 1180, 340, Colour::Pale),
-        line(80, 280, 1180, 280, Colour::Pale),
-        line(80, 220, 1180, 220, Colour::Pale),
-        line(80, 160, 1180, 160, Colour::Pale),
-        line(80, 100, 1180, 100, Colour::Pale),
-        text(40, 404, 11, Caption::Percent(0)),
-        text(40, 344, 11, Caption::Percent(20)),
-        text(40, 284, 11, Caption::Percent(40)),
-        text(40, 224, 11, Caption::Percent(60)),
-        text(40, 164, 11, Caption::Percent(80)),
-        text(40, 104, 11, Caption::Percent(100)),
-        line(80, 100, 80, 400, Colour::Black),
-        line(80, 400, 1180, 400, Colour::Black),
-        text(40, 90, 11, Caption::Words(Words::MutatorsShare)),
-        text(80, 464, 11, Caption::Words(Words::WindowTicks)),
+        Element::Line(80, 340, 1180, 340, Colour::Pale),
+        Element::Line(80, 280, 1180, 280, Colour::Pale),
+        Element::Line(80, 220, 1180, 220, Colour::Pale),
+        Element::Line(80, 160, 1180, 160, Colour::Pale),
+        Element::Line(80, 100, 1180, 100, Colour::Pale),
+        Element::Text(40, 404, 11, Caption::Percent(0)),
+        Element::Text(40, 344, 11, Caption::Percent(20)),
+        Element::Text(40, 284, 11, Caption::Percent(40)),
+        Element::Text(40, 224, 11, Caption::Percent(60)),
+        Element::Text(40, 164, 11, Caption::Percent(80)),
+        Element::Text(40, 104, 11, Caption::Percent(100)),
+        Element::Line(80, 100, 80, 400, Colour::Black),
+        Element::Line(80, 400, 1180, 400, Colour::Black),
+        Element::Text(40, 90, 11, Caption::Words(Words::MutatorsShare)),
+        Element::Text(80, 464, 11, Caption::Words(Words::WindowTicks)),
     ]
-}
-
-/// Writes the title.
-fn write_frame<K: Sink>(sink: &mut K) -> Result<(), WriteFailed>
-    ensures ok { OnOk result (K.taken sink.new ≡ K.taken sink.old ++ svg_text utilisation.chart_frame) }
-    ensures err { OnErr result (GrowsByPart (K.taken sink.old) (K.taken sink.new) (svg_text utilisation.chart_frame)) }
-    ensures cause { K.failures sink.new ≡ K.failures sink.old + failed result }
-{
-    write_elements(sink, &frame(1200, 480, Words::LeastUtilisation))
-}
-
-/// Writes the axes.
-fn write_axes<K: Sink>(sink: &mut K) -> Result<(), WriteFailed>
-    ensures ok { OnOk result (K.taken sink.new ≡ K.taken sink.old ++ svg_text utilisation.axes) }
-    ensures err { OnErr result (GrowsByPart (K.taken sink.old) (K.taken sink.new) (svg_text utilisation.axes)) }
-    ensures cause { K.failures sink.new ≡ K.failures sink.old + failed result }
-{
-    write_elements(sink, &axes())
 }
 
 /// Writes the picture of shares.
@@ -126,8 +108,7 @@ fn draw_shares<K: Sink>(shares: &[Share], sink: &mut K) -> Result<(), WriteFaile
     ensures err { OnErr result (GrowsByPart (K.taken sink.old) (K.taken sink.new) (utilisation_picture shares.now)) }
     ensures cause { K.failures sink.new ≡ K.failures sink.old + failed result }
 {
-    write_frame(sink)?;
-    write_axes(sink)?;
+    write_head(1200, 480, Words::LeastUtilisation, &axes(), sink)?;
     write_curves(shares, sink)?;
     write_close(sink)
 }

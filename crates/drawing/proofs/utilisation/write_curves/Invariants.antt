@@ -1,10 +1,11 @@
-use Rattle.std.proofs.Common.{◌≡◌}
-use Rattle.drawing.proofs.Curves.{SoFar}
+use Rattle.std.proofs.Common.{◌≡◌, drop}
+use Rattle.drawing.specs.Utilisation.{curves, curves_from}
+use Rattle.drawing.proofs.Parts.{SoFar}
 use Rattle.drawing.proofs.utilisation.write_curves.Given as goal
 
 -- the windows so far are written, and no call has failed
 abbrev pub invariant-loop-place : goal.invariant-loop-place
 invariant-loop-place g l = record {
-  written : SoFar (g.K.Sink.taken l.fn.sink) (g.K.Sink.taken l.sink) l.shares l.before l.place;
+  written : SoFar (g.K.Sink.taken l.fn.sink) (g.K.Sink.taken l.sink) (curves l.shares) (curves_from l.place l.before (drop l.place l.shares));
   failures : g.K.Sink.failures l.sink ≡ g.K.Sink.failures l.fn.sink;
 }

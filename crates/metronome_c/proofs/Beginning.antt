@@ -1,11 +1,44 @@
--- A cycle begins in what C holds.
-use Rattle.std.proofs.Common.{◌≡◌, ℕ, sym, subst}
-use Rattle.std.specs.Prelude.{Option, Some, Result}
+-- A cycle begins, or goes on, in what C holds.
+use Rattle.std.proofs.Common.{◌≡◌, ◌∙◌, ℕ, ap}
+use Rattle.std.specs.Prelude.{Option, Some, None, Result}
 use Rattle.heap_model.specs.State.{HeapState}
 use Rattle.machine.specs.declared.collector.Busy.{Busy}
-use Rattle.machine.specs.Collecting.{Begins}
-use Rattle.metronome_c.specs.Collecting.{KeepsAgreeing, begin_status, BeginsOpen}
+use Rattle.machine.specs.declared.collector.BudgetOutOfRange.{BudgetOutOfRange}
+use Rattle.machine.specs.declared.collector.Spent.{Spent}
+use Rattle.machine.specs.Collecting.{Begins, Spends}
+use Rattle.metronome_c.specs.declared.collector.QuantumSpent.{QuantumSpent}
+use Rattle.metronome_c.specs.declared.status.Status.TheVariants.{Closed}
+use Rattle.metronome_c.specs.Status.{status_number}
+use Rattle.metronome_c.specs.Asking.{Asks}
+use Rattle.metronome_c.specs.Collecting.{KeepsAgreeing, begin_status, BeginsOpen, quantum_status, spent_of, EndsOrSpends, SpendsOpen}
 
-pub begins_open : (old new : Option HeapState) (h k : HeapState) (answer : Result (Unit {0}) Busy) (n : ℕ)
-    → old ≡ Some h → new ≡ Some k → KeepsAgreeing h k → Begins h k answer → n ≡ begin_status answer → BeginsOpen old new n
-begins_open old new h k answer n held made keeps begins told = subst (λ (o : Option HeapState). BeginsOpen o new n) (sym held) (k, made, keeps, (answer, begins, told))
+-- what a heap says that is to begin a cycle
+abbrev pub Began : HeapState → Result (Unit {0}) Busy → HeapState → Type 0
+Began h answer k = KeepsAgreeing h k × Begins h k answer
+
+abbrev pub begun_status : Option (Result (Unit {0}) Busy) → ℕ
+begun_status (Some answer) = begin_status answer
+begun_status None = status_number Closed
+
+pub begins_open : (old : Option HeapState) (answer : Option (Result (Unit {0}) Busy)) (new : Option HeapState) (n : ℕ)
+    → Asks Began old answer new → n ≡ begun_status answer → BeginsOpen old new n
+begins_open None answer new n asks told = (asks.1, told ∙ ap begun_status asks.0)
+begins_open (Some h) answer new n asks told = (asks.1, asks.3, asks.4.0, (asks.0, asks.4.1, told ∙ ap begun_status asks.2))
+
+-- what a heap says that is to spend a budget
+abbrev pub DidSpend : ℕ → HeapState → Result Spent BudgetOutOfRange → HeapState → Type 0
+DidSpend budget h answer k = KeepsAgreeing h k × Spends h budget k answer × EndsOrSpends budget answer
+
+abbrev pub spent_status : Option (Result Spent BudgetOutOfRange) → ℕ
+spent_status (Some answer) = quantum_status answer
+spent_status None = status_number Closed
+
+abbrev pub spent_told : QuantumSpent → Option (Result Spent BudgetOutOfRange) → QuantumSpent
+spent_told before (Some answer) = spent_of before answer
+spent_told before None = before
+
+pub spends_open : (budget : ℕ) (old : Option HeapState) (answer : Option (Result Spent BudgetOutOfRange)) (new : Option HeapState) (before after : QuantumSpent) (n : ℕ)
+    → Asks (DidSpend budget) old answer new → after ≡ spent_told before answer → n ≡ spent_status answer → SpendsOpen old budget new before after n
+spends_open budget None answer new before after n asks spent told = (asks.1, spent ∙ ap (spent_told before) asks.0, told ∙ ap spent_status asks.0)
+spends_open budget (Some h) answer new before after n asks spent told =
+    (asks.1, asks.3, asks.4.0, (asks.0, asks.4.1, asks.4.2, spent ∙ ap (spent_told before) asks.2, told ∙ ap spent_status asks.2))

@@ -1,5 +1,5 @@
 -- Heaps are made, or not.
-use Rattle.std.proofs.Common.{◌≡◌, ℕ, false, true, Bool, refl, sym, subst, ap}
+use Rattle.std.proofs.Common.{◌≡◌, ℕ, false, true, Bool, refl, sym, subst}
 use Rattle.std.specs.Prelude.{Option, Some, None}
 use Rattle.std.specs.Option.{is_some}
 use Rattle.size_classes.specs.declared.settings.Settings.{Settings}
@@ -9,7 +9,7 @@ use Rattle.size_classes.specs.Config.{fault_of, IsOf}
 use Rattle.heap_model.specs.State.{HeapState}
 use Rattle.heap_model.specs.Opening.{IsOpening}
 use Rattle.heap_model.specs.Settings.{settings_of, settings_by}
-use Rattle.metronome_c.specs.declared.status.Status.TheVariants.{Done, NoMemory}
+use Rattle.metronome_c.specs.declared.status.Status.TheVariants.{Done}
 use Rattle.metronome_c.specs.Status.{status_number, fault_status}
 use Rattle.metronome_c.specs.Lifetime.{IsMade, MakesUnless, Creates}
 

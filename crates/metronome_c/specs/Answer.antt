@@ -1,5 +1,5 @@
 -- Replies as C sees them.
-use Rattle.std.specs.Prelude.{ℕ, if◌then◌else◌}
+use Rattle.std.specs.Prelude.{ℕ, Option, Some, None, if◌then◌else◌}
 use Rattle.graph_heap.specs.declared.command.Shape.{Shape}
 use Rattle.graph_heap.specs.declared.command.Shape.TheVariants.{Plain, RefArray, WordArray}
 use Rattle.graph_heap.specs.declared.command.Reply.{Reply}
@@ -29,6 +29,11 @@ answer_of (replies.Described id shape) = told 9 id
 abbrev pub closed : Answer
 closed = told 0 (status_number Closed)
 
+-- the answer to what may have no reply, as there may be no heap
+abbrev pub answered : Option Reply → Answer
+answered (Some reply) = answer_of reply
+answered None = closed
+
 abbrev sized : ℕ → ℕ → ℕ → MetronomeShape
 sized k r w = record { kind = k; refs = r; words = w }
 
@@ -41,3 +46,8 @@ shape_of (WordArray words) = sized 2 0 words
 abbrev pub shape_in : MetronomeShape → Reply → MetronomeShape
 shape_in before (replies.Described id shape) = shape_of shape
 shape_in before _ = before
+
+-- the same, where there may be no reply
+abbrev pub shape_told : MetronomeShape → Option Reply → MetronomeShape
+shape_told before (Some reply) = shape_in before reply
+shape_told before None = before

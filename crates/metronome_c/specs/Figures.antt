@@ -10,6 +10,11 @@ use Rattle.metronome_c.specs.declared.figures.Counts.{Counts}
 use Rattle.metronome_c.specs.declared.status.Status.TheVariants.{Done, Closed}
 use Rattle.metronome_c.specs.Status.{status_number}
 
+-- what was found of a heap is told, or that there is none
+abbrev pub IsTold : {A : Type 0} → Option A → A → A → ℕ → Type 0
+IsTold None before after status = (after ≡ before) × (status ≡ status_number Closed)
+IsTold (Some a) before after status = (after ≡ a) × (status ≡ status_number Done)
+
 -- Something is told of a heap, which stays as it is. Of a handle that holds none nothing is told.
 abbrev pub Tells : {A : Type 0} → (HeapState → A) → Option HeapState → Option HeapState → A → A → ℕ → Type 0
 Tells tell None new before after status = (new ≡ None) × (after ≡ before) × (status ≡ status_number Closed)

@@ -1,4 +1,5 @@
 pub mod Answer
+pub mod Asking
 pub mod Collecting
 pub mod Figures
 pub mod Kept

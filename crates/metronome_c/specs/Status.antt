@@ -1,10 +1,10 @@
 -- The numbers and texts of what a call comes to.
-use Rattle.std.specs.Prelude.{ℕ, ◌+◌, ◌==◌, List, Option, Some, None, codes, find}
-use Rattle.graph_heap.specs.declared.command.Refusal.{Refusal}
+use Rattle.std.specs.Prelude.{ℕ, ◌+◌, ◌++◌, ◌==◌, List, Option, Some, None, codes, find}
 use Rattle.graph_heap.specs.declared.command.Refusal.TheVariants.{BadSlot, NullSlot, BadIndex, WrongKind, TooLarge, IdentitiesSpent, NoSpace, BadStatic, NotLive, AlreadyLive}
 use Rattle.graph_heap.specs.Refusal.{refusal_number}
 use Rattle.size_classes.specs.declared.key.Key.{Key}
 use Rattle.size_classes.specs.declared.key.Key.TheVariants.{Pages, Mutators, Slots, Statics, Identities, DefragBelow, DefragPages, CollectorTicks, MutatorTicks, Rate, Live}
+use Rattle.size_classes.specs.Keys.{name_of}
 use Rattle.size_classes.specs.declared.fault.ConfigFault.{ConfigFault}
 use Rattle.size_classes.specs.declared.fault.ConfigFault.TheVariants as faults
 use Rattle.metronome_c.specs.declared.status.Status.{Status}
@@ -46,34 +46,22 @@ abbrev pub fault_status : ConfigFault → Status
 fault_status (faults.OutOfRange key) = statuses.SettingOutOfRange key
 fault_status _ = statuses.ScheduleOutOfRange
 
-abbrev pub refusal_text : Refusal → List ℕ
-refusal_text BadSlot = codes "no such mutator or slot"
-refusal_text NullSlot = codes "the slot holds null"
-refusal_text BadIndex = codes "no such cell"
-refusal_text WrongKind = codes "the object has no such cells"
-refusal_text TooLarge = codes "the object is too large"
-refusal_text IdentitiesSpent = codes "all identities are spent"
-refusal_text NoSpace = codes "no space"
-refusal_text BadStatic = codes "no such static"
-refusal_text NotLive = codes "the mutator isn't live"
-refusal_text AlreadyLive = codes "the mutator is live already"
-
+-- a setting is out of its range: the name by which a file gives it, and the same words after each
 abbrev pub setting_text : Key → List ℕ
-setting_text Pages = codes "pages is out of range"
-setting_text Mutators = codes "mutators is out of range"
-setting_text Slots = codes "slots is out of range"
-setting_text Statics = codes "statics is out of range"
-setting_text Identities = codes "identities is out of range"
-setting_text DefragBelow = codes "defrag_below is out of range"
-setting_text DefragPages = codes "defrag_pages is out of range"
-setting_text CollectorTicks = codes "collector_ticks is out of range"
-setting_text MutatorTicks = codes "mutator_ticks is out of range"
-setting_text Rate = codes "rate is out of range"
-setting_text Live = codes "live is out of range"
+setting_text key = name_of key ++ codes " is out of range"
 
 abbrev pub status_text : Status → List ℕ
 status_text statuses.Done = codes "done"
-status_text (statuses.Refused refusal) = refusal_text refusal
+status_text (statuses.Refused BadSlot) = codes "no such mutator or slot"
+status_text (statuses.Refused NullSlot) = codes "the slot holds null"
+status_text (statuses.Refused BadIndex) = codes "no such cell"
+status_text (statuses.Refused WrongKind) = codes "the object has no such cells"
+status_text (statuses.Refused TooLarge) = codes "the object is too large"
+status_text (statuses.Refused IdentitiesSpent) = codes "all identities are spent"
+status_text (statuses.Refused NoSpace) = codes "no space"
+status_text (statuses.Refused BadStatic) = codes "no such static"
+status_text (statuses.Refused NotLive) = codes "the mutator isn't live"
+status_text (statuses.Refused AlreadyLive) = codes "the mutator is live already"
 status_text statuses.NoMemory = codes "no memory"
 status_text statuses.Busy = codes "a cycle is on already"
 status_text statuses.BudgetOutOfRange = codes "the budget is out of range"

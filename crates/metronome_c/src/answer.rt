@@ -1,6 +1,6 @@
 //! Replies as C sees them.
 ghost use Rattle.std.specs.Prelude.{◌≡◌};
-ghost use Rattle.metronome_c.specs.Answer.{answer_of, shape_of, shape_in, closed};
+ghost use Rattle.metronome_c.specs.Answer.{answer_of, answered, closed, shape_of, shape_told};
 
 use crate::status::Status;
 use graph_heap::{Reply, Shape};
@@ -24,7 +24,7 @@ pub struct MetronomeShape {
 
 impl Answer {
     /// The answer that tells a reply.
-    pub(crate) fn of(reply: Reply) -> Answer
+    fn of(reply: Reply) -> Answer
         ensures { result ≡ answer_of reply }
     {
         let (kind, number) = match reply {
@@ -42,8 +42,18 @@ impl Answer {
         Answer { kind, number }
     }
 
+    /// The answer that tells a reply, or that the handle holds no heap.
+    pub(crate) fn told(reply: Option<Reply>) -> Answer
+        ensures { result ≡ answered reply }
+    {
+        match reply {
+            Some(reply) => Answer::of(reply),
+            None => Answer::closed(),
+        }
+    }
+
     /// The answer of a handle that holds no heap.
-    pub(crate) fn closed() -> Answer
+    fn closed() -> Answer
         ensures { result ≡ closed }
     {
         Answer {
@@ -66,12 +76,12 @@ impl MetronomeShape {
         MetronomeShape { kind, refs, words }
     }
 
-    /// The shape that a reply tells, or this one where it tells none.
-    pub(crate) fn told_by(self, reply: &Reply) -> MetronomeShape
-        ensures { result ≡ shape_in self reply.now }
+    /// The shape that a reply tells, or this one where there is none, or none that tells one.
+    pub(crate) fn told_by(self, reply: Option<Reply>) -> MetronomeShape
+        ensures { result ≡ shape_told self reply }
     {
-        match *reply {
-            Reply::Described(_, shape) => MetronomeShape::of(shape),
+        match reply {
+            Some(Reply::Described(_, shape)) => MetronomeShape::of(shape),
             _ => self,
         }
     }

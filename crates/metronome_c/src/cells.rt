@@ -5,12 +5,10 @@ ghost use Rattle.metronome_c.specs.Steps.{Steps};
 use crate::answer::Answer;
 use crate::metronome::Metronome;
 use graph_heap::Command;
-use std::alloc::Global;
 
 /// What a reference cell holds into slot dst.
 #[unsafe(no_mangle)]
 pub extern "C" fn metronome_load(
-    alloc: Global,
     heap: &mut Metronome,
     mutator: u32,
     dst: u32,
@@ -19,13 +17,12 @@ pub extern "C" fn metronome_load(
 ) -> Answer
     ensures { Steps heap.old.handle.value mutator (commands.Load dst obj i) heap.new.handle.value result }
 {
-    heap.step(alloc, mutator, Command::Load { dst, obj, i })
+    heap.step(mutator, Command::Load { dst, obj, i })
 }
 
 /// What slot src holds into a reference cell.
 #[unsafe(no_mangle)]
 pub extern "C" fn metronome_store(
-    alloc: Global,
     heap: &mut Metronome,
     mutator: u32,
     obj: u32,
@@ -34,13 +31,12 @@ pub extern "C" fn metronome_store(
 ) -> Answer
     ensures { Steps heap.old.handle.value mutator (commands.Store obj i src) heap.new.handle.value result }
 {
-    heap.step(alloc, mutator, Command::Store { obj, i, src })
+    heap.step(mutator, Command::Store { obj, i, src })
 }
 
 /// What slot new holds into a reference cell, if that holds what slot expect does.
 #[unsafe(no_mangle)]
 pub extern "C" fn metronome_compare_store(
-    alloc: Global,
     heap: &mut Metronome,
     mutator: u32,
     obj: u32,
@@ -51,7 +47,6 @@ pub extern "C" fn metronome_compare_store(
     ensures { Steps heap.old.handle.value mutator (commands.CompareStore obj i expect new) heap.new.handle.value result }
 {
     heap.step(
-        alloc,
         mutator,
         Command::CompareStore {
             obj,
@@ -64,22 +59,15 @@ pub extern "C" fn metronome_compare_store(
 
 /// Reads a word cell.
 #[unsafe(no_mangle)]
-pub extern "C" fn metronome_get(
-    alloc: Global,
-    heap: &mut Metronome,
-    mutator: u32,
-    obj: u32,
-    i: u32,
-) -> Answer
+pub extern "C" fn metronome_get(heap: &mut Metronome, mutator: u32, obj: u32, i: u32) -> Answer
     ensures { Steps heap.old.handle.value mutator (commands.Get obj i) heap.new.handle.value result }
 {
-    heap.step(alloc, mutator, Command::Get { obj, i })
+    heap.step(mutator, Command::Get { obj, i })
 }
 
 /// Writes a word cell.
 #[unsafe(no_mangle)]
 pub extern "C" fn metronome_put(
-    alloc: Global,
     heap: &mut Metronome,
     mutator: u32,
     obj: u32,
@@ -88,13 +76,12 @@ pub extern "C" fn metronome_put(
 ) -> Answer
     ensures { Steps heap.old.handle.value mutator (commands.Put obj i word) heap.new.handle.value result }
 {
-    heap.step(alloc, mutator, Command::Put { obj, i, word })
+    heap.step(mutator, Command::Put { obj, i, word })
 }
 
 /// Writes a word cell, if that is old.
 #[unsafe(no_mangle)]
 pub extern "C" fn metronome_compare_put(
-    alloc: Global,
     heap: &mut Metronome,
     mutator: u32,
     obj: u32,
@@ -104,5 +91,5 @@ pub extern "C" fn metronome_compare_put(
 ) -> Answer
     ensures { Steps heap.old.handle.value mutator (commands.ComparePut obj i old new) heap.new.handle.value result }
 {
-    heap.step(alloc, mutator, Command::ComparePut { obj, i, old, new })
+    heap.step(mutator, Command::ComparePut { obj, i, old, new })
 }

@@ -3,12 +3,12 @@ ghost use Rattle.std.specs.Prelude.{◌≡◌, ◌≤◌, IfSome};
 ghost use Rattle.heap_model.specs.Pages as pages;
 ghost use Rattle.metronome_c.specs.Collecting as collecting;
 ghost use Rattle.heap_model.specs.Spent.{cycle_limit};
-ghost use Rattle.metronome_c.specs.Figures.{Tells, StandsForSome, counts_of};
+ghost use Rattle.metronome_c.specs.Figures.{IsTold, Tells, StandsForSome, counts_of};
 
 use crate::metronome::Metronome;
 use crate::phase::phase_number;
 use crate::status::Status;
-use std::alloc::Global;
+use machine::Heap;
 
 /// The counts of a heap: its pages, its root cells, and the objects that it holds.
 #[repr(C)]
@@ -26,73 +26,67 @@ pub struct Counts {
     pub old_copies: u64,
 }
 
+impl Counts {
+    /// The counts of a heap. It looks at each block.
+    fn of(heap: &Heap) -> Counts
+        ensures { result ≡ counts_of heap.now }
+    {
+        let copies = heap.copies();
+        Counts {
+            pages: heap.pages() as u64,
+            free_pages: heap.free_pages() as u64,
+            root_cells: heap.root_cells() as u64,
+            roots_used: heap.roots_used() as u64,
+            objects: copies.objects as u64,
+            parts: copies.parts as u64,
+            old_copies: copies.old as u64,
+        }
+    }
+}
+
+/// Tells what was found of a heap, or that there is none.
+fn tell<T: Copy>(told: &mut T, found: Option<T>) -> u32
+    ensures { IsTold found told.old told.new result }
+{
+    match found {
+        Some(value) => {
+            *told = value;
+            Status::Done.number()
+        }
+        None => Status::Closed.number(),
+    }
+}
+
 /// Tells the phase. A heap always stands for some graph heap at present, and for one when the last cycle began.
 #[unsafe(no_mangle)]
-pub extern "C" fn metronome_phase(alloc: Global, heap: &mut Metronome, phase: &mut u32) -> u32
+pub extern "C" fn metronome_phase(heap: &mut Metronome, phase: &mut u32) -> u32
     ensures phase { Tells (λ h. collecting.phase_number h.phase) heap.old.handle.value heap.new.handle.value phase.old phase.new result }
     ensures stands { IfSome heap.old.handle.value StandsForSome }
 {
-    if !heap.is_open {
-        return Status::Closed.number();
-    }
-    let inner = heap.take(alloc);
-    *phase = phase_number(inner.phase());
-    *heap = Metronome::of(inner);
-    Status::Done.number()
+    tell(phase, heap.ask(|inner| phase_number(inner.phase())))
 }
 
 /// Tells the units that were spent since the last cycle began: no more than a cycle may spend.
 #[unsafe(no_mangle)]
-pub extern "C" fn metronome_units(alloc: Global, heap: &mut Metronome, units: &mut u64) -> u32
+pub extern "C" fn metronome_units(heap: &mut Metronome, units: &mut u64) -> u32
     ensures units { Tells (λ h. h.units) heap.old.handle.value heap.new.handle.value units.old units.new result }
     ensures within { IfSome heap.old.handle.value (λ h. h.units ≤ cycle_limit h) }
 {
-    if !heap.is_open {
-        return Status::Closed.number();
-    }
-    let inner = heap.take(alloc);
-    *units = inner.units();
-    *heap = Metronome::of(inner);
-    Status::Done.number()
+    tell(units, heap.ask(|inner| inner.units()))
 }
 
 /// Tells how many pages are free.
 #[unsafe(no_mangle)]
-pub extern "C" fn metronome_free_pages(
-    alloc: Global,
-    heap: &mut Metronome,
-    free_pages: &mut u64,
-) -> u32
+pub extern "C" fn metronome_free_pages(heap: &mut Metronome, free_pages: &mut u64) -> u32
     ensures { Tells (λ h. pages.free_pages h.store.pages) heap.old.handle.value heap.new.handle.value free_pages.old free_pages.new result }
 {
-    if !heap.is_open {
-        return Status::Closed.number();
-    }
-    let inner = heap.take(alloc);
-    *free_pages = inner.free_pages() as u64;
-    *heap = Metronome::of(inner);
-    Status::Done.number()
+    tell(free_pages, heap.ask(|inner| inner.free_pages() as u64))
 }
 
 /// Tells the counts. It looks at each block.
 #[unsafe(no_mangle)]
-pub extern "C" fn metronome_count(alloc: Global, heap: &mut Metronome, counts: &mut Counts) -> u32
+pub extern "C" fn metronome_count(heap: &mut Metronome, counts: &mut Counts) -> u32
     ensures { Tells counts_of heap.old.handle.value heap.new.handle.value counts.old counts.new result }
 {
-    if !heap.is_open {
-        return Status::Closed.number();
-    }
-    let inner = heap.take(alloc);
-    let copies = inner.copies();
-    *counts = Counts {
-        pages: inner.pages() as u64,
-        free_pages: inner.free_pages() as u64,
-        root_cells: inner.root_cells() as u64,
-        roots_used: inner.roots_used() as u64,
-        objects: copies.objects as u64,
-        parts: copies.parts as u64,
-        old_copies: copies.old as u64,
-    };
-    *heap = Metronome::of(inner);
-    Status::Done.number()
+    tell(counts, heap.ask(|inner| Counts::of(inner)))
 }

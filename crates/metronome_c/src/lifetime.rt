@@ -7,15 +7,10 @@ use crate::settings::MetronomeSettings;
 use crate::status::Status;
 use machine::Heap;
 use size_classes::Config;
-use std::alloc::Global;
 
 /// Makes a heap of these settings, where the handle holds none.
 #[unsafe(no_mangle)]
-pub extern "C" fn metronome_create(
-    alloc: Global,
-    heap: &mut Metronome,
-    settings: &MetronomeSettings,
-) -> u32
+pub extern "C" fn metronome_create(heap: &mut Metronome, settings: &MetronomeSettings) -> u32
     ensures { Creates heap.old.handle.value (settings_from settings.now) heap.new.handle.value result }
 {
     if heap.is_open {
@@ -25,23 +20,24 @@ pub extern "C" fn metronome_create(
         Ok(config) => config,
         Err(fault) => return Status::of_fault(fault).number(),
     };
+    let alloc = heap.alloc;
     let Ok(made) = Heap::new(alloc, &config) else {
         return Status::NoMemory.number();
     };
     let Ok(boxed) = Box::new(alloc, made) else {
         return Status::NoMemory.number();
     };
-    *heap = Metronome::of(boxed);
+    heap.put(boxed);
     Status::Done.number()
 }
 
 /// Gives the memory of a heap back. Of a closed handle nothing is done.
 #[unsafe(no_mangle)]
-pub extern "C" fn metronome_destroy(alloc: Global, heap: &mut Metronome)
+pub extern "C" fn metronome_destroy(heap: &mut Metronome)
     ensures value { heap.new.handle.value ≡ None }
     ensures open { heap.new.is_open ≡ false }
 {
     if heap.is_open {
-        drop(heap.take(alloc));
+        drop(heap.take());
     }
 }

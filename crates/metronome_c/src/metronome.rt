@@ -1,11 +1,13 @@
 //! What C holds: a heap, or none.
 ghost use Rattle.std.specs.Prelude.{◌≡◌, Some, None, IsTrue, true, false};
 ghost use Rattle.std.specs.Option.{is_some};
-ghost use Rattle.metronome_c.specs.Steps.{Steps, TellsShape};
+ghost use Rattle.std.specs.Fn.{FnOnceReturnsAtMut};
+ghost use Rattle.metronome_c.specs.Asking.{Asks};
+ghost use Rattle.metronome_c.specs.Steps.{Does, Steps, TellsShape};
 
 use crate::answer::{Answer, MetronomeShape};
 use crate::handle::{Handle, Loose};
-use graph_heap::Command;
+use graph_heap::{Command, Reply};
 use machine::Heap;
 use std::alloc::Global;
 use std::mem::replace;
@@ -15,6 +17,7 @@ use std::mem::replace;
 #[derive(Drop)]
 pub struct Metronome {
     pub handle: Handle,
+    pub(crate) alloc: Global,
     pub is_open: bool,
     ghost tied: { is_open ≡ is_some handle.value },
 }
@@ -27,49 +30,66 @@ impl Metronome {
     {
         Metronome {
             handle: Handle::empty(alloc),
+            alloc,
             is_open: false,
         }
     }
 
-    /// This heap.
-    pub(crate) fn of(heap: Box<Heap>) -> Metronome
-        ensures value { result.handle.value ≡ Some heap.value }
-        ensures open { result.is_open ≡ true }
+    /// Holds this heap.
+    pub(crate) fn put(&mut self, heap: Box<Heap>)
+        ensures value { self.new.handle.value ≡ Some heap.value }
+        ensures open { self.new.is_open ≡ true }
     {
-        Metronome {
+        *self = Metronome {
             handle: Handle::shut(Loose::of(heap)),
+            alloc: self.alloc,
             is_open: true,
-        }
+        };
     }
 
     /// The heap. None is left.
-    pub(crate) fn take(&mut self, alloc: Global) -> Box<Heap>
+    pub(crate) fn take(&mut self) -> Box<Heap>
         requires { IsTrue self.old.is_open }
         ensures value { self.old.handle.value ≡ Some result.value }
         ensures left { self.new.handle.value ≡ None }
         ensures open { self.new.is_open ≡ false }
     {
-        let Metronome { handle, is_open: _ } = replace(self, Metronome::closed(alloc));
+        let closed = Metronome::closed(self.alloc);
+        let Metronome { handle, .. } = replace(self, closed);
         handle.open().into_box()
     }
 
-    /// Does a command of a mutator.
-    pub(crate) fn step(&mut self, alloc: Global, mutator: u32, command: Command) -> Answer
-        ensures { Steps self.old.handle.value mutator command self.new.handle.value result }
+    /// Asks the heap, if there is one, and holds it again.
+    pub(crate) fn ask<T, F: FnOnce(&mut Heap) -> T + Drop>(&mut self, call: F) -> Option<T>
+        requires { F.IsAlwaysCallable call }
+        ensures { Asks (FnOnceReturnsAtMut F.FnOnce call) self.old.handle.value result self.new.handle.value }
     {
         if !self.is_open {
-            return Answer::closed();
+            return None;
         }
-        let mut heap = self.take(alloc);
-        let answer = Answer::of(heap.step(mutator, command));
-        *self = Metronome::of(heap);
-        answer
+        let mut heap = self.take();
+        let answer = call(&mut heap);
+        self.put(heap);
+        Some(answer)
+    }
+
+    /// Does a command of a mutator, if there is a heap.
+    fn reply_to(&mut self, mutator: u32, command: Command) -> Option<Reply>
+        ensures { Asks (Does mutator command) self.old.handle.value result self.new.handle.value }
+    {
+        self.ask(|heap| heap.step(mutator, command))
+    }
+
+    /// Does a command of a mutator.
+    pub(crate) fn step(&mut self, mutator: u32, command: Command) -> Answer
+        ensures { Steps self.old.handle.value mutator command self.new.handle.value result }
+    {
+        Answer::told(self.reply_to(mutator, command))
     }
 
     /// Does a command of a mutator, and tells the shape that its reply tells.
     pub(crate) fn step_and_tell(
         &mut self,
-        alloc: Global,
         mutator: u32,
         command: Command,
         shape: &mut MetronomeShape,
@@ -77,13 +97,8 @@ impl Metronome {
         ensures steps { Steps self.old.handle.value mutator command self.new.handle.value result }
         ensures shape { TellsShape self.old.handle.value mutator command shape.old shape.new }
     {
-        if !self.is_open {
-            return Answer::closed();
-        }
-        let mut heap = self.take(alloc);
-        let reply = heap.step(mutator, command);
-        *self = Metronome::of(heap);
-        *shape = shape.told_by(&reply);
-        Answer::of(reply)
+        let reply = self.reply_to(mutator, command);
+        *shape = shape.told_by(reply);
+        Answer::told(reply)
     }
 }

@@ -6,12 +6,10 @@ ghost use Rattle.metronome_c.specs.Steps.{Steps, TellsShape};
 use crate::answer::{Answer, MetronomeShape};
 use crate::metronome::Metronome;
 use graph_heap::{Command, Shape};
-use std::alloc::Global;
 
 /// A new object of reference cells and word cells, into slot dst.
 #[unsafe(no_mangle)]
 pub extern "C" fn metronome_new_plain(
-    alloc: Global,
     heap: &mut Metronome,
     mutator: u32,
     dst: u32,
@@ -21,13 +19,12 @@ pub extern "C" fn metronome_new_plain(
     ensures { Steps heap.old.handle.value mutator (commands.New dst (shapes.Plain refs words)) heap.new.handle.value result }
 {
     let shape = Shape::Plain { refs, words };
-    heap.step(alloc, mutator, Command::New { dst, shape })
+    heap.step(mutator, Command::New { dst, shape })
 }
 
 /// A new array of reference cells, into slot dst.
 #[unsafe(no_mangle)]
 pub extern "C" fn metronome_new_refs(
-    alloc: Global,
     heap: &mut Metronome,
     mutator: u32,
     dst: u32,
@@ -36,13 +33,12 @@ pub extern "C" fn metronome_new_refs(
     ensures { Steps heap.old.handle.value mutator (commands.New dst (shapes.RefArray refs)) heap.new.handle.value result }
 {
     let shape = Shape::RefArray(refs);
-    heap.step(alloc, mutator, Command::New { dst, shape })
+    heap.step(mutator, Command::New { dst, shape })
 }
 
 /// A new array of word cells, into slot dst.
 #[unsafe(no_mangle)]
 pub extern "C" fn metronome_new_words(
-    alloc: Global,
     heap: &mut Metronome,
     mutator: u32,
     dst: u32,
@@ -51,27 +47,20 @@ pub extern "C" fn metronome_new_words(
     ensures { Steps heap.old.handle.value mutator (commands.New dst (shapes.WordArray words)) heap.new.handle.value result }
 {
     let shape = Shape::WordArray(words);
-    heap.step(alloc, mutator, Command::New { dst, shape })
+    heap.step(mutator, Command::New { dst, shape })
 }
 
 /// Whether slots a and b hold the same object, or both null.
 #[unsafe(no_mangle)]
-pub extern "C" fn metronome_same(
-    alloc: Global,
-    heap: &mut Metronome,
-    mutator: u32,
-    a: u32,
-    b: u32,
-) -> Answer
+pub extern "C" fn metronome_same(heap: &mut Metronome, mutator: u32, a: u32, b: u32) -> Answer
     ensures { Steps heap.old.handle.value mutator (commands.Same a b) heap.new.handle.value result }
 {
-    heap.step(alloc, mutator, Command::Same { a, b })
+    heap.step(mutator, Command::Same { a, b })
 }
 
 /// The identity of slot a's object, and its shape.
 #[unsafe(no_mangle)]
 pub extern "C" fn metronome_describe(
-    alloc: Global,
     heap: &mut Metronome,
     mutator: u32,
     a: u32,
@@ -80,5 +69,5 @@ pub extern "C" fn metronome_describe(
     ensures steps { Steps heap.old.handle.value mutator (commands.Describe a) heap.new.handle.value result }
     ensures shape { TellsShape heap.old.handle.value mutator (commands.Describe a) shape.old shape.new }
 {
-    heap.step_and_tell(alloc, mutator, Command::Describe { a }, shape)
+    heap.step_and_tell(mutator, Command::Describe { a }, shape)
 }

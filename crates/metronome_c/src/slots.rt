@@ -5,39 +5,26 @@ ghost use Rattle.metronome_c.specs.Steps.{Steps};
 use crate::answer::Answer;
 use crate::metronome::Metronome;
 use graph_heap::Command;
-use std::alloc::Global;
 
 /// What slot src holds into slot dst.
 #[unsafe(no_mangle)]
-pub extern "C" fn metronome_copy(
-    alloc: Global,
-    heap: &mut Metronome,
-    mutator: u32,
-    dst: u32,
-    src: u32,
-) -> Answer
+pub extern "C" fn metronome_copy(heap: &mut Metronome, mutator: u32, dst: u32, src: u32) -> Answer
     ensures { Steps heap.old.handle.value mutator (commands.Copy dst src) heap.new.handle.value result }
 {
-    heap.step(alloc, mutator, Command::Copy { dst, src })
+    heap.step(mutator, Command::Copy { dst, src })
 }
 
 /// Null into slot dst.
 #[unsafe(no_mangle)]
-pub extern "C" fn metronome_clear(
-    alloc: Global,
-    heap: &mut Metronome,
-    mutator: u32,
-    dst: u32,
-) -> Answer
+pub extern "C" fn metronome_clear(heap: &mut Metronome, mutator: u32, dst: u32) -> Answer
     ensures { Steps heap.old.handle.value mutator (commands.Clear dst) heap.new.handle.value result }
 {
-    heap.step(alloc, mutator, Command::Clear { dst })
+    heap.step(mutator, Command::Clear { dst })
 }
 
 /// What static k holds into slot dst.
 #[unsafe(no_mangle)]
 pub extern "C" fn metronome_load_static(
-    alloc: Global,
     heap: &mut Metronome,
     mutator: u32,
     dst: u32,
@@ -45,13 +32,12 @@ pub extern "C" fn metronome_load_static(
 ) -> Answer
     ensures { Steps heap.old.handle.value mutator (commands.LoadStatic dst k) heap.new.handle.value result }
 {
-    heap.step(alloc, mutator, Command::LoadStatic { dst, k })
+    heap.step(mutator, Command::LoadStatic { dst, k })
 }
 
 /// What slot src holds into static k.
 #[unsafe(no_mangle)]
 pub extern "C" fn metronome_store_static(
-    alloc: Global,
     heap: &mut Metronome,
     mutator: u32,
     k: u32,
@@ -59,13 +45,12 @@ pub extern "C" fn metronome_store_static(
 ) -> Answer
     ensures { Steps heap.old.handle.value mutator (commands.StoreStatic k src) heap.new.handle.value result }
 {
-    heap.step(alloc, mutator, Command::StoreStatic { k, src })
+    heap.step(mutator, Command::StoreStatic { k, src })
 }
 
 /// What slot new holds into static k, if that holds what slot expect does.
 #[unsafe(no_mangle)]
 pub extern "C" fn metronome_compare_static(
-    alloc: Global,
     heap: &mut Metronome,
     mutator: u32,
     k: u32,
@@ -74,21 +59,21 @@ pub extern "C" fn metronome_compare_static(
 ) -> Answer
     ensures { Steps heap.old.handle.value mutator (commands.CompareStatic k expect new) heap.new.handle.value result }
 {
-    heap.step(alloc, mutator, Command::CompareStatic { k, expect, new })
+    heap.step(mutator, Command::CompareStatic { k, expect, new })
 }
 
 /// The mutator comes to be live.
 #[unsafe(no_mangle)]
-pub extern "C" fn metronome_join(alloc: Global, heap: &mut Metronome, mutator: u32) -> Answer
+pub extern "C" fn metronome_join(heap: &mut Metronome, mutator: u32) -> Answer
     ensures { Steps heap.old.handle.value mutator commands.Join heap.new.handle.value result }
 {
-    heap.step(alloc, mutator, Command::Join)
+    heap.step(mutator, Command::Join)
 }
 
 /// Null into each slot of the mutator, which is live no more.
 #[unsafe(no_mangle)]
-pub extern "C" fn metronome_leave(alloc: Global, heap: &mut Metronome, mutator: u32) -> Answer
+pub extern "C" fn metronome_leave(heap: &mut Metronome, mutator: u32) -> Answer
     ensures { Steps heap.old.handle.value mutator commands.Leave heap.new.handle.value result }
 {
-    heap.step(alloc, mutator, Command::Leave)
+    heap.step(mutator, Command::Leave)
 }

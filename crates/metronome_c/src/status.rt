@@ -30,19 +30,7 @@ pub enum Status {
 fn key_number(key: Key) -> u32
     ensures { result ≡ statuses.key_number key }
 {
-    match key {
-        Key::Pages => 0,
-        Key::Mutators => 1,
-        Key::Slots => 2,
-        Key::Statics => 3,
-        Key::Identities => 4,
-        Key::DefragBelow => 5,
-        Key::DefragPages => 6,
-        Key::CollectorTicks => 7,
-        Key::MutatorTicks => 8,
-        Key::Rate => 9,
-        Key::Live => 10,
-    }
+    key as u32
 }
 
 impl Status {
@@ -118,7 +106,16 @@ impl Status {
     {
         match self {
             Status::Done => "done",
-            Status::Refused(refusal) => refusal_text(refusal),
+            Status::Refused(Refusal::BadSlot) => "no such mutator or slot",
+            Status::Refused(Refusal::NullSlot) => "the slot holds null",
+            Status::Refused(Refusal::BadIndex) => "no such cell",
+            Status::Refused(Refusal::WrongKind) => "the object has no such cells",
+            Status::Refused(Refusal::TooLarge) => "the object is too large",
+            Status::Refused(Refusal::IdentitiesSpent) => "all identities are spent",
+            Status::Refused(Refusal::NoSpace) => "no space",
+            Status::Refused(Refusal::BadStatic) => "no such static",
+            Status::Refused(Refusal::NotLive) => "the mutator isn't live",
+            Status::Refused(Refusal::AlreadyLive) => "the mutator is live already",
             Status::NoMemory => "no memory",
             Status::Busy => "a cycle is on already",
             Status::BudgetOutOfRange => "the budget is out of range",
@@ -135,24 +132,6 @@ fn first_numbered(number: u32, all: &[Status]) -> Option<Status>
     ensures { result ≡ status_numbered number all.now }
 {
     all.iter().find(|s| s.number() == number).copied()
-}
-
-/// Why a command was refused.
-fn refusal_text(refusal: Refusal) -> &'static str
-    ensures { result.now ≡ statuses.refusal_text refusal }
-{
-    match refusal {
-        Refusal::BadSlot => "no such mutator or slot",
-        Refusal::NullSlot => "the slot holds null",
-        Refusal::BadIndex => "no such cell",
-        Refusal::WrongKind => "the object has no such cells",
-        Refusal::TooLarge => "the object is too large",
-        Refusal::IdentitiesSpent => "all identities are spent",
-        Refusal::NoSpace => "no space",
-        Refusal::BadStatic => "no such static",
-        Refusal::NotLive => "the mutator isn't live",
-        Refusal::AlreadyLive => "the mutator is live already",
-    }
 }
 
 /// Which setting is out of its range.

@@ -9,7 +9,6 @@ use crate::objects::*;
 use crate::settings::MetronomeSettings;
 use crate::slots::*;
 use crate::text::*;
-use std::alloc::Global;
 use std::process::Abort;
 
 mod closing;
@@ -59,12 +58,11 @@ const SMALL: MetronomeSettings = MetronomeSettings {
     live: 1,
 };
 
-/// An open heap, and what allocates for it.
-fn opened(rt: &(impl Abort + AllocGlobal), settings: &MetronomeSettings) -> (Global, Metronome) {
-    let alloc = rt.alloc();
-    let mut heap = Metronome::closed(alloc);
-    assert_eq!(rt; metronome_create(alloc, &mut heap, settings), 0);
-    (alloc, heap)
+/// An open heap.
+fn opened(rt: &(impl Abort + AllocGlobal), settings: &MetronomeSettings) -> Metronome {
+    let mut heap = Metronome::closed(rt.alloc());
+    assert_eq!(rt; metronome_create(&mut heap, settings), 0);
+    heap
 }
 
 /// Compares an answer.
@@ -80,7 +78,7 @@ fn are(rt: &impl Abort, answers: &[(Answer, u32, u64)]) {
 }
 
 /// Compares all answers of a heap, and gives it back.
-fn answered(rt: &(impl Abort + AllocGlobal), mut heap: Metronome, answers: &[(Answer, u32, u64)]) {
+fn answered(rt: &impl Abort, mut heap: Metronome, answers: &[(Answer, u32, u64)]) {
     are(rt, answers);
-    metronome_destroy(rt.alloc(), &mut heap);
+    metronome_destroy(&mut heap);
 }

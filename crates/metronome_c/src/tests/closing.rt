@@ -76,52 +76,51 @@ fn faulty() -> [(MetronomeSettings, u32); 12] {
 fn settings_are_refused_in_turn(rt: HostRuntime) {
     let mut heap = Metronome::closed(rt.alloc());
     for (settings, status) in faulty() {
-        assert_eq!(&rt; metronome_create(rt.alloc(), &mut heap, &settings), status);
+        assert_eq!(&rt; metronome_create(&mut heap, &settings), status);
         assert_eq!(&rt; heap.is_open, false);
     }
-    assert_eq!(&rt; metronome_create(rt.alloc(), &mut heap, &SMALL), 0);
-    assert_eq!(&rt; metronome_create(rt.alloc(), &mut heap, &SMALL), 17);
-    metronome_destroy(rt.alloc(), &mut heap);
+    assert_eq!(&rt; metronome_create(&mut heap, &SMALL), 0);
+    assert_eq!(&rt; metronome_create(&mut heap, &SMALL), 17);
+    metronome_destroy(&mut heap);
 }
 
 #[test]
 fn a_destroyed_heap_is_closed_and_may_be_made_anew(rt: HostRuntime) {
-    let (a, heap) = opened(&rt, &SMALL);
+    let heap = opened(&rt, &SMALL);
     let mut h = sent(heap);
-    is(&rt, metronome_new_plain(a, &mut h, 0, 0, 0, 1), MADE, 1);
-    metronome_destroy(a, &mut h);
-    is(&rt, metronome_get(a, &mut h, 0, 0, 0), REFUSED, 16);
-    metronome_destroy(a, &mut h);
-    assert_eq!(&rt; metronome_create(a, &mut h, &SMALL), 0);
-    is(&rt, metronome_get(a, &mut h, 0, 0, 0), REFUSED, 2);
-    metronome_destroy(a, &mut h);
+    is(&rt, metronome_new_plain(&mut h, 0, 0, 0, 1), MADE, 1);
+    metronome_destroy(&mut h);
+    is(&rt, metronome_get(&mut h, 0, 0, 0), REFUSED, 16);
+    metronome_destroy(&mut h);
+    assert_eq!(&rt; metronome_create(&mut h, &SMALL), 0);
+    is(&rt, metronome_get(&mut h, 0, 0, 0), REFUSED, 2);
+    metronome_destroy(&mut h);
 }
 
 #[test]
 fn commands_of_a_closed_handle_are_refused(rt: HostRuntime) {
-    let a = rt.alloc();
-    let mut heap = Metronome::closed(a);
+    let mut heap = Metronome::closed(rt.alloc());
     let h = &mut heap;
     let mut shape = NO_SHAPE;
     let answers = [
-        metronome_new_plain(a, h, 0, 0, 0, 0),
-        metronome_new_refs(a, h, 0, 0, 0),
-        metronome_new_words(a, h, 0, 0, 0),
-        metronome_load(a, h, 0, 0, 0, 0),
-        metronome_store(a, h, 0, 0, 0, 0),
-        metronome_compare_store(a, h, 0, 0, 0, 0, 0),
-        metronome_get(a, h, 0, 0, 0),
-        metronome_put(a, h, 0, 0, 0, 0),
-        metronome_compare_put(a, h, 0, 0, 0, 0, 0),
-        metronome_copy(a, h, 0, 0, 0),
-        metronome_clear(a, h, 0, 0),
-        metronome_load_static(a, h, 0, 0, 0),
-        metronome_store_static(a, h, 0, 0, 0),
-        metronome_compare_static(a, h, 0, 0, 0, 0),
-        metronome_same(a, h, 0, 0, 0),
-        metronome_describe(a, h, 0, 0, &mut shape),
-        metronome_join(a, h, 0),
-        metronome_leave(a, h, 0),
+        metronome_new_plain(h, 0, 0, 0, 0),
+        metronome_new_refs(h, 0, 0, 0),
+        metronome_new_words(h, 0, 0, 0),
+        metronome_load(h, 0, 0, 0, 0),
+        metronome_store(h, 0, 0, 0, 0),
+        metronome_compare_store(h, 0, 0, 0, 0, 0),
+        metronome_get(h, 0, 0, 0),
+        metronome_put(h, 0, 0, 0, 0),
+        metronome_compare_put(h, 0, 0, 0, 0, 0),
+        metronome_copy(h, 0, 0, 0),
+        metronome_clear(h, 0, 0),
+        metronome_load_static(h, 0, 0, 0),
+        metronome_store_static(h, 0, 0, 0),
+        metronome_compare_static(h, 0, 0, 0, 0),
+        metronome_same(h, 0, 0, 0),
+        metronome_describe(h, 0, 0, &mut shape),
+        metronome_join(h, 0),
+        metronome_leave(h, 0),
     ];
     for answer in answers {
         is(&rt, answer, REFUSED, 16);
@@ -131,8 +130,7 @@ fn commands_of_a_closed_handle_are_refused(rt: HostRuntime) {
 
 #[test]
 fn nothing_is_told_of_a_closed_handle(rt: HostRuntime) {
-    let a = rt.alloc();
-    let mut heap = Metronome::closed(a);
+    let mut heap = Metronome::closed(rt.alloc());
     let (mut phase, mut units, mut free) = (7, 7, 7);
     let mut spent = QuantumSpent { units: 7, phase: 7 };
     let mut counts = Counts {
@@ -145,12 +143,12 @@ fn nothing_is_told_of_a_closed_handle(rt: HostRuntime) {
         old_copies: 7,
     };
     let before = counts;
-    assert_eq!(&rt; metronome_begin(a, &mut heap), 16);
-    assert_eq!(&rt; metronome_quantum(a, &mut heap, 256, &mut spent), 16);
-    assert_eq!(&rt; metronome_phase(a, &mut heap, &mut phase), 16);
-    assert_eq!(&rt; metronome_units(a, &mut heap, &mut units), 16);
-    assert_eq!(&rt; metronome_free_pages(a, &mut heap, &mut free), 16);
-    assert_eq!(&rt; metronome_count(a, &mut heap, &mut counts), 16);
+    assert_eq!(&rt; metronome_begin(&mut heap), 16);
+    assert_eq!(&rt; metronome_quantum(&mut heap, 256, &mut spent), 16);
+    assert_eq!(&rt; metronome_phase(&mut heap, &mut phase), 16);
+    assert_eq!(&rt; metronome_units(&mut heap, &mut units), 16);
+    assert_eq!(&rt; metronome_free_pages(&mut heap, &mut free), 16);
+    assert_eq!(&rt; metronome_count(&mut heap, &mut counts), 16);
     assert_eq!(&rt; (phase, units, free), (7, 7, 7));
     assert_eq!(&rt; spent, QuantumSpent { units: 7, phase: 7 });
     assert_eq!(&rt; counts, before);

@@ -18,4 +18,4 @@ returns c =
     let s = settings_from c.args.settings.now in
     let f : None ≡ fault_of s = ap result_err (sym c.in-Ok.is) ∙ c.check.ensures.fault ∙ ap fault_of c.settings.ensures in
     let of : IsOf s c.in-Ok.config = subst (λ x. IsOf x c.in-Ok.config) c.settings.ensures c.in-Ok.ensures.values in
-    creates_one _ _ c.in-Ok-new.made s c.in-Ok.config _ (sym c.args.heap.now.tied ∙ c.if-heap.false) f (c.of.ensures.value ∙ ap Some c.in-Ok-new-2.ensures.ok) c.number-2.ensures c.in-Ok-new.ensures.opening of c.in-Ok-new.ensures.settings
+    creates_one _ _ c.in-Ok-new.made s c.in-Ok.config _ (sym c.args.heap.now.tied ∙ c.if-heap.false) f (c.put.ensures.value ∙ ap Some c.in-Ok-new-2.ensures.ok) c.number-2.ensures c.in-Ok-new.ensures.opening of c.in-Ok-new.ensures.settings

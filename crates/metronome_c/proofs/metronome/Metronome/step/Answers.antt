@@ -1,5 +1,5 @@
-use Rattle.std.proofs.Common.{rules}
+use Rattle.metronome_c.proofs.Stepping.{steps}
 use Rattle.metronome_c.proofs.metronome.Metronome.step.Goals as goal
 
 pub returns : goal.returns
-returns c = search rules
+returns c = steps _ _ _ _ _ _ c.reply_to.ensures c.told.ensures

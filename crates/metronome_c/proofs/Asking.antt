@@ -1,0 +1,10 @@
+-- A heap was asked, so what holds of each such call holds of what C holds.
+use Rattle.std.specs.Prelude.{Option, Some, None}
+use Rattle.heap_model.specs.State.{HeapState}
+use Rattle.metronome_c.specs.Asking.{Asks}
+
+-- what each call tells, told of the call that was made
+pub asks_so : {A : Type 0} (call Says : HeapState → A → HeapState → Type 0) → ((h : HeapState) (a : A) (k : HeapState) → call h a k → Says h a k)
+    → (old : Option HeapState) (answer : Option A) (new : Option HeapState) → Asks call old answer new → Asks Says old answer new
+asks_so call Says so None answer new asks = asks
+asks_so call Says so (Some h) answer new asks = (asks.0, asks.1, asks.2, asks.3, so h asks.0 asks.1 asks.4)

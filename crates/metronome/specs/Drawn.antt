@@ -1,5 +1,5 @@
 -- What is drawn of a heap after a play.
-use Rattle.std.specs.Prelude.{◌≡◌, ℕ, ◌⊎◌, List, [], ◌++◌, Option, Result, Ok, Err}
+use Rattle.std.specs.Prelude.{◌≡◌, ℕ, ◌⊎◌, List, ◌++◌, Option, Result, Ok, Err}
 use Rattle.size_classes.specs.declared.config.Config.{Config}
 use Rattle.trace.specs.declared.fault.TextFault.{TextFault}
 use Rattle.trace.specs.Streams.{Given, Taken, GrowsByPart}

@@ -16,7 +16,7 @@ use Rattle.heap_server.specs.declared.play.Outcome.{Outcome}
 use Rattle.heap_model.specs.Settings.{settings_by}
 use Rattle.heap_server.specs.Played.{IsOutcome}
 use Rattle.player.specs.declared.style.Style.{Style}
-use Rattle.player.specs.declared.style.Style.TheVariants.{Replies, Entries, Nothing}
+use Rattle.player.specs.declared.style.Style.TheVariants.{Entries, Nothing}
 use Rattle.player.specs.New.{IsNew}
 use Rattle.player.specs.Player.{PlayerState}
 use Rattle.player.specs.Playing.{Stage, stage, Played, PlayedFirst, text_written}

@@ -37,23 +37,21 @@ pub fn first_lines(text: &'static str, count: usize) -> &'static [u8] {
 }
 
 /// Plays the first bytes of the trace, so many.
-fn play_front<T: Threads + Wait + Sync + Abort + AllocGlobal>(
-    rt: &T,
+fn play_front(
+    rt: &(impl Threads + Wait + Sync + Abort + AllocGlobal),
     front: &[u8],
 ) -> Result<(), NoMemory> {
-    let words = ["play", "config", "-"];
-    let ran = made_run(rt, &words, TWO_IDENTITIES, front)?;
+    let ran = made_run(rt, PLAYED_INPUT.words, TWO_IDENTITIES, front)?;
     let lines = ended_lines(front);
-    assert_eq!(rt; ran.output.as_slice(), first_lines(REPLIES, lines));
-    if front.is_empty() || front.ends_with(b"\n") {
-        assert_eq!(rt; ran.errors.as_slice(), b"".as_slice());
-        assert_eq!(rt; ran.status, 0);
+    let output = first_lines(REPLIES, lines);
+    let is_so = if front.is_empty() || front.ends_with(b"\n") {
+        ran.is(output, "", 0)
     } else {
         let number = lines.saturating_add(1);
-        let wanted = format!(in rt.alloc(); "metronome: line {number}: line not ended\n")?;
-        assert_eq!(rt; ran.errors.as_slice(), wanted.as_bytes());
-        assert_eq!(rt; ran.status, 4);
-    }
+        let fault = format!(in rt.alloc(); "metronome: line {number}: line not ended\n")?;
+        ran.is(output, &fault, 4)
+    };
+    assert!(rt; is_so, "{lines} lines");
     Ok(())
 }
 
@@ -67,19 +65,16 @@ fn each_beginning_of_a_trace(rt: HostRuntime) -> Result<(), NoMemory> {
 }
 
 /// Plays a trace of any bytes. Its lines are done, or one is refused.
-fn play_bytes<T: Threads + Wait + Sync + Abort + AllocGlobal>(
-    rt: &T,
+fn play_bytes(
+    rt: &(impl Threads + Wait + Sync + Abort + AllocGlobal),
     bytes: &[u8],
 ) -> Result<(), NoMemory> {
-    let words = ["play", "config", "-"];
-    let ran = made_run(rt, &words, FOUR_PAGES, bytes)?;
-    match ran.status {
-        0 => assert!(rt; ran.errors.is_empty()),
-        other => {
-            assert_eq!(rt; other, 4);
-            assert!(rt; ran.errors.starts_with(b"metronome: line "));
-        }
-    }
+    let ran = made_run(rt, PLAYED_INPUT.words, FOUR_PAGES, bytes)?;
+    let is_so = match ran.status {
+        0 => ran.errors.is_empty(),
+        other => other == 4 && ran.errors.starts_with(b"metronome: line "),
+    };
+    assert!(rt; is_so, "status {}", ran.status);
     Ok(())
 }
 

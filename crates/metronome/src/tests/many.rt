@@ -2,50 +2,44 @@
 use super::*;
 use std::alloc::Global;
 
-/// More lines than any buffer on the way has room for.
-const LINES: usize = 7000;
-
-/// A text that many times.
-fn repeated(alloc: Global, text: &str) -> Result<String, NoMemory> {
+/// So many times a text.
+pub fn repeated(alloc: Global, text: &str, count: usize) -> Result<String, NoMemory> {
     let mut all = String::new(alloc);
-    for _ in 0..LINES {
+    for _ in 0..count {
         all.push_str(text)?;
     }
     Ok(all)
 }
 
-/// Runs a subcommand on that many lines, and compares the output.
-fn expect_many<T: Threads + Wait + Sync + Abort + AllocGlobal>(
-    rt: &T,
-    words: &[&str],
-    line: &str,
-    wanted: &str,
-) -> Result<(), NoMemory> {
-    let input = repeated(rt.alloc(), line)?;
-    let ran = made_run(rt, words, FOUR_PAGES, input.as_bytes())?;
-    assert_eq!(rt; ran.output.as_slice(), wanted.as_bytes());
-    assert_eq!(rt; ran.errors.as_slice(), b"".as_slice());
-    assert_eq!(rt; ran.status, 0);
-    Ok(())
+/// So many times a text, and a text behind them.
+pub fn repeated_before(
+    alloc: Global,
+    text: &str,
+    count: usize,
+    rest: &str,
+) -> Result<String, NoMemory> {
+    let mut all = repeated(alloc, text, count)?;
+    all.push_str(rest)?;
+    Ok(all)
 }
+
+/// More lines than any buffer on the way has room for.
+const LINES: usize = 7000;
 
 #[test]
 fn a_long_history(rt: HostRuntime) -> Result<(), NoMemory> {
-    let line = "0 describe 0 => refused 2\n";
-    expect_many(&rt, &["check", "config", "-"], line, "ok 7000\n")
-}
-
-#[test]
-fn a_long_trace(rt: HostRuntime) -> Result<(), NoMemory> {
-    let wanted = repeated(rt.alloc(), "refused 2\n")?;
-    let words = ["play", "config", "-"];
-    expect_many(&rt, &words, "0 describe 0\n", &wanted)
+    let history = repeated(rt.alloc(), "0 describe 0 => refused 2\n", LINES)?;
+    let words = ["check", "config", "-"];
+    expect_ran(&rt, &words, FOUR_PAGES, &history, ("ok 7000\n", "", 0))
 }
 
 /// What is written of the lines that are read at once has no room in the buffer of what waits.
 #[test]
-fn a_long_history_of_a_trace(rt: HostRuntime) -> Result<(), NoMemory> {
-    let wanted = repeated(rt.alloc(), "0 describe 0 => refused 2\n")?;
+fn a_long_trace(rt: HostRuntime) -> Result<(), NoMemory> {
+    let trace = repeated(rt.alloc(), "0 describe 0\n", LINES)?;
+    let replies = repeated(rt.alloc(), "refused 2\n", LINES)?;
+    let history = repeated(rt.alloc(), "0 describe 0 => refused 2\n", LINES)?;
     let words = ["play", "config", "-", "--history"];
-    expect_many(&rt, &words, "0 describe 0\n", &wanted)
+    expect_ran(&rt, &words[..3], FOUR_PAGES, &trace, (&replies, "", 0))?;
+    expect_ran(&rt, &words, FOUR_PAGES, &trace, (&history, "", 0))
 }

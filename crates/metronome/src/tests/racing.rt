@@ -5,22 +5,6 @@ use super::*;
 const RACE: &str =
     "0 new 0 plain 0 0\n0 casstatic 0 1 0\n0 loadstatic 1 0\n1 new 0 plain 0 0\n1 casstatic 0 1 0\n1 loadstatic 1 0\n";
 
-/// Runs the program with an input, and answers what it wrote.
-fn output_of<T: Threads + Wait + Sync + Abort + AllocGlobal>(
-    rt: &T,
-    words: &[&str],
-    input: &[u8],
-) -> Result<Vec<u8>, NoMemory> {
-    let Ran {
-        output,
-        errors,
-        status,
-    } = made_run(rt, words, FOUR_PAGES, input)?;
-    assert_eq!(rt; errors.as_slice(), b"".as_slice());
-    assert_eq!(rt; status, 0);
-    Ok(output)
-}
-
 /// Whether the lines that begin with a mutator's number are entries of its three commands, in their order.
 fn is_script_of(history: &str, mutator: &str, commands: &[&str]) -> bool {
     let mut next = 0;
@@ -41,14 +25,17 @@ fn is_won_by(history: &str, identity: &str) -> bool {
     found.count() == 4
 }
 
-fn race<T: Threads + Wait + Sync + Abort + AllocGlobal>(
-    rt: &T,
+/// Runs the scripts, checks the history that was written, and looks for what the race must come to.
+fn race(
+    rt: &(impl Threads + Wait + Sync + Abort + AllocGlobal),
     words: &[&str],
 ) -> Result<(), NoMemory> {
-    let output = output_of(rt, words, RACE.as_bytes())?;
-    let checked = output_of(rt, &["check", "config", "-"], output.as_slice())?;
-    assert_eq!(rt; checked.as_slice(), b"ok 6\n".as_slice());
-    let Ok(history) = str::from_utf8(output.as_slice()) else {
+    let raced = made_run(rt, words, FOUR_PAGES, RACE.as_bytes())?;
+    let output = raced.output.as_slice();
+    assert!(rt; raced.is(output, "", 0));
+    let checked = made_run(rt, &["check", "config", "-"], FOUR_PAGES, output)?;
+    assert!(rt; checked.is(b"ok 6\n", "", 0));
+    let Ok(history) = str::from_utf8(output) else {
         panic!(rt; "a history is text");
     };
     let first = [
@@ -82,17 +69,4 @@ fn beside_a_collector(rt: HostRuntime) -> Result<(), NoMemory> {
         "threads", "config", "-", "--turns", "100", "--budget", "256",
     ];
     race(&rt, &words)
-}
-
-#[test]
-fn on_one_page_of_eight_blocks(rt: HostRuntime) -> Result<(), NoMemory> {
-    let wanted = Run {
-        words: &["threads", "config", "text"],
-        config: ONE_PAGE,
-        text: "0 new 0 words 252\n0 new 1 words 252\n0 new 2 words 252\n0 new 3 words 252\n0 new 4 words 252\n0 new 5 words 252\n0 new 6 words 252\n0 new 7 words 252\n0 new 8 words 252\n",
-        output: "0 new 0 words 252 => made 1\n0 new 1 words 252 => made 2\n0 new 2 words 252 => made 3\n0 new 3 words 252 => made 4\n0 new 4 words 252 => made 5\n0 new 5 words 252 => made 6\n0 new 6 words 252 => made 7\n0 new 7 words 252 => made 8\n0 new 8 words 252 => refused 7\n",
-        errors: "",
-        status: 0,
-    };
-    expect(&rt, &wanted)
 }

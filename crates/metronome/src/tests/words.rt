@@ -16,40 +16,35 @@ const HELP: &str =
     \x20 -h, --help     Print help\n\
     \x20 -V, --version  Print version\n";
 
-/// Makes a run without files, and compares all that came of it.
-fn expect_words<T: Threads + Wait + Sync + Abort + AllocGlobal>(
-    rt: &T,
-    words: &'static [&'static str],
-    output: &'static str,
-    errors: &'static str,
-    status: u8,
-) -> Result<(), NoMemory> {
-    let wanted = Run {
-        words,
-        config: FOUR_PAGES,
-        text: "",
-        output,
-        errors,
-        status,
-    };
-    expect(rt, &wanted)
-}
+const TOLD: &[Run] = &[
+    Run {
+        words: &["--help"],
+        output: HELP,
+        ..PLAYED
+    },
+    Run {
+        words: &["help"],
+        output: HELP,
+        ..PLAYED
+    },
+    Run {
+        words: &[],
+        errors: "metronome: error: 'metronome' requires a subcommand but one was not provided\n  \
+            [subcommands: play, check, threads, inspect, mmu, draw, pages, help]\n\nUsage: metronome <COMMAND>\n\n\
+            For more information, try '--help'.\n",
+        status: 2,
+        ..PLAYED
+    },
+    Run {
+        words: &["threads", "config", "text", "--turns", "10001"],
+        errors: "metronome: error: invalid value '10001' for '--turns <N>': 10001 is not in 0..=10000\n\n\
+            For more information, try '--help'.\n",
+        status: 2,
+        ..PLAYED
+    },
+];
 
 #[test]
-fn help_is_an_output(rt: HostRuntime) -> Result<(), NoMemory> {
-    expect_words(&rt, &["--help"], HELP, "", 0)?;
-    expect_words(&rt, &["help"], HELP, "", 0)
-}
-
-#[test]
-fn refused_words_have_a_text(rt: HostRuntime) -> Result<(), NoMemory> {
-    let none = "metronome: error: 'metronome' requires a subcommand but one was not provided\n  \
-        [subcommands: play, check, threads, inspect, mmu, draw, pages, help]\n\nUsage: metronome <COMMAND>\n\n\
-        For more information, try '--help'.\n";
-    expect_words(&rt, &[], "", none, 2)?;
-    let turns =
-        "metronome: error: invalid value '10001' for '--turns <N>': 10001 is not in 0..=10000\n\n\
-        For more information, try '--help'.\n";
-    let words = &["threads", "config", "text", "--turns", "10001"];
-    expect_words(&rt, words, "", turns, 2)
+fn words_have_a_text(rt: HostRuntime) -> Result<(), NoMemory> {
+    expect(&rt, &[TOLD])
 }

@@ -1,4 +1,4 @@
-use Rattle.std.proofs.Common.{◌≡◌, refl, subst}
+use Rattle.std.proofs.Common.{refl, subst}
 use Rattle.quanta.specs.Timetable.{Timetable}
 use Rattle.drawing.specs.Utilisation.{AreShares, utilisation_picture}
 use Rattle.metronome.proofs.Sharing.{shares_reserved}

@@ -1,6 +1,6 @@
 use Rattle.std.proofs.Common.{ℕ, List, Ok, inl, refl, sym, subst}
 use Rattle.std.specs.Prelude.{Result, string_bytes}
-use Rattle.trace.specs.Streams.{GrowsByPart, taken_by}
+use Rattle.trace.specs.Streams.{GrowsByPart}
 use Rattle.load_report.specs.Report.{IsLoadReport}
 use Rattle.metronome.specs.declared.fault.Ending.{Ending}
 use Rattle.metronome.specs.declared.fault.RunFault.{RunFault}

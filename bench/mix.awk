@@ -1,4 +1,4 @@
-# Writes a trace of a million commands of one mutator: a third make plain objects of 8 cells, a third write
+# Writes a trace of so many commands of one mutator, which `commands` says: a third make plain objects of 8 cells, a third write
 # references and words, and a third read. Before each sixteen of them a cycle begins or goes on, and after them 24
 # ticks pass, in which one quantum is due.
 
@@ -19,7 +19,7 @@ function command(   a, b, i, kind) {
 
 BEGIN {
     seed = 1
-    for (k = 0; k < 1000000; k++) {
+    for (k = 0; k < commands; k++) {
         if (k % 16 == 0) print "begin"
         print "0 " command()
         if (k % 16 == 15) print "tick 24"

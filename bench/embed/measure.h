@@ -6,7 +6,12 @@
 #include <stdio.h>
 #include <time.h>
 
-enum { CALLS = 1000000, ROUNDS = 50, LONGEST = 10 };
+/* how many calls are measured */
+#ifndef CALLS
+#define CALLS 1000000
+#endif
+
+enum { ROUNDS = 50, LONGEST = 10 };
 
 static inline int64_t nanoseconds(clockid_t clock) {
     struct timespec t;

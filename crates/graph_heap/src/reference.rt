@@ -1,21 +1,22 @@
 //! A slow heap, which replies as the graph heap does.
 ghost use Rattle.std.specs.Prelude.{true, ◌≡◌, ◌<◌, ◌+◌, ◌*◌, ◌^◌, ◌≤◌, ◌↔◌, length, slice_set, IfOk, IsOkAnd, OnOk, OnErr, IsTrue};
 ghost use Rattle.graph_heap.specs.Shape as shapes;
-ghost use Rattle.graph_heap.specs.Graph.{root_cells, nulled, new_object, changed, opening};
+ghost use Rattle.graph_heap.specs.Graph.{changed, opening};
 ghost use Rattle.graph_heap.specs.Effect as effect;
-ghost use Rattle.graph_heap.specs.Effect.{slot_at, static_at, deed_of, effect_of, fitting, reply_of, next_of};
-ghost use Rattle.graph_heap.specs.Stored.{object_in};
+ghost use Rattle.graph_heap.specs.Effect.{deed_of, effect_of, fitting, reply_of, next_of};
 ghost use Rattle.graph_heap.specs.History as history;
 ghost use Rattle.graph_heap.specs.History.{IsEntryOf, after_entry};
 
 mod reaching;
+mod row;
 
 use crate::admission::{admit, live_row, set_live};
 use crate::command::{
     ARRAY_CELLS, Change, Command, Entry, Limits, PLAIN_CELLS, Refusal, Reply, Shape,
 };
 use crate::no_memory::NoMemory;
-use crate::stored::{StoredObject, object_of, ref_of, set_ref_of, set_word_of, word_of};
+use crate::stored::{StoredObject, made_of, object_of, ref_of, set_ref_of, set_word_of, word_of};
+use row::{null_cells, set_cell, slot_of, static_of};
 use std::alloc::Global;
 use std::marker::Model;
 
@@ -41,30 +42,6 @@ impl Model for Reference {
     ghost invariant = { IsRow };
 }
 
-/// Where a slot stands in the row of roots.
-fn slot_of(limits: &Limits, mutator: u32, slot: u32) -> Result<usize, Refusal>
-    ensures place { result ≡ slot_at limits.now mutator slot }
-    ensures within { IfOk result (λ i. i < root_cells limits.now) }
-{
-    if mutator < limits.mutators && slot < limits.slots {
-        Ok(mutator as usize * limits.slots as usize + slot as usize)
-    } else {
-        Err(Refusal::BadSlot)
-    }
-}
-
-/// Where a static stands in the row of roots.
-fn static_of(limits: &Limits, k: u32) -> Result<usize, Refusal>
-    ensures place { result ≡ static_at limits.now k }
-    ensures within { IfOk result (λ i. i < root_cells limits.now) }
-{
-    if k < limits.statics {
-        Ok(limits.mutators as usize * limits.slots as usize + k as usize)
-    } else {
-        Err(Refusal::BadStatic)
-    }
-}
-
 fn fits(shape: Shape) -> bool
     ensures { result ≡ shapes.fits shape }
 {
@@ -82,35 +59,6 @@ fn fitting_of(shape: Shape) -> Result<Shape, Refusal>
     } else {
         Err(Refusal::TooLarge)
     }
-}
-
-fn ref_cells(shape: Shape) -> u32
-    ensures { result ≡ shapes.ref_cells shape }
-{
-    match shape {
-        Shape::Plain { refs, .. } => refs,
-        Shape::RefArray(n) => n,
-        Shape::WordArray(_) => 0,
-    }
-}
-
-fn word_cells(shape: Shape) -> u32
-    ensures { result ≡ shapes.word_cells shape }
-{
-    match shape {
-        Shape::Plain { words, .. } => words,
-        Shape::RefArray(_) => 0,
-        Shape::WordArray(n) => n,
-    }
-}
-
-/// A new object, with null references and zero words.
-fn made_of(alloc: Global, shape: Shape) -> Result<StoredObject, NoMemory>
-    ensures { IfOk result (λ o. object_in o ≡ new_object shape) }
-{
-    let refs = vec![in alloc; 0; ref_cells(shape) as usize]?;
-    let words = vec![in alloc; 0; word_cells(shape) as usize]?;
-    Ok(StoredObject { shape, refs, words })
 }
 
 impl Reference {
@@ -387,25 +335,6 @@ fn had_room_of(reply: &Reply) -> bool
     match *reply {
         Reply::Refused(Refusal::NoSpace) => false,
         _ => true,
-    }
-}
-
-/// Writes null to so many roots, from one on.
-fn null_cells(cells: &mut [u64], first: usize, count: usize)
-    requires { first + count < 2 ^ 64 }
-    ensures { cells.new ≡ nulled cells.old first count }
-{
-    for i in 0..count {
-        set_cell(cells, first + i, 0);
-    }
-}
-
-/// Writes a root, if it is there.
-fn set_cell(cells: &mut [u64], cell: usize, id: u64)
-    ensures { cells.new ≡ slice_set cells.old cell id }
-{
-    if cell < cells.len() {
-        cells[cell] = id;
     }
 }
 

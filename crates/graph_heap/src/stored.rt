@@ -1,13 +1,15 @@
 //! The objects of the slow heap.
-ghost use Rattle.std.specs.Prelude.{◌≡◌, map, slice_get, slice_index, slice_set, length, nat_lt, if◌then◌else◌, Ok, Err};
+ghost use Rattle.std.specs.Prelude.{◌≡◌, map, slice_get, slice_index, slice_set, length, nat_lt, if◌then◌else◌, IfOk, Ok, Err};
 ghost use Rattle.graph_heap.specs.Shape as shapes;
 ghost use Rattle.graph_heap.specs.Graph as graph;
-ghost use Rattle.graph_heap.specs.Graph.{put_object, with_ref, with_word};
+ghost use Rattle.graph_heap.specs.Graph.{new_object, put_object, with_ref, with_word};
 ghost use Rattle.graph_heap.specs.Effect.{object_at, ref_at, word_at, Sees};
 ghost use Rattle.graph_heap.specs.Stored.{object_in};
 ghost use Rattle.graph_heap.specs.declared.command.Refusal.TheVariants as refusals;
 
 use crate::command::{Refusal, Shape};
+use crate::no_memory::NoMemory;
+use std::alloc::Global;
 
 /// An object: its shape and its cells.
 #[derive(Drop)]
@@ -33,6 +35,37 @@ pub fn takes_words(shape: Shape) -> bool
         Shape::Plain { .. } | Shape::WordArray(_) => true,
         Shape::RefArray(_) => false,
     }
+}
+
+/// How many cells of an object of a shape hold references.
+fn ref_cells(shape: Shape) -> u32
+    ensures { result ≡ shapes.ref_cells shape }
+{
+    match shape {
+        Shape::Plain { refs, .. } => refs,
+        Shape::RefArray(n) => n,
+        Shape::WordArray(_) => 0,
+    }
+}
+
+/// How many hold words.
+fn word_cells(shape: Shape) -> u32
+    ensures { result ≡ shapes.word_cells shape }
+{
+    match shape {
+        Shape::Plain { words, .. } => words,
+        Shape::RefArray(_) => 0,
+        Shape::WordArray(n) => n,
+    }
+}
+
+/// A new object, with null references and zero words.
+pub fn made_of(alloc: Global, shape: Shape) -> Result<StoredObject, NoMemory>
+    ensures { IfOk result (λ o. object_in o ≡ new_object shape) }
+{
+    let refs = vec![in alloc; 0; ref_cells(shape) as usize]?;
+    let words = vec![in alloc; 0; word_cells(shape) as usize]?;
+    Ok(StoredObject { shape, refs, words })
 }
 
 /// What a cell holds, of an object that takes such cells or not.

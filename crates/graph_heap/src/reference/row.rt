@@ -1,0 +1,49 @@
+//! The row of roots: where a slot or a static stands in it, and writing roots.
+ghost use Rattle.std.specs.Prelude.{◌≡◌, ◌+◌, ◌<◌, ◌^◌, slice_set, IfOk};
+ghost use Rattle.graph_heap.specs.Graph.{root_cells, nulled};
+ghost use Rattle.graph_heap.specs.Effect.{slot_at, static_at};
+
+use crate::command::{Limits, Refusal};
+
+/// Where a slot stands in the row of roots.
+pub fn slot_of(limits: &Limits, mutator: u32, slot: u32) -> Result<usize, Refusal>
+    ensures place { result ≡ slot_at limits.now mutator slot }
+    ensures within { IfOk result (λ i. i < root_cells limits.now) }
+{
+    if mutator < limits.mutators && slot < limits.slots {
+        Ok(mutator as usize * limits.slots as usize + slot as usize)
+    } else {
+        Err(Refusal::BadSlot)
+    }
+}
+
+/// Where a static stands in the row of roots.
+pub fn static_of(limits: &Limits, k: u32) -> Result<usize, Refusal>
+    ensures place { result ≡ static_at limits.now k }
+    ensures within { IfOk result (λ i. i < root_cells limits.now) }
+{
+    if k < limits.statics {
+        Ok(limits.mutators as usize * limits.slots as usize + k as usize)
+    } else {
+        Err(Refusal::BadStatic)
+    }
+}
+
+/// Writes null to so many roots, from one on.
+pub fn null_cells(cells: &mut [u64], first: usize, count: usize)
+    requires { first + count < 2 ^ 64 }
+    ensures { cells.new ≡ nulled cells.old first count }
+{
+    for i in 0..count {
+        set_cell(cells, first + i, 0);
+    }
+}
+
+/// Writes a root, if it is there.
+pub fn set_cell(cells: &mut [u64], cell: usize, id: u64)
+    ensures { cells.new ≡ slice_set cells.old cell id }
+{
+    if cell < cells.len() {
+        cells[cell] = id;
+    }
+}

@@ -24,7 +24,7 @@ use Rattle.heap_model.specs.Standing.{Stands}
 use Rattle.heap_model.specs.Bound.{most_quanta}
 use Rattle.heap_model.specs.Change.{DoesChange}
 use Rattle.heap_model.specs.Event.{Course, present_of, snapshot_of, room_for, change_by, Enters, Begins, Collects, Event, Command_done, Cycle_begun, Cycle_on, Quantum_done, Quantum_refused, Does, Runs, IsCourse, quanta_in, HaveBudgets, OneIsLast}
-use Rattle.heap_model.proofs.Effects.{effect_founded}
+use Rattle.heap_model.proofs.Founded.{effect_founded}
 use Rattle.heap_model.proofs.Turns.{chain_units}
 use Rattle.heap_model.proofs.Costs.{turn_left}
 use Rattle.heap_model.proofs.Stood.{stands_chain, stands_begun, stands_opening, stands_limit}

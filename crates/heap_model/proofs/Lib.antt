@@ -54,3 +54,4 @@ pub mod Names
 pub mod New
 pub mod Rooms
 pub mod Grey
+pub mod Founded

@@ -7,3 +7,4 @@ pub mod Metering
 pub mod Summing
 pub mod Playing
 pub mod Texts
+pub mod Cycles

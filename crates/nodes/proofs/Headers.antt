@@ -6,7 +6,7 @@ use Rattle.heap_model.specs.Pages.{Page}
 use Rattle.heap_model.specs.Store.{Store, IsStore, size_at, is_held}
 use Rattle.headers.proofs.Packed.{header_in-header_word}
 use Rattle.headers.proofs.Written.{header_in-recoloured}
-use Rattle.pages.proofs.Telling.{WritesBlock}
+use Rattle.pages.proofs.Writing.{WritesBlock}
 use Rattle.nodes.specs.Joined.{IsHeader}
 use Rattle.nodes.proofs.Places.{held_place, apart}
 

@@ -8,7 +8,7 @@ use Rattle.heap_model.specs.Store.{Store, IsStore, Adds, is_held, size_at, addre
 use Rattle.size_classes.specs.Sizes.{size_of}
 use Rattle.pages.specs.declared.page.PageRecord.{PageRecord}
 use Rattle.pages.specs.Together.{pages_in, Together, KeepsHeld}
-use Rattle.pages.proofs.Telling.{WritesBlock}
+use Rattle.pages.proofs.Writing.{WritesBlock}
 use Rattle.nodes.specs.Joined.{joined, IsHeader, AreNodes}
 use Rattle.nodes.specs.Links.{link_of, KeepsLinks}
 use Rattle.nodes.proofs.Headers.{packed_header, word_after, header_after}

@@ -13,7 +13,7 @@ use Rattle.heap_model.specs.Store.{Store, IsStore, size_in, size_at, is_held, ad
 use Rattle.headers.proofs.Fields.{length-words_at}
 use Rattle.pages.specs.declared.page.PageRecord.{PageRecord}
 use Rattle.pages.specs.Together.{pages_in, Together, KeepsHeld}
-use Rattle.pages.proofs.Telling.{WritesBlock}
+use Rattle.pages.proofs.Writing.{WritesBlock}
 use Rattle.nodes.specs.Joined.{joined, IsHeader, AreNodes}
 use Rattle.nodes.specs.Moving.{CanMove}
 use Rattle.nodes.proofs.Blocks.{block_by}

@@ -6,3 +6,5 @@ pub mod Reading
 pub mod Needing
 pub mod Taken
 pub mod Single
+pub mod Writing
+pub mod Flags

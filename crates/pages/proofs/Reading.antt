@@ -14,7 +14,8 @@ use Rattle.pages.specs.Index.{row_at, row_free_on, row_choosable, row_closed}
 use Rattle.pages.specs.Places.{NoneHeld, FindsHeld, CanReceive}
 use Rattle.pages.specs.Together.{page_by, pages_in, Together}
 use Rattle.pages.specs.View.{view_of}
-use Rattle.pages.proofs.Threading.{runs_count, length-flags, blocks_most, count_less}
+use Rattle.pages.proofs.Threading.{runs_count, blocks_most}
+use Rattle.pages.proofs.Flags.{length-flags, count_less}
 use Rattle.pages.proofs.Telling.{page_is, length-pages, counts_add, free_on_page, pages_set, page_read}
 
 -- the blocks that the record counts are the held ones of its page, and few

@@ -1,26 +1,16 @@
 -- Lists of free blocks.
-use Rattle.std.proofs.Common.{◌≡◌, ◌≢◌, ℕ, zero, suc, ◌+◌, ◌*◌, ◌-◌, ◌/◌, ◌^◌, ◌<◌, ◌≤◌, Bool, true, false, not, cond, List, ◌∷◌, ◌++◌, length, get_or, set, replicate, eqb, eq-eqb, add-one, Some, ap, ◌∙◌, sym, refl, subst, inl, inr, arith}
+use Rattle.std.proofs.Common.{◌≡◌, ◌≢◌, ℕ, zero, suc, ◌+◌, ◌*◌, ◌-◌, ◌/◌, ◌^◌, ◌<◌, ◌≤◌, Bool, true, false, not, List, ◌∷◌, ◌++◌, length, get_or, set, replicate, eqb, eq-eqb, add-one, Some, ap, ◌∙◌, sym, refl, subst, inl, inr, arith}
 use Rattle.std.specs.Prelude.{slice_get, slice_index, count_by}
-use Rattle.std.proofs.lemmas.List.{length-set, get_or-set_same, get_or-set_other, set-set, set-get_or}
-use Rattle.std.proofs.lemmas.List.Sums.{sum_by-set, count_by-le-length}
-use Rattle.std.proofs.lemmas.List.FromFn.{length-map-range_with_len, get_or-map-range_with_len}
-use Rattle.std.proofs.lemmas.Bool.{cases_eq, ne_eqb}
+use Rattle.std.proofs.lemmas.List.{length-set, get_or-set_same, get_or-set_other}
+use Rattle.std.proofs.lemmas.List.Sums.{count_by-le-length}
+use Rattle.std.proofs.lemmas.Bool.{cases_eq}
 use Rattle.std.proofs.lemmas.Option.{slice_get_within, slice_get-get_or, get_or_from_slice_get}
 use Rattle.std.proofs.lemmas.List.{same_lists, length-replicate, get_or-replicate}
-use Rattle.std.proofs.lemmas.Bool.{cases_order}
 use Rattle.std.proofs.Math.Nat.{mul-le-mul_right, mul-div_cancel, div-mul-le_self, div-le_self}
 use Rattle.size_classes.specs.Sizes.{size_of, blocks_in}
 use Rattle.size_classes.proofs.Table.{size_low}
-use Rattle.pages.specs.FreeList.{flags_at, free_mark, RunsFree, flags_of, IsFreeList, SameOutside}
-
--- one flag, set, is one free block less
-pub count_less : (flags : List Bool) (i : ℕ) → slice_get flags i ≡ Some false → count_by not flags ≡ suc (count_by not (set flags i true))
-count_less flags i h =
-    let below : i < length flags = slice_get_within flags i false h in
-    let was : get_or flags i false ≡ false = get_or_from_slice_get flags i false false h in
-    let s = sum_by-set (λ (b : Bool). cond (not b) 1 0) flags i true false below in
-    let w : ◌≡◌ {A = ℕ} (cond (not (get_or flags i false)) 1 0) 1 = ap (λ (b : Bool). cond (not b) 1 0) was in
-    omega (arith, s, w)
+use Rattle.pages.specs.FreeList.{free_mark, RunsFree, flags_of, IsFreeList, SameOutside}
+use Rattle.pages.proofs.Flags.{count_less, there_back, open_then, length-flags, get_flag, flags_set, apart, block_fits, link_apart, not_mark}
 
 -- the list tells how many are free
 pub runs_count : (words : List ℕ) (at size n : ℕ) (flags : List Bool) (link : ℕ) → RunsFree words at size n flags link → count_by not flags ≡ n
@@ -51,14 +41,6 @@ runs_same words new at size (suc n) flags link same (i, free, is, rest) = (
       (runs_same words new at size n (set flags i true) (slice_index words (at + i * size + 3)) (λ j h. same j (was_false flags i j h)) rest),
 )
 
-there_back : (flags : List Bool) (i : ℕ) → slice_get flags i ≡ Some true → set (set flags i false) i true ≡ flags
-there_back flags i held = set-set flags i false true ∙ ap (set flags i) (sym (get_or_from_slice_get flags i true true held)) ∙ set-get_or flags i true
-
-open_then : (flags : List Bool) (i : ℕ) → slice_get flags i ≡ Some true → slice_get (set flags i false) i ≡ Some false
-open_then flags i held =
-    let below : i < length flags = slice_get_within flags i true held in
-    slice_get-get_or (set flags i false) i false (subst (λ n. i < n) (sym (length-set flags i false)) below) ∙ ap Some (get_or-set_same flags i false false below)
-
 -- a block that is held goes to the front
 pub runs_given : (words new : List ℕ) (at size n : ℕ) (flags : List Bool) (link i : ℕ) → slice_get flags i ≡ Some true
     → ((j : ℕ) → slice_get flags j ≡ Some false → slice_index new (at + j * size + 3) ≡ slice_index words (at + j * size + 3))
@@ -70,62 +52,6 @@ runs_given words new at size n flags link i held same linked r = (
   subst (λ f. RunsFree new at size n f (slice_index new (at + i * size + 3))) (sym (there_back flags i held))
       (subst (RunsFree new at size n flags) (sym linked) (runs_same words new at size n flags link same r)),
 )
-
--- ---- the flags
-pub length-flags : (words : List ℕ) (at size n : ℕ) → length (flags_at words at size n) ≡ n
-unfolding flags_at
-length-flags words at size n = length-map-range_with_len (λ i. not (eqb (get_or words (at + i * size) 0) free_mark)) 0 n
-
-pub get_flag : (words : List ℕ) (at size n i : ℕ) (d : Bool) → i < n → get_or (flags_at words at size n) i d ≡ not (eqb (get_or words (at + i * size) 0) free_mark)
-unfolding flags_at
-get_flag words at size n i d h = get_or-map-range_with_len (λ i. not (eqb (get_or words (at + i * size) 0) free_mark)) 0 n i i d h (omega arith)
-
--- the same flags, by the first words of the blocks
-pub flags_same : (words new : List ℕ) (at size n : ℕ) → ((i : ℕ) → i < n → get_or new (at + i * size) 0 ≡ get_or words (at + i * size) 0) → flags_at new at size n ≡ flags_at words at size n
-flags_same words new at size n same =
-    same_lists (flags_at new at size n) (flags_at words at size n) (length-flags new at size n ∙ sym (length-flags words at size n))
-    (λ k d h. let below : k < n = omega (arith, h, length-flags new at size n) in
-    get_flag new at size n k d below ∙ ap (λ w. not (eqb w free_mark)) (same k below) ∙ sym (get_flag words at size n k d below))
-
--- one flag is changed
-pub flags_set : (words new : List ℕ) (at size n i : ℕ) (b : Bool) → i < n → ((j : ℕ) → j < n → j ≢ i → get_or new (at + j * size) 0 ≡ get_or words (at + j * size) 0)
-    → not (eqb (get_or new (at + i * size) 0) free_mark) ≡ b → flags_at new at size n ≡ set (flags_at words at size n) i b
-flags_set words new at size n i b within same here =
-    same_lists (flags_at new at size n) (set (flags_at words at size n) i b) (length-flags new at size n ∙ sym (length-set (flags_at words at size n) i b ∙ length-flags words at size n))
-    (λ k d h. let below : k < n = omega (arith, h, length-flags new at size n) in
-    let there : i < length (flags_at words at size n) = omega (arith, within, length-flags words at size n) in
-    get_flag new at size n k d below ∙ elim (cases_eq k i) as (λ _. not (eqb (get_or new (at + k * size) 0) free_mark) ≡ get_or (set (flags_at words at size n) i b) k d) [
-      | inl e ↦ ap (λ j. not (eqb (get_or new (at + j * size) 0) free_mark)) e ∙ here ∙ sym (ap (λ j. get_or (set (flags_at words at size n) i b) j d) e ∙ get_or-set_same (flags_at words at size n) i b d there)
-      | inr ne ↦ ap (λ w. not (eqb w free_mark)) (same k below ne) ∙ sym (get_or-set_other (flags_at words at size n) i k b d ne ∙ get_flag words at size n k d below)
-    ])
-
--- ---- places of words
-pub spaced : (i j size : ℕ) → i < j → i * size + size ≤ j * size
-spaced i j size h = let m : (i + 1) * size ≤ j * size = mul-le-mul_right size (omega (arith, h)) in omega (arith, m)
-
-pub apart : (at size i j a b : ℕ) → a < size → b < size → i ≢ j → at + i * size + a ≢ at + j * size + b
-apart at size i j a b ha hb ne = elim (cases_order i j) [
-  | inl e ↦ absurd (ne e)
-  | inr o ↦ elim o [
-    | inl h ↦ (let s = spaced i j size h in omega (arith, s, ha, hb))
-    | inr h ↦ (let s = spaced j i size h in omega (arith, s, ha, hb))
-  ]
-]
-
-pub block_fits : (class i : ℕ) → i < blocks_in class → i * size_of class + size_of class ≤ 2048
-unfolding blocks_in
-block_fits class i h = let m = div-mul-le_self 2048 (size_of class) in let s = spaced i (2048 / size_of class) (size_of class) h in omega (arith, m, s)
-
--- the link of a block isn't the first word of one
-pub link_apart : (at size i j : ℕ) → 4 ≤ size → at + i * size + 3 ≢ at + j * size
-link_apart at size i j low = elim (cases_eq i j) [
-  | inl e ↦ (let w : i * size ≡ j * size = ap (λ n. n * size) e in omega (arith, w))
-  | inr ne ↦ (let p = apart at size i j 3 0 (omega (arith, low)) (omega (arith, low)) ne in omega (arith, p))
-]
-
-pub not_mark : (n : ℕ) → n < 8388608 → not (eqb n free_mark) ≡ true
-unfolding free_mark
-not_mark n h = ap not (ne_eqb n 18446744073709551615 (omega (arith, h)))
 
 -- ---- a block is taken
 pub record Head (words : List ℕ) (at class first held : ℕ) : Type 0 where

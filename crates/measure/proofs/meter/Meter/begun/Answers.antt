@@ -1,5 +1,5 @@
 use Rattle.std.proofs.Common.{refl}
-use Rattle.measure.proofs.Metering.{begin_fits, begun_measures}
+use Rattle.measure.proofs.Cycles.{begin_fits, begun_measures}
 use Rattle.measure.proofs.meter.Meter.begun.Goals as goal
 
 pub returns : goal.returns

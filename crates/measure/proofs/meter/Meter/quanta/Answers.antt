@@ -3,7 +3,7 @@ use Rattle.std.specs.Prelude.{IfSome}
 use Rattle.space.specs.Tally.{is_tracing}
 use Rattle.space.specs.Pace.{in_cycle}
 use Rattle.measure.specs.declared.meter.Meter.{Meter}
-use Rattle.measure.proofs.Metering.{quanta_measure}
+use Rattle.measure.proofs.Cycles.{quanta_measure}
 use Rattle.measure.proofs.meter.Meter.quanta.Goals as goal
 
 pub returns : goal.returns

@@ -7,7 +7,8 @@ use Rattle.size_classes.specs.Sizes.{size_of}
 use Rattle.pages.specs.declared.page.PageRecord.{PageRecord}
 use Rattle.pages.specs.FreeList.{SameOutside, flags_of, free_mark}
 use Rattle.pages.specs.Index.{row_at}
-use Rattle.pages.proofs.Telling.{together_by, given_by, held_by, keeps_freed, freed_flag, inside_page, outside_two, some_there}
+use Rattle.pages.proofs.Telling.{together_by, given_by, held_by, inside_page, outside_two, some_there}
+use Rattle.pages.proofs.Writing.{keeps_freed, freed_flag}
 use Rattle.pages.proofs.table.PageTable.give.Goals as goal
 
 pub unwrap-row-requires : goal.unwrap-row-requires

@@ -3,7 +3,8 @@ use Rattle.std.specs.Prelude.{IfSome, IsSomeAnd, slice_get}
 use Rattle.heap_model.specs.Pages.{Page, IsOpen}
 use Rattle.pages.specs.declared.page.PageRecord.{PageRecord}
 use Rattle.pages.specs.FreeList.{SameOutside}
-use Rattle.pages.proofs.Telling.{together_by, received_by, some_there, inside_page, outside_one, keeps_one, page_read}
+use Rattle.pages.proofs.Telling.{together_by, received_by, some_there, inside_page, outside_one, page_read}
+use Rattle.pages.proofs.Writing.{keeps_one}
 use Rattle.pages.proofs.Reading.{room_told}
 use Rattle.pages.proofs.table.PageTable.receive.Goals as goal
 

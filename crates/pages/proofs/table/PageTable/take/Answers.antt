@@ -1,7 +1,8 @@
 use Rattle.std.proofs.Common.{Some, None}
 use Rattle.heap_model.specs.Pages.{page_for}
 use Rattle.pages.specs.Together.{pages_in}
-use Rattle.pages.proofs.Telling.{usable_here, free_here, for_usable, for_free, open_fresh, held_fresh, some_iff, none_iff, keeps_both}
+use Rattle.pages.proofs.Telling.{usable_here, free_here, for_usable, for_free, open_fresh, held_fresh, some_iff, none_iff}
+use Rattle.pages.proofs.Writing.{keeps_both}
 use Rattle.pages.proofs.table.PageTable.take.Goals as goal
 
 pub take_on-index-requires-clause-usable : goal.take_on-index-requires-clause-usable

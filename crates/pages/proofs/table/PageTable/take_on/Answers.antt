@@ -1,7 +1,8 @@
 use Rattle.std.proofs.Common.{◌*◌, ◌<◌, true, false, refl, ◌∙◌, sym, subst, arith}
 use Rattle.std.specs.Prelude.{IfSome}
 use Rattle.pages.specs.FreeList.{SameOutside}
-use Rattle.pages.proofs.Telling.{together_by, taken_by, open_by, inside_page, outside_one, keeps_one}
+use Rattle.pages.proofs.Telling.{together_by, taken_by, open_by, inside_page, outside_one}
+use Rattle.pages.proofs.Writing.{keeps_one}
 use Rattle.pages.proofs.table.PageTable.take_on.Goals as goal
 
 outside : (c : goal.After-update) → SameOutside c.args.arena.now c.pop-index.new.arena (2048 * c.args.page)

@@ -1,4 +1,5 @@
-use Rattle.pages.proofs.Telling.{together_used, pages_used, has_free, keeps_outside}
+use Rattle.pages.proofs.Telling.{together_used, pages_used, has_free}
+use Rattle.pages.proofs.Writing.{keeps_outside}
 use Rattle.pages.proofs.table.PageTable.use_page.Goals as goal
 
 pub returns-clause-together : goal.returns-clause-together

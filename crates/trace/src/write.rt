@@ -63,6 +63,17 @@ fn put_shape(out: &mut [u8], at: usize, shape: &Shape) -> usize
     }
 }
 
+/// Writes the command that makes an object, without its mutator.
+fn put_new(out: &mut [u8], at: usize, dst: u32, shape: &Shape) -> usize
+    requires { at + 90 ≤ length out.old }
+    ensures text { take result out.new ≡ take at out.old ++ command_text (Command.New dst shape.now) }
+    ensures place { result ≤ at + 90 }
+{
+    let next = put_one(out, at, Keyword::New.text(), dst as u64);
+    let next = put(out, next, b" ");
+    put_shape(out, next, shape)
+}
+
 /// Writes a command without its mutator.
 fn put_command(out: &mut [u8], at: usize, command: &Command) -> usize
     requires { at + 90 ≤ length out.old }
@@ -70,11 +81,7 @@ fn put_command(out: &mut [u8], at: usize, command: &Command) -> usize
     ensures place { result ≤ at + 90 }
 {
     match *command {
-        Command::New { dst, shape } => {
-            let next = put_one(out, at, Keyword::New.text(), dst as u64);
-            let next = put(out, next, b" ");
-            put_shape(out, next, &shape)
-        }
+        Command::New { dst, shape } => put_new(out, at, dst, &shape),
         Command::Load { dst, obj, i } => put_three(out, at, Keyword::Load.text(), [dst, obj, i]),
         Command::Store { obj, i, src } => put_three(out, at, Keyword::Store.text(), [obj, i, src]),
         Command::CompareStore {

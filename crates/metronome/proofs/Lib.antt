@@ -1,4 +1,5 @@
 pub mod Finishing
 pub mod Writing
+pub mod Reading
 pub mod Telling
 pub mod Sharing

@@ -1,5 +1,5 @@
 -- What the job of a command line reads and writes.
-use Rattle.std.specs.Prelude.{◌≡◌, true, false, Result, Err}
+use Rattle.std.specs.Prelude.{true, false, Result}
 use Rattle.size_classes.specs.declared.config.Config.{Config}
 use Rattle.trace.specs.Streams.{Given, Taken}
 use Rattle.command_line.specs.declared.job.Job.{Job}
@@ -8,11 +8,10 @@ use Rattle.command_line.specs.declared.job.Job.TheVariants.{Play, Check, Threads
 use Rattle.player.specs.declared.style.Style.TheVariants.{Replies, Entries}
 use Rattle.metronome.specs.declared.fault.Ending.{Ending}
 use Rattle.metronome.specs.declared.fault.RunFault.{RunFault}
-use Rattle.metronome.specs.declared.fault.RunFault.TheVariants.{Read}
 use Rattle.metronome.specs.Jobs.{TracePlayed, HistoryChecked, ScriptsRun, HeapInspected, WindowsMeasured}
 use Rattle.metronome.specs.Drawn.{HeapDrawn}
 use Rattle.metronome.specs.OverTime.{TimeDrawn}
-use Rattle.metronome.specs.Told.{PagesTold}
+use Rattle.metronome.specs.Told.{PagesTold, LoadTold}
 
 abbrev pub JobDone : Job → Config → Given → Taken → Result Ending RunFault → Type 0
 JobDone (Play settings trace true) config given taken result = TracePlayed Entries config given taken result
@@ -25,5 +24,4 @@ JobDone (Draw settings trace picture after) config given taken result = HeapDraw
 JobDone (DrawTime settings trace) config given taken result = TimeDrawn config given taken result
 JobDone (Pages settings trace Demand) config given taken result = PagesTold false config given taken result
 JobDone (Pages settings trace Pace) config given taken result = PagesTold true config given taken result
--- a trace that is held against a load is read twice, which a source can't be
-JobDone (Pages settings trace (Load file)) config given taken result = (result ≡ Err Read) × (taken.after ≡ taken.before)
+JobDone (Pages settings trace (Load file)) config given taken result = LoadTold config given taken result

@@ -21,3 +21,10 @@ of_text (texts.Line number why) = Line number why
 of_text texts.Read = Read
 of_text texts.Write = Write
 of_text texts.NoMemory = NoMemory
+
+-- the faults of a load or a trace that can't be read into memory
+abbrev pub IsUnread : RunFault → Type 0
+IsUnread (Load why) = Unit {0}
+IsUnread Read = Unit {0}
+IsUnread NoMemory = Unit {0}
+IsUnread fault = ⊥

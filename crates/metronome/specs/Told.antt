@@ -1,8 +1,8 @@
 -- What is told of the pages that a trace needs.
-use Rattle.std.specs.Prelude.{◌≡◌, ℕ, ◌*◌, Bool, true, false, ◌⊎◌, List, ◌++◌, Result, Ok, Err}
+use Rattle.std.specs.Prelude.{◌≡◌, ℕ, ◌*◌, Bool, IsTrue, true, false, ◌⊎◌, List, [], ◌++◌, Result, Ok, Err}
 use Rattle.size_classes.specs.declared.config.Config.{Config}
 use Rattle.trace.specs.declared.fault.TextFault.{TextFault}
-use Rattle.trace.specs.Streams.{Given, Taken, GrowsByPart}
+use Rattle.trace.specs.Streams.{Given, Taken, Begins, GrowsByPart}
 use Rattle.measure.specs.declared.measured.Measured.{Measured}
 use Rattle.measure.specs.Measuring.{TraceMeasured}
 use Rattle.space_report.specs.Report.{demand_told, IsPaceReport}
@@ -15,7 +15,7 @@ use Rattle.metronome.specs.declared.fault.Ending.{Ending}
 use Rattle.metronome.specs.declared.fault.Ending.TheVariants.{Done}
 use Rattle.metronome.specs.declared.fault.RunFault.{RunFault}
 use Rattle.metronome.specs.declared.fault.RunFault.TheVariants.{Write, NoMemory}
-use Rattle.metronome.specs.Faults.{of_text}
+use Rattle.metronome.specs.Faults.{IsUnread, of_text}
 
 -- the lines of what a trace needed: of its demand, or of its pace
 abbrev pub TellsPages : Bool → Config → Measured → List ℕ → Type 0
@@ -53,5 +53,24 @@ CheckedBehind l config again (Ok m) taken result = (how : Result Kept TextFault)
 CheckedBehind l config again (Err why) taken result = NothingTold why taken result
 
 -- A trace was measured on a new heap, read again and checked against a load, and what the load needs was told.
-abbrev pub LoadTold : LoadTable → Config → Given → Given → Taken → Result Ending RunFault → Type 0
-LoadTold l config given again taken result = (how : Result Measured TextFault) × TraceMeasured config given how × CheckedBehind l config again how taken result
+abbrev pub ReadingsTold : LoadTable → Config → Given → Given → Taken → Result Ending RunFault → Type 0
+ReadingsTold l config given again taken result = (how : Result Measured TextFault) × TraceMeasured config given how × CheckedBehind l config again how taken result
+
+-- a text, or a beginning of it, was given from its first byte
+abbrev pub ReadsText : List ℕ → Given → Type 0
+ReadsText text given = (given.before ≡ []) × Begins given.after given.ended text
+
+-- both readings are of this text
+abbrev pub TextTold : LoadTable → Config → List ℕ → Taken → Result Ending RunFault → Type 0
+TextTold l config text taken result = (given : Given) × (again : Given) × ReadsText text given × ReadsText text again × ReadingsTold l config given again taken result
+
+-- all that a source had still to give is this text
+abbrev pub IsRest : Given → List ℕ → Type 0
+IsRest given text = (given.after ≡ given.before ++ text) × IsTrue given.ended
+
+-- A trace was read to its end, and of its text and a load it was told what the load needs; or one of them could not be read,
+-- and nothing was written.
+abbrev pub LoadTold : Config → Given → Taken → Result Ending RunFault → Type 0
+LoadTold config given taken result =
+    ((l : LoadTable) × (text : List ℕ) × IsRest given text × TextTold l config text taken result)
+    ⊎ ((fault : RunFault) × IsUnread fault × (result ≡ Err fault) × (taken.after ≡ taken.before))

@@ -1,6 +1,14 @@
 //! Files by name.
+ghost use Rattle.std.specs.Prelude.{IfErr};
+ghost use Rattle.metronome.specs.Faults.{IsUnread};
+
+use crate::fault::RunFault;
+use std::alloc::Global;
 use std::fs::{self, Files};
-use std::io::{self, Read};
+use std::io::{self, ErrorKind, Read};
+
+/// The most bytes of a configuration or a load that are read: one more than it may have.
+const DOCUMENT_BYTES: u64 = 65537;
 
 /// What opens the files that the words name.
 pub trait Opener {
@@ -22,5 +30,28 @@ impl<'a, R: Files> Opener for HostFiles<'a, R> {
 
     fn open(&self, name: &str) -> io::Result<R::File> {
         fs::open(self.files, name)
+    }
+}
+
+/// A reader of the file of this name.
+pub fn open_file<O: Opener>(opener: &O, name: &str) -> Result<O::File, RunFault>
+    ensures { IfErr result IsUnread }
+{
+    match opener.open(name) {
+        Ok(file) => Ok(file),
+        Err(_) => Err(RunFault::Read),
+    }
+}
+
+/// The bytes of a configuration or a load.
+pub fn read_document<O: Opener>(alloc: Global, opener: &O, name: &str) -> Result<Vec<u8>, RunFault>
+    ensures { IfErr result IsUnread }
+{
+    let mut bytes = Vec::new(alloc);
+    let mut file = open_file(opener, name)?.take(DOCUMENT_BYTES);
+    match file.read_to_end(&mut bytes) {
+        Ok(_) => Ok(bytes),
+        Err(error) if error.kind() == ErrorKind::OutOfMemory => Err(RunFault::NoMemory),
+        Err(_) => Err(RunFault::Read),
     }
 }

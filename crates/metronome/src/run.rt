@@ -8,26 +8,29 @@ ghost use Rattle.metronome.specs.Status.{status_of};
 
 use crate::drawing_job::draw_job;
 use crate::fault::{Ending, RunFault};
-use crate::files::Opener;
+use crate::files::{Opener, open_file, read_document};
 use crate::jobs::{check_job, inspect_job, mmu_job, play_job, threads_job};
-use crate::load_job::{load_job, told_load_job};
+use crate::load_job::load_job;
 use crate::pages_job::pages_job;
 use crate::progress::ToldSource;
 use crate::time_job::time_job;
-use arrivals::Load;
 use command_line::{Job, Request, Sizing, WordsFault, read_config, read_words};
-use load_file::read_load;
 use player::Style;
 use size_classes::Config;
 use std::alloc::Global;
 use std::convert::AsStr;
-use std::io::{ErrorKind, Read, Write};
+use std::io::{Read, Write};
 use std::sync::Wait;
 use std::thread::Threads;
-use trace::{MemorySource, ReadSource, Sink, Source, WriteSink, write_all};
+use trace::{ReadSource, Sink, Source, WriteSink, write_all};
 
-/// The most bytes of a configuration or a load that are read: one more than it may have.
-const CONFIG_BYTES: u64 = 65537;
+/// What a run has of the machine: threads, memory, and files by their names.
+#[derive(Clone, Copy, Drop)]
+struct Host<'a, O: Opener, T: Threads + Wait + Sync> {
+    rt: &'a T,
+    alloc: Global,
+    opener: &'a O,
+}
 
 /// Runs the program: does what the words ask for, of which the first is the program's name, writes the fault to
 /// the error stream if there is one, and answers the exit status. A failed write to the error stream
@@ -95,40 +98,26 @@ where
         Err(WordsFault::Refused(text)) => return Err(RunFault::Words(text)),
         Err(WordsFault::NoMemory) => return Err(RunFault::NoMemory),
     };
-    obey(rt, alloc, &request, opener, input, sink, errors)
+    let host = Host { rt, alloc, opener };
+    obey(&host, &request, input, sink, errors)
 }
 
 /// Does what a request says, with the files that it names.
 fn obey<O: Opener, R: Read + Drop, K: Sink, E: Write, T: Threads + Wait + Sync>(
-    rt: &T,
-    alloc: Global,
+    host: &Host<O, T>,
     request: &Request,
-    opener: &O,
     input: R,
     sink: &mut K,
     errors: &mut E,
 ) -> Result<Ending, RunFault> {
     let (settings, name) = files_of(&request.job);
-    let config = configuration(alloc, opener, settings)?;
-    if let Job::Pages {
-        by: Sizing::Load(file),
-        ..
-    } = request.job
-    {
-        let load = load_of(alloc, opener, file)?;
-        let text = text_of(alloc, opener, name, input)?;
-        let bytes = text.as_slice();
-        return tell_load(alloc, request, &config, &load, bytes, sink, errors);
-    }
+    let bytes = read_document(host.alloc, host.opener, settings)?;
+    let config = read_config(host.alloc, bytes.as_slice())?;
     if name == "-" {
-        let source = ReadSource::new(input);
-        return serve(rt, alloc, request, &config, source, sink, errors);
+        return serve(host, request, &config, ReadSource::new(input), sink, errors);
     }
-    let Ok(file) = opener.open(name) else {
-        return Err(RunFault::Read);
-    };
-    let source = ReadSource::new(file);
-    serve(rt, alloc, request, &config, source, sink, errors)
+    let file = open_file(host.opener, name)?;
+    serve(host, request, &config, ReadSource::new(file), sink, errors)
 }
 
 /// The names of the configuration and of the other file.
@@ -149,75 +138,10 @@ fn files_of<'a>(job: &Job<'a>) -> (&'a str, &'a str) {
     }
 }
 
-/// All bytes of a reader.
-fn bytes_of<R: Read + Drop>(alloc: Global, mut reader: R) -> Result<Vec<u8>, RunFault> {
-    let mut bytes = Vec::new(alloc);
-    match reader.read_to_end(&mut bytes) {
-        Ok(_) => Ok(bytes),
-        Err(error) if error.kind() == ErrorKind::OutOfMemory => Err(RunFault::NoMemory),
-        Err(_) => Err(RunFault::Read),
-    }
-}
-
-/// The checked configuration that a file gives.
-fn configuration<O: Opener>(alloc: Global, opener: &O, name: &str) -> Result<Config, RunFault> {
-    let Ok(file) = opener.open(name) else {
-        return Err(RunFault::Read);
-    };
-    let bytes = bytes_of(alloc, file.take(CONFIG_BYTES))?;
-    Ok(read_config(alloc, bytes.as_slice())?)
-}
-
-/// The load that a file gives.
-fn load_of<O: Opener>(alloc: Global, opener: &O, name: &str) -> Result<Load, RunFault> {
-    let Ok(file) = opener.open(name) else {
-        return Err(RunFault::Read);
-    };
-    let bytes = bytes_of(alloc, file.take(CONFIG_BYTES))?;
-    Ok(read_load(alloc, bytes.as_slice())?)
-}
-
-/// All bytes of the file of a name.
-fn text_of<O: Opener, R: Read + Drop>(
-    alloc: Global,
-    opener: &O,
-    name: &str,
-    input: R,
-) -> Result<Vec<u8>, RunFault> {
-    if name == "-" {
-        return bytes_of(alloc, input);
-    }
-    let Ok(file) = opener.open(name) else {
-        return Err(RunFault::Read);
-    };
-    bytes_of(alloc, file)
-}
-
-/// Tells what a load needs, and whether the trace of a text keeps to it. The text is gone over twice, and where progress is
-/// asked for, the error stream is told of the lines of the first time.
-fn tell_load<K: Sink, E: Write>(
-    alloc: Global,
-    request: &Request,
-    config: &Config,
-    load: &Load,
-    text: &[u8],
-    sink: &mut K,
-    errors: &mut E,
-) -> Result<Ending, RunFault> {
-    let mut source = MemorySource::new(text);
-    let mut again = MemorySource::new(text);
-    if request.progress {
-        told_load_job(alloc, config, load, source, &mut again, sink, errors)
-    } else {
-        load_job(alloc, config, load, &mut source, &mut again, sink)
-    }
-}
-
 /// Does the job of a request, from the source of the other file. Where progress is asked for, the error stream is told of
 /// the lines that are read; nothing else hangs on that.
-fn serve<S: Source + Drop, K: Sink, E: Write, T: Threads + Wait + Sync>(
-    rt: &T,
-    alloc: Global,
+fn serve<S: Source + Drop, K: Sink, E: Write, O: Opener, T: Threads + Wait + Sync>(
+    host: &Host<O, T>,
     request: &Request,
     config: &Config,
     mut source: S,
@@ -230,17 +154,15 @@ fn serve<S: Source + Drop, K: Sink, E: Write, T: Threads + Wait + Sync>(
     let job = &request.job;
     if request.progress {
         let mut told = ToldSource::new(source, errors);
-        work(rt, alloc, job, config, &mut told, sink)
+        work(host, job, config, &mut told, sink)
     } else {
-        work(rt, alloc, job, config, &mut source, sink)
+        work(host, job, config, &mut source, sink)
     }
 }
 
-/// Does a job, from the source of the other file. A trace that is held against a load is gone over twice, which a source
-/// can't be: `tell_load` does that.
-fn work<S: Source, K: Sink, T: Threads + Wait + Sync>(
-    rt: &T,
-    alloc: Global,
+/// Does a job, from the source of the other file.
+fn work<S: Source, K: Sink, O: Opener, T: Threads + Wait + Sync>(
+    host: &Host<O, T>,
     job: &Job,
     config: &Config,
     source: &mut S,
@@ -248,12 +170,13 @@ fn work<S: Source, K: Sink, T: Threads + Wait + Sync>(
 ) -> Result<Ending, RunFault>
     ensures { JobDone job.now config.now (given_by S.given S.ended source.old source.new) (taken_by K.taken sink.old sink.new) result }
 {
+    let alloc = host.alloc;
     match job {
         Job::Play { history: true, .. } => play_job(alloc, config, source, sink, Style::Entries),
         Job::Play { history: false, .. } => play_job(alloc, config, source, sink, Style::Replies),
         Job::Check { .. } => check_job(alloc, config, source, sink),
         Job::Threads { turns, budget, .. } => {
-            threads_job(rt, alloc, config, source, sink, *turns, *budget)
+            threads_job(host.rt, alloc, config, source, sink, *turns, *budget)
         }
         Job::Inspect { after, .. } => inspect_job(alloc, config, source, sink, *after),
         Job::Mmu { windows, .. } => mmu_job(alloc, config, source, sink, windows.as_slice()),
@@ -270,8 +193,8 @@ fn work<S: Source, K: Sink, T: Threads + Wait + Sync>(
             ..
         } => pages_job(alloc, config, source, sink, true),
         Job::Pages {
-            by: Sizing::Load(_),
+            by: Sizing::Load(file),
             ..
-        } => Err(RunFault::Read),
+        } => load_job(alloc, host.opener, config, file, source, sink),
     }
 }

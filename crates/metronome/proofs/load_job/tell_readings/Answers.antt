@@ -6,10 +6,10 @@ use Rattle.metronome.specs.declared.fault.Ending.{Ending}
 use Rattle.metronome.specs.declared.fault.RunFault.{RunFault}
 use Rattle.metronome.specs.Told.{ReportTold}
 use Rattle.metronome.proofs.Finishing.{failed_so}
-use Rattle.metronome.proofs.load_job.load_job.Goals as goal
+use Rattle.metronome.proofs.load_job.tell_readings.Goals as goal
 
-pub returns-in_err-write_all : goal.returns-in_err-write_all
-returns-in_err-write_all g c =
+pub returns-in_err-write_all-clause-told : goal.returns-in_err-write_all-clause-told
+returns-in_err-write_all-clause-told g c =
     let m = c.in_ok-measured.measured in
     let kept = c.in_ok-kept.kept in
     let old = g.K.Sink.taken c.args.sink.now in

@@ -1,0 +1,9 @@
+use Rattle.std.proofs.Common.{◌≡◌, ◌-◌, ◌^◌, ◌++◌, length}
+use Rattle.metronome.proofs.load_job.rest_of.Given as goal
+
+-- the text is what the source gave
+abbrev pub invariant-loop-count : goal.invariant-loop-count
+invariant-loop-count g l = g.S.Source.given l.source ≡ g.S.Source.given l.fn.source ++ l.text.items
+
+abbrev pub decreases-loop-count : goal.decreases-loop-count
+decreases-loop-count g l = 2 ^ 64 - length (g.S.Source.given l.source)

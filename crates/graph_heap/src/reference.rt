@@ -1,5 +1,5 @@
 //! A slow heap, which replies as the graph heap does.
-ghost use Rattle.std.specs.Prelude.{true, ◌≡◌, ◌<◌, ◌+◌, ◌*◌, ◌^◌, ◌≤◌, ◌↔◌, length, slice_set, IfOk, IsOkAnd, OnOk, OnErr, IsTrue};
+ghost use Rattle.std.specs.Prelude.{true, ◌≡◌, ◌↔◌, IfOk, IsOkAnd, OnOk, OnErr, IsTrue};
 ghost use Rattle.graph_heap.specs.Shape as shapes;
 ghost use Rattle.graph_heap.specs.Graph.{changed, opening};
 ghost use Rattle.graph_heap.specs.Effect as effect;

@@ -25,6 +25,7 @@ const SPINES: usize = 64;
 type Spines = [usize; SPINES];
 
 /// Makes a part of an object, for which and for the parts after it there is room.
+#[inline(always)]
 fn make_part(
     nodes: &mut Nodes,
     shape: Shape,
@@ -96,6 +97,7 @@ fn note(spines: &mut Spines, part: u32, block: usize)
 }
 
 /// Makes the parts of an object, in rising part number. Answers the address of part 0.
+#[inline(never)]
 fn make_parts(nodes: &mut Nodes, shape: Shape, parts: &Parts, colour: bool, identity: u64) -> usize
     requires fits { fits shape ≡ true }
     requires parts { parts.now ≡ cells_of shape }
@@ -114,6 +116,7 @@ fn make_parts(nodes: &mut Nodes, shape: Shape, parts: &Parts, colour: bool, iden
 
 /// Makes an object, for whose parts there is room: all cells are null or 0. Each part but part 0 is
 /// written into its spine as soon as it is made. Answers the address of its part 0.
+#[inline(always)]
 pub fn new_object(nodes: &mut Nodes, shape: Shape, colour: bool, identity: u64) -> usize
     requires fits { fits shape ≡ true }
     requires room { has_room nodes.old.pages (needed shape) ≡ true }

@@ -84,13 +84,21 @@ fn check<'a>(alloc: Global) -> Result<Command<'a>, AllocError> {
 }
 
 fn threads<'a>(alloc: Global) -> Result<Command<'a>, AllocError> {
-    let turns = "Quanta of the collector, 0 to 10000 [default: 100]";
     let budget = "Units of each quantum, 256 to 1000000 [default: 256]";
+    turning(alloc)?.arg(number(alloc, "budget", "B", budget))
+}
+
+/// The subcommand on scripts, with its number of quanta.
+fn turning<'a>(alloc: Global) -> Result<Command<'a>, AllocError> {
+    let turns = "Quanta of the collector, 0 to 10000 [default: 100]";
+    scripting(alloc)?.arg(number(alloc, "turns", "N", turns))
+}
+
+/// The subcommand on scripts.
+fn scripting<'a>(alloc: Global) -> Result<Command<'a>, AllocError> {
     let about = "Run scripts on threads and write their history";
     let scripts = file(alloc, "SCRIPTS", "The scripts, or - for standard input");
-    over(alloc, "threads", about, scripts)?
-        .arg(number(alloc, "turns", "N", turns))?
-        .arg(number(alloc, "budget", "B", budget))
+    over(alloc, "threads", about, scripts)
 }
 
 /// How many event lines are played, if not all.

@@ -135,6 +135,7 @@ impl Arena {
     }
 
     /// Makes a part in a block: its header, forwarding to itself, and so many cells of 0.
+    #[inline(always)]
     pub fn begin(
         &mut self,
         block: usize,
@@ -154,6 +155,7 @@ impl Arena {
     }
 }
 
+#[inline(always)]
 fn begin_block(words: &mut [u64], at: usize, header: u64, identity: u64, cells: usize)
     requires { at + (4 + cells) ≤ length words.old }
     ensures { words.new ≡ spliced words.old at (at ∷ header ∷ identity ∷ 0 ∷ replicate cells 0) }
@@ -166,6 +168,7 @@ fn begin_block(words: &mut [u64], at: usize, header: u64, identity: u64, cells: 
     );
 }
 
+#[inline(always)]
 fn begin_words(block: &mut [u64], at: u64, header: u64, identity: u64)
     requires { 4 ≤ length block.old }
     ensures { block.new ≡ at ∷ header ∷ identity ∷ 0 ∷ replicate (length block.old - 4) 0 }

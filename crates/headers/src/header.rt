@@ -26,6 +26,7 @@ fn bit(colour: bool) -> u64
 }
 
 /// The shape that a word tells of.
+#[inline(always)]
 pub fn shape_of(word: u64) -> Shape
     ensures says { result ≡ shape_in word }
     ensures fits { ShapeFits result }

@@ -7,13 +7,13 @@ use Rattle.graph_heap.specs.declared.command.Reply.TheVariants as replies
 use Rattle.graph_heap.specs.declared.command.Change.{Change}
 use Rattle.graph_heap.specs.declared.command.Entry.{Entry}
 use Rattle.graph_heap.specs.Graph.{Graph}
-use Rattle.graph_heap.specs.Effect.{◌>>=◌, is_join, admitted_to, deed_of, effect_of, reply_of, next_of}
+use Rattle.graph_heap.specs.Effect.{◌>>=◌, is_join, admitted_to, deed_of, effect_of, settled, reply_of, next_of}
 use Rattle.heap_model.specs.State.{HeapState}
 use Rattle.heap_model.specs.Agreement.{Agrees}
 use Rattle.heap_model.specs.Change.{DoesChange, Does_nothing}
 use Rattle.heap_model.specs.Event.{Course, Enters, present_of, change_by, room_for}
 use Rattle.machine.specs.declared.plan.Planned.{Planned}
-use Rattle.machine.specs.Plan.{Deeds, CanPerform, CanSettle, Settles, SettlesEach, DoesDeed}
+use Rattle.machine.specs.Plan.{PlansBy, planned_reply, Deeds, CanPerform, CanSettle, Settles, SettlesEach, Steps}
 use Rattle.machine.proofs.Live.{effect_is}
 use Rattle.machine.proofs.Writing.{Performs}
 
@@ -32,16 +32,10 @@ pub settles_err : (h : HeapState) (e : Refusal) → SettlesEach h (Err e) (repli
 settles_err h e g done a plan =
     subst (λ (d : Result (Reply × Change) Refusal). Settles h g d (replies.Refused e) h) (sym plan) (record { reply = refl; change = Does_nothing; agrees = a })
 
--- where the plan of a command is settled the command is done, also by another name
-module _ (h : HeapState) (m : ℕ) (c : Command) (planned : Result Planned Refusal) (plans : Deeds h m c planned) where
-  pub deed_settled : (d : Command) → d ≡ c → (reply : Reply) (after : HeapState) → SettlesEach h planned reply after → DoesDeed h m d reply after
-  deed_settled d is reply after each = subst (λ (x : Command). DoesDeed h m x reply after) (sym is) (λ g a. each g (deed_of (room_for h c) g m c) a (plans g a))
-
--- what is promised of a command, by the reply and the heap after it
-pub record Steps (h : HeapState) (m : ℕ) (c : Command) (told : Reply) (after : HeapState) : Type 0 where
-  pub reply : (g : Graph) → Agrees h g → told ≡ reply_of (room_for h c) g m c
-  pub agrees : (g : Graph) → Agrees h g → Agrees after (next_of (room_for h c) g m c)
-  pub does : (g : Graph) → Agrees h g → DoesChange h g (change_by (room_for h c) g m c) after
+-- a plan has the reply of what the graph heap does
+reply_planned : (h : HeapState) (g : Graph) (done : Result (Reply × Change) Refusal) (planned : Result Planned Refusal) → PlansBy h g done planned → planned_reply planned ≡ (settled done).0
+reply_planned h g done (Ok p) plan = sym (ap (λ (d : Result (Reply × Change) Refusal). (settled d).0) plan.1)
+reply_planned h g done (Err e) plan = sym (ap (λ (d : Result (Reply × Change) Refusal). (settled d).0) plan)
 
 steps_by : (h : HeapState) (m : ℕ) (c : Command) (told : Reply) (after : HeapState) → ((g : Graph) → Agrees h g → Settles h g (effect_of (room_for h c) g m c) told after) → Steps h m c told after
 unfolding reply_of next_of
@@ -55,9 +49,14 @@ module _ (f h : HeapState) (seen_as : f ≡ h) (m : ℕ) (c : Command) (joins : 
   effect_by : (g : Graph) → Agrees h g → (x : Result Bool Refusal) → r ≡ x → effect_of (room_for h c) g m c ≡ (x >>= λ b. deed_of (room_for h c) g m c)
   effect_by g a x e = effect_is h g a m c r told_here ∙ ap (λ (y : Result Bool Refusal). y >>= λ b. deed_of (room_for h c) g m c) e
 
-  pub admitted_steps : (ok : Bool) → r ≡ Ok ok → (reply : Reply) (after : HeapState) → DoesDeed h m c reply after → Steps h m c reply after
-  admitted_steps ok e reply after deed =
-      steps_by h m c reply after (λ g a. subst (λ (d : Result (Reply × Change) Refusal). Settles h g d reply after) (sym (effect_by g a (Ok ok) e)) (deed g a))
+  pub admitted_steps : (ok : Bool) → r ≡ Ok ok → (planned : Result Planned Refusal) → Deeds h m c planned → (reply : Reply) (after : HeapState) → SettlesEach h planned reply after → Steps h m c reply after
+  admitted_steps ok e planned plans reply after each =
+      steps_by h m c reply after (λ g a. subst (λ (d : Result (Reply × Change) Refusal). Settles h g d reply after) (sym (effect_by g a (Ok ok) e)) (each g (deed_of (room_for h c) g m c) a (plans g a)))
+
+  pub admitted_reply : (ok : Bool) → r ≡ Ok ok → (planned : Result Planned Refusal) → Deeds h m c planned → (g : Graph) → Agrees h g → planned_reply planned ≡ reply_of (room_for h c) g m c
+  unfolding reply_of
+  admitted_reply ok e planned plans g a =
+      reply_planned h g (deed_of (room_for h c) g m c) planned (plans g a) ∙ sym (ap (λ (d : Result (Reply × Change) Refusal). (settled d).0) (effect_by g a (Ok ok) e))
 
   pub refused_steps : (e : Refusal) → r ≡ Err e → Steps h m c (replies.Refused e) h
   refused_steps e is_err =

@@ -3,11 +3,12 @@ use Rattle.std.specs.Prelude.{◌≡◌, ℕ, ◌^◌, ◌<◌, true, length, Re
 use Rattle.graph_heap.specs.declared.command.Command.{Command}
 use Rattle.graph_heap.specs.declared.command.Refusal.{Refusal}
 use Rattle.graph_heap.specs.declared.command.Reply.{Reply}
+use Rattle.graph_heap.specs.declared.command.Reply.TheVariants as replies
 use Rattle.graph_heap.specs.declared.command.Change.{Change}
 use Rattle.graph_heap.specs.declared.command.Change.TheVariants as changes
 use Rattle.graph_heap.specs.Shape.{fits}
 use Rattle.graph_heap.specs.Graph.{Graph, changed}
-use Rattle.graph_heap.specs.Effect.{deed_of, settled}
+use Rattle.graph_heap.specs.Effect.{deed_of, settled, reply_of, next_of}
 use Rattle.size_classes.specs.Need.{needed}
 use Rattle.heap_model.specs.Pages.{has_room}
 use Rattle.heap_model.specs.Agree.{IsMain}
@@ -16,7 +17,7 @@ use Rattle.heap_model.specs.State.{HeapState, seen}
 use Rattle.heap_model.specs.Agreement.{Agrees}
 use Rattle.heap_model.specs.Change.{DoesChange}
 use Rattle.heap_model.specs.Written.{IsKnown}
-use Rattle.heap_model.specs.Event.{room_for}
+use Rattle.heap_model.specs.Event.{room_for, change_by}
 use Rattle.machine.specs.Reading.{IsRefPlace, IsWordPlace}
 use Rattle.machine.specs.declared.plan.Planned.{Planned}
 use Rattle.machine.specs.declared.plan.Write.{Write}
@@ -39,6 +40,11 @@ abbrev pub PlansBy : HeapState → Graph → Result (Reply × Change) Refusal �
 PlansBy h g done (Ok p) = (change : Change) × (done ≡ Ok (p.reply, change)) × IsPlanned h g change p.write
 PlansBy h g done (Err e) = done ≡ Err e
 
+-- the reply that a plan has: a refusal is a reply
+abbrev pub planned_reply : Result Planned Refusal → Reply
+planned_reply (Ok p) = p.reply
+planned_reply (Err e) = replies.Refused e
+
 -- the plan of a command that is admitted, for each graph heap with which the heap agrees
 abbrev pub Deeds : HeapState → ℕ → Command → Result Planned Refusal → Type 0
 Deeds h m c result = (g : Graph) → Agrees h g → PlansBy h g (deed_of (room_for h c) g m c) result
@@ -58,10 +64,6 @@ pub record Settles (h : HeapState) (g : Graph) (done : Result (Reply × Change) 
 abbrev pub SettlesEach : HeapState → Result Planned Refusal → Reply → HeapState → Type 0
 SettlesEach h planned reply after = (g : Graph) (done : Result (Reply × Change) Refusal) → Agrees h g → PlansBy h g done planned → Settles h g done reply after
 
--- and of a command that is admitted
-abbrev pub DoesDeed : HeapState → ℕ → Command → Reply → HeapState → Type 0
-DoesDeed h m c reply after = (g : Graph) → Agrees h g → Settles h g (deed_of (room_for h c) g m c) reply after
-
 -- the write is that of some change, for each graph heap with which the heap agrees
 abbrev pub CanPerform : HeapState → Write → Type 0
 CanPerform h w = (g : Graph) → Agrees h g → (change : Change) × IsPlanned h g change w
@@ -69,3 +71,9 @@ CanPerform h w = (g : Graph) → Agrees h g → (change : Change) × IsPlanned h
 -- whatever change of such a graph heap the write is of, the heap does it
 abbrev pub DoesEach : HeapState → Write → HeapState → Type 0
 DoesEach h w after = (g : Graph) (change : Change) → Agrees h g → IsPlanned h g change w → DoesChange h g change after
+
+-- what is promised of a command, by the reply and the heap after it
+pub record Steps (h : HeapState) (m : ℕ) (c : Command) (told : Reply) (after : HeapState) : Type 0 where
+  pub reply : (g : Graph) → Agrees h g → told ≡ reply_of (room_for h c) g m c
+  pub agrees : (g : Graph) → Agrees h g → Agrees after (next_of (room_for h c) g m c)
+  pub does : (g : Graph) → Agrees h g → DoesChange h g (change_by (room_for h c) g m c) after

@@ -1,7 +1,8 @@
 //! What a command is going to do.
 ghost use Rattle.std.specs.Prelude.{◌≡◌};
+ghost use Rattle.machine.specs.Plan.{planned_reply};
 
-use graph_heap::{Reply, Shape};
+use graph_heap::{Refusal, Reply, Shape};
 
 /// What a command does: its reply, and the one write of the heap.
 #[derive(Clone, Copy, Debug, PartialEq, Eq)]
@@ -19,6 +20,16 @@ impl Planned {
             reply,
             write: Write::Nothing,
         }
+    }
+}
+
+/// The reply to a command of which this is the plan: a refusal is a reply.
+pub fn reply_to(planned: Result<Planned, Refusal>) -> Reply
+    ensures { result ≡ planned_reply planned }
+{
+    match planned {
+        Ok(planned) => planned.reply,
+        Err(refusal) => Reply::Refused(refusal),
     }
 }
 

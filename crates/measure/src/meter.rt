@@ -74,16 +74,17 @@ impl Meter {
     pub fn new(alloc: Global, limits: &Limits) -> Result<Meter, NoMemory>
         ensures { IfOk result (λ m. (h : HeapState) → IsOpening h → h.limits ≡ limits.now → Measures h.limits [] (opened h) m) }
     {
+        let nothing = none();
         Ok(Meter {
             graph: Reference::new(alloc, limits)?,
             on: false,
-            since_last: none(),
-            since_base: none(),
-            asked: none(),
-            live: none(),
-            allocated: none(),
-            busy: none(),
-            idle: none(),
+            since_last: nothing,
+            since_base: nothing,
+            asked: nothing,
+            live: nothing,
+            allocated: nothing,
+            busy: nothing,
+            idle: nothing,
             budget: None,
         })
     }

@@ -7,7 +7,8 @@ use Rattle.heap_model.specs.State.{HeapState}
 use Rattle.metronome_c.specs.declared.answer.Answer.{Answer}
 use Rattle.metronome_c.specs.declared.answer.MetronomeShape.{MetronomeShape}
 use Rattle.metronome_c.specs.Answer.{answer_of, answered, shape_in, shape_told}
-use Rattle.metronome_c.specs.Asking.{Asks}
+use Rattle.machine.specs.Plan as calls
+use Rattle.metronome_c.specs.Asking.{Asks, AsksTold}
 use Rattle.metronome_c.specs.Steps.{Does, Steps, TellsShape}
 
 pub steps : (m : ℕ) (c : Command) (old : Option HeapState) (reply : Option Reply) (new : Option HeapState) (a : Answer)
@@ -20,3 +21,7 @@ pub tells_shape : (m : ℕ) (c : Command) (old : Option HeapState) (reply : Opti
     → Asks (Does m c) old reply new → after ≡ shape_told before reply → TellsShape old m c before after
 tells_shape m c None reply new before after asks told = told ∙ ap (shape_told before) asks.0
 tells_shape m c (Some h) reply new before after asks told = λ g agrees. told ∙ ap (shape_told before) asks.2 ∙ ap (shape_in before) (asks.4 g agrees).0
+
+-- a call of the heap's method for a command does the command
+pub does_by : (m : ℕ) (c : Command) (h : HeapState) (r : Reply) (k : HeapState) → calls.Steps h m c r k → Does m c h r k
+does_by m c h r k s g agrees = (s.reply g agrees, s.agrees g agrees, s.does g agrees)

@@ -4,7 +4,6 @@ ghost use Rattle.metronome_c.specs.Steps.{Steps};
 
 use crate::answer::Answer;
 use crate::metronome::Metronome;
-use graph_heap::Command;
 
 /// What a reference cell holds into slot dst.
 #[unsafe(no_mangle)]
@@ -17,7 +16,7 @@ pub extern "C" fn metronome_load(
 ) -> Answer
     ensures { Steps heap.old.handle.value mutator (commands.Load dst obj i) heap.new.handle.value result }
 {
-    heap.step(mutator, Command::Load { dst, obj, i })
+    heap.told(|inner| inner.load(mutator, dst, obj, i))
 }
 
 /// What slot src holds into a reference cell.
@@ -31,7 +30,7 @@ pub extern "C" fn metronome_store(
 ) -> Answer
     ensures { Steps heap.old.handle.value mutator (commands.Store obj i src) heap.new.handle.value result }
 {
-    heap.step(mutator, Command::Store { obj, i, src })
+    heap.told(|inner| inner.store(mutator, obj, i, src))
 }
 
 /// What slot new holds into a reference cell, if that holds what slot expect does.
@@ -46,15 +45,7 @@ pub extern "C" fn metronome_compare_store(
 ) -> Answer
     ensures { Steps heap.old.handle.value mutator (commands.CompareStore obj i expect new) heap.new.handle.value result }
 {
-    heap.step(
-        mutator,
-        Command::CompareStore {
-            obj,
-            i,
-            expect,
-            new,
-        },
-    )
+    heap.told(|inner| inner.compare_store(mutator, obj, i, expect, new))
 }
 
 /// Reads a word cell.
@@ -62,7 +53,7 @@ pub extern "C" fn metronome_compare_store(
 pub extern "C" fn metronome_get(heap: &mut Metronome, mutator: u32, obj: u32, i: u32) -> Answer
     ensures { Steps heap.old.handle.value mutator (commands.Get obj i) heap.new.handle.value result }
 {
-    heap.step(mutator, Command::Get { obj, i })
+    heap.told(|inner| inner.get(mutator, obj, i))
 }
 
 /// Writes a word cell.
@@ -76,7 +67,7 @@ pub extern "C" fn metronome_put(
 ) -> Answer
     ensures { Steps heap.old.handle.value mutator (commands.Put obj i word) heap.new.handle.value result }
 {
-    heap.step(mutator, Command::Put { obj, i, word })
+    heap.told(|inner| inner.put(mutator, obj, i, word))
 }
 
 /// Writes a word cell, if that is old.
@@ -91,5 +82,5 @@ pub extern "C" fn metronome_compare_put(
 ) -> Answer
     ensures { Steps heap.old.handle.value mutator (commands.ComparePut obj i old new) heap.new.handle.value result }
 {
-    heap.step(mutator, Command::ComparePut { obj, i, old, new })
+    heap.told(|inner| inner.compare_put(mutator, obj, i, old, new))
 }

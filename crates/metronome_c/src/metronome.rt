@@ -2,12 +2,11 @@
 ghost use Rattle.std.specs.Prelude.{◌≡◌, Some, None, IsTrue, true, false};
 ghost use Rattle.std.specs.Option.{is_some};
 ghost use Rattle.std.specs.Fn.{FnOnceReturnsAtMut};
-ghost use Rattle.metronome_c.specs.Asking.{Asks};
-ghost use Rattle.metronome_c.specs.Steps.{Does, Steps, TellsShape};
+ghost use Rattle.metronome_c.specs.Asking.{Asks, AsksTold, AsksToldWithShape};
 
 use crate::answer::{Answer, MetronomeShape};
 use crate::handle::{Handle, Loose};
-use graph_heap::{Command, Reply};
+use graph_heap::Reply;
 use machine::Heap;
 use std::alloc::Global;
 use std::mem::replace;
@@ -36,6 +35,7 @@ impl Metronome {
     }
 
     /// Holds this heap.
+    #[inline(always)]
     pub(crate) fn put(&mut self, heap: Box<Heap>)
         ensures value { self.new.handle.value ≡ Some heap.value }
         ensures open { self.new.is_open ≡ true }
@@ -48,6 +48,7 @@ impl Metronome {
     }
 
     /// The heap. None is left.
+    #[inline(always)]
     pub(crate) fn take(&mut self) -> Box<Heap>
         requires { IsTrue self.old.is_open }
         ensures value { self.old.handle.value ≡ Some result.value }
@@ -60,6 +61,7 @@ impl Metronome {
     }
 
     /// Asks the heap, if there is one, and holds it again.
+    #[inline(always)]
     pub(crate) fn ask<T, F: FnOnce(&mut Heap) -> T + Drop>(&mut self, call: F) -> Option<T>
         requires { F.IsAlwaysCallable call }
         ensures { Asks (FnOnceReturnsAtMut F.FnOnce call) self.old.handle.value result self.new.handle.value }
@@ -73,31 +75,25 @@ impl Metronome {
         Some(answer)
     }
 
-    /// Does a command of a mutator, if there is a heap.
-    fn reply_to(&mut self, mutator: u32, command: Command) -> Option<Reply>
-        ensures { Asks (Does mutator command) self.old.handle.value result self.new.handle.value }
+    /// Asks the heap for a reply, if there is one, and tells it.
+    #[inline(always)]
+    pub(crate) fn told<F: FnOnce(&mut Heap) -> Reply + Drop>(&mut self, call: F) -> Answer
+        requires { F.IsAlwaysCallable call }
+        ensures { AsksTold (FnOnceReturnsAtMut F.FnOnce call) self.old.handle.value self.new.handle.value result }
     {
-        self.ask(|heap| heap.step(mutator, command))
+        Answer::told(self.ask(call))
     }
 
-    /// Does a command of a mutator.
-    pub(crate) fn step(&mut self, mutator: u32, command: Command) -> Answer
-        ensures { Steps self.old.handle.value mutator command self.new.handle.value result }
-    {
-        Answer::told(self.reply_to(mutator, command))
-    }
-
-    /// Does a command of a mutator, and tells the shape that its reply tells.
-    pub(crate) fn step_and_tell(
+    /// The same, and tells the shape that the reply tells.
+    pub(crate) fn told_with_shape<F: FnOnce(&mut Heap) -> Reply + Drop>(
         &mut self,
-        mutator: u32,
-        command: Command,
         shape: &mut MetronomeShape,
+        call: F,
     ) -> Answer
-        ensures steps { Steps self.old.handle.value mutator command self.new.handle.value result }
-        ensures shape { TellsShape self.old.handle.value mutator command shape.old shape.new }
+        requires { F.IsAlwaysCallable call }
+        ensures { AsksToldWithShape (FnOnceReturnsAtMut F.FnOnce call) self.old.handle.value self.new.handle.value result shape.old shape.new }
     {
-        let reply = self.reply_to(mutator, command);
+        let reply = self.ask(call);
         *shape = shape.told_by(reply);
         Answer::told(reply)
     }

@@ -5,7 +5,7 @@ ghost use Rattle.metronome_c.specs.Steps.{Steps, TellsShape};
 
 use crate::answer::{Answer, MetronomeShape};
 use crate::metronome::Metronome;
-use graph_heap::{Command, Shape};
+use graph_heap::Shape;
 
 /// A new object of reference cells and word cells, into slot dst.
 #[unsafe(no_mangle)]
@@ -19,7 +19,7 @@ pub extern "C" fn metronome_new_plain(
     ensures { Steps heap.old.handle.value mutator (commands.New dst (shapes.Plain refs words)) heap.new.handle.value result }
 {
     let shape = Shape::Plain { refs, words };
-    heap.step(mutator, Command::New { dst, shape })
+    heap.told(|inner| inner.make(mutator, dst, shape))
 }
 
 /// A new array of reference cells, into slot dst.
@@ -33,7 +33,7 @@ pub extern "C" fn metronome_new_refs(
     ensures { Steps heap.old.handle.value mutator (commands.New dst (shapes.RefArray refs)) heap.new.handle.value result }
 {
     let shape = Shape::RefArray(refs);
-    heap.step(mutator, Command::New { dst, shape })
+    heap.told(|inner| inner.make(mutator, dst, shape))
 }
 
 /// A new array of word cells, into slot dst.
@@ -47,7 +47,7 @@ pub extern "C" fn metronome_new_words(
     ensures { Steps heap.old.handle.value mutator (commands.New dst (shapes.WordArray words)) heap.new.handle.value result }
 {
     let shape = Shape::WordArray(words);
-    heap.step(mutator, Command::New { dst, shape })
+    heap.told(|inner| inner.make(mutator, dst, shape))
 }
 
 /// Whether slots a and b hold the same object, or both null.
@@ -55,7 +55,7 @@ pub extern "C" fn metronome_new_words(
 pub extern "C" fn metronome_same(heap: &mut Metronome, mutator: u32, a: u32, b: u32) -> Answer
     ensures { Steps heap.old.handle.value mutator (commands.Same a b) heap.new.handle.value result }
 {
-    heap.step(mutator, Command::Same { a, b })
+    heap.told(|inner| inner.same(mutator, a, b))
 }
 
 /// The identity of slot a's object, and its shape.
@@ -69,5 +69,5 @@ pub extern "C" fn metronome_describe(
     ensures steps { Steps heap.old.handle.value mutator (commands.Describe a) heap.new.handle.value result }
     ensures shape { TellsShape heap.old.handle.value mutator (commands.Describe a) shape.old shape.new }
 {
-    heap.step_and_tell(mutator, Command::Describe { a }, shape)
+    heap.told_with_shape(shape, |inner| inner.describe(mutator, a))
 }

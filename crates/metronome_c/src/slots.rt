@@ -4,14 +4,13 @@ ghost use Rattle.metronome_c.specs.Steps.{Steps};
 
 use crate::answer::Answer;
 use crate::metronome::Metronome;
-use graph_heap::Command;
 
 /// What slot src holds into slot dst.
 #[unsafe(no_mangle)]
 pub extern "C" fn metronome_copy(heap: &mut Metronome, mutator: u32, dst: u32, src: u32) -> Answer
     ensures { Steps heap.old.handle.value mutator (commands.Copy dst src) heap.new.handle.value result }
 {
-    heap.step(mutator, Command::Copy { dst, src })
+    heap.told(|inner| inner.copy(mutator, dst, src))
 }
 
 /// Null into slot dst.
@@ -19,7 +18,7 @@ pub extern "C" fn metronome_copy(heap: &mut Metronome, mutator: u32, dst: u32, s
 pub extern "C" fn metronome_clear(heap: &mut Metronome, mutator: u32, dst: u32) -> Answer
     ensures { Steps heap.old.handle.value mutator (commands.Clear dst) heap.new.handle.value result }
 {
-    heap.step(mutator, Command::Clear { dst })
+    heap.told(|inner| inner.clear(mutator, dst))
 }
 
 /// What static k holds into slot dst.
@@ -32,7 +31,7 @@ pub extern "C" fn metronome_load_static(
 ) -> Answer
     ensures { Steps heap.old.handle.value mutator (commands.LoadStatic dst k) heap.new.handle.value result }
 {
-    heap.step(mutator, Command::LoadStatic { dst, k })
+    heap.told(|inner| inner.load_static(mutator, dst, k))
 }
 
 /// What slot src holds into static k.
@@ -45,7 +44,7 @@ pub extern "C" fn metronome_store_static(
 ) -> Answer
     ensures { Steps heap.old.handle.value mutator (commands.StoreStatic k src) heap.new.handle.value result }
 {
-    heap.step(mutator, Command::StoreStatic { k, src })
+    heap.told(|inner| inner.store_static(mutator, k, src))
 }
 
 /// What slot new holds into static k, if that holds what slot expect does.
@@ -59,7 +58,7 @@ pub extern "C" fn metronome_compare_static(
 ) -> Answer
     ensures { Steps heap.old.handle.value mutator (commands.CompareStatic k expect new) heap.new.handle.value result }
 {
-    heap.step(mutator, Command::CompareStatic { k, expect, new })
+    heap.told(|inner| inner.compare_static(mutator, k, expect, new))
 }
 
 /// The mutator comes to be live.
@@ -67,7 +66,7 @@ pub extern "C" fn metronome_compare_static(
 pub extern "C" fn metronome_join(heap: &mut Metronome, mutator: u32) -> Answer
     ensures { Steps heap.old.handle.value mutator commands.Join heap.new.handle.value result }
 {
-    heap.step(mutator, Command::Join)
+    heap.told(|inner| inner.join(mutator))
 }
 
 /// Null into each slot of the mutator, which is live no more.
@@ -75,5 +74,5 @@ pub extern "C" fn metronome_join(heap: &mut Metronome, mutator: u32) -> Answer
 pub extern "C" fn metronome_leave(heap: &mut Metronome, mutator: u32) -> Answer
     ensures { Steps heap.old.handle.value mutator commands.Leave heap.new.handle.value result }
 {
-    heap.step(mutator, Command::Leave)
+    heap.told(|inner| inner.leave(mutator))
 }

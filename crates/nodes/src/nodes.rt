@@ -33,6 +33,7 @@ pub struct Referent {
 }
 
 /// The address of a block of a page, by its number there and the size of the page's blocks.
+#[inline(always)]
 fn address(page: usize, index: usize, size: usize) -> usize
     requires page { page < 4096 }
     requires block { index * size + size ≤ 2048 }
@@ -74,6 +75,7 @@ impl Nodes {
     }
 
     /// Whether there is room for the parts of an object.
+    #[inline(always)]
     pub fn room(&self, parts: &Parts) -> bool
         ensures { result ≡ has_room self.now.pages (blocks_needed parts.now (parts_in parts.now)) }
     {
@@ -245,6 +247,7 @@ impl Nodes {
     /// Makes a part in a block of a class: the header, and so many null or zero cells. The block is
     /// a free one of the first page of the class that isn't leaving and has one, else of the first
     /// free page. None where there is no such page, and then nothing changes.
+    #[inline(always)]
     pub fn make(
         &mut self,
         class: Class,

@@ -49,6 +49,7 @@ impl BitRow {
     }
 
     /// Sets a bit, or clears it.
+    #[inline(never)]
     pub fn set(&mut self, k: usize, on: bool)
         requires { k < 4096 }
         ensures here { has_bit self.new k ≡ (if on then 1 else 0) }
@@ -61,6 +62,7 @@ impl BitRow {
     }
 
     /// Gives a bit another value. Where it has that one, nothing is written.
+    #[inline(always)]
     pub fn change(&mut self, k: usize, was: bool, is: bool)
         requires within { k < 4096 }
         requires was { has_bit self.old k ≡ (if was then 1 else 0) }
@@ -73,6 +75,7 @@ impl BitRow {
     }
 
     /// The lowest bit that is set.
+    #[inline(always)]
     pub fn first(&self) -> Option<usize>
         ensures within { IfSome result (λ k. k < 4096) }
         ensures here { IfSome result (λ k. has_bit self.now k ≡ 1) }

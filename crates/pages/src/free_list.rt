@@ -8,6 +8,7 @@ use headers::Arena;
 use size_classes::Class;
 
 /// Takes the first free block off a page's list: it is held, and forwards to itself.
+#[inline(always)]
 pub fn pop(arena: &mut Arena, page: usize, row: &mut PageRecord) -> usize
     requires page { page < 4096 }
     requires within { 2048 * page + 2048 ≤ length arena.old }

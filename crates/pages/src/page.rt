@@ -27,6 +27,7 @@ pub fn is_usable(class: Class, row: Option<PageRecord>) -> bool
 }
 
 /// How many free blocks of a class a page has, none if it is leaving.
+#[inline(always)]
 pub fn free_on(class: Class, row: Option<PageRecord>) -> usize
     ensures free { result ≡ row_free_on class row }
     ensures within { result ≤ 512 }

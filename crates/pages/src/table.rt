@@ -87,6 +87,7 @@ impl PageTable {
     }
 
     /// The first page of the class that isn't leaving and has a free block.
+    #[inline(always)]
     fn first_usable(&self, class: Class) -> Option<usize>
         ensures place { result ≡ position (row_usable class) self.now }
         ensures within { IfSome result (λ k. k < 4096) }
@@ -95,6 +96,7 @@ impl PageTable {
     }
 
     /// The first free page.
+    #[inline(always)]
     fn first_free(&self) -> Option<usize>
         ensures place { result ≡ position row_free self.now }
         ensures within { IfSome result (λ k. k < 4096) }
@@ -103,6 +105,7 @@ impl PageTable {
     }
 
     /// The record of a page.
+    #[inline(always)]
     fn row(&self, page: usize) -> Option<PageRecord>
         requires { page < length self.now }
         ensures row { result ≡ row_at self.now page }
@@ -133,6 +136,7 @@ impl PageTable {
 
     /// Gives a page in use another record of its class. A bit is written only where the page gets its
     /// first free block or loses its last.
+    #[inline(always)]
     fn update(&mut self, page: usize, class: Class, row: Option<PageRecord>)
         requires page { page < length self.old }
         requires was { IsSomeAnd (row_at self.old page) (λ r. r.class ≡ class) }
@@ -151,6 +155,7 @@ impl PageTable {
     }
 
     /// Gives a free page a class, and puts all its blocks on its list.
+    #[inline(never)]
     fn use_page(&mut self, arena: &mut Arena, page: usize, class: Class)
         requires page { page < length self.old }
         requires small { page < 4096 }
@@ -167,6 +172,7 @@ impl PageTable {
     }
 
     /// Takes the first free block of a page in use.
+    #[inline(always)]
     fn take_on(&mut self, arena: &mut Arena, page: usize, class: Class) -> usize
         requires page { page < length self.old }
         requires together { Together self.old arena.old }
@@ -185,6 +191,7 @@ impl PageTable {
     /// Takes a block of a class: a free one of the first page of the class that isn't leaving and has
     /// one, else of the first free page, which gets the class. None where there is no such page, and
     /// then nothing changes. The words of held blocks stay.
+    #[inline(always)]
     pub fn take(&mut self, arena: &mut Arena, class: Class) -> Option<Block>
         requires { Together self.old arena.old }
         ensures together { Together self.new arena.new }

@@ -57,6 +57,7 @@ impl Roots {
 
     /// Whether a mutator may ask: for Join (`joins`) it has to be one that isn't live, and for all else
     /// one that is. Refused: BadSlot where there is no such mutator, NotLive, AlreadyLive, in this order.
+    #[inline(always)]
     pub fn admit(&self, mutator: u32, joins: bool) -> Result<bool, Refusal>
         ensures admitted { result ≡ admitted_to self.now.limits self.now.live mutator joins }
         ensures below { IfOk result (λ ok. mutator < self.now.limits.mutators) }
@@ -73,6 +74,7 @@ impl Roots {
     }
 
     /// Where a slot of a mutator stands.
+    #[inline(always)]
     pub fn slot(&self, mutator: u32, slot: u32) -> Result<usize, Refusal>
         ensures place { result ≡ slot_at self.now.limits mutator slot }
         ensures within { IfOk result (λ cell. cell < length self.now.cells) }
@@ -85,6 +87,7 @@ impl Roots {
     }
 
     /// Where a static stands.
+    #[inline(always)]
     pub fn static_cell(&self, k: u32) -> Result<usize, Refusal>
         ensures place { result ≡ static_at self.now.limits k }
         ensures within { IfOk result (λ cell. cell < length self.now.cells) }
@@ -98,6 +101,7 @@ impl Roots {
     }
 
     /// What a cell holds.
+    #[inline(always)]
     pub fn get(&self, cell: usize) -> u64
         requires { cell < length self.now.cells }
         ensures { result ≡ slice_index self.now.cells cell }
@@ -106,6 +110,7 @@ impl Roots {
     }
 
     /// Writes a cell; the others stay.
+    #[inline(always)]
     pub fn set(&mut self, cell: usize, reference: u64)
         requires { cell < length self.old.cells }
         ensures { self.new ≡ record self.old { cells = slice_set self.old.cells cell reference } }

@@ -147,6 +147,7 @@ impl Parts {
     }
 
     /// How many parts the object has.
+    #[inline(always)]
     pub fn count(&self) -> u32
         ensures count { result ≡ parts_in self.now }
         ensures within { (1 ≤ result) × (result ≤ 15938) }
@@ -168,6 +169,7 @@ impl Parts {
     }
 
     /// How many words a part has, its header of four words included.
+    #[inline(always)]
     pub fn words(&self, part: u32) -> u32
         requires { part < parts_in self.now }
         ensures words { result ≡ part_words self.now part }
@@ -181,6 +183,7 @@ impl Parts {
 }
 
 /// The parts of an object of a shape, or None where the shape is too large.
+#[inline(always)]
 pub fn parts_of(shape: &Shape) -> Option<Parts>
     ensures none { IsNone result ↔ (fits shape.now ≡ false) }
     ensures some { IfSome result (λ p. p ≡ cells_of shape.now) }

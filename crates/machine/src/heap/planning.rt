@@ -10,6 +10,7 @@ use size_classes::parts_of;
 
 impl Heap {
     /// A new object is planned.
+    #[inline(always)]
     pub(super) fn plan_new(&self, mutator: u32, dst: u32, shape: Shape) -> Result<Planned, Refusal>
         ensures { Deeds self.now mutator (Command.New dst shape) result }
     {
@@ -28,6 +29,7 @@ impl Heap {
     }
 
     /// A reference cell is loaded into a slot.
+    #[inline(always)]
     pub(super) fn plan_load(
         &self,
         mutator: u32,
@@ -51,6 +53,7 @@ impl Heap {
     }
 
     /// A reference cell gets what a slot holds.
+    #[inline(always)]
     pub(super) fn plan_store(
         &self,
         mutator: u32,
@@ -73,6 +76,7 @@ impl Heap {
     }
 
     /// A reference cell is compared with a slot, and gets what another holds if they are the same.
+    #[inline(always)]
     pub(super) fn plan_compare_store(
         &self,
         mutator: u32,
@@ -101,6 +105,7 @@ impl Heap {
     }
 
     /// A word cell is read.
+    #[inline(always)]
     pub(super) fn plan_get(&self, mutator: u32, obj: u32, i: u32) -> Result<Planned, Refusal>
         ensures { Deeds self.now mutator (Command.Get obj i) result }
     {
@@ -110,6 +115,7 @@ impl Heap {
     }
 
     /// A word cell is written.
+    #[inline(always)]
     pub(super) fn plan_put(
         &self,
         mutator: u32,
@@ -128,6 +134,7 @@ impl Heap {
     }
 
     /// A word cell is compared with a word, and gets another if they are the same.
+    #[inline(always)]
     pub(super) fn plan_compare_put(
         &self,
         mutator: u32,
@@ -151,6 +158,7 @@ impl Heap {
     }
 
     /// A slot gets what another holds.
+    #[inline(always)]
     pub(super) fn plan_copy(&self, mutator: u32, dst: u32, src: u32) -> Result<Planned, Refusal>
         ensures { Deeds self.now mutator (Command.Copy dst src) result }
     {
@@ -166,6 +174,7 @@ impl Heap {
     }
 
     /// A slot gets null.
+    #[inline(always)]
     pub(super) fn plan_clear(&self, mutator: u32, dst: u32) -> Result<Planned, Refusal>
         ensures { Deeds self.now mutator (Command.Clear dst) result }
     {
@@ -177,6 +186,7 @@ impl Heap {
     }
 
     /// A slot gets what a static holds.
+    #[inline(always)]
     pub(super) fn plan_load_static(
         &self,
         mutator: u32,
@@ -198,6 +208,7 @@ impl Heap {
     }
 
     /// A static gets what a slot holds.
+    #[inline(always)]
     pub(super) fn plan_store_static(
         &self,
         mutator: u32,
@@ -218,6 +229,7 @@ impl Heap {
     }
 
     /// A static is compared with a slot, and gets what another holds if they are the same.
+    #[inline(always)]
     pub(super) fn plan_compare_static(
         &self,
         mutator: u32,
@@ -244,6 +256,7 @@ impl Heap {
     }
 
     /// Two slots are compared, by the identities that they hold.
+    #[inline(always)]
     pub(super) fn plan_same(&self, mutator: u32, a: u32, b: u32) -> Result<Planned, Refusal>
         ensures { Deeds self.now mutator (Command.Same a b) result }
     {
@@ -254,6 +267,7 @@ impl Heap {
     }
 
     /// The identity and the shape of an object are told.
+    #[inline(always)]
     pub(super) fn plan_describe(&self, mutator: u32, a: u32) -> Result<Planned, Refusal>
         ensures { Deeds self.now mutator (Command.Describe a) result }
     {

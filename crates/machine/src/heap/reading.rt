@@ -14,6 +14,7 @@ use nodes::Referent;
 
 impl Heap {
     /// What a root holds.
+    #[inline(always)]
     pub(super) fn held(&self, root: usize) -> Referent
         requires { root < length self.now.roots }
         ensures { (g : Graph) → Agrees self.now g → Names self.now g (slice_index g.roots root) result }
@@ -22,6 +23,7 @@ impl Heap {
     }
 
     /// The object that a root holds, by its main copy.
+    #[inline(always)]
     pub(super) fn object(&self, root: usize) -> Result<Found, Refusal>
         requires { root < length self.now.roots }
         ensures finds { (g : Graph) → Agrees self.now g → Finds self.now g (slice_index g.roots root) result }
@@ -42,6 +44,7 @@ impl Heap {
     }
 
     /// Where reference cell i of the object that a root holds stands.
+    #[inline(always)]
     pub(super) fn find_ref(&self, root: usize, i: u32) -> Result<Cell, Refusal>
         requires { root < length self.now.roots }
         ensures { (g : Graph) → Agrees self.now g → FindsRef self.now g (slice_index g.roots root) i result }
@@ -56,6 +59,7 @@ impl Heap {
     }
 
     /// Where word cell i of the object that a root holds stands.
+    #[inline(always)]
     pub(super) fn find_word(&self, root: usize, i: u32) -> Result<Cell, Refusal>
         requires { root < length self.now.roots }
         ensures { (g : Graph) → Agrees self.now g → FindsWord self.now g (slice_index g.roots root) i result }
@@ -70,6 +74,7 @@ impl Heap {
     }
 
     /// What a reference cell holds.
+    #[inline(always)]
     pub(super) fn held_in(&self, at: Cell) -> Referent
         requires { (g : Graph) → Agrees self.now g → (id : ℕ) × (i : ℕ) × IsRefPlace self.now g id i at }
         ensures { (g : Graph) (id i : ℕ) → Agrees self.now g → IsRefPlace self.now g id i at → Names self.now g (slice_index (object_of g.objects id).refs i) result }
@@ -80,6 +85,7 @@ impl Heap {
     }
 
     /// What a word cell holds.
+    #[inline(always)]
     pub(super) fn word_in(&self, at: Cell) -> u64
         requires { (g : Graph) → Agrees self.now g → (id : ℕ) × (i : ℕ) × IsWordPlace self.now g id i at }
         ensures { (g : Graph) (id i : ℕ) → Agrees self.now g → IsWordPlace self.now g id i at → result ≡ slice_index (object_of g.objects id).words i }

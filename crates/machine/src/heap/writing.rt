@@ -33,6 +33,7 @@ pub fn do_write(heap: &mut RawHeap, mutator: u32, write: &Write)
 }
 
 /// A root gets a reference.
+#[inline(always)]
 fn write_root(heap: &mut RawHeap, mutator: u32, cell: usize, reference: u64)
     requires heap { IsRawHeap heap.old }
     requires mutator { mutator < heap.old.roots.limits.mutators }
@@ -46,6 +47,7 @@ fn write_root(heap: &mut RawHeap, mutator: u32, cell: usize, reference: u64)
 }
 
 /// A reference cell of an object gets a reference.
+#[inline(always)]
 fn write_ref(heap: &mut RawHeap, mutator: u32, at: Cell, reference: u64)
     requires heap { IsRawHeap heap.old }
     requires mutator { mutator < heap.old.roots.limits.mutators }
@@ -59,6 +61,7 @@ fn write_ref(heap: &mut RawHeap, mutator: u32, at: Cell, reference: u64)
 }
 
 /// An object is made, and a root gets its reference.
+#[inline(always)]
 fn write_new(heap: &mut RawHeap, mutator: u32, root: usize, shape: Shape)
     requires heap { IsRawHeap heap.old }
     requires mutator { mutator < heap.old.roots.limits.mutators }
@@ -88,6 +91,7 @@ fn null_roots(heap: &mut RawHeap, mutator: u32, first: usize, count: usize)
 }
 
 /// The slots of a mutator get null, and it is live no more.
+#[inline(never)]
 fn write_leave(heap: &mut RawHeap, mutator: u32)
     requires heap { IsRawHeap heap.old }
     requires write { CanPerform (state_of heap.old) (Write.Leave mutator) }

@@ -34,6 +34,7 @@ fn width_of(refs: u32, words: u32, part: u32) -> usize
 
 impl Nodes {
     /// The address to which a held block forwards.
+    #[inline(always)]
     pub fn forward_of(&self, block: usize) -> u64
         requires { is_held self.now block ≡ true }
         ensures { result ≡ (node_of self.now block).forward }
@@ -42,6 +43,7 @@ impl Nodes {
     }
 
     /// The reference of a held block: its address plus one.
+    #[inline(always)]
     pub fn reference_of(&self, block: usize) -> u64
         requires { is_held self.now block ≡ true }
         ensures reference { result ≡ block + 1 }
@@ -53,6 +55,7 @@ impl Nodes {
     }
 
     /// What a reference names, by way of the forwarding word of its block (Brooks, 1984).
+    #[inline(always)]
     pub fn resolve(&self, reference: u64) -> Referent
         requires block { reference ≢ 0 → is_held self.now (reference - 1) ≡ true }
         requires main { reference ≢ 0 → is_held self.now (node_of self.now (reference - 1)).forward ≡ true }
@@ -72,6 +75,7 @@ impl Nodes {
     }
 
     /// The shape of the object of which a held block holds a part.
+    #[inline(always)]
     pub fn shape(&self, block: usize) -> Shape
         requires { is_held self.now block ≡ true }
         ensures { result ≡ (node_of self.now block).shape }
@@ -93,6 +97,7 @@ impl Nodes {
     }
 
     /// The identity of that object.
+    #[inline(always)]
     pub fn identity(&self, block: usize) -> u64
         requires { is_held self.now block ≡ true }
         ensures { result ≡ (node_of self.now block).identity }
@@ -126,6 +131,7 @@ impl Nodes {
     }
 
     /// What cell i of a held block holds.
+    #[inline(always)]
     pub fn cell(&self, block: usize, i: usize) -> u64
         requires held { is_held self.now block ≡ true }
         requires within { i < length (node_of self.now block).cells }
@@ -135,6 +141,7 @@ impl Nodes {
     }
 
     /// Writes cell i of a held block.
+    #[inline(always)]
     pub fn set_cell(&mut self, block: usize, i: usize, value: u64)
         requires held { is_held self.old block ≡ true }
         requires within { i < length (node_of self.old block).cells }

@@ -44,6 +44,7 @@ impl PageTable {
 
     /// Whether there is room for the parts of an object: the blocks that are needed beside the free ones
     /// are taken in whole pages, and these together are at most the free pages.
+    #[inline(always)]
     pub fn room(&self, parts: &Parts) -> bool
         ensures { Tells self.now (λ pages. result ≡ has_room pages (blocks_needed parts.now (parts_in parts.now))) }
     {
@@ -56,6 +57,7 @@ impl PageTable {
     }
 
     /// Whether there is room for so many blocks of each class.
+    #[inline(never)]
     fn room_for(&self, need: &Need) -> bool
         ensures { Tells self.now (λ pages. result ≡ has_room pages (λ class. slice_index need.now class)) }
     {

@@ -5,4 +5,4 @@ use Rattle.measure.proofs.meter.Meter.new.Goals as goal
 
 pub returns : goal.returns
 returns c = λ h o e.
-    opening_measures h _ o (c.in_ok-new.ensures ∙ ap opening (sym e)) refl refl c.none.ensures c.none-2.ensures c.none-3.ensures c.none-4.ensures c.none-5.ensures c.none-6.ensures c.none-7.ensures
+    opening_measures h _ o (c.in_ok-new.ensures ∙ ap opening (sym e)) refl refl c.none.ensures c.none.ensures c.none.ensures c.none.ensures c.none.ensures c.none.ensures c.none.ensures

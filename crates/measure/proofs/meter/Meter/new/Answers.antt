@@ -5,4 +5,4 @@ use Rattle.measure.proofs.meter.Meter.new.Goals as goal
 
 pub returns : goal.returns
 returns c = λ h o e.
-    opening_measures h _ o (c.in_ok-new.ensures ∙ ap opening (sym e)) refl refl c.none.ensures c.none.ensures c.none.ensures c.none.ensures c.none.ensures c.none.ensures c.none.ensures
+    opening_measures h _ o (c.in_ok-new.ensures ∙ ap opening (sym e)) refl refl c.none-nothing.ensures c.none-nothing.ensures c.none-nothing.ensures c.none-nothing.ensures c.none-nothing.ensures c.none-nothing.ensures c.none-nothing.ensures

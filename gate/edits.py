@@ -1,0 +1,57 @@
+"""The edits of a crate: files that say which texts are to be turned into which."""
+import os
+import re
+from dataclasses import dataclass, field
+
+from kit import rt
+
+NAME = re.compile(r"[A-Za-z0-9_-][A-Za-z0-9_.-]*\.edit")
+
+
+@dataclass
+class Edit:
+    """An edit: what it makes of the files that it names, or why it can't be applied."""
+
+    crate: object
+    file: str
+    # the whole text of each file that it changes, by the file's path in the crate
+    texts: dict = field(default_factory=dict)
+    fault: str = ""
+    # what it changes of each: the path, where that begins and ends, and what stands there in its place
+    places: list = field(default_factory=list)
+
+    @property
+    def name(self):
+        """The edit's name, with its crate's."""
+        return f"{self.crate.name}/{os.path.basename(self.file).removesuffix('.edit')}"
+
+
+def changed(path, was, now):
+    """What of a file is changed: the path, where that begins and ends, and what stands there in its place."""
+    most = min(len(was), len(now))
+    start = next((at for at in range(most) if was[at] != now[at]), most)
+    behind = next((at for at in range(most - start) if was[-1 - at] != now[-1 - at]), most - start)
+    return path, start, len(was) - behind, now[start : len(now) - behind]
+
+
+def read(crate, file):
+    """The edit that a file tells, applied to the crate's texts."""
+    edit = Edit(crate, file)
+    if not NAME.fullmatch(os.path.basename(file)):
+        edit.fault = "an edit's name is of letters, digits, _, - and ., and ends in .edit"
+        return edit
+    texts, why = rt.read_edit(file, crate.folder)
+    if why:
+        edit.fault = why
+        return edit
+    edit.texts = texts
+    for path, now in texts.items():
+        with open(f"{crate.folder}/{path}", encoding="utf-8") as opened:
+            edit.places.append(changed(path, opened.read(), now))
+    return edit
+
+
+def edits_of(crate, folder):
+    """The edits in a folder of the crate, in the order of their names."""
+    at = f"{crate.folder}/{folder}"
+    return [read(crate, f"{at}/{name}") for name in sorted(os.listdir(at))] if os.path.isdir(at) else []

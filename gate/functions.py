@@ -1,0 +1,124 @@
+"""The functions of a source file: their names as the prover prints them, and where their bodies stand."""
+import os
+import re
+from dataclasses import dataclass
+
+# What isn't code: comments, texts and characters.
+HIDDEN = re.compile(
+    r'//[^\n]*|/\*.*?\*/|b?r(#*)".*?"\1|b?"(?:\\.|[^"\\])*"|b?\'(?:\\u\{[0-9a-fA-F]+\}|\\x..|\\.|[^\\\'\n])\'', re.S
+)
+HEAD = re.compile(r"\b(?:(fn)\s+(\w+)|(mod)\s+(\w+)\s*\{|(impl|trait)\b([^{;]*)\{|(\{))")
+# A clause of a contract, up to its brace.
+CLAUSE = re.compile(r"\b(?:(?:requires|ensures)\b\*?\s*\w*|ghost\s+\w+\s*:)\s*$")
+TYPE = re.compile(r"(?:\w+::)*(\w+)")
+
+
+@dataclass(frozen=True)
+class Function:
+    """A function with a body: its path below the crate, or its type's name and its own, since the prover names it below the
+    module of the type; where its body stands; and whether it surely has that name, and is no test's."""
+
+    path: str
+    body: int
+    end: int
+    is_plain: bool
+
+
+def hidden(text):
+    """The text with spaces in place of what isn't code."""
+    return HIDDEN.sub(lambda found: re.sub(r"[^\n]", " ", found[0]), text)
+
+
+def group_end(code, start):
+    """Where the group ends that the brace at `start` begins."""
+    depth = 0
+    for at in range(start, len(code)):
+        depth += {"{": 1, "}": -1}.get(code[at], 0)
+        if not depth:
+            return at + 1
+    return len(code)
+
+
+def body_of(code, at):
+    """Where the body begins of the function whose parameters follow `at`, behind its contract; None where it has none."""
+    depth, begin = 0, at
+    while at < len(code):
+        here = code[at]
+        depth += {"(": 1, "[": 1, ")": -1, "]": -1}.get(here, 0)
+        if here == ";" and not depth:
+            return None
+        if here == "{" and not depth:
+            if not CLAUSE.search(code[begin:at]):
+                return at
+            at = begin = group_end(code, at)
+        else:
+            at += 1
+    return None
+
+
+def without_generics(text):
+    """A head of an impl without what stands in angle brackets, and without its `where`."""
+    while re.search(r"<[^<>]*>", text):
+        text = re.sub(r"<[^<>]*>", "", text)
+    return re.split(r"\bwhere\b", text)[0]
+
+
+def name_of_impl(head):
+    """The name under which the prover prints an impl's functions: the type's, and then the trait's."""
+    of, _, to = without_generics(head.replace("->", "  ")).partition(" for ")
+    names = [TYPE.search(it.strip(" &")) for it in ([to, of] if to else [of])]
+    return "".join(it[1] for it in names) if all(names) else ""
+
+
+def functions_in(code, at, end, above, is_plain):
+    """The functions between two places of a file, whose names begin with `above`."""
+    found = []
+    while head := HEAD.search(code, at, end):
+        at = head.end()
+        if head[1]:
+            body = body_of(code, at)
+            if body is not None:
+                at = group_end(code, body)
+                found.append(Function("::".join([*above, head[2]]), body, at, is_plain))
+            continue
+        inside, at = at, group_end(code, at - 1)
+        if head[3]:
+            found += functions_in(code, inside, at - 1, [*above, head[4]], is_plain and head[4] != "tests")
+        elif head[5] == "impl" and name_of_impl(head[6]):
+            found += functions_in(code, inside, at - 1, [name_of_impl(head[6])], is_plain and " for " not in head[6])
+    return found
+
+
+def module_of(path):
+    """The names of the module that a file of src/ is."""
+    names = path.removeprefix("src/").removesuffix(".rt").split("/")
+    return [] if names in (["lib"], ["main"]) else names[:-1] if names[-1] == "mod" else names
+
+
+def functions_of(text, path):
+    """The functions of a file of src/, in their order."""
+    above = module_of(path)
+    return functions_in(hidden(text), 0, len(text), above, "tests" not in above)
+
+
+def functions_of_file(crate, path):
+    """The functions of a file of a crate's src/, by its path in the crate."""
+    with open(f"{crate.folder}/{path}", encoding="utf-8") as file:
+        return functions_of(file.read(), path)
+
+
+def turned_by(edit):
+    """The path of the one function whose body an edit turns, where it turns nothing else; else None."""
+    if len(edit.places) != 1 or not edit.places[0][0].startswith("src/"):
+        return None
+    path, start, end, _ = edit.places[0]
+    return next((it.path for it in functions_of_file(edit.crate, path) if it.body < start and end < it.end), None)
+
+
+def unturned(crate, turned):
+    """The two shortest functions of a crate that are none of these; a law, whose body is empty, shows less."""
+    root = f"{crate.folder}/src"
+    files = [os.path.relpath(f"{at}/{it}", crate.folder) for at, _, names in os.walk(root) for it in names]
+    found = [it for file in files if file.endswith(".rt") for it in functions_of_file(crate, file)]
+    fit = [it for it in found if it.is_plain and it.path not in turned and it.end - it.body > len("{\n}")]
+    return [it.path for it in sorted(fit, key=lambda it: (it.end - it.body, it.path))[:2]]

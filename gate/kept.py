@@ -1,0 +1,63 @@
+"""What was refused by earlier runs on this machine, by the checksums of all that its trial read."""
+import hashlib
+import os
+
+from kit import rt
+
+STORE = f"{os.environ.get('XDG_CACHE_HOME') or os.path.expanduser('~/.cache')}/barleynight-wrong-bodies"
+# The parts of this program that a verdict rests on.
+JUDGES = ("edits.py", "functions.py", "kit.py", "trials.py", "verdicts.py")
+
+
+def text_of(file):
+    """A file's bytes."""
+    with open(file, "rb") as opened:
+        return opened.read()
+
+
+class Kept:
+    """The store, as it stands for the files that the crates have when the run begins."""
+
+    def __init__(self, anew):
+        self.anew = anew
+        self.stamps, self.places = {}, {}
+        here = os.path.dirname(os.path.abspath(__file__))
+        self.judges = hashlib.sha256(b"".join(text_of(f"{here}/{it}") for it in JUDGES)).hexdigest()
+
+    def stamp(self, crate):
+        """A sum of the crate's files, those of the crates below, and the toolchain, as they were when first asked for."""
+        if crate.name not in self.stamps:
+            self.stamps[crate.name] = rt.stamp_of(crate, {})
+        return self.stamps[crate.name]
+
+    def place(self, edit):
+        """The file that holds how the prover refused an edit, as it was when first asked for."""
+        if edit.name not in self.places:
+            told = (self.stamp(edit.crate), self.judges, edit.name, text_of(edit.file))
+            self.places[edit.name] = f"{STORE}/{hashlib.sha256(repr(told).encode()).hexdigest()}"
+        return self.places[edit.name]
+
+    def refused(self, edit):
+        """How the prover refused an edit in an earlier run, or None."""
+        if edit.fault:
+            return None
+        place = self.place(edit)
+        if self.anew:
+            return None
+        try:
+            return text_of(place).decode() or None
+        except (OSError, ValueError):
+            return None
+
+    def keep(self, edit, why):
+        """Keeps how the prover refused an edit, unless a file that it read was changed since the run began."""
+        if rt.stamp_of(edit.crate, {}) != self.stamp(edit.crate):
+            return
+        place = self.place(edit)
+        try:
+            os.makedirs(STORE, 0o700, exist_ok=True)
+            with open(f"{place}.{os.getpid()}", "w", encoding="utf-8") as file:
+                file.write(why)
+            os.replace(f"{place}.{os.getpid()}", place)
+        except OSError as fault:
+            print(f"wrong-bodies: {edit.name} isn't kept: {fault}")

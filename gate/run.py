@@ -1,0 +1,133 @@
+"""A run: proves what the edits begin with, tries the edits, and says what each came to."""
+import copy
+import os
+import tempfile
+import threading
+import time
+from collections import Counter
+
+import edits
+import lanes
+import trials
+import verdicts
+from kept import Kept
+from kit import rt
+
+FOLDER = "wrong-bodies"
+
+
+class Run:
+    """The edits of some crates, and what was found of them so far."""
+
+    def __init__(self, crates, anew):
+        self.kept = Kept(anew)
+        self.edits = {it.name: edits.edits_of(it, FOLDER) for it in crates}
+        self.found, self.checks, self.seconds, self.unproved = {}, Counter(), Counter(), set()
+        self.telling = threading.Lock()
+
+    def tell(self, edit, kind, why):
+        """Notes and says what an edit came to."""
+        with self.telling:
+            self.found[edit.name] = kind, why
+            print(f"{edit.name}: {kind}{': ' if why else ''}{why}", flush=True)
+
+    def left(self, crate):
+        """The crate's edits that are to be tried: those that can be applied, and that no earlier run refused."""
+        left = []
+        for edit in self.edits[crate.name]:
+            why = self.kept.refused(edit)
+            if edit.fault:
+                self.tell(edit, verdicts.BAD, edit.fault)
+            elif why:
+                self.tell(edit, verdicts.REFUSED, f"{why} (kept)")
+            else:
+                left.append(edit)
+        return left
+
+    def proved(self, crate, threads):
+        """Whether the crate is proved; its check leaves the work that the trials begin with, and its library."""
+        crate, began = copy.copy(crate), time.time()
+        os.makedirs(f"{crate.folder}/out", exist_ok=True)
+        with tempfile.TemporaryFile("a+", errors="replace") as crate.out:
+            flags = ["--jobs", str(threads)]
+            status = crate.build_rlib(flags, anew=False) if crate.makes_rlib() else crate.check(flags)
+            if not status and not crate.has_kept():
+                status = crate.check(flags)
+            crate.out.seek(0)
+            said = crate.out.read()
+        if status:
+            print(f"{crate.name} isn't proved:\n{said}", flush=True)
+        else:
+            print(f"{crate.name} is proved ({time.time() - began:.0f} s)", flush=True)
+        return not status
+
+    def prove(self, crate, left, threads):
+        """Proves a crate, and gives the trials of its edits."""
+        lacking = [it.name for it in crate.below() if it.name in self.unproved]
+        if not lacking and self.proved(crate, threads):
+            return [self.task(crate, it) for it in trials.planned(crate, left)]
+        self.unproved.add(crate.name)
+        for edit in left:
+            self.tell(edit, verdicts.NOT_TRIED, f"{lacking[0] if lacking else crate.name} isn't proved")
+        return []
+
+    def task(self, crate, trial):
+        """The task that makes a trial: the slowest crates come first."""
+        return lanes.Task((1, -crate.count(rb"\n")), lambda _: self.make(crate, trial))
+
+    def make(self, crate, trial):
+        """Makes a trial, and gives those that are to follow it."""
+        began = time.time()
+        results, again, wrong = trials.tried(trial)
+        with self.telling:
+            self.checks[crate.name] += 1
+            self.seconds[crate.name] += time.time() - began
+        for name in wrong:
+            with self.telling:
+                self.found[name] = verdicts.UNTURNED, ""
+                print(f"{name}: {verdicts.UNTURNED}, beside {', '.join(it.name for it in trial.edits)}", flush=True)
+        for it in results:
+            if it.kind == verdicts.REFUSED:
+                self.kept.keep(it.edit, it.why)
+            self.tell(it.edit, it.kind, it.why)
+        return [self.task(crate, it) for it in again]
+
+
+def tasks_of(run, crates):
+    """The tasks that prove the crates which have edits to try, and those below them: first what most others wait for."""
+    left = {it: run.left(it) for it in crates}
+    needed = {below for it in crates if left[it] for below in [it, *it.below()]}
+    order = sorted(needed, key=lambda it: len(it.below()))
+    behind, tasks = Counter(), []
+    for crate in reversed(order):
+        behind[crate] += crate.count(rb"\n")
+        for below in crate.below():
+            behind[below] = max(behind[below], behind[crate])
+    for crate in order:
+        call = lambda threads, it=crate: run.prove(it, left.get(it, []), threads)
+        tasks.append(lanes.Task((0, -behind[crate]), call, crate.name, {it.name for it in crate.below()}))
+    return tasks
+
+
+def made(crates, jobs, anew):
+    """The run of all edits of these crates."""
+    run = Run(crates, anew)
+    held = rt.rtlib.lock({below for it in crates for below in [it, *it.below()]})
+    try:
+        lanes.run(tasks_of(run, crates), jobs)
+    finally:
+        for it in held:
+            os.close(it)
+    return run
+
+
+def tried(crates, jobs, anew):
+    """How many edits of these crates were refused, and how many weren't; it says which."""
+    run = made(crates, jobs, anew)
+    for crate in crates:
+        if run.checks[crate.name]:
+            print(f"{crate.name}: {len(run.edits[crate.name])} edits, {run.checks[crate.name]} checks, {run.seconds[crate.name]:.0f} s")
+    failed = [f"{name}: {kind}" for name, (kind, _) in run.found.items() if kind != verdicts.REFUSED]
+    for it in failed:
+        print(f"FAILED: {it}")
+    return len(run.found) - len(failed), len(failed)

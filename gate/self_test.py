@@ -1,0 +1,139 @@
+"""A test of the trials, on a crate of its own: what is right isn't told as refused, and what is wrong is."""
+import os
+import tempfile
+
+import edits
+import kept
+import run
+import trials
+import verdicts
+from kit import rt
+
+LIB = """#![tactic(auto)]
+
+ghost use Rattle.std.specs.Prelude.{◌≡◌, ◌+◌, ◌*◌, ◌≤◌};
+ghost use Rattle.told.specs.Limit.{limit_of};
+
+/// One more.
+pub fn more(x: u8) -> u32
+    ensures value { result ≡ x + 1 }
+{
+    x as u32 + 1
+}
+
+/// Two more.
+pub fn two_more(x: u8) -> u32
+    ensures value { result ≡ x + 2 }
+    ensures least { 2 ≤ result }
+{
+    more(x) + 1
+}
+
+/// Both, and one more of each.
+pub fn both(x: u8, y: u8) -> u32
+    ensures value { result ≡ (x + 1) + (y + 1) }
+{
+    let first = more(x);
+    let second = more(y);
+    first + second
+}
+
+/// One more, by a proof that names what it calls.
+pub fn named(x: u8) -> u32
+    ensures value { result ≡ x + 1 }
+{
+    let it = more(x);
+    it
+}
+
+/// The most.
+pub fn limit() -> u32
+    ensures value { result ≡ limit_of 3 }
+{
+    6
+}
+
+/// Nothing.
+pub fn none() -> u32
+    ensures value { result ≡ 0 }
+{
+    1 - 1
+}
+
+/// Seven.
+pub fn seven() -> u32
+    ensures value { result ≡ 7 }
+{
+    4 + 3
+}
+"""
+SPECS = "use Prim.Native.Nat.{ℕ, ◌*◌}\n\nabbrev pub limit_of : ℕ → ℕ\nlimit_of n = 2 * n\n"
+ANSWERS = "use Rattle.told.proofs.named.Goals as goal\n\npub returns : goal.returns\nreturns c = c.more-it.ensures\n"
+FILES = {
+    "crates.txt": "told:\n",
+    "crates/told/src/lib.rt": LIB,
+    "crates/told/specs/Lib.antt": "pub mod Limit\n",
+    "crates/told/specs/Limit.antt": SPECS,
+    "crates/told/proofs/named/Answers.antt": ANSWERS,
+}
+# An edit's name, what it turns into what, and what it is to come to. Those of one function go into several rounds.
+CASES = [
+    ("a_sum_turned_round", "x as u32 + 1", "1 + x as u32", verdicts.NOT_REFUSED),
+    ("adds_two", "x as u32 + 1", "x as u32 + 2", verdicts.REFUSED),
+    ("calls_first_what_comes_second", "let first = more(x);", "let second = more(y); let first = more(x);", verdicts.NOT_REFUSED),
+    ("calls_one_twice", "let second = more(y);", "let second = more(x);", verdicts.REFUSED),
+    ("a_sum_beside_a_wrong_callee", "more(x) + 1", "1 + more(x)", verdicts.NOT_REFUSED),
+    ("adds_three", "more(x) + 1", "more(x) + 2", verdicts.REFUSED),
+    ("leaves_out_what_a_proof_names", "let it = more(x);", "let it = x as u32 + 2;", verdicts.NAMES),
+    ("has_another_limit", "6", "9", verdicts.REFUSED),
+    ("turns_a_definition", "2 * n", "4 * n", verdicts.REFUSED),
+    ("sums_to_seven_too", "4 + 3", "2 + 5", verdicts.NOT_REFUSED),
+    ("has_another_type", "1 - 1", "true", verdicts.BAD),
+    ("is_nowhere", "8 + 8", "9 + 9", verdicts.BAD),
+]
+
+
+def crate_in(room):
+    """The crate of this test, written in a folder, with its edits."""
+    for name, text in FILES.items():
+        os.makedirs(os.path.dirname(f"{room}/{name}"), exist_ok=True)
+        with open(f"{room}/{name}", "w", encoding="utf-8") as file:
+            file.write(text)
+    folder = f"{room}/crates/told/{run.FOLDER}"
+    os.makedirs(folder)
+    for name, old, new, _ in CASES:
+        path = "specs/Limit.antt" if old in SPECS else "src/lib.rt"
+        with open(f"{folder}/{name}.edit", "w", encoding="utf-8") as file:
+            file.write(f"file: {path}\nold: {old}\nnew: {new}\n")
+    return rt.rtlib.crates_below(f"{room}/crates")[0]
+
+
+def judged(found):
+    """Whether each case came to what it must; each that didn't is told."""
+    good = []
+    for name, _, _, wanted in CASES:
+        kind, why = found.get(f"told/{name}", ("nothing", ""))
+        good.append(kind == wanted)
+        if kind != wanted:
+            print(f"self-test: {name}: {kind}: {why}; it was to be {wanted}")
+    return good
+
+
+def guards(crate):
+    """Whether a trial is thrown away in which a function is wrong that it isn't said to turn."""
+    edit = edits.read(crate, f"{crate.folder}/{run.FOLDER}/adds_two.edit")
+    results, _, wrong = trials.tried(trials.Trial(crate, [edit], ["both"]))
+    return not results and wrong == ["told::more"]
+
+
+def passed(jobs):
+    """How many looks were good, and how many weren't."""
+    with tempfile.TemporaryDirectory(prefix="wrong-bodies-") as room:
+        kept.STORE = f"{room}/kept"
+        crate = crate_in(room)
+        found = run.made([crate], jobs, anew=False).found
+        good = judged(found)
+        good.append(guards(crate))
+        left = {it.name for it in run.Run([crate], anew=False).left(crate)}
+        good.append(left == {it for it, (kind, _) in found.items() if kind != verdicts.REFUSED and it != "told/is_nowhere"})
+    return good.count(True), good.count(False)

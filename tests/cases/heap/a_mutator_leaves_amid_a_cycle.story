@@ -1,0 +1,38 @@
+for quanta in 0..20
+story a mutator leaves after {quanta} quanta
+pages = 8
+mutators = 2
+slots = 256
+defrag_below = 9
+defrag_pages = 3
+
+version 2
+for k in 0..12
+0 new {k} words 252 => made {k + 1}
+end
+0 new 12 refs 400 => made 13
+for k in 1..8
+0 clear {k} => done
+end
+for k in 0..100
+1 new {k} plain 1 0 => made {k + 14}
+end
+begin
+for k in 0..quanta
+quantum 256
+end
+1 leave => done
+for k in 0..60
+quantum 256
+end
+? phase idle
+? objects 106 ..
+begin
+for k in 0..60
+quantum 256
+end
+? phase idle
+? objects 6 ..
+1 join => done
+1 describe 99 => refused 2
+end

@@ -1,0 +1,128 @@
+"""Lines of a file of cases: loops, tables, numbers in braces, escapes."""
+import re
+from dataclasses import dataclass
+
+LOOP = re.compile(r"for (\w+) in (.+?)\.\.(.+)")
+TABLE = re.compile(r"each (\w+(?:, \w+)*)")
+NUMBER = r"[\w +*/%()-]+"
+BRACES = re.compile(
+    r"\{\{|\}\}"
+    r"|\{(?P<count>\w+) x (?P<text>[^{}]*)\}"
+    rf"|\{{(?P<below>[^{{}}]*) if (?P<low>{NUMBER}) < (?P<high>{NUMBER}) else (?P<above>[^{{}}]*)\}}"
+    rf"|\{{(?P<value>{NUMBER})\}}"
+)
+ESCAPE = re.compile(r"\\(?:x([0-9a-f]{2})|(.))")
+ESCAPED = {"n": "\n", "r": "\r", "t": "\t", "\\": "\\"}
+
+
+@dataclass(frozen=True)
+class Line:
+    """A line of a file, with its number."""
+
+    number: int
+    text: str
+
+
+class Wrong(Exception):
+    """A file of cases that isn't in the format."""
+
+
+def read(path):
+    """The lines of a file, its loops and tables written out."""
+    with open(path, encoding="utf-8") as file:
+        lines = [Line(number, text) for number, text in enumerate(file.read().split("\n"), 1)]
+    while lines and not lines[-1].text:
+        lines.pop()
+    return list(spread(lines, {}))
+
+
+def spread(lines, names):
+    """Lines, with names of numbers and texts, as they are without loops and tables."""
+    at = 0
+    while at < len(lines):
+        line = lines[at]
+        loop, table = LOOP.fullmatch(line.text), TABLE.fullmatch(line.text)
+        if not loop and not table:
+            yield Line(line.number, told(line, names))
+            at += 1
+            continue
+        begin, end = block(lines, at)
+        rows = ranged(line, loop, names) if loop else rowed(lines[at + 1 : begin], table)
+        for row in rows:
+            yield from spread(lines[begin + 1 : end], {**names, **row})
+        at = end + 1
+
+
+def block(lines, at):
+    """Of the loop or the table that begins at a place: the place before its first line, and that of its end."""
+    begin = at
+    if TABLE.fullmatch(lines[at].text):
+        begin = next((k for k in range(at, len(lines)) if lines[k].text == "do"), None)
+        if begin is None:
+            raise Wrong(f"line {lines[at].number}: a table without do")
+    depth, end = 1, begin
+    while depth:
+        end += 1
+        if end == len(lines):
+            raise Wrong(f"line {lines[at].number}: no end")
+        begins = LOOP.fullmatch(lines[end].text) or TABLE.fullmatch(lines[end].text)
+        depth += bool(begins) - (lines[end].text == "end")
+    return begin, end
+
+
+def ranged(line, loop, names):
+    """What a loop names: one number at a time."""
+    return [{loop[1]: it} for it in range(value(line, loop[2], names), value(line, loop[3], names))]
+
+
+def rowed(lines, table):
+    """What a table names: one row at a time. Its columns stand between |, and a number is one."""
+    names = table[1].split(", ")
+    for line in lines:
+        cells = [it.strip() for it in line.text.split(" | ")]
+        if len(cells) != len(names):
+            raise Wrong(f"line {line.number}: {len(cells)} columns, and not {len(names)}")
+        yield {name: int(it) if re.fullmatch(r"0|[1-9]\d*", it) else it for name, it in zip(names, cells)}
+
+
+def value(line, text, names):
+    """What an expression of names and numbers is worth."""
+    try:
+        return eval(text, {"__builtins__": {}}, names)
+    except (NameError, SyntaxError, TypeError) as fault:
+        raise Wrong(f"line {line.number}: {{{text}}}: {fault}") from fault
+
+
+def told(line, names):
+    """A line's text, with what its braces stand for."""
+
+    def meant(found):
+        if found["count"]:
+            return found["text"] * value(line, found["count"], names)
+        if found["low"]:
+            is_below = value(line, found["low"], names) < value(line, found["high"], names)
+            return found["below" if is_below else "above"]
+        return str(value(line, found["value"], names)) if found["value"] else found[0][0]
+
+    return BRACES.sub(meant, line.text)
+
+
+def data(text):
+    """The bytes that a text with escapes stands for; an end of line is added but where the text ends in \\c."""
+    is_cut = text.endswith("\\c")
+    return escaped(text[:-2] if is_cut else text) + (b"" if is_cut else b"\n")
+
+
+def escaped(text):
+    """The bytes that a text with escapes stands for."""
+    made, at = b"", 0
+    for found in ESCAPE.finditer(text):
+        made += text[at : found.start()].encode()
+        made += bytes.fromhex(found[1]) if found[1] else ESCAPED[found[2]].encode()
+        at = found.end()
+    return made + text[at:].encode()
+
+
+def shown(data):
+    """Bytes, as a reader of a terminal can read them."""
+    return data.decode(errors="backslashreplace")

@@ -1,0 +1,32 @@
+"""What comes of a case, and how outputs are compared."""
+import difflib
+import re
+from dataclasses import dataclass, field
+
+from runner.lines import shown
+
+
+@dataclass
+class Result:
+    """What came of a case: where it stands, what it says, and what is wrong with it."""
+
+    place: str
+    title: str
+    faults: list = field(default_factory=list)
+
+    def report(self):
+        """What to print of a case that failed."""
+        return "\n".join([f"{self.place}: {self.title}", *self.faults])
+
+
+def is_as_wanted(wanted, got):
+    """Whether bytes are as wanted, where a line '..' stands for any lines."""
+    parts = [re.escape(it) if it != b"..\n" else b"(?:.*\n)*" for it in wanted.splitlines(keepends=True)]
+    return re.fullmatch(b"".join(parts), got) is not None
+
+
+def difference(what, wanted, got):
+    """How bytes differ from those wanted: lines behind - are expected, those behind + are what came."""
+    lines = difflib.unified_diff(shown(wanted).splitlines(), shown(got).splitlines(), "expected", "got", lineterm="", n=1)
+    told = [f"    {it}" for it in list(lines)[2:40]]
+    return "\n".join([f"  {what}: expected -, got +", *told])

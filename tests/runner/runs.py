@@ -1,0 +1,92 @@
+"""Runs of the program: NAME.runs files. tests/README.md states the format."""
+import dataclasses
+import os
+import re
+
+from runner import lines
+from runner.program import TOP, Streams, room
+from runner.results import Result, difference, is_as_wanted
+
+FILE = re.compile(r"([\w.-]+):(?: (.*))?")
+ROOM = re.compile(r"(2?)>(\d+)")
+STREAM = {">": "output", "!": "errors"}
+
+
+@dataclasses.dataclass
+class Run:
+    """A run of the program, with the files that it has and what it must write."""
+
+    place: str
+    title: str
+    words: list
+    files: dict
+    output: bytes = b""
+    errors: bytes = b""
+    status: int = 0
+    beside: str = ""
+
+    def play(self, program):
+        """Makes the run; what came of it."""
+        with room(f"{TOP}/examples", self.beside) as folder:
+            for name, text in self.files.items():
+                with open(f"{folder}/{name}", "wb") as file:
+                    file.write(text)
+            words, streams = self.called()
+            ended = program.run(words, folder, streams)
+        return [Result(self.place, f"{self.title}: {' '.join(self.words)}", list(self.faults(ended)))]
+
+    def called(self):
+        """The words without those that say where a stream comes from or goes to, and what these say."""
+        words, streams = [], Streams()
+        for word in self.words:
+            narrow = ROOM.fullmatch(word)
+            if narrow:
+                streams = dataclasses.replace(streams, **{"errors_room" if narrow[1] else "room": int(narrow[2])})
+            elif word.startswith("<"):
+                name, breaks = word[1:].rstrip("!"), word.endswith("!")
+                streams = dataclasses.replace(streams, given=self.files.get(name, b""), breaks=breaks)
+            else:
+                words.append(lines.escaped("" if word == "''" else word))
+        return words, streams
+
+    def faults(self, ended):
+        """What is wrong with how a run ended."""
+        if ended.status != self.status:
+            yield f"  status: expected {self.status}, got {ended.status}"
+        streams = self.called()[1]
+        for what, bytes_of_room in (("output", streams.room), ("errors", streams.errors_room)):
+            wanted, got = getattr(self, what)[:bytes_of_room], getattr(ended, what)
+            if not is_as_wanted(wanted, got):
+                yield difference(what, wanted, got)
+
+
+def read(path):
+    """The runs of a file."""
+    runs, files, last, title = [], {}, "", os.path.basename(path)
+    place, beside = os.path.relpath(path, TOP), os.path.dirname(path)
+    for line in lines.read(path):
+        file = FILE.match(line.text)
+        kind, _, rest = line.text.partition(" ")
+        if kind == "#":
+            title = rest
+        elif kind == "$":
+            runs.append(Run(f"{place}:{line.number}", title, rest.split(), dict(files), beside=beside))
+        elif kind in STREAM and runs:
+            setattr(runs[-1], STREAM[kind], getattr(runs[-1], STREAM[kind]) + lines.data(rest))
+        elif kind == ">>" and runs:
+            runs[-1].output += contents(f"{beside}/{rest}")
+        elif kind == "=" and runs:
+            runs[-1].status = int(rest)
+        elif file:
+            # (lines of one name, one below the other, are a file, in place of the last one of that name)
+            files[file[1]] = (files[file[1]] if last == file[1] else b"") + lines.data(file[2] or "")
+        elif line.text:
+            raise lines.Wrong(f"line {line.number}: {line.text}")
+        last = file[1] if file else ""
+    return runs
+
+
+def contents(path):
+    """The bytes of a file."""
+    with open(path, "rb") as file:
+        return file.read()

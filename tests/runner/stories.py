@@ -1,0 +1,191 @@
+"""Stories of a heap: NAME.story files. tests/README.md states the format."""
+import os
+import re
+from dataclasses import dataclass, field
+
+from runner import lines
+from runner.program import TOP, Streams, room
+from runner.results import Result, difference
+
+REPLIED = re.compile(r"(.*?) => (.*)")
+QUANTUM = re.compile(r"(quantum \d+) -> (\d+) (\S+)")
+
+
+@dataclass(frozen=True)
+class Reply:
+    """A reply that a story wants, with the command and the line of the story."""
+
+    number: int
+    command: str
+    text: str
+
+
+@dataclass
+class Story:
+    """A heap's story: its configuration, the lines of its trace, the replies that are wanted, and what is asked: by the number
+    of events before it, lines of the report and quanta; windows by the lines of the trace before them."""
+
+    place: str
+    title: str
+    config: str = ""
+    trace: list = field(default_factory=list)
+    replies: list = field(default_factory=list)
+    events: int = 0
+    reported: list = field(default_factory=list)
+    quanta: list = field(default_factory=list)
+    windows: list = field(default_factory=list)
+    status: int = 0
+    fault: str = ""
+
+    def play(self, program):
+        """Plays the story; what came of it."""
+        with room() as folder:
+            for name, text in (("config", self.config), ("text", self.text(len(self.trace)))):
+                with open(f"{folder}/{name}", "w", encoding="utf-8") as file:
+                    file.write(text)
+            heard = Heard(self, program, folder)
+            return [Result(self.place, self.title, list(heard.faults()))]
+
+    def text(self, count):
+        """The text of so many lines of the trace."""
+        return "".join(f"{it}\n" for it in self.trace[:count])
+
+
+def read(path):
+    """The stories of a file."""
+    title = os.path.splitext(os.path.basename(path))[0].replace("_", " ")
+    stories, told = [], []
+    for line in [*lines.read(path), lines.Line(0, "story")]:
+        kind, _, rest = line.text.partition(" ")
+        if kind != "story":
+            told.append(line)
+            continue
+        if any(it.text for it in told):
+            stories.append(story(told, path, title))
+        title, told = rest, []
+    return stories
+
+
+def story(told, path, title):
+    """The story that lines tell."""
+    while not told[0].text:
+        told.pop(0)
+    start = next((at for at, it in enumerate(told) if not it.text), None)
+    if start is None:
+        raise lines.Wrong(f"line {told[0].number}: a configuration, and no story")
+    made = Story(f"{os.path.relpath(path, TOP)}:{told[0].number}", title)
+    made.config = "".join(f"{it.text}\n" for it in told[:start])
+    for line in told[start + 1 :]:
+        if line.text:
+            add(made, line)
+    return made
+
+
+def add(story, line):
+    """Adds a line to a story."""
+    kind, _, rest = line.text.partition(" ")
+    if kind == "?":
+        story.reported.append((story.events, line.number, rest))
+    elif kind == "windows":
+        story.windows.append((len(story.trace), line.number, rest.split()))
+    elif kind == "fault":
+        status, _, story.fault = rest.partition(" ")
+        story.status = int(status)
+    else:
+        add_event(story, line)
+
+
+def add_event(story, line):
+    """Adds a line of the trace to a story."""
+    replied, quantum = REPLIED.fullmatch(line.text), QUANTUM.fullmatch(line.text)
+    event = replied[1] if replied else quantum[1] if quantum else line.text
+    story.trace.append(event)
+    if not event.startswith(("#", "version ")):
+        story.events += 1
+    if replied:
+        story.replies.append(Reply(line.number, event, replied[2]))
+    if quantum:
+        story.quanta.append((story.events, line.number, int(quantum[2]), quantum[3]))
+
+
+class Heard:
+    """What the program says of a story, in a folder that has its configuration and its trace."""
+
+    def __init__(self, story, program, folder):
+        self.story, self.program, self.folder = story, program, folder
+        self.reports = {}
+
+    def run(self, *words, given=b""):
+        """Runs the program."""
+        return self.program.run(words, self.folder, Streams(given))
+
+    def faults(self):
+        """What is wrong with the story as the program tells it."""
+        yield from self.faults_of_replies()
+        if not self.story.status:
+            yield from self.faults_of_history()
+            yield from self.faults_of_windows()
+            yield from self.faults_of_reports()
+            yield from self.faults_of_quanta()
+
+    def faults_of_replies(self):
+        """Whether play replies as wanted, and ends so."""
+        ended = self.run("play", "config", "text")
+        got = lines.shown(ended.output).splitlines()
+        for k, reply in enumerate(self.story.replies):
+            answer = got[k] if k < len(got) else "nothing"
+            if answer != reply.text:
+                yield f"  line {reply.number}: {reply.command}: expected {reply.text}, got {answer}"
+                break
+        if len(got) > len(self.story.replies):
+            yield f"  reply {len(self.story.replies) + 1}: expected none, got {got[len(self.story.replies)]}"
+        errors = f"metronome: {self.story.fault}\n" if self.story.status else ""
+        if ended.status != self.story.status:
+            yield f"  status: expected {self.story.status}, got {ended.status}"
+        if ended.errors != errors.encode():
+            yield difference("errors", errors.encode(), ended.errors)
+
+    def faults_of_history(self):
+        """Whether check accepts the history of the story."""
+        history = self.run("play", "config", "text", "--history").output
+        ended = self.run("check", "config", "-", given=history)
+        wanted = f"ok {len(self.story.replies)}\n".encode()
+        if (ended.status, ended.output, ended.errors) != (0, wanted, b""):
+            yield f"  check of its history: status {ended.status}, {lines.shown(ended.output + ended.errors)}"
+
+    def faults_of_windows(self):
+        """Whether mmu says of each window what is wanted, of the lines before it."""
+        for count, number, (width, least, bound, permille) in self.story.windows:
+            ended = self.run("mmu", "config", "-", width, given=self.story.text(count).encode())
+            wanted = f"window {width} least {least} bound {bound} permille {permille}\n"
+            if ended.output != wanted.encode():
+                yield f"  line {number}: expected {wanted}    got {lines.shown(ended.output)}"
+
+    def report(self, events):
+        """The lines of the report behind so many events."""
+        if events not in self.reports:
+            ended = self.run("inspect", "config", "text", "--after", str(events))
+            self.reports[events] = lines.shown(ended.output).splitlines()
+        return self.reports[events]
+
+    def faults_of_reports(self):
+        """Whether each report has the lines that are wanted; of a line that ends in ' ..' its beginning."""
+        for events, number, wanted in self.story.reported:
+            report = self.report(events)
+            begin = wanted.removesuffix("..") if wanted.endswith(" ..") else None
+            if not any(it == wanted or begin is not None and it.startswith(begin) for it in report):
+                yield "\n".join([f"  line {number}: expected {wanted}, got the report", *(f"    {it}" for it in report)])
+
+    def faults_of_quanta(self):
+        """Whether each quantum spends what is wanted, and ends in that phase; outside a cycle it spends nothing."""
+        for events, number, units, phase in self.story.quanta:
+            before, behind = figures(self.report(events - 1)), figures(self.report(events))
+            spent = 0 if before["phase"] == "idle" else int(behind["units"]) - int(before["units"])
+            is_phase = behind["phase"] == phase or phase == "on" and behind["phase"] != "idle"
+            if spent != units or not is_phase:
+                yield f"  line {number}: expected {units} units, {phase}; got {spent}, {behind['phase']}"
+
+
+def figures(report):
+    """Of the lines of a report that have two words, the second by the first."""
+    return dict(it.split(" ") for it in report if it.count(" ") == 1)

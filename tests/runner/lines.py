@@ -2,14 +2,13 @@
 import re
 from dataclasses import dataclass
 
-LOOP = re.compile(r"for (\w+) in (.+?)\.\.(.+)")
+LOOP = re.compile(r"for (\w+) in (.+)")
 TABLE = re.compile(r"each (\w+(?:, \w+)*)")
 NUMBER = r"[\w +*/%()-]+"
 BRACES = re.compile(
-    r"\{\{|\}\}"
-    r"|\{(?P<count>\w+) x (?P<text>[^{}]*)\}"
-    rf"|\{{(?P<below>[^{{}}]*) if (?P<low>{NUMBER}) < (?P<high>{NUMBER}) else (?P<above>[^{{}}]*)\}}"
-    rf"|\{{(?P<value>{NUMBER})\}}"
+    r"(?<!\{)\{(?:(?P<count>\w+) x (?P<text>[^{}]*)"
+    rf"|(?P<below>[^{{}}]*) if (?P<low>{NUMBER}) < (?P<high>{NUMBER}) else (?P<above>[^{{}}]*)"
+    rf"|(?P<value>{NUMBER}))\}}"
 )
 ESCAPE = re.compile(r"\\(?:x([0-9a-f]{2})|(.))")
 ESCAPED = {"n": "\n", "r": "\r", "t": "\t", "\\": "\\"}
@@ -47,7 +46,7 @@ def spread(lines, names):
             at += 1
             continue
         begin, end = block(lines, at)
-        rows = ranged(line, loop, names) if loop else rowed(lines[at + 1 : begin], table)
+        rows = ranged(line, loop, names) if loop else rowed(lines[at + 1 : begin], table, names)
         for row in rows:
             yield from spread(lines[begin + 1 : end], {**names, **row})
         at = end + 1
@@ -71,18 +70,23 @@ def block(lines, at):
 
 
 def ranged(line, loop, names):
-    """What a loop names: one number at a time."""
-    return [{loop[1]: it} for it in range(value(line, loop[2], names), value(line, loop[3], names))]
+    """What a loop names: one number at a time, of a range or of a list."""
+    low, dots, high = loop[2].partition("..")
+    if dots:
+        numbers = range(value(line, low, names), value(line, high, names))
+    else:
+        numbers = [value(line, it, names) for it in loop[2].split(", ")]
+    return [{loop[1]: it} for it in numbers]
 
 
-def rowed(lines, table):
+def rowed(lines, table, names):
     """What a table names: one row at a time. Its columns stand between |, and a number is one."""
-    names = table[1].split(", ")
+    columns = table[1].split(", ")
     for line in lines:
-        cells = [it.strip() for it in line.text.split(" | ")]
-        if len(cells) != len(names):
-            raise Wrong(f"line {line.number}: {len(cells)} columns, and not {len(names)}")
-        yield {name: int(it) if re.fullmatch(r"0|[1-9]\d*", it) else it for name, it in zip(names, cells)}
+        cells = [it.strip() for it in told(line, names).split(" | ")]
+        if len(cells) != len(columns):
+            raise Wrong(f"line {line.number}: {len(cells)} columns, and not {len(columns)}")
+        yield {name: int(it) if re.fullmatch(r"0|[1-9]\d*", it) else it for name, it in zip(columns, cells)}
 
 
 def value(line, text, names):
@@ -94,17 +98,21 @@ def value(line, text, names):
 
 
 def told(line, names):
-    """A line's text, with what its braces stand for."""
+    """A line's text, with what its braces stand for, from the inmost on."""
 
     def meant(found):
         if found["count"]:
             return found["text"] * value(line, found["count"], names)
         if found["low"]:
             is_below = value(line, found["low"], names) < value(line, found["high"], names)
-            return found["below" if is_below else "above"]
-        return str(value(line, found["value"], names)) if found["value"] else found[0][0]
+            branch = found["below" if is_below else "above"]
+            return str(names.get(branch, branch))
+        return str(value(line, found["value"], names))
 
-    return BRACES.sub(meant, line.text)
+    text, count = line.text, 1
+    while count:
+        text, count = BRACES.subn(meant, text)
+    return text.replace("{{", "{").replace("}}", "}")
 
 
 def data(text):

@@ -20,9 +20,18 @@ class Result:
 
 
 def is_as_wanted(wanted, got):
-    """Whether bytes are as wanted, where a line '..' stands for any lines."""
-    parts = [re.escape(it) if it != b"..\n" else b"(?:.*\n)*" for it in wanted.splitlines(keepends=True)]
-    return re.fullmatch(b"".join(parts), got) is not None
+    """Whether bytes are as wanted: a line '..' stands for any lines, and '..' at an end of a line for any bytes there."""
+    return re.fullmatch(b"".join(map(pattern, wanted.splitlines(keepends=True))), got) is not None
+
+
+def pattern(line):
+    """The pattern of a line that is wanted."""
+    if line == b"..\n":
+        return b"(?:.*\n)*"
+    text, end = line.removesuffix(b"\n"), line[len(line.removesuffix(b"\n")) :]
+    begin, any_rest = text.startswith(b".."), text.endswith(b"..")
+    middle = re.escape(text.removeprefix(b"..").removesuffix(b".."))
+    return b"[^\n]*" * begin + middle + b"[^\n]*" * any_rest + end
 
 
 def difference(what, wanted, got):

@@ -3,7 +3,7 @@ import dataclasses
 import os
 import re
 
-from runner import lines
+from runner import lines, streams
 from runner.program import TOP, Streams, room
 from runner.results import Result, difference, is_as_wanted
 
@@ -24,6 +24,8 @@ class Run:
     errors: bytes = b""
     status: int = 0
     beside: str = ""
+    writes: int | None = None
+    merges: bool = False
 
     def play(self, program):
         """Makes the run; what came of it."""
@@ -31,33 +33,41 @@ class Run:
             for name, text in self.files.items():
                 with open(f"{folder}/{name}", "wb") as file:
                     file.write(text)
-            words, streams = self.called()
-            ended = program.run(words, folder, streams)
-        return [Result(self.place, f"{self.title}: {' '.join(self.words)}", list(self.faults(ended)))]
+            faults = list(self.faults(program, folder))
+        return [Result(self.place, f"{self.title}: {' '.join(self.words)}", faults)]
 
     def called(self):
         """The words without those that say where a stream comes from or goes to, and what these say."""
-        words, streams = [], Streams()
+        words, given = [], Streams()
         for word in self.words:
             narrow = ROOM.fullmatch(word)
             if narrow:
-                streams = dataclasses.replace(streams, **{"errors_room" if narrow[1] else "room": int(narrow[2])})
+                given = dataclasses.replace(given, **{"errors_room" if narrow[1] else "room": int(narrow[2])})
             elif word.startswith("<"):
                 name, breaks = word[1:].rstrip("!"), word.endswith("!")
-                streams = dataclasses.replace(streams, given=self.files.get(name, b""), breaks=breaks)
+                given = dataclasses.replace(given, given=self.files.get(name, b""), breaks=breaks)
             else:
                 words.append(lines.escaped("" if word == "''" else word))
-        return words, streams
+        return words, given
 
-    def faults(self, ended):
-        """What is wrong with how a run ended."""
+    def faults(self, program, folder):
+        """What is wrong with the run."""
+        words, given = self.called()
+        ended = program.run(words, folder, given)
         if ended.status != self.status:
             yield f"  status: expected {self.status}, got {ended.status}"
-        streams = self.called()[1]
-        for what, bytes_of_room in (("output", streams.room), ("errors", streams.errors_room)):
-            wanted, got = getattr(self, what)[:bytes_of_room], getattr(ended, what)
+        for what, most in (("output", given.room), ("errors", given.errors_room)):
+            wanted, got = getattr(self, what)[:most], getattr(ended, what)
             if not is_as_wanted(wanted, got):
                 yield difference(what, wanted, got)
+        if self.writes is not None:
+            written = len(streams.writes(program, words, folder, given.given))
+            if written != self.writes:
+                yield f"  expected {self.writes} writes to the output, got {written}"
+        if self.merges:
+            checked = program.run(["check", words[1], "-"], folder, Streams(ended.output))
+            if checked.status or not is_merge(given.given.splitlines(), ended.output.splitlines()):
+                yield difference("a merge of the scripts that check accepts", given.given, ended.output)
 
 
 def read(path):
@@ -77,6 +87,10 @@ def read(path):
             runs[-1].output += contents(f"{beside}/{rest}")
         elif kind == "=" and runs:
             runs[-1].status = int(rest)
+        elif kind == "writes" and runs:
+            runs[-1].writes = int(rest)
+        elif line.text == "merge" and runs:
+            runs[-1].merges = True
         elif file:
             # (lines of one name, one below the other, are a file, in place of the last one of that name)
             files[file[1]] = (files[file[1]] if last == file[1] else b"") + lines.data(file[2] or "")
@@ -84,6 +98,18 @@ def read(path):
             raise lines.Wrong(f"line {line.number}: {line.text}")
         last = file[1] if file else ""
     return runs
+
+
+def is_merge(scripts, entries):
+    """Whether entries are the commands of scripts, those of each mutator in their order, each with a reply."""
+    commands = [it.partition(b" => ")[0] for it in entries]
+    firsts = {it.split()[0] for it in scripts + commands}
+    return all(ours(scripts, it) == ours(commands, it) for it in firsts)
+
+
+def ours(lines_of_all, first):
+    """The lines that begin with a word."""
+    return [it for it in lines_of_all if it.split()[0] == first]
 
 
 def contents(path):

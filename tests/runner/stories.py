@@ -3,7 +3,7 @@ import os
 import re
 from dataclasses import dataclass, field
 
-from runner import lines
+from runner import lines, streams
 from runner.program import TOP, Streams, room
 from runner.results import Result, difference
 
@@ -12,28 +12,28 @@ QUANTUM = re.compile(r"(quantum \d+) -> (\d+) (\S+)")
 
 
 @dataclass(frozen=True)
-class Reply:
-    """A reply that a story wants, with the command and the line of the story."""
+class Line:
+    """A line of a story's trace, with the number of the story's line, and the reply that is wanted, if it has one."""
 
     number: int
-    command: str
     text: str
+    reply: str | None = None
 
 
 @dataclass
 class Story:
-    """A heap's story: its configuration, the lines of its trace, the replies that are wanted, and what is asked: by the number
-    of events before it, lines of the report and quanta; windows by the lines of the trace before them."""
+    """A heap's story: its configuration, its trace, and what is asked: by the number of events before it, lines of the report
+    and quanta; windows by the lines of the trace before them; and how else it is played: cut, or typed."""
 
     place: str
     title: str
     config: str = ""
     trace: list = field(default_factory=list)
-    replies: list = field(default_factory=list)
     events: int = 0
     reported: list = field(default_factory=list)
     quanta: list = field(default_factory=list)
     windows: list = field(default_factory=list)
+    ways: set = field(default_factory=set)
     status: int = 0
     fault: str = ""
 
@@ -43,12 +43,20 @@ class Story:
             for name, text in (("config", self.config), ("text", self.text(len(self.trace)))):
                 with open(f"{folder}/{name}", "w", encoding="utf-8") as file:
                     file.write(text)
-            heard = Heard(self, program, folder)
-            return [Result(self.place, self.title, list(heard.faults()))]
+            faults = list(Heard(self, program, folder).faults())
+            if "cut" in self.ways:
+                faults += streams.faults_of_cuts(self, program, folder)
+            if "typed" in self.ways:
+                faults += streams.faults_of_typing(self, program, folder)
+            return [Result(self.place, self.title, faults)]
 
     def text(self, count):
         """The text of so many lines of the trace."""
-        return "".join(f"{it}\n" for it in self.trace[:count])
+        return "".join(f"{it.text}\n" for it in self.trace[:count])
+
+    def replies(self, count):
+        """The replies to so many lines of the trace."""
+        return "".join(f"{it.reply}\n" for it in self.trace[:count] if it.reply is not None)
 
 
 def read(path):
@@ -91,6 +99,8 @@ def add(story, line):
     elif kind == "fault":
         status, _, story.fault = rest.partition(" ")
         story.status = int(status)
+    elif line.text in ("cut", "typed"):
+        story.ways.add(line.text)
     else:
         add_event(story, line)
 
@@ -98,12 +108,9 @@ def add(story, line):
 def add_event(story, line):
     """Adds a line of the trace to a story."""
     replied, quantum = REPLIED.fullmatch(line.text), QUANTUM.fullmatch(line.text)
-    event = replied[1] if replied else quantum[1] if quantum else line.text
-    story.trace.append(event)
-    if not event.startswith(("#", "version ")):
-        story.events += 1
-    if replied:
-        story.replies.append(Reply(line.number, event, replied[2]))
+    text = replied[1] if replied else quantum[1] if quantum else line.text
+    story.trace.append(Line(line.number, text, replied[2] if replied else None))
+    story.events += not text.startswith(("#", "version "))
     if quantum:
         story.quanta.append((story.events, line.number, int(quantum[2]), quantum[3]))
 
@@ -113,6 +120,7 @@ class Heard:
 
     def __init__(self, story, program, folder):
         self.story, self.program, self.folder = story, program, folder
+        self.replied = [it for it in story.trace if it.reply is not None]
         self.reports = {}
 
     def run(self, *words, given=b""):
@@ -132,13 +140,13 @@ class Heard:
         """Whether play replies as wanted, and ends so."""
         ended = self.run("play", "config", "text")
         got = lines.shown(ended.output).splitlines()
-        for k, reply in enumerate(self.story.replies):
+        for k, line in enumerate(self.replied):
             answer = got[k] if k < len(got) else "nothing"
-            if answer != reply.text:
-                yield f"  line {reply.number}: {reply.command}: expected {reply.text}, got {answer}"
+            if answer != line.reply:
+                yield f"  line {line.number}: {line.text}: expected {line.reply}, got {answer}"
                 break
-        if len(got) > len(self.story.replies):
-            yield f"  reply {len(self.story.replies) + 1}: expected none, got {got[len(self.story.replies)]}"
+        for more in got[len(self.replied) : len(self.replied) + 1]:
+            yield f"  behind the last reply: expected nothing, got {more}"
         errors = f"metronome: {self.story.fault}\n" if self.story.status else ""
         if ended.status != self.story.status:
             yield f"  status: expected {self.story.status}, got {ended.status}"
@@ -149,7 +157,7 @@ class Heard:
         """Whether check accepts the history of the story."""
         history = self.run("play", "config", "text", "--history").output
         ended = self.run("check", "config", "-", given=history)
-        wanted = f"ok {len(self.story.replies)}\n".encode()
+        wanted = f"ok {len(self.replied)}\n".encode()
         if (ended.status, ended.output, ended.errors) != (0, wanted, b""):
             yield f"  check of its history: status {ended.status}, {lines.shown(ended.output + ended.errors)}"
 

@@ -1,5 +1,26 @@
-for quanta in 0..20
-story a mutator leaves after {quanta} quanta
+each quanta, phase
+    0 | roots
+    1 | roots
+    2 | roots
+    3 | marking
+    4 | marking
+    5 | sweeping
+    6 | sweeping
+    7 | sweeping
+    8 | moving
+    9 | moving
+    10 | moving
+    11 | idle
+    12 | idle
+    13 | idle
+    14 | idle
+    15 | idle
+    16 | idle
+    17 | idle
+    18 | idle
+    19 | idle
+do
+story a mutator leaves after {quanta} quanta, in the phase {phase}
 pages = 8
 mutators = 2
 slots = 256
@@ -21,6 +42,8 @@ begin
 for k in 0..quanta
 quantum 256
 end
+# 512 units for roots, 610 for marking, 783 for sweeping, one for each change of phase, and then moves
+? phase {phase}
 1 leave => done
 for k in 0..60
 quantum 256

@@ -1,314 +1,52 @@
-story cells at the edges of pieces of 252
-pages = 40
+each size, word, ref, same
+    252 | word 0 | ref 0 | is no
+    253 | word 252 | ref 3 | is yes
+    504 | word 0 | ref 0 | is no
+    505 | word 504 | ref 3 | is yes
+    63504 | word 0 | ref 0 | is no
+do
+story cells at the edges of pieces of {size}
+pages = 70
 mutators = 2
 slots = 4
 statics = 1
 
-0 new 0 words 252 => made 1
-0 new 1 refs 252 => made 2
+0 new 0 words {size} => made 1
+0 new 1 refs {size} => made 2
 0 new 2 plain 0 0 => made 3
-0 put 0 0 1 => done
-0 store 1 0 2 => done
-0 put 0 251 252 => done
-0 store 1 251 2 => done
-0 put 0 252 253 => refused 3
-0 store 1 252 2 => refused 3
-0 put 0 503 504 => refused 3
-0 store 1 503 2 => refused 3
-0 put 0 504 505 => refused 3
-0 store 1 504 2 => refused 3
-0 put 0 251 252 => done
-0 store 1 251 2 => done
-0 put 0 252 253 => refused 3
-0 store 1 252 2 => refused 3
-0 get 0 0 => word 1
-0 load 3 1 0 => ref 3
-0 same 3 2 => is yes
-0 get 0 1 => word 0
-0 load 3 1 1 => ref 0
-0 same 3 2 => is no
-0 get 0 250 => word 0
-0 load 3 1 250 => ref 0
-0 same 3 2 => is no
-0 get 0 251 => word 252
-0 load 3 1 251 => ref 3
-0 same 3 2 => is yes
-0 get 0 252 => refused 3
-0 load 3 1 252 => refused 3
-0 same 3 2 => is yes
-0 get 0 253 => refused 3
-0 load 3 1 253 => refused 3
-0 same 3 2 => is yes
-0 get 0 502 => refused 3
-0 load 3 1 502 => refused 3
-0 same 3 2 => is yes
-0 get 0 503 => refused 3
-0 load 3 1 503 => refused 3
-0 same 3 2 => is yes
-0 get 0 504 => refused 3
-0 load 3 1 504 => refused 3
-0 same 3 2 => is yes
-0 get 0 505 => refused 3
-0 load 3 1 505 => refused 3
-0 same 3 2 => is yes
-0 get 0 250 => word 0
-0 load 3 1 250 => ref 0
-0 same 3 2 => is no
-0 get 0 251 => word 252
-0 load 3 1 251 => ref 3
-0 same 3 2 => is yes
-0 get 0 252 => refused 3
-0 load 3 1 252 => refused 3
-0 same 3 2 => is yes
-
-story cells at the edges of pieces of 253
-pages = 40
-mutators = 2
-slots = 4
-statics = 1
-
-0 new 0 words 253 => made 1
-0 new 1 refs 253 => made 2
-0 new 2 plain 0 0 => made 3
-0 put 0 0 1 => done
-0 store 1 0 2 => done
-0 put 0 251 252 => done
-0 store 1 251 2 => done
-0 put 0 252 253 => done
-0 store 1 252 2 => done
-0 put 0 503 504 => refused 3
-0 store 1 503 2 => refused 3
-0 put 0 504 505 => refused 3
-0 store 1 504 2 => refused 3
-0 put 0 252 253 => done
-0 store 1 252 2 => done
-0 put 0 253 254 => refused 3
-0 store 1 253 2 => refused 3
-0 get 0 0 => word 1
-0 load 3 1 0 => ref 3
-0 same 3 2 => is yes
-0 get 0 1 => word 0
-0 load 3 1 1 => ref 0
-0 same 3 2 => is no
-0 get 0 250 => word 0
-0 load 3 1 250 => ref 0
-0 same 3 2 => is no
-0 get 0 251 => word 252
-0 load 3 1 251 => ref 3
-0 same 3 2 => is yes
-0 get 0 252 => word 253
-0 load 3 1 252 => ref 3
-0 same 3 2 => is yes
-0 get 0 253 => refused 3
-0 load 3 1 253 => refused 3
-0 same 3 2 => is yes
-0 get 0 502 => refused 3
-0 load 3 1 502 => refused 3
-0 same 3 2 => is yes
-0 get 0 503 => refused 3
-0 load 3 1 503 => refused 3
-0 same 3 2 => is yes
-0 get 0 504 => refused 3
-0 load 3 1 504 => refused 3
-0 same 3 2 => is yes
-0 get 0 505 => refused 3
-0 load 3 1 505 => refused 3
-0 same 3 2 => is yes
-0 get 0 251 => word 252
-0 load 3 1 251 => ref 3
-0 same 3 2 => is yes
-0 get 0 252 => word 253
-0 load 3 1 252 => ref 3
-0 same 3 2 => is yes
-0 get 0 253 => refused 3
-0 load 3 1 253 => refused 3
-0 same 3 2 => is yes
-
-story cells at the edges of pieces of 504
-pages = 40
-mutators = 2
-slots = 4
-statics = 1
-
-0 new 0 words 504 => made 1
-0 new 1 refs 504 => made 2
-0 new 2 plain 0 0 => made 3
-0 put 0 0 1 => done
-0 store 1 0 2 => done
-0 put 0 251 252 => done
-0 store 1 251 2 => done
-0 put 0 252 253 => done
-0 store 1 252 2 => done
-0 put 0 503 504 => done
-0 store 1 503 2 => done
-0 put 0 504 505 => refused 3
-0 store 1 504 2 => refused 3
-0 put 0 503 504 => done
-0 store 1 503 2 => done
-0 put 0 504 505 => refused 3
-0 store 1 504 2 => refused 3
-0 get 0 0 => word 1
-0 load 3 1 0 => ref 3
-0 same 3 2 => is yes
-0 get 0 1 => word 0
-0 load 3 1 1 => ref 0
-0 same 3 2 => is no
-0 get 0 250 => word 0
-0 load 3 1 250 => ref 0
-0 same 3 2 => is no
-0 get 0 251 => word 252
-0 load 3 1 251 => ref 3
-0 same 3 2 => is yes
-0 get 0 252 => word 253
-0 load 3 1 252 => ref 3
-0 same 3 2 => is yes
-0 get 0 253 => word 0
-0 load 3 1 253 => ref 0
-0 same 3 2 => is no
-0 get 0 502 => word 0
-0 load 3 1 502 => ref 0
-0 same 3 2 => is no
-0 get 0 503 => word 504
-0 load 3 1 503 => ref 3
-0 same 3 2 => is yes
-0 get 0 504 => refused 3
-0 load 3 1 504 => refused 3
-0 same 3 2 => is yes
-0 get 0 505 => refused 3
-0 load 3 1 505 => refused 3
-0 same 3 2 => is yes
-0 get 0 502 => word 0
-0 load 3 1 502 => ref 0
-0 same 3 2 => is no
-0 get 0 503 => word 504
-0 load 3 1 503 => ref 3
-0 same 3 2 => is yes
-0 get 0 504 => refused 3
-0 load 3 1 504 => refused 3
-0 same 3 2 => is yes
-
-story cells at the edges of pieces of 505
-pages = 40
-mutators = 2
-slots = 4
-statics = 1
-
-0 new 0 words 505 => made 1
-0 new 1 refs 505 => made 2
-0 new 2 plain 0 0 => made 3
-0 put 0 0 1 => done
-0 store 1 0 2 => done
-0 put 0 251 252 => done
-0 store 1 251 2 => done
-0 put 0 252 253 => done
-0 store 1 252 2 => done
-0 put 0 503 504 => done
-0 store 1 503 2 => done
-0 put 0 504 505 => done
-0 store 1 504 2 => done
-0 put 0 504 505 => done
-0 store 1 504 2 => done
-0 put 0 505 506 => refused 3
-0 store 1 505 2 => refused 3
-0 get 0 0 => word 1
-0 load 3 1 0 => ref 3
-0 same 3 2 => is yes
-0 get 0 1 => word 0
-0 load 3 1 1 => ref 0
-0 same 3 2 => is no
-0 get 0 250 => word 0
-0 load 3 1 250 => ref 0
-0 same 3 2 => is no
-0 get 0 251 => word 252
-0 load 3 1 251 => ref 3
-0 same 3 2 => is yes
-0 get 0 252 => word 253
-0 load 3 1 252 => ref 3
-0 same 3 2 => is yes
-0 get 0 253 => word 0
-0 load 3 1 253 => ref 0
-0 same 3 2 => is no
-0 get 0 502 => word 0
-0 load 3 1 502 => ref 0
-0 same 3 2 => is no
-0 get 0 503 => word 504
-0 load 3 1 503 => ref 3
-0 same 3 2 => is yes
-0 get 0 504 => word 505
-0 load 3 1 504 => ref 3
-0 same 3 2 => is yes
-0 get 0 505 => refused 3
-0 load 3 1 505 => refused 3
-0 same 3 2 => is yes
-0 get 0 503 => word 504
-0 load 3 1 503 => ref 3
-0 same 3 2 => is yes
-0 get 0 504 => word 505
-0 load 3 1 504 => ref 3
-0 same 3 2 => is yes
-0 get 0 505 => refused 3
-0 load 3 1 505 => refused 3
-0 same 3 2 => is yes
-
-story cells at the edges of pieces of 63504
-pages = 40
-mutators = 2
-slots = 4
-statics = 1
-
-0 new 0 words 63504 => made 1
-0 new 1 refs 63504 => refused 7
-0 new 2 plain 0 0 => made 2
-0 put 0 0 1 => done
-0 store 1 0 2 => refused 2
-0 put 0 251 252 => done
-0 store 1 251 2 => refused 2
-0 put 0 252 253 => done
-0 store 1 252 2 => refused 2
-0 put 0 503 504 => done
-0 store 1 503 2 => refused 2
-0 put 0 504 505 => done
-0 store 1 504 2 => refused 2
-0 put 0 63503 63504 => done
-0 store 1 63503 2 => refused 2
-0 put 0 63504 63505 => refused 3
-0 store 1 63504 2 => refused 2
-0 get 0 0 => word 1
-0 load 3 1 0 => refused 2
-0 same 3 2 => is no
-0 get 0 1 => word 0
-0 load 3 1 1 => refused 2
-0 same 3 2 => is no
-0 get 0 250 => word 0
-0 load 3 1 250 => refused 2
-0 same 3 2 => is no
-0 get 0 251 => word 252
-0 load 3 1 251 => refused 2
-0 same 3 2 => is no
-0 get 0 252 => word 253
-0 load 3 1 252 => refused 2
-0 same 3 2 => is no
-0 get 0 253 => word 0
-0 load 3 1 253 => refused 2
-0 same 3 2 => is no
-0 get 0 502 => word 0
-0 load 3 1 502 => refused 2
-0 same 3 2 => is no
-0 get 0 503 => word 504
-0 load 3 1 503 => refused 2
-0 same 3 2 => is no
-0 get 0 504 => word 505
-0 load 3 1 504 => refused 2
-0 same 3 2 => is no
-0 get 0 505 => word 0
-0 load 3 1 505 => refused 2
-0 same 3 2 => is no
-0 get 0 63502 => word 0
-0 load 3 1 63502 => refused 2
-0 same 3 2 => is no
-0 get 0 63503 => word 63504
-0 load 3 1 63503 => refused 2
-0 same 3 2 => is no
-0 get 0 63504 => refused 3
-0 load 3 1 63504 => refused 2
-0 same 3 2 => is no
+each i
+    0
+    251
+    252
+    503
+    504
+    {size - 1}
+    {size}
+do
+0 put 0 {i} {i + 1} => {done if i < size else refused 3}
+0 store 1 {i} 2 => {done if i < size else refused 3}
+end
+# what the last cell but one has, the table at the head says
+0 get 0 {size - 2} => {word}
+0 load 3 1 {size - 2} => {ref}
+0 same 3 2 => {same}
+each i, word, ref, same
+    0 | word 1 | ref 3 | is yes
+    1 | word 0 | ref 0 | is no
+    250 | word 0 | ref 0 | is no
+    251 | word 252 | ref 3 | is yes
+    252 | word 253 | ref 3 | is yes
+    253 | word 0 | ref 0 | is no
+    502 | word 0 | ref 0 | is no
+    503 | word 504 | ref 3 | is yes
+    504 | word 505 | ref 3 | is yes
+    505 | word 0 | ref 0 | is no
+    {size - 1} | word {size} | ref 3 | is yes
+    {size} | none | none | none
+do
+0 clear 3 => done
+0 get 0 {i} => {word if i < size else refused 3}
+0 load 3 1 {i} => {ref if i < size else refused 3}
+0 same 3 2 => {same if i < size else is no}
+end
+end

@@ -1,0 +1,66 @@
+"""Inputs that end anywhere or are typed, outputs that fill up, and the writes that a run makes."""
+import os
+import select
+import socket
+import subprocess
+
+from runner.lines import shown
+from runner.program import LIMIT, Ended, Streams, filled
+
+PLAY = ("play", "config", "-")
+
+
+def faults_of_cuts(story, program, folder):
+    """What is wrong where the trace ends behind any of its bytes, where reading fails there, and where the output has room
+    for so many bytes alone."""
+    text = story.text(len(story.trace)).encode()
+    for count in range(len(text) + 1):
+        front = text[:count]
+        lines = front.count(b"\n")
+        output = story.replies(lines).encode()
+        fault = b"" if front[-1:] in (b"", b"\n") else f"metronome: line {lines + 1}: line not ended\n".encode()
+        wanted = Ended(4 if fault else 0, output, fault)
+        yield from fault_of(program, folder, f"cut behind {count} bytes", Streams(front), wanted)
+        wanted = Ended(5, output, b"metronome: cannot read\n")
+        yield from fault_of(program, folder, f"broken behind {count} bytes", Streams(front, breaks=True), wanted)
+    replies = story.replies(len(story.trace)).encode()
+    for room in range(len(replies)):
+        wanted = Ended(5, replies[:room], b"metronome: cannot write\n")
+        yield from fault_of(program, folder, f"with room for {room} bytes", Streams(text, room=room), wanted)
+
+
+def fault_of(program, folder, how, streams, wanted):
+    """What is wrong with a play, whose end is wanted so."""
+    ended = program.run(PLAY, folder, streams)
+    if ended != wanted:
+        yield f"  {how}: expected {wanted}, got {ended}"
+
+
+def faults_of_typing(story, program, folder):
+    """What is wrong where each line is typed once the reply to the one before it is there."""
+    how = {"stdin": subprocess.PIPE, "stdout": subprocess.PIPE, "cwd": folder}
+    with subprocess.Popen([program.path, *PLAY], **how) as typed:
+        for event in story.trace:
+            os.write(typed.stdin.fileno(), f"{event.text}\n".encode())
+            reply = "" if event.reply is None else answer(typed.stdout)
+            if reply != (event.reply or ""):
+                yield f"  line {event.number}: typed: {event.text}: expected {event.reply}, got {reply or 'nothing'}"
+                break
+        typed.stdin.close()
+
+
+def answer(stream):
+    """The line that a stream gives next; none if none comes in ten seconds."""
+    ready, _, _ = select.select([stream], [], [], 10)
+    return shown(os.read(stream.fileno(), 4096)).removesuffix("\n") if ready else ""
+
+
+def writes(program, words, folder, given):
+    """What each write of a run to its output has."""
+    here, there = socket.socketpair(socket.AF_UNIX, socket.SOCK_SEQPACKET)
+    with here, open(f"{folder}/.given", "w+b") as file:
+        how = {"stdin": filled(file, given), "stdout": there, "stderr": subprocess.DEVNULL, "cwd": folder}
+        with subprocess.Popen([program.path, *words], **how):
+            there.close()
+            here.settimeout(LIMIT)
+            return list(iter(lambda: here.recv(1 << 20), b""))

@@ -27,18 +27,6 @@ fn of_a_slow_heap(rt: HostRuntime) -> Result<(), NoMemory> {
     Ok(())
 }
 
-/// A heap that was made takes no memory. The cycle: 9 roots, a header, 409 blocks and a page, and a unit for each of
-/// the three changes of phase.
-#[test]
-fn of_a_heap(rt: HostRuntime) -> Result<(), NoMemory> {
-    let mut heap = Heap::new(rt.alloc(), &config_of(&rt, &ONE_PAGE))?;
-    assert_eq!(&rt; heap.step(0, plain(0, 0, 1)), Reply::Made(1));
-    assert_eq!(&rt; heap.begin(), Ok(()));
-    let phase = Phase::Idle;
-    assert_eq!(&rt; heap.quantum(1000), Ok(Spent { units: 423, phase }));
-    Ok(())
-}
-
 /// The reply to a command of mutator 0.
 fn told(heap: &mut Recorded, command: Command) -> Result<Reply, NoMemory> {
     Ok(heap.call(0, command)?.entry().reply)
@@ -50,7 +38,7 @@ fn of_reserved_calls(rt: HostRuntime) -> Result<(), NoMemory> {
     let mut heap = recorded(&rt, &ONE_PAGE)?;
     heap.reserve(40)?;
     for k in 0..40usize {
-        assert!(&rt; told(&mut heap, clear(0)).is_ok(), "{k}");
+        assert!(&rt; told(&mut heap, Command::Clear { dst: 0 }).is_ok(), "{k}");
     }
     Ok(())
 }

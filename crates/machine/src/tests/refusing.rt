@@ -1,10 +1,17 @@
 //! What the collector is refused, and that nothing changes then.
 
 use super::*;
-use heap_model::phase::Phase;
 use std::alloc::AllocError;
 use std::fmt::Display;
 use std::test::Fail;
+
+const MANY_SLOTS: Settings = Settings {
+    pages: 4,
+    mutators: 2,
+    live: 2,
+    slots: 256,
+    ..ONE_PAGE
+};
 
 /// The heap is in this phase, has spent so many units, and slot 0 holds its one object.
 fn unchanged(rt: &impl Abort, heap: &mut Heap, phase: Phase, units: u64) {

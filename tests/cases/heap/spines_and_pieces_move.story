@@ -32,7 +32,6 @@ begin
 for quantum in 0..5
 quantum 1000000
 end
-? phase idle
 for i in 0, 1, 251, 252, 253, 63503, 63504, 63505, 63755, 63756, 63757, 64007, 64008, 3999995, 3999996, 3999999, 4000000
 0 get 0 {i} => {word 7{i} if i < 63505 else refused 3}
 0 load 1 0 {i} => refused 4
@@ -76,7 +75,6 @@ begin
 for quantum in 0..5
 quantum 1000000
 end
-? phase idle
 for i in 0, 1, 251, 252, 253, 63503, 63504, 63505, 63755, 63756, 63757, 64007, 64008, 3999995, 3999996, 3999999, 4000000
 0 get 0 {i} => refused 4
 0 load 1 0 {i} => {ref 1 if i < 63505 else refused 3}
@@ -119,7 +117,6 @@ begin
 for quantum in 0..5
 quantum 1000000
 end
-? phase idle
 for i in 0, 1, 251, 252, 253, 63503, 63504, 63505, 63755, 63756, 63757, 64007, 64008, 3999995, 3999996, 3999999, 4000000
 0 get 0 {i} => {word 7{i} if i < 4000000 else refused 3}
 0 load 1 0 {i} => refused 4
@@ -162,7 +159,6 @@ begin
 for quantum in 0..5
 quantum 1000000
 end
-? phase idle
 for i in 0, 1, 251, 252, 253, 63503, 63504, 63505, 63755, 63756, 63757, 64007, 64008, 3999995, 3999996, 3999999, 4000000
 0 get 0 {i} => refused 4
 0 load 1 0 {i} => {ref 1 if i < 4000000 else refused 3}

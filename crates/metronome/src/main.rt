@@ -9,8 +9,6 @@ mod load_job;
 mod pages_job;
 mod progress;
 mod run;
-#[cfg(test)]
-mod tests;
 mod time_job;
 
 use fault::RunFault;

@@ -139,19 +139,20 @@ class Heard:
     def faults_of_replies(self):
         """Whether play replies as wanted, and ends so."""
         ended = self.run("play", "config", "text")
-        got = lines.shown(ended.output).splitlines()
-        for k, line in enumerate(self.replied):
-            answer = got[k] if k < len(got) else "nothing"
-            if answer != line.reply:
-                yield f"  line {line.number}: {line.text}: expected {line.reply}, got {answer}"
-                break
-        for more in got[len(self.replied) : len(self.replied) + 1]:
-            yield f"  behind the last reply: expected nothing, got {more}"
+        if ended.output != self.story.replies(len(self.story.trace)).encode():
+            yield self.first_difference(lines.shown(ended.output).split("\n"))
         errors = f"metronome: {self.story.fault}\n" if self.story.status else ""
         if ended.status != self.story.status:
             yield f"  status: expected {self.story.status}, got {ended.status}"
         if ended.errors != errors.encode():
             yield difference("errors", errors.encode(), ended.errors)
+
+    def first_difference(self, got):
+        """Where lines differ first from the replies that are wanted."""
+        for line, answer in zip(self.replied, got):
+            if answer != line.reply:
+                return f"  line {line.number}: {line.text}: expected {line.reply}, got {answer or 'nothing'}"
+        return f"  behind the last reply: expected an ended line and no more, got {got[len(self.replied):]}"
 
     def faults_of_history(self):
         """Whether check accepts the history of the story."""

@@ -47,7 +47,7 @@ class Program:
         limits = {"preexec_fn": lambda: resource.setrlimit(resource.RLIMIT_FSIZE, (rooms[0], rooms[0]))} if rooms else {}
         with contextlib.ExitStack() as opened:
             given, output, errors = (opened.enter_context(tempfile.TemporaryFile()) for _ in range(3))
-            how = {"cwd": folder, "timeout": LIMIT, "restore_signals": False, **limits}
+            how = {"cwd": folder, "timeout": LIMIT, "restore_signals": not rooms, **limits}
             how["stdin"] = opened.enter_context(broken(streams.given)) if streams.breaks else filled(given, streams.given)
             how["stdout"] = output if streams.room is not None else subprocess.PIPE
             how["stderr"] = errors if streams.errors_room is not None else subprocess.PIPE

@@ -45,7 +45,7 @@ class Run:
                 given = dataclasses.replace(given, **{"errors_room" if narrow[1] else "room": int(narrow[2])})
             elif word.startswith("<"):
                 name, breaks = word[1:].rstrip("!"), word.endswith("!")
-                given = dataclasses.replace(given, given=self.files.get(name, b""), breaks=breaks)
+                given = dataclasses.replace(given, given=self.files[name], breaks=breaks)
             else:
                 words.append(lines.escaped("" if word == "''" else word))
         return words, given

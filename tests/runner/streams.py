@@ -8,6 +8,8 @@ from runner.lines import shown
 from runner.program import LIMIT, Ended, Streams, filled
 
 PLAY = ("play", "config", "-")
+# The most seconds until a reply to a typed line comes.
+PATIENCE = 60
 
 
 def faults_of_cuts(story, program, folder):
@@ -50,8 +52,8 @@ def faults_of_typing(story, program, folder):
 
 
 def answer(stream):
-    """The line that a stream gives next; none if none comes in ten seconds."""
-    ready, _, _ = select.select([stream], [], [], 10)
+    """The line that a stream gives next; none if none comes in time."""
+    ready, _, _ = select.select([stream], [], [], PATIENCE)
     return shown(os.read(stream.fileno(), 4096)).removesuffix("\n") if ready else ""
 
 

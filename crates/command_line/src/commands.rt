@@ -84,14 +84,14 @@ fn check<'a>(alloc: Global) -> Result<Command<'a>, AllocError> {
 }
 
 fn threads<'a>(alloc: Global) -> Result<Command<'a>, AllocError> {
-    let budget = "Units of each quantum, 256 to 1000000 [default: 256]";
-    turning(alloc)?.arg(number(alloc, "budget", "B", budget))
+    let budget = "Units of each quantum, 256 to 1000000";
+    turning(alloc)?.arg(number(alloc, "budget", "B", budget).default_value("256"))
 }
 
 /// The subcommand on scripts, with its number of quanta.
 fn turning<'a>(alloc: Global) -> Result<Command<'a>, AllocError> {
-    let turns = "Quanta of the collector, 0 to 10000 [default: 100]";
-    scripting(alloc)?.arg(number(alloc, "turns", "N", turns))
+    let turns = "Quanta of the collector, 0 to 10000";
+    scripting(alloc)?.arg(number(alloc, "turns", "N", turns).default_value("100"))
 }
 
 /// The subcommand on scripts.

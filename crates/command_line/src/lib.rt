@@ -13,6 +13,3 @@ pub use fault::{ReadFault, WordsFault};
 pub use job::{Job, Picture, Request, Sizing};
 pub use toml_table::{OpenFault, any_member, open_document};
 pub use words::read_words;
-
-#[cfg(test)]
-mod tests;

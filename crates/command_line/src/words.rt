@@ -88,8 +88,9 @@ fn check<'a>(alloc: Global, found: &ArgMatches<'a>) -> Result<Job<'a>, WordsFaul
 fn threads<'a>(alloc: Global, found: &ArgMatches<'a>) -> Result<Job<'a>, WordsFault>
     ensures { IfOk result IsInRange }
 {
-    let turns = found.get_one::<u32>("turns").unwrap_or(100);
-    let budget = found.get_one::<u32>("budget").unwrap_or(256);
+    // (clap gives each its default where it isn't named)
+    let turns = found.get_one::<u32>("turns").unwrap_or_default();
+    let budget = found.get_one::<u32>("budget").unwrap_or_default();
     within(alloc, "--turns <N>", u64::from(turns), 0, 10000)?;
     let (least, most) = (u64::from(LEAST_BUDGET), u64::from(MOST_BUDGET));
     within(alloc, "--budget <B>", u64::from(budget), least, most)?;

@@ -1,10 +1,14 @@
-//! What no trace reaches: a tick that is refused memory and goes on, and replies of a front of a trace.
+//! What no trace reaches: a tick that is refused memory and goes on, replies of a front of a trace, and of what lies below the
+//! texts of faults, of which the program has its own, and a write of no bytes.
 use super::*;
 use graph_heap::NoMemory;
 use size_classes::{Config, Settings};
 use std::process::Abort;
 use std::test::Fail;
-use trace::{FailAt, MemorySink, MemorySource, TextFault};
+use trace::{
+    FailAt, LineFault, MemorySink, MemorySource, ReadFailed, Sink, TextFault, WriteFailed,
+    WriteSink,
+};
 
 /// Four pages of four classes, and quanta of 260 units.
 const FOUR_PAGES: Settings = Settings {
@@ -67,4 +71,35 @@ fn replies_up_to_an_event_are_written(rt: HostRuntime) -> Result<(), Fail> {
         }
     }
     Ok(())
+}
+
+#[test]
+fn faults_have_texts(rt: HostRuntime) -> Result<(), Fail> {
+    let faults = [
+        (
+            TextFault::Line(2, LineFault::NotEnded),
+            "line 2: line not ended",
+        ),
+        (
+            TextFault::Line(18446744073709551615, LineFault::NotEnded),
+            "line 18446744073709551615: line not ended",
+        ),
+        (TextFault::Read, "cannot read"),
+        (TextFault::Write, "cannot write"),
+        (TextFault::NoMemory, "no memory"),
+    ];
+    for (fault, text) in faults {
+        assert_eq!(rt; format!(in rt.alloc(); "{fault}")?.as_str(), text);
+    }
+    let read = format!(in rt.alloc(); "{ReadFailed}")?;
+    assert_eq!(rt; read.as_str(), "cannot read");
+    let write = format!(in rt.alloc(); "{WriteFailed}")?;
+    assert_eq!(rt; write.as_str(), "cannot write");
+    Ok(())
+}
+
+#[test]
+fn a_write_of_no_bytes_is_no_failure(rt: HostRuntime) {
+    let mut sink = WriteSink::new(Vec::new(rt.alloc()));
+    assert_eq!(rt; sink.write(b""), Ok(0));
 }

@@ -36,6 +36,3 @@ pub use text::{end_line, put, put_named};
 pub use version::{Version, tells_version, version_line};
 pub use write::{write_command, write_entry, write_reply};
 pub use write_buffer::WriteBuffer;
-
-#[cfg(test)]
-mod tests;

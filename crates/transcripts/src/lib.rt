@@ -7,6 +7,3 @@ mod scripts;
 
 pub use histories::{Checked, check_entries};
 pub use scripts::read_scripts;
-
-#[cfg(test)]
-mod tests;

@@ -7,6 +7,3 @@ mod reporting;
 
 pub use fault::WriteFault;
 pub use reporting::report;
-
-#[cfg(test)]
-mod tests;

@@ -16,6 +16,3 @@ pub use command::{
 pub use laws::{one_more, one_step, shapes_stand};
 pub use no_memory::NoMemory;
 pub use reference::Reference;
-
-#[cfg(test)]
-mod tests;

@@ -10,6 +10,3 @@ pub use laws::{
     cell_written, colour_written, copied_block, forward_written, header_packed, link_written,
     new_block, other_blocks,
 };
-
-#[cfg(test)]
-mod tests;

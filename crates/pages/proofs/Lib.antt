@@ -4,7 +4,6 @@ pub mod Indexing
 pub mod Telling
 pub mod Reading
 pub mod Needing
-pub mod Taken
 pub mod Single
 pub mod Writing
 pub mod Flags

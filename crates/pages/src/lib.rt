@@ -12,6 +12,3 @@ pub mod view;
 pub use page::PageRecord;
 pub use table::{Block, PageTable};
 pub use view::PageView;
-
-#[cfg(test)]
-mod tests;

@@ -9,6 +9,3 @@ pub mod schedule;
 pub use clock_spent::ClockSpent;
 pub use interval::Interval;
 pub use schedule::{CLOCK_LIMIT, Schedule};
-
-#[cfg(test)]
-mod tests;

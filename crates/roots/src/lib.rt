@@ -4,6 +4,3 @@
 pub mod roots;
 
 pub use roots::Roots;
-
-#[cfg(test)]
-mod tests;

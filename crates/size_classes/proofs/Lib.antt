@@ -1,4 +1,5 @@
 pub mod Closed
 pub mod Cutting
+mod Figures
 pub mod Ranges
 pub mod Table

@@ -17,6 +17,3 @@ pub use key::{Key, Row};
 pub use need::Need;
 pub use parts::{PART_CELLS, Parts, Position, Run, parts_of, spines_in};
 pub use settings::Settings;
-
-#[cfg(test)]
-mod tests;

@@ -10,6 +10,3 @@ pub mod steps;
 pub use demand::{Demand, pages_of_class};
 pub use fitting::{fits, least_pages, pace_fits, quanta, spare};
 pub use pace::Pace;
-
-#[cfg(test)]
-mod tests;

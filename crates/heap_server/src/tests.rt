@@ -11,10 +11,7 @@ use std::marker::Brand;
 use std::process::Abort;
 use std::sync::Wait;
 
-mod crowd;
-mod joining;
 mod meeting;
-mod playing;
 mod rows;
 mod seeing;
 
@@ -31,6 +28,20 @@ const FOUR_PAGES: Settings = Settings {
     rate: 100,
     live: 2,
 };
+
+/// Makes an object, puts it into the static if that is empty, and loads what the static holds.
+const RACE: [Command; 3] = [
+    Command::New {
+        dst: 0,
+        shape: Shape::Plain { refs: 0, words: 0 },
+    },
+    Command::CompareStatic {
+        k: 0,
+        expect: 1,
+        new: 0,
+    },
+    Command::LoadStatic { dst: 1, k: 0 },
+];
 
 /// The configuration of settings.
 fn config_of(rt: &impl Abort, settings: &Settings) -> Config {
@@ -81,7 +92,7 @@ fn six_calls<N: Naming, R: Wait + Abort + AllocGlobal>(
     for number in 0..3usize {
         for seat in &mut seats {
             let place = number * 2 + seat.mutator() as usize;
-            let command = playing::RACE[number];
+            let command = RACE[number];
             assert!(rt; seat.made() == number as u64);
             assert!(rt; call(rt, &server, seat, place, command).is_ok());
         }

@@ -2,7 +2,6 @@
 //! after the last.
 ghost use Rattle.std.specs.Prelude.{◌≡◌, ◌<◌, ◌≤◌};
 
-use super::playing::played;
 use super::*;
 use graph_heap::NoMemory;
 use std::sync::atomic::{AtomicU64, Ordering};
@@ -77,7 +76,10 @@ fn all_three_meet(rt: HostRuntime) -> Result<(), NoMemory> {
         vec![in alloc; Command::Clear { dst: 0 }, Command::Clear { dst: 2 }]?,
         vec![in alloc; Command::Clear { dst: 1 }, Command::Clear { dst: 3 }]?,
     ];
-    played(&rt, &FOUR_PAGES, &scripts, &[256; 2], &meeting)?;
+    let config = config_of(&rt, &FOUR_PAGES);
+    assert!(&rt; config.mutators == 2);
+    let outcome = play_threads(&rt, alloc, &config, &scripts, &[256; 2], &meeting)?;
+    assert!(&rt; outcome.all);
     for flag in &meeting.flags {
         assert!(&rt; flag.load(Ordering::SeqCst) == 1);
     }

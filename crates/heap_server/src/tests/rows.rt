@@ -23,6 +23,12 @@ const SPARSE: Settings = Settings {
     ..ONE_PAGE
 };
 
+const MANY_SLOTS: Settings = Settings {
+    slots: 256,
+    statics: 0,
+    ..FOUR_PAGES
+};
+
 /// The shape of a large object: eight fill a page.
 const LARGE: Shape = Shape::WordArray(252);
 
@@ -33,12 +39,12 @@ fn new(dst: u32, shape: Shape) -> Command {
 /// So many large objects are made, in the slots from 0 on, and commands follow with these replies; then a cycle,
 /// and more commands.
 #[derive(Clone, Copy)]
-pub struct Row<'a> {
-    pub objects: u32,
-    pub before: &'a [(Command, Reply)],
+struct Row<'a> {
+    objects: u32,
+    before: &'a [(Command, Reply)],
     /// What each quantum of 256 units spends.
-    pub spent: &'a [u32],
-    pub after: &'a [(Command, Reply)],
+    spent: &'a [u32],
+    after: &'a [(Command, Reply)],
 }
 
 /// Calls commands, and looks at the replies.
@@ -104,7 +110,7 @@ fn follow<N: Naming, R: Wait + Abort>(
 }
 
 /// The row, at a server of its own.
-pub fn follow_row<R: Wait + Abort + AllocGlobal>(
+fn follow_row<R: Wait + Abort + AllocGlobal>(
     rt: &R,
     settings: &Settings,
     row: &Row,
@@ -114,53 +120,98 @@ pub fn follow_row<R: Wait + Abort + AllocGlobal>(
 }
 
 /// The cycle: 9 roots, 7 headers, 8 blocks and a page, and a unit for each of the three changes of phase.
-#[test]
-fn a_page_fills_up(rt: HostRuntime) -> Result<(), ServerFault> {
-    let null = Reply::Refused(Refusal::NullSlot);
-    let row = Row {
-        objects: 8,
-        before: &[
-            (new(8, LARGE), Reply::Refused(Refusal::NoSpace)),
-            (Command::Describe { a: 7 }, Reply::Described(8, LARGE)),
-            (Command::Describe { a: 8 }, null),
-            (Command::Clear { dst: 3 }, Reply::Done),
-        ],
-        spent: &[28],
-        after: &[(new(3, LARGE), Reply::Made(9))],
-    };
-    follow_row(&rt, &ONE_PAGE, &row)
-}
+const FULL_PAGE: Row = Row {
+    objects: 8,
+    before: &[
+        (
+            Command::New {
+                dst: 8,
+                shape: LARGE,
+            },
+            Reply::Refused(Refusal::NoSpace),
+        ),
+        (Command::Describe { a: 7 }, Reply::Described(8, LARGE)),
+        (
+            Command::Describe { a: 8 },
+            Reply::Refused(Refusal::NullSlot),
+        ),
+        (Command::Clear { dst: 3 }, Reply::Done),
+    ],
+    spent: &[28],
+    after: &[(
+        Command::New {
+            dst: 3,
+            shape: LARGE,
+        },
+        Reply::Made(9),
+    )],
+};
 
 /// The cycle: 12 roots, 9 for marking, 428 for sweeping, 114 looks at pages, a move of 256 words, and a unit
 /// for each of the four changes of phase.
+const SPARSE_PAGE: Row = Row {
+    objects: 9,
+    before: &[
+        (
+            Command::New {
+                dst: 9,
+                shape: Shape::Plain { refs: 1, words: 0 },
+            },
+            Reply::Made(10),
+        ),
+        (
+            Command::Store {
+                obj: 9,
+                i: 0,
+                src: 8,
+            },
+            Reply::Done,
+        ),
+        (Command::Clear { dst: 0 }, Reply::Done),
+        (Command::Clear { dst: 1 }, Reply::Done),
+    ],
+    spent: &[256, 256, 54, 256, 1],
+    after: &[
+        (
+            Command::Load {
+                dst: 10,
+                obj: 9,
+                i: 0,
+            },
+            Reply::Ref(9),
+        ),
+        (Command::Same { a: 8, b: 10 }, Reply::Is(true)),
+        (
+            Command::CompareStore {
+                obj: 9,
+                i: 0,
+                expect: 10,
+                new: 11,
+            },
+            Reply::Stored,
+        ),
+        (Command::Describe { a: 8 }, Reply::Described(9, LARGE)),
+    ],
+};
+
+/// No object: 9 roots, 4 pages, and a unit for each of the three changes of phase.
+const FEW_ROOTS: Row = Row {
+    objects: 0,
+    before: &[],
+    spent: &[16],
+    after: &[],
+};
+
+/// 512 roots, 4 pages, and a unit for each of the three changes of phase.
+const MANY_ROOTS: Row = Row {
+    spent: &[256, 256, 7],
+    ..FEW_ROOTS
+};
+
 #[test]
-fn a_sparse_page_is_emptied(rt: HostRuntime) -> Result<(), ServerFault> {
-    let small = Shape::Plain { refs: 1, words: 0 };
-    let (obj, i) = (9, 0);
-    let store = Command::Store { obj, i, src: 8 };
-    let load = Command::Load { dst: 10, obj, i };
-    let (expect, null) = (10, 11);
-    let compare_store = Command::CompareStore {
-        obj,
-        i,
-        expect,
-        new: null,
-    };
-    let row = Row {
-        objects: 9,
-        before: &[
-            (new(9, small), Reply::Made(10)),
-            (store, Reply::Done),
-            (Command::Clear { dst: 0 }, Reply::Done),
-            (Command::Clear { dst: 1 }, Reply::Done),
-        ],
-        spent: &[256, 256, 54, 256, 1],
-        after: &[
-            (load, Reply::Ref(9)),
-            (Command::Same { a: 8, b: 10 }, Reply::Is(true)),
-            (compare_store, Reply::Stored),
-            (Command::Describe { a: 8 }, Reply::Described(9, LARGE)),
-        ],
-    };
-    follow_row(&rt, &SPARSE, &row)
+fn rows_are_followed(rt: HostRuntime) -> Result<(), ServerFault> {
+    follow_row(&rt, &ONE_PAGE, &FULL_PAGE)?;
+    follow_row(&rt, &SPARSE, &SPARSE_PAGE)?;
+    follow_row(&rt, &FOUR_PAGES, &FEW_ROOTS)?;
+    follow_row(&rt, &MANY_SLOTS, &MANY_ROOTS)
 }

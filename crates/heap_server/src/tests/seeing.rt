@@ -27,27 +27,20 @@ const COPY: Command = Command::Copy { dst: 1, src: 0 };
 const SAME: Command = Command::Same { a: 0, b: 1 };
 
 /// Three calls of one seat, which the other sees, and one of the other, which the first sees.
-fn seats_see<N: Naming, R: Wait + Abort + AllocGlobal>(
+fn seats_see<N: Naming, R: Wait + Abort>(
     rt: &R,
-    opening: Opening,
-) -> Result<(), ServerFault>
-    requires names { names_of opening ≡ N.names }
-{
-    let (server, mut first, mut second) = two_seats::<N, _>(rt, opening)?;
-    assert!(rt; server.place_now(&mut first) == 0);
-    assert!(rt; call(rt, &server, &mut second, 0, NEW)? == Reply::Made(1));
-    assert!(rt; call(rt, &server, &mut second, 1, COPY)? == Reply::Done);
-    assert!(rt; call(rt, &server, &mut second, 2, SAME)? == Reply::Is(true));
-    assert!(rt; server.place_now(&mut first) == 3);
-    assert!(rt; call(rt, &server, &mut first, 3, LOAD)? == Reply::Refused(Refusal::NullSlot));
-    assert!(rt; server.place_now(&mut second) == 4);
+    server: &Server<N>,
+    first: &mut Seat<N>,
+    second: &mut Seat<N>,
+) -> Result<(), ServerFault> {
+    assert!(rt; server.place_now(first) == 0);
+    assert!(rt; call(rt, server, second, 0, NEW)? == Reply::Made(1));
+    assert!(rt; call(rt, server, second, 1, COPY)? == Reply::Done);
+    assert!(rt; call(rt, server, second, 2, SAME)? == Reply::Is(true));
+    assert!(rt; server.place_now(first) == 3);
+    assert!(rt; call(rt, server, first, 3, LOAD)? == Reply::Refused(Refusal::NullSlot));
+    assert!(rt; server.place_now(second) == 4);
     Ok(())
-}
-
-#[test]
-fn each_sees_the_other(rt: HostRuntime) -> Result<(), ServerFault> {
-    let config = config_of(&rt, &FOUR_PAGES);
-    seats_see::<Brand, _>(&rt, Opening::new(&config))
 }
 
 /// Adds an entry to the log that no call has made.
@@ -60,7 +53,7 @@ fn add_foreign<N: Naming, R: Wait + Abort>(rt: &R, server: &Server<N>, seat: &Se
     }
 }
 
-/// Calls after a foreign exchange: the word is torn, and nothing is done.
+/// What seats see; and calls after a foreign exchange: the word is torn, and nothing is done.
 fn calls_are_torn<N: Naming, R: Wait + Abort + AllocGlobal>(
     rt: &R,
     opening: Opening,
@@ -68,20 +61,20 @@ fn calls_are_torn<N: Naming, R: Wait + Abort + AllocGlobal>(
     requires names { names_of opening ≡ N.names }
 {
     let (server, mut first, mut second) = two_seats::<N, _>(rt, opening)?;
-    call(rt, &server, &mut first, 0, NEW)?;
+    seats_see(rt, &server, &mut first, &mut second)?;
     add_foreign(rt, &server, &first);
-    assert!(rt; server.call(&mut second, NEW, rt).err() == Some(ServerFault::Torn(2)));
-    assert!(rt; server.call(&mut first, COPY, rt).err() == Some(ServerFault::Torn(2)));
-    assert!(rt; first.made() == 1 && second.made() == 0);
-    assert!(rt; server.place_now(&mut first) == 2);
-    assert!(rt; server.locked.lock(rt).recorded().history().len() == 1);
+    assert!(rt; server.call(&mut second, NEW, rt).err() == Some(ServerFault::Torn(5)));
+    assert!(rt; server.call(&mut first, COPY, rt).err() == Some(ServerFault::Torn(5)));
+    assert!(rt; first.made() == 1 && second.made() == 3);
+    assert!(rt; server.place_now(&mut first) == 5);
+    assert!(rt; server.locked.lock(rt).recorded().history().len() == 4);
     Ok(())
 }
 
 #[test]
-fn a_foreign_exchange_is_met(rt: HostRuntime) -> Result<(), ServerFault> {
+fn each_sees_the_other_and_a_foreign_exchange(rt: HostRuntime) -> Result<(), ServerFault> {
     let config = config_of(&rt, &FOUR_PAGES);
-    assert!(&rt; ServerFault::NoMemory.number() == 9 && ServerFault::Torn(2).number() == 10);
+    assert!(&rt; ServerFault::NoMemory.number() == 9 && ServerFault::Torn(5).number() == 10);
     calls_are_torn::<Brand, _>(&rt, Opening::new(&config))
 }
 

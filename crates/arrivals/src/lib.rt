@@ -11,6 +11,3 @@ pub use fitting::{least_pages_for, load_fits};
 pub use keeping::{Breach, Kept, keeps_load};
 pub use load::Load;
 pub use plays::{Run, play_new};
-
-#[cfg(test)]
-mod tests;

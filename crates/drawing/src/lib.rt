@@ -19,6 +19,3 @@ pub use page_map::draw_pages;
 pub use sample::Sample;
 pub use share::{Share, WINDOWS};
 pub use utilisation::draw_utilisation;
-
-#[cfg(test)]
-mod tests;

@@ -10,6 +10,3 @@ mod unknown;
 pub use fault::{DocumentFault, LoadFault, Place};
 pub use field::Field;
 pub use read::read_load;
-
-#[cfg(test)]
-mod tests;

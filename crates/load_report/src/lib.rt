@@ -6,6 +6,3 @@ mod live_text;
 mod report;
 
 pub use report::load_report;
-
-#[cfg(test)]
-mod tests;

@@ -10,6 +10,3 @@ mod run;
 
 pub use measured::Measured;
 pub use measuring::measure;
-
-#[cfg(test)]
-mod tests;

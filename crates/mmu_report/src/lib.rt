@@ -10,6 +10,3 @@ pub mod window;
 pub use laws::{bound_is_kept, bound_is_met};
 pub use share::{bound, permille};
 pub use window::least_mutator;
-
-#[cfg(test)]
-mod tests;

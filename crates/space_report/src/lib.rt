@@ -7,6 +7,3 @@ mod pace_text;
 
 pub use demand_text::demand_report;
 pub use pace_text::pace_report;
-
-#[cfg(test)]
-mod tests;

@@ -8,6 +8,3 @@ mod taking;
 
 pub use samples::Samples;
 pub use taking::take_samples;
-
-#[cfg(test)]
-mod tests;

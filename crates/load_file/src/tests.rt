@@ -1,2 +1,0 @@
-//! Documents with what they state, and each fault.
-mod documents;

@@ -13,6 +13,4 @@ mod phase;
 mod settings;
 mod slots;
 mod status;
-#[cfg(test)]
-mod tests;
 mod text;

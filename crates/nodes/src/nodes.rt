@@ -269,8 +269,7 @@ impl Nodes {
         ensures kept { IsNone result → self.new ≡ self.old }
         ensures links { KeepsLinks self.old self.new }
     {
-        let block = self.table.take(&mut self.arena, class)?;
-        let address = address(block.page, block.index, class.size() as usize);
+        let address = self.table.take(&mut self.arena, class)?;
         self.arena
             .begin(address, shape, part, colour, identity, cells);
         Some(address)

@@ -1,15 +1,16 @@
 -- The flags of a page's blocks, and where their words stand.
-use Rattle.std.proofs.Common.{◌≡◌, ◌≢◌, ℕ, suc, ◌+◌, ◌*◌, ◌-◌, ◌/◌, ◌<◌, ◌≤◌, Bool, true, false, not, cond, List, length, get_or, set, eqb, Some, ap, ◌∙◌, sym, subst, inl, inr, arith}
+use Rattle.std.proofs.Common.{◌≡◌, ◌≢◌, ℕ, suc, ◌+◌, ◌*◌, ◌/◌, ◌<◌, ◌≤◌, Bool, true, false, not, cond, List, length, get_or, set, eqb, Some, ap, ◌∙◌, sym, subst, inl, inr, arith}
 use Rattle.std.specs.Prelude.{slice_get, count_by}
 use Rattle.std.proofs.lemmas.List.{length-set, get_or-set_same, get_or-set_other, set-set, set-get_or}
 use Rattle.std.proofs.lemmas.List.Sums.{sum_by-set}
 use Rattle.std.proofs.lemmas.List.FromFn.{length-map-range_with_len, get_or-map-range_with_len}
-use Rattle.std.proofs.lemmas.Bool.{cases_eq, ne_eqb}
+use Rattle.std.proofs.lemmas.Bool.{cases_eq, cases_lt, ne_eqb}
 use Rattle.std.proofs.lemmas.Option.{slice_get_within, slice_get-get_or, get_or_from_slice_get}
-use Rattle.std.proofs.lemmas.List.{same_lists}
+use Rattle.std.proofs.lemmas.List.{same_lists, get_or_past}
 use Rattle.std.proofs.lemmas.Bool.{cases_order}
-use Rattle.std.proofs.Math.Nat.{mul-le-mul_right, div-mul-le_self}
-use Rattle.size_classes.specs.Sizes.{size_of, blocks_in}
+use Rattle.std.proofs.Math.Nat.{mul-le-mul_right, div-mul-le_self, div-zero}
+use Rattle.size_classes.specs.Sizes.{sizes, size_of, blocks_in}
+use Rattle.size_classes.proofs.Table.{size_low}
 use Rattle.pages.specs.FreeList.{flags_at, free_mark}
 
 -- one flag, set, is one free block less
@@ -58,6 +59,25 @@ flags_set words new at size n i b within same here =
       | inl e ↦ ap (λ j. not (eqb (get_or new (at + j * size) 0) free_mark)) e ∙ here ∙ sym (ap (λ j. get_or (set (flags_at words at size n) i b) j d) e ∙ get_or-set_same (flags_at words at size n) i b d there)
       | inr ne ↦ ap (λ w. not (eqb w free_mark)) (same k below ne) ∙ sym (get_or-set_other (flags_at words at size n) i k b d ne ∙ get_flag words at size n k d below)
     ])
+
+-- ---- classes
+pub class_known : (class : ℕ) → 0 < size_of class → class < 38
+unfolding size_of
+class_known class some = elim (cases_lt class 38) [
+  | inl h ↦ h
+  | inr past ↦ absurd (let none : get_or sizes class 0 ≡ 0 = get_or_past sizes class 0 past in omega (arith, some, none))
+]
+
+-- a class with a block has a size
+pub class_sized : (class : ℕ) → 0 < blocks_in class → 0 < size_of class
+unfolding blocks_in
+class_sized class some = elim (cases_lt 0 (size_of class)) [
+  | inl h ↦ h
+  | inr none ↦ absurd (let z : size_of class ≡ 0 = omega (arith, none) in let e : 2048 / size_of class ≡ 0 = ap (λ n. 2048 / n) z ∙ div-zero 2048 in omega (arith, some, e))
+]
+
+pub size_some : (class n : ℕ) → n < blocks_in class → 4 ≤ size_of class
+size_some class n h = size_low class (class_known class (class_sized class (omega (arith, h))))
 
 -- ---- places of words
 pub spaced : (i j size : ℕ) → i < j → i * size + size ≤ j * size

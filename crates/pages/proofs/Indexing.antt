@@ -1,8 +1,8 @@
 -- Bits and numbers, kept along with the records.
-use Rattle.std.proofs.Common.{◌≡◌, ◌≢◌, ℕ, zero, suc, ◌+◌, ◌-◌, ◌*◌, ◌<◌, ◌≤◌, Bool, true, false, not, cond, eqb, ltb, ◌&&◌, List, [], ◌∷◌, ◌++◌, replicate, length, get_or, set, map, Option, Some, None, ap, ◌∙◌, sym, refl, subst, inl, inr, arith}
+use Rattle.std.proofs.Common.{◌≡◌, ◌≢◌, ℕ, zero, suc, ◌+◌, ◌-◌, ◌*◌, ◌<◌, ◌≤◌, Bool, true, false, not, cond, eqb, eq-eqb, ltb, ◌&&◌, List, [], ◌∷◌, ◌++◌, replicate, length, get_or, set, map, Option, Some, None, ap, ◌∙◌, sym, refl, subst, inl, inr, arith}
 use Rattle.std.specs.Prelude.{position, count_by, sum_by, IfSome, IsSomeAnd, IsNone, is_some}
 use Rattle.std.proofs.lemmas.Bool.{cases_eq, cases_lt, ne_eqb, lt-ltb, le-ltb}
-use Rattle.std.proofs.lemmas.List.{length-set, get_or-set_same, get_or-set_other, map-set, get_or-map, get_or_read, get_or_past, length-map, length-replicate, get_or-replicate, length_push, get_or_push, get_or_append_left}
+use Rattle.std.proofs.lemmas.List.{length-set, get_or-set_same, get_or-set_other, map-set, get_or-map, get_or_read, get_or_past, get_or_default, set-get_or, length-map, length-replicate, get_or-replicate, length_push, get_or_push, get_or_append_left}
 use Rattle.std.proofs.lemmas.List.Sums.{sum_by-set, sum_by-cons, get_or-le-sum_by, prefix_len_is}
 use Rattle.size_classes.specs.Sizes.{blocks_in}
 use Rattle.pages.specs.declared.bits.BitRow.{BitRow}
@@ -232,6 +232,106 @@ module _ (rows : List (Option PageRecord)) (pages : List (Option PageRecord)) (s
         put_by rows pages seen usable free free_blocks free_pages b page class row below was_class (used_class class row is_of) known number number_is old read less more less_is more_is had had_is
         one new free (ltb 0 more) false false free_pages one_is here (ap (ltb 0) more_is ∙ usable_some class row) others
         (b.free_bits page inside ∙ ap (λ o. bit (row_free o)) there_is ∙ ap bit (used_kept class old old_of)) (used_some class row is_of) (λ i _ _. refl) (used_some class old old_of) refl
+
+-- the free blocks of a page of a class, and its bit, by its marks
+free_plain : (r : PageRecord) → r.leaving ≡ false → row_free_on r.class (Some r) ≡ blocks_in r.class - r.held
+free_plain r plain = ap (λ b. cond (b && not r.leaving) (blocks_in r.class - r.held) 0) (eq-eqb r.class r.class refl) ∙ ap (λ b. cond (not b) (blocks_in r.class - r.held) 0) plain
+
+free_leaving : (r : PageRecord) → r.leaving ≡ true → row_free_on r.class (Some r) ≡ 0
+free_leaving r leaving = ap (λ b. cond (b && not r.leaving) (blocks_in r.class - r.held) 0) (eq-eqb r.class r.class refl) ∙ ap (λ b. cond (not b) (blocks_in r.class - r.held) 0) leaving
+
+usable_plain : (r : PageRecord) → r.leaving ≡ false → row_usable r.class (Some r) ≡ ltb r.held (blocks_in r.class)
+usable_plain r plain = ap (λ b. b && (not r.leaving && ltb r.held (blocks_in r.class))) (eq-eqb r.class r.class refl) ∙ ap (λ b. not b && ltb r.held (blocks_in r.class)) plain
+
+usable_leaving : (r : PageRecord) → r.leaving ≡ true → row_usable r.class (Some r) ≡ false
+usable_leaving r leaving = ap (λ b. b && (not r.leaving && ltb r.held (blocks_in r.class))) (eq-eqb r.class r.class refl) ∙ ap (λ b. not b && ltb r.held (blocks_in r.class)) leaving
+
+-- a page in use has another record of its class in the same place
+module _ (rows : List (Option PageRecord)) (usable : List BitRow) (free : BitRow) (free_blocks : List ℕ) (free_pages : ℕ) (b : IsIndex rows usable free free_blocks free_pages)
+    (page : ℕ) (old row : PageRecord) (below : page < length rows) (was : row_at rows page ≡ Some old) (same : row.class ≡ old.class) (known : old.class < 38) where
+  in_class : OfClass old.class (row_at rows page)
+  in_class = subst (OfClass old.class) (sym was) refl
+
+  here_free : row_free_on old.class (row_at rows page) ≡ row_free_on old.class (Some old)
+  here_free = ap (row_free_on old.class) was
+
+  pub old_some : row_free_on old.class (Some old) ≤ get_or free_blocks old.class 0
+  old_some = omega (arith, here_free, block_some rows usable free free_blocks free_pages b page old.class (Some row) below in_class same known)
+
+  pub old_room : get_or free_blocks old.class 0 ≤ 2097152
+  old_room = block_room rows usable free free_blocks free_pages b page old.class (Some row) below in_class same known
+
+  module _ (n : ℕ) (counted : n + row_free_on old.class (Some old) ≡ get_or free_blocks old.class 0 + row_free_on old.class (Some row)) where
+    bit_changed : (one new : BitRow) → one ≡ get_or usable old.class one → has_bit new page ≡ bit (row_usable old.class (Some row)) → ((i : ℕ) → i < 4096 → i ≢ page → has_bit new i ≡ has_bit one i)
+        → IsIndex (set rows page (Some row)) (set usable old.class new) free (set free_blocks old.class n) free_pages
+    bit_changed one new read here others =
+        put_keeps rows usable free free_blocks free_pages b page old.class (Some row) below in_class same known one new read here others
+        free (b.free_bits page below ∙ ap (λ o. bit (row_free o)) was) (λ i _ _. refl) n (omega (arith, counted, here_free, old_some)) free_pages (ap (λ o. free_pages + bit (row_free o)) was)
+
+    bit_kept : row_usable old.class (Some row) ≡ row_usable old.class (Some old) → IsIndex (set rows page (Some row)) usable free (set free_blocks old.class n) free_pages
+    bit_kept unchanged =
+        let inside : old.class < length usable = omega (arith, known, b.classes) in
+        let one : BitRow = get_or usable old.class free in
+        let now : has_bit one page ≡ bit (row_usable old.class (Some row)) =
+        sym (get_or-map (λ r. has_bit r page) usable old.class free 0 inside) ∙ b.usable_bits old.class page known (omega (arith, below, b.few)) ∙ ap (λ o. bit (row_usable old.class o)) was ∙ ap bit (sym unchanged) in
+        subst (λ (u : List BitRow). IsIndex (set rows page (Some row)) u free (set free_blocks old.class n) free_pages) (set-get_or usable old.class free)
+        (bit_changed one one (get_or_default usable old.class free one inside) now (λ i _ _. refl))
+
+  -- one more block is held
+  module _ (plain : old.leaving ≡ false) (stays : row.leaving ≡ old.leaving) (more : row.held ≡ old.held + 1) (some : old.held < blocks_in old.class) where
+    row_plain : row.leaving ≡ false
+    row_plain = stays ∙ plain
+
+    free_now : row_free_on old.class (Some row) ≡ blocks_in old.class - row.held
+    free_now = subst (λ k. row_free_on k (Some row) ≡ blocks_in k - row.held) same (free_plain row row_plain)
+
+    usable_now : row_usable old.class (Some row) ≡ ltb row.held (blocks_in old.class)
+    usable_now = subst (λ k. row_usable k (Some row) ≡ ltb row.held (blocks_in k)) same (usable_plain row row_plain)
+
+    pub some_had : 0 < get_or free_blocks old.class 0
+    some_had = omega (arith, old_some, free_plain old plain, some)
+
+    fewer_counted : get_or free_blocks old.class 0 - 1 + row_free_on old.class (Some old) ≡ get_or free_blocks old.class 0 + row_free_on old.class (Some row)
+    fewer_counted = omega (arith, some_had, free_plain old plain, free_now, more, some)
+
+    pub taken_last : row.held ≡ blocks_in old.class → (one new : BitRow) → one ≡ get_or usable old.class one → has_bit new page ≡ 0 → ((i : ℕ) → i < 4096 → i ≢ page → has_bit new i ≡ has_bit one i)
+        → IsIndex (set rows page (Some row)) (set usable old.class new) free (set free_blocks old.class (get_or free_blocks old.class 0 - 1)) free_pages
+    taken_last full one new read here others =
+        bit_changed (get_or free_blocks old.class 0 - 1) fewer_counted one new read (here ∙ ap bit (sym (usable_now ∙ le-ltb row.held (blocks_in old.class) (omega (arith, full))))) others
+
+    pub taken_one : row.held ≢ blocks_in old.class → IsIndex (set rows page (Some row)) usable free (set free_blocks old.class (get_or free_blocks old.class 0 - 1)) free_pages
+    taken_one left =
+        bit_kept (get_or free_blocks old.class 0 - 1) fewer_counted
+        (usable_now ∙ lt-ltb row.held (blocks_in old.class) (omega (arith, left, more, some)) ∙ sym (usable_plain old plain ∙ lt-ltb old.held (blocks_in old.class) some))
+
+  -- one less is
+  module _ (stays : row.leaving ≡ old.leaving) (less : row.held + 1 ≡ old.held) (most : old.held ≤ blocks_in old.class) where
+    pub given_leaving : old.leaving ≡ true → IsIndex (set rows page (Some row)) usable free free_blocks free_pages
+    given_leaving leaving =
+        let now : row_free_on old.class (Some row) ≡ 0 = subst (λ k. row_free_on k (Some row) ≡ 0) same (free_leaving row (stays ∙ leaving)) in
+        let unusable : row_usable old.class (Some row) ≡ false = subst (λ k. row_usable k (Some row) ≡ false) same (usable_leaving row (stays ∙ leaving)) in
+        subst (λ l. IsIndex (set rows page (Some row)) usable free l free_pages) (set-get_or free_blocks old.class 0)
+        (bit_kept (get_or free_blocks old.class 0) (omega (arith, now, free_leaving old leaving)) (unusable ∙ sym (usable_leaving old leaving)))
+
+    module _ (plain : old.leaving ≡ false) where
+      given_free : row_free_on old.class (Some row) ≡ blocks_in old.class - row.held
+      given_free = subst (λ k. row_free_on k (Some row) ≡ blocks_in k - row.held) same (free_plain row (stays ∙ plain))
+
+      given_usable : row_usable old.class (Some row) ≡ true
+      given_usable =
+          subst (λ k. row_usable k (Some row) ≡ ltb row.held (blocks_in k)) same (usable_plain row (stays ∙ plain)) ∙ lt-ltb row.held (blocks_in old.class) (omega (arith, less, most))
+
+      more_counted : get_or free_blocks old.class 0 + 1 + row_free_on old.class (Some old) ≡ get_or free_blocks old.class 0 + row_free_on old.class (Some row)
+      more_counted = omega (arith, free_plain old plain, given_free, less, most)
+
+      pub given_first : (one new : BitRow) → one ≡ get_or usable old.class one → has_bit new page ≡ 1 → ((i : ℕ) → i < 4096 → i ≢ page → has_bit new i ≡ has_bit one i)
+          → IsIndex (set rows page (Some row)) (set usable old.class new) free (set free_blocks old.class (get_or free_blocks old.class 0 + 1)) free_pages
+      given_first one new read here others = bit_changed (get_or free_blocks old.class 0 + 1) more_counted one new read (here ∙ ap bit (sym given_usable)) others
+
+      pub given_one : old.held ≢ blocks_in old.class → IsIndex (set rows page (Some row)) usable free (set free_blocks old.class (get_or free_blocks old.class 0 + 1)) free_pages
+      given_one some =
+          bit_kept (get_or free_blocks old.class 0 + 1) more_counted
+          (given_usable ∙ sym (usable_plain old plain ∙ lt-ltb old.held (blocks_in old.class) (omega (arith, some, most))))
 
 pub usable_is : (rows : List (Option PageRecord)) (usable : List BitRow) (free : BitRow) (free_blocks : List ℕ) (free_pages : ℕ) (b : IsIndex rows usable free free_blocks free_pages) (class number : ℕ) → class < 38 → number ≡ class
     → (one : BitRow) → one ≡ get_or usable number one → (r : Option ℕ) → IfSome r (λ k. k < 4096) → IfSome r (λ k. has_bit one k ≡ 1) → IfSome r (λ k. (i : ℕ) → i < k → has_bit one i ≡ 0) → (IsNone r → (i : ℕ) → i < 4096 → has_bit one i ≡ 0)

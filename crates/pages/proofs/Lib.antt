@@ -6,4 +6,5 @@ pub mod Reading
 pub mod Needing
 pub mod Single
 pub mod Writing
+pub mod InPlace
 pub mod Flags

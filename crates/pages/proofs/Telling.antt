@@ -298,7 +298,7 @@ module _ (rows : List (Option PageRecord)) (words new : List ℕ) (t : Together 
 
   pub has_free : HasFree class (row_at after page)
   has_free = subst (HasFree class) (sym (ap (λ l. row_at l page) after_is ∙ get_or-set_same rows page (Some row) None below))
-      (class_is, let s = blocks_some class known in let e = ap blocks_in class_is in omega (arith, s, e, held_is))
+      (class_is, ap (λ (r : PageRecord). r.leaving) row_is, let s = blocks_some class known in let e = ap blocks_in class_is in omega (arith, s, e, held_is))
 
 -- a page of which something holds is in use
 none_held : (words : List ℕ) (at : ℕ) (P : Page → Type 0) (o : Option PageRecord) → IsSomeAnd (page_by words at o) P → is_some o ≡ true
@@ -320,12 +320,16 @@ some_iff o page e = (λ h. absurd (cc), λ h. sym (ap is_some e) ∙ h)
 pub none_iff : (o : Option ℕ) → o ≡ None → (false ≡ false → IsNone o) × (IsNone o → false ≡ false)
 none_iff o e = (λ h. ap is_some e, λ h. refl)
 
+unmarked : (b : Bool) → not b ≡ true → b ≡ false
+unmarked true h = absurd (cc)
+unmarked false h = refl
+
 usable_has : (class : ℕ) (o : Option PageRecord) → row_usable class o ≡ true → HasFree class o
 usable_has class None h = absurd (cc)
 usable_has class (Some r) h =
     let a = both_true (eqb r.class class) (not r.leaving && ltb r.held (blocks_in r.class)) h in
     let b = both_true (not r.leaving) (ltb r.held (blocks_in r.class)) a.1 in
-    (eqb-true r.class class a.0, ltb-true r.held (blocks_in r.class) b.1)
+    (eqb-true r.class class a.0, unmarked r.leaving b.0, ltb-true r.held (blocks_in r.class) b.1)
 
 free_none : (o : Option PageRecord) → row_free o ≡ true → o ≡ None
 free_none None h = refl

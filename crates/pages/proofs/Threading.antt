@@ -256,8 +256,8 @@ module _ (words : List ℕ) (page class first held size : ℕ) (low_page : page 
     index_is = let e : first - 1 - 2048 * page ≡ head.index * size_of class = omega (arith, block_is) in
         ap (λ n. (first - 1 - 2048 * page) / n) size_is ∙ ap (λ n. n / size_of class) e ∙ mul-div_cancel head.index (omega (arith, low_size))
 
-    place_is : first - 1 ≡ 2048 * page + (first - 1 - 2048 * page) / size * size_of class
-    place_is = block_is ∙ ap (λ n. 2048 * page + n * size_of class) (sym index_is)
+    pub pop_place : first - 1 ≡ 2048 * page + (first - 1 - 2048 * page) / size * size_of class
+    pop_place = block_is ∙ ap (λ n. 2048 * page + n * size_of class) (sym index_is)
 
     pub pop_within : (first - 1) + 3 < length words
     pop_within = let f = block_fits class head.index head.below in omega (arith, block_is, f, within, low_size)
@@ -268,16 +268,10 @@ module _ (words : List ℕ) (page class first held size : ℕ) (low_page : page 
     pub pop_positive : 0 < first
     pop_positive = omega (arith, head.link)
 
-    pub pop_above : 2048 * page ≤ first - 1
-    pop_above = omega (arith, block_is)
-
     pub pop_free : slice_get (flags_of words (2048 * page) class) ((first - 1 - 2048 * page) / size) ≡ Some false
     pop_free = ap (slice_get (flags_of words (2048 * page) class)) index_is ∙ head.open_there
 
     module _ (new : List ℕ) (is : new ≡ set words (first - 1) (first - 1)) where
-      pub pop_words : new ≡ set words (2048 * page + (first - 1 - 2048 * page) / size * size_of class) (2048 * page + (first - 1 - 2048 * page) / size * size_of class)
-      pop_words = is ∙ ap (λ n. set words n n) place_is
-
       both : (flags_of new (2048 * page) class ≡ set (flags_of words (2048 * page) class) head.index true) × IsFreeList new (2048 * page) class (get_or words (2048 * page + head.index * size_of class + 3) 0) (held + 1)
       both = popped words new (2048 * page) class first held head low_size (is ∙ ap (λ n. set words n n) block_is) within (omega (arith, low_page))
 

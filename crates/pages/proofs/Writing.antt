@@ -1,5 +1,5 @@
 -- Words are written, and the pages stay or change as they do.
-use Rattle.std.proofs.Common.{◌≡◌, ◌≢◌, ℕ, ◌+◌, ◌-◌, ◌*◌, ◌<◌, ◌≤◌, Bool, true, false, not, eqb, List, length, get_or, set, Option, Some, None, ap, ◌∙◌, sym, refl, subst, inl, inr, arith, replicate}
+use Rattle.std.proofs.Common.{◌≡◌, ◌≢◌, ℕ, ◌+◌, ◌*◌, ◌<◌, ◌≤◌, Bool, true, false, not, eqb, List, length, get_or, set, Option, Some, None, ap, ◌∙◌, sym, refl, subst, inl, inr, arith, replicate}
 use Rattle.std.specs.Prelude.{IfSome, slice_get}
 use Rattle.std.proofs.lemmas.Bool.{cases_eq, cases_lt}
 use Rattle.std.proofs.lemmas.List.{length-set, get_or-set_same, get_or-set_other, set-get_or, length-replicate, get_or_past}
@@ -8,13 +8,13 @@ use Rattle.size_classes.proofs.Table.{size_low}
 use Rattle.size_classes.specs.Sizes.{size_of, blocks_in}
 use Rattle.heap_model.specs.Pages.{Page, page_at}
 use Rattle.pages.specs.declared.page.PageRecord.{PageRecord}
-use Rattle.pages.specs.FreeList.{flags_of, free_mark, RunsFree, IsFreeList, SameOutside}
+use Rattle.pages.specs.FreeList.{flags_of, index_on, free_mark, RunsFree, IsFreeList, SameOutside}
 use Rattle.pages.specs.Index.{row_at}
 use Rattle.pages.specs.Together.{page_by, pages_in, Together, KeepsHeld}
 use Rattle.pages.proofs.Indexing.{row_none}
 use Rattle.pages.proofs.Threading.{runs_same}
 use Rattle.pages.proofs.Flags.{flags_set, apart, spaced, block_fits, length-flags}
-use Rattle.pages.proofs.Telling.{length-pages, page_is, IsRow, together_changed, pages_changed, page_read}
+use Rattle.pages.proofs.Telling.{length-pages, page_is, IsRow, together_changed, pages_changed, page_read, inside_page, outside_one}
 
 -- ---- words of held blocks
 pub record HeldPlace (rows : List (Option PageRecord)) (words : List ℕ) (k : ℕ) (p : Page) (i : ℕ) : Type 0 where
@@ -74,6 +74,21 @@ keeps_one rows words new page old index v classes there free is =
     let low : 4 ≤ size_of old.class = size_low old.class (subst (λ o. IfSome o (λ r. r.class < 38)) there (classes page)) in
     keeps_but rows words words new page old index classes there free (ap (λ w. length w) is ∙ length-set words a v)
     (λ n other. ap (λ x. get_or x n 0) is ∙ get_or-set_other words a n v 0 (λ e. other 0 (omega (arith, low)) (omega (arith, e))))
+
+-- a block was taken off the list of a page, by its address
+module _ (rows : List (Option PageRecord)) (words new : List ℕ) (classes : (k : ℕ) → IfSome (row_at rows k) (λ r. r.class < 38)) (page : ℕ) (old : PageRecord) (there : row_at rows page ≡ Some old) (block : ℕ)
+    (place : block ≡ 2048 * page + index_on old.class page block * size_of old.class) (free : slice_get (flags_of words (2048 * page) old.class) (index_on old.class page block) ≡ Some false) (is : new ≡ set words block block) where
+  written : new ≡ set words (2048 * page + index_on old.class page block * size_of old.class) block
+  written = is ∙ ap (λ n. set words n block) place
+
+  pub popped_outside : SameOutside words new (2048 * page)
+  popped_outside =
+      let known : old.class < 38 = subst (λ o. IfSome o (λ r. r.class < 38)) there (classes page) in
+      let w = inside_page words page old.class (index_on old.class page block) false known free in
+      outside_one words new (2048 * page) _ _ written (omega arith) (omega (arith, w))
+
+  pub popped_keeps : KeepsHeld (pages_in rows words) words new
+  popped_keeps = keeps_one rows words new page old (index_on old.class page block) block classes there free written
 
 pub freed_flag : (flags : List Bool) (i : ℕ) → i < length flags → slice_get (set flags i false) i ≡ Some false
 freed_flag flags i h = slice_get-get_or (set flags i false) i false (omega (arith, h, length-set flags i false)) ∙ ap Some (get_or-set_same flags i false false h)

@@ -34,9 +34,9 @@ abbrev pub row_choosable : ℕ → Option PageRecord → Bool
 row_choosable class None = false
 row_choosable class (Some r) = (r.class == class) && (not r.leaving && not r.receiving)
 
--- in use by the class, with a free block
+-- in use by the class, not leaving, with a free block
 abbrev pub HasFree : ℕ → Option PageRecord → Type 0
-HasFree class o = IsSomeAnd o (λ r. (r.class ≡ class) × (r.held < blocks_in r.class))
+HasFree class o = IsSomeAnd o (λ r. (r.class ≡ class) × (r.leaving ≡ false) × (r.held < blocks_in r.class))
 
 abbrev pub bit : Bool → ℕ
 bit b = if b then 1 else 0

@@ -1,34 +1,36 @@
 //! One page's list of free blocks: word 0 of a free block says that it is one, and word 3 names the next.
 ghost use Rattle.std.specs.Prelude.{◌≡◌, ℕ, ◌+◌, ◌-◌, ◌<◌, ◌≤◌, ◌*◌, length, slice_get, slice_set, slice_index, replicate, true, false, Some, IfSome, IsNone};
 ghost use Rattle.size_classes.specs.Sizes.{size_of, blocks_in};
-ghost use Rattle.pages.specs.FreeList.{flags_of, IsFreeList, SameOutside, free_mark};
+ghost use Rattle.pages.specs.FreeList.{flags_of, index_on, IsFreeList, SameOutside, free_mark};
 
 use crate::page::PageRecord;
 use headers::Arena;
 use size_classes::Class;
 
-/// Takes the first free block off a page's list: it is held, and forwards to itself.
+/// Takes the first free block off a page's list, and answers its address: it is held, and forwards to
+/// itself.
 #[inline(always)]
 pub fn pop(arena: &mut Arena, page: usize, row: &mut PageRecord) -> usize
     requires page { page < 4096 }
     requires within { 2048 * page + 2048 ≤ length arena.old }
     requires chain { IsFreeList arena.old (2048 * page) row.old.class row.old.first row.old.held }
     requires some { row.old.held < blocks_in row.old.class }
-    ensures free { slice_get (flags_of arena.old (2048 * page) row.old.class) result ≡ Some false }
-    ensures flags { flags_of arena.new (2048 * page) row.old.class ≡ slice_set (flags_of arena.old (2048 * page) row.old.class) result true }
+    ensures place { result ≡ 2048 * page + index_on row.old.class page result * size_of row.old.class }
+    ensures free { slice_get (flags_of arena.old (2048 * page) row.old.class) (index_on row.old.class page result) ≡ Some false }
+    ensures flags { flags_of arena.new (2048 * page) row.old.class ≡ slice_set (flags_of arena.old (2048 * page) row.old.class) (index_on row.old.class page result) true }
     ensures chain { IsFreeList arena.new (2048 * page) row.old.class row.new.first (row.old.held + 1) }
     ensures row { row.new ≡ record row.old { first = row.new.first; held = row.old.held + 1 } }
-    ensures words { arena.new ≡ slice_set arena.old (2048 * page + result * size_of row.old.class) (2048 * page + result * size_of row.old.class) }
+    ensures words { arena.new ≡ slice_set arena.old result result }
 {
     let block = row.first as usize - 1;
-    let index = (block - 2048 * page) / row.class.size() as usize;
     row.first = arena.link(block);
     row.held += 1;
     arena.set_forward(block, block as u64);
-    index
+    block
 }
 
 /// Says of a block that it is free, and names the next free one.
+#[inline(always)]
 fn link_free(arena: &mut Arena, block: usize, next: u64)
     requires { block + 3 < length arena.old }
     ensures { arena.new ≡ slice_set (slice_set arena.old block free_mark) (block + 3) next }
@@ -38,6 +40,7 @@ fn link_free(arena: &mut Arena, block: usize, next: u64)
 }
 
 /// Puts a held block on a page's list: it is free.
+#[inline(always)]
 pub fn push(arena: &mut Arena, page: usize, row: &mut PageRecord, index: usize)
     requires page { page < 4096 }
     requires within { 2048 * page + 2048 ≤ length arena.old }

@@ -3,7 +3,9 @@ ghost use Rattle.std.specs.Prelude.{◌≡◌, ◌+◌, ◌*◌, ◌<◌, ◌≤
 ghost use Rattle.heap_model.specs.Pages.{page_for, page_at, page_of_class, fresh_page, with_held, IsOpen};
 ghost use Rattle.heap_model.specs.Action.{closed};
 ghost use Rattle.pages.specs.Index.{row_at, OfClass, row_usable, row_free, bit, HasFree};
-ghost use Rattle.pages.specs.Places.{CanReceive};
+ghost use Rattle.heap_model.specs.Store.{address_of};
+ghost use Rattle.pages.specs.FreeList.{index_on};
+ghost use Rattle.pages.specs.Places.{CanReceive, TakesAt};
 ghost use Rattle.pages.specs.Together.{pages_in, Together, KeepsHeld};
 
 use crate::bits::BitRow;
@@ -171,47 +173,48 @@ impl PageTable {
         self.put(page, class, Some(row));
     }
 
-    /// Takes the first free block of a page in use.
+    /// Takes the first free block of a page that isn't leaving, and answers its address. A bit is written
+    /// only where the page has no other free block.
     #[inline(always)]
     fn take_on(&mut self, arena: &mut Arena, page: usize, class: Class) -> usize
         requires page { page < length self.old }
         requires together { Together self.old arena.old }
         requires usable { HasFree class (row_at self.old page) }
         ensures together { Together self.new arena.new }
-        ensures free { IsOpen (page_of_class class (page_at (pages_in self.old arena.old) page)) result }
-        ensures held { pages_in self.new arena.new ≡ slice_set (pages_in self.old arena.old) page (Some (with_held (page_of_class class (page_at (pages_in self.old arena.old) page)) result true)) }
+        ensures place { result ≡ address_of class page (index_on class page result) }
+        ensures free { IsOpen (page_of_class class (page_at (pages_in self.old arena.old) page)) (index_on class page result) }
+        ensures held { pages_in self.new arena.new ≡ slice_set (pages_in self.old arena.old) page (Some (with_held (page_of_class class (page_at (pages_in self.old arena.old) page)) (index_on class page result) true)) }
         ensures words { KeepsHeld (pages_in self.old arena.old) arena.old arena.new }
     {
-        let mut row = self.row(page).unwrap();
-        let index = pop(arena, page, &mut row);
-        self.update(page, class, Some(row));
-        index
+        let number = class.number();
+        let row = self.rows[page].as_mut().unwrap();
+        let block = pop(arena, page, row);
+        let is_full = row.held == class.blocks_per_page() as usize;
+        self.free_blocks[number] -= 1;
+        if is_full {
+            self.usable[number].set(page, false);
+        }
+        block
     }
 
-    /// Takes a block of a class: a free one of the first page of the class that isn't leaving and has
-    /// one, else of the first free page, which gets the class. None where there is no such page, and
-    /// then nothing changes. The words of held blocks stay.
+    /// Takes a block of a class, and answers its address: a free one of the first page of the class that
+    /// isn't leaving and has one, else of the first free page, which gets the class. None where there is
+    /// no such page, and then nothing changes. The words of held blocks stay.
     #[inline(always)]
-    pub fn take(&mut self, arena: &mut Arena, class: Class) -> Option<Block>
+    pub fn take(&mut self, arena: &mut Arena, class: Class) -> Option<usize>
         requires { Together self.old arena.old }
         ensures together { Together self.new arena.new }
         ensures none { IsNone result ↔ IsNone (page_for (pages_in self.old arena.old) class) }
-        ensures page { IfSome result (λ b. page_for (pages_in self.old arena.old) class ≡ Some b.page) }
-        ensures open { IfSome result (λ b. IsOpen (page_of_class class (page_at (pages_in self.old arena.old) b.page)) b.index) }
-        ensures held { IfSome result (λ b. pages_in self.new arena.new ≡ slice_set (pages_in self.old arena.old) b.page (Some (with_held (page_of_class class (page_at (pages_in self.old arena.old) b.page)) b.index true))) }
+        ensures taken { IfSome result (λ block. TakesAt (pages_in self.old arena.old) class block (pages_in self.new arena.new)) }
         ensures words { IfSome result (λ _. KeepsHeld (pages_in self.old arena.old) arena.old arena.new) }
         ensures kept { IsNone result → (self.new ≡ self.old) × (arena.new ≡ arena.old) }
     {
         match self.first_usable(class) {
-            Some(page) => {
-                let index = self.take_on(arena, page, class);
-                Some(Block { page, index })
-            }
+            Some(page) => Some(self.take_on(arena, page, class)),
             None => match self.first_free() {
                 Some(page) => {
                     self.use_page(arena, page, class);
-                    let index = self.take_on(arena, page, class);
-                    Some(Block { page, index })
+                    Some(self.take_on(arena, page, class))
                 }
                 None => None,
             },
@@ -220,6 +223,7 @@ impl PageTable {
 
     /// Gives a held block back. Every other block, and every other page, stays, and so do the words of the
     /// blocks that are held then.
+    #[inline(always)]
     pub fn give(&mut self, arena: &mut Arena, block: Block)
         requires together { Together self.old arena.old }
         requires page { block.page < length self.old }
@@ -228,9 +232,18 @@ impl PageTable {
         ensures given { IfSome (page_at (pages_in self.old arena.old) block.page) (λ p. pages_in self.new arena.new ≡ slice_set (pages_in self.old arena.old) block.page (Some (with_held p block.index false))) }
         ensures words { KeepsHeld (pages_in self.new arena.new) arena.old arena.new }
     {
-        let mut row = self.row(block.page).unwrap();
-        push(arena, block.page, &mut row, block.index);
-        self.update(block.page, row.class, Some(row));
+        let row = self.rows[block.page].as_mut().unwrap();
+        let class = row.class;
+        let was_full = row.held == class.blocks_per_page() as usize;
+        push(arena, block.page, row, block.index);
+        if row.leaving {
+            return;
+        }
+        let number = class.number();
+        self.free_blocks[number] += 1;
+        if was_full {
+            self.usable[number].set(block.page, true);
+        }
     }
 
     /// Takes the first free block of a page that isn't leaving, for one that is moved there: it is held,
@@ -245,10 +258,10 @@ impl PageTable {
         ensures words { KeepsHeld (pages_in self.old arena.old) arena.old arena.new }
     {
         let mut row = self.row(page).unwrap();
-        let index = pop(arena, page, &mut row);
+        let block = pop(arena, page, &mut row);
         row.receiving = true;
         self.update(page, row.class, Some(row));
-        index
+        (block - 2048 * page) / row.class.size() as usize
     }
 
     /// Marks a page in use as leaving: it gets no block from then on. With whatever words the table goes

@@ -1,42 +1,45 @@
-use Rattle.std.proofs.Common.{◌≡◌, ℕ, ◌*◌, ◌<◌, Some, true, false, ap, ◌∙◌, sym, subst, arith}
+use Rattle.std.proofs.Common.{set, ◌≡◌, ℕ, ◌-◌, ◌*◌, ◌/◌, Some, true, false, ap, ◌∙◌, sym, subst}
 use Rattle.std.specs.Prelude.{IfSome, IsSomeAnd, slice_get}
-use Rattle.heap_model.specs.Pages.{Page, IsOpen}
+use Rattle.size_classes.specs.Sizes.{size_of}
+use Rattle.heap_model.specs.Pages.{Page, page_at, with_held, IsOpen}
 use Rattle.pages.specs.declared.page.PageRecord.{PageRecord}
-use Rattle.pages.specs.FreeList.{SameOutside}
-use Rattle.pages.proofs.Telling.{together_by, received_by, some_there, inside_page, outside_one, page_read}
-use Rattle.pages.proofs.Writing.{keeps_one}
+use Rattle.pages.specs.FreeList.{index_on}
+use Rattle.pages.specs.Together.{pages_in}
+use Rattle.pages.proofs.Telling.{together_by, received_by, some_there, page_read}
+use Rattle.pages.proofs.Writing.{popped_outside, popped_keeps}
 use Rattle.pages.proofs.Reading.{room_told}
 use Rattle.pages.proofs.table.PageTable.receive.Goals as goal
 
 pub unwrap-row-requires : goal.unwrap-row-requires
 unwrap-row-requires c = some_there c.args.self.now c.args.arena.now c.args.page c.requires.page (λ (p : Page). (p.leaving ≡ false) × ((i : ℕ) × IsOpen p i)) c.requires.free c.row.result c.row.ensures.row
 
-pub pop-index-requires-clause-page : goal.pop-index-requires-clause-page
-pop-index-requires-clause-page c = c.row.ensures.few
+pub pop-block-requires-clause-page : goal.pop-block-requires-clause-page
+pop-block-requires-clause-page c = c.row.ensures.few
 
-pub pop-index-requires-clause-some : goal.pop-index-requires-clause-some
-pop-index-requires-clause-some c = room_told c.args.self.now c.args.arena.now c.requires.together c.args.page c.requires.page c.unwrap-row.result (sym c.unwrap-row.ensures ∙ c.row.ensures.row) c.requires.free
+pub pop-block-requires-clause-some : goal.pop-block-requires-clause-some
+pop-block-requires-clause-some c = room_told c.args.self.now c.args.arena.now c.requires.together c.args.page c.requires.page c.unwrap-row.result (sym c.unwrap-row.ensures ∙ c.row.ensures.row) c.requires.free
 
-outside : (c : goal.After-update) → SameOutside c.args.arena.now c.pop-index.new.arena (2048 * c.args.page)
-outside c =
-    let known : c.unwrap-row.result.class < 38 = subst (λ o. IfSome o (λ r. r.class < 38)) (sym c.row.ensures.row ∙ c.unwrap-row.ensures) (c.requires.together.classes c.args.page) in
-    let w = inside_page c.args.arena.now c.args.page c.unwrap-row.result.class c.pop-index.result false known c.pop-index.ensures.free in
-    outside_one c.args.arena.now c.pop-index.new.arena (2048 * c.args.page) _ _ c.pop-index.ensures.words (omega arith) (omega (arith, w))
+row_then : (c : goal.After-size) → PageRecord
+row_then c = record c.pop-block.new.row { receiving = true }
 
-row_then : (c : goal.After-update) → PageRecord
-row_then c = record c.pop-index.new.row { receiving = true }
+-- the number of the block that is answered
+index_is : (c : goal.After-size) → (c.pop-block.result - 2048 * c.args.page) / c.size.result ≡ index_on c.unwrap-row.result.class c.args.page c.pop-block.result
+index_is c = ap (λ n. (c.pop-block.result - 2048 * c.args.page) / n) (c.size.ensures.size ∙ ap (λ (r : PageRecord). size_of r.class) c.pop-block.ensures.row)
 
 pub returns-clause-together : goal.returns-clause-together
 unfolding row_then
-returns-clause-together c = together_by c.args.self.now c.args.arena.now c.pop-index.new.arena c.requires.together c.args.page c.requires.page c.unwrap-row.result (row_then c) (sym c.row.ensures.row ∙ c.unwrap-row.ensures) _ true (ap (λ (r : PageRecord). record r { receiving = true }) c.pop-index.ensures.row) c.pop-index.ensures.chain (outside c) c.update.new.self c.update.ensures c.pop-index.result true c.pop-index.ensures.flags
+returns-clause-together c = together_by c.args.self.now c.args.arena.now c.pop-block.new.arena c.requires.together c.args.page c.requires.page c.unwrap-row.result (row_then c) (sym c.row.ensures.row ∙ c.unwrap-row.ensures) _ true (ap (λ (r : PageRecord). record r { receiving = true }) c.pop-block.ensures.row) c.pop-block.ensures.chain (popped_outside c.args.self.now c.args.arena.now c.pop-block.new.arena c.requires.together.classes c.args.page c.unwrap-row.result (sym c.row.ensures.row ∙ c.unwrap-row.ensures) c.pop-block.result c.pop-block.ensures.place c.pop-block.ensures.free c.pop-block.ensures.words) c.update.new.self c.update.ensures (index_on c.unwrap-row.result.class c.args.page c.pop-block.result) true c.pop-block.ensures.flags
 
 pub returns-clause-open : goal.returns-clause-open
 returns-clause-open c =
-    subst (λ o. IsSomeAnd o (λ p. slice_get p.held c.pop-index.result ≡ Some false)) (sym (page_read c.args.self.now c.args.arena.now c.args.page c.unwrap-row.result c.requires.page (sym c.row.ensures.row ∙ c.unwrap-row.ensures))) c.pop-index.ensures.free
+    subst (λ i. IsSomeAnd (page_at (pages_in c.args.self.now c.args.arena.now) c.args.page) (λ p. slice_get p.held i ≡ Some false)) (sym (index_is c))
+    (subst (λ o. IsSomeAnd o (λ p. slice_get p.held (index_on c.unwrap-row.result.class c.args.page c.pop-block.result) ≡ Some false)) (sym (page_read c.args.self.now c.args.arena.now c.args.page c.unwrap-row.result c.requires.page (sym c.row.ensures.row ∙ c.unwrap-row.ensures))) c.pop-block.ensures.free)
 
 pub returns-clause-held : goal.returns-clause-held
 unfolding row_then
-returns-clause-held c = received_by c.args.self.now c.args.arena.now c.pop-index.new.arena c.requires.together c.args.page c.requires.page c.unwrap-row.result (row_then c) (sym c.row.ensures.row ∙ c.unwrap-row.ensures) _ true (ap (λ (r : PageRecord). record r { receiving = true }) c.pop-index.ensures.row) c.pop-index.ensures.chain (outside c) c.update.new.self c.update.ensures c.pop-index.result true c.pop-index.ensures.flags
+returns-clause-held c =
+    subst (λ i. IfSome (page_at (pages_in c.args.self.now c.args.arena.now) c.args.page) (λ p. pages_in c.update.new.self c.pop-block.new.arena ≡ set (pages_in c.args.self.now c.args.arena.now) c.args.page (Some (record (with_held p i true) { receiving = true })))) (sym (index_is c))
+    (received_by c.args.self.now c.args.arena.now c.pop-block.new.arena c.requires.together c.args.page c.requires.page c.unwrap-row.result (row_then c) (sym c.row.ensures.row ∙ c.unwrap-row.ensures) _ true (ap (λ (r : PageRecord). record r { receiving = true }) c.pop-block.ensures.row) c.pop-block.ensures.chain (popped_outside c.args.self.now c.args.arena.now c.pop-block.new.arena c.requires.together.classes c.args.page c.unwrap-row.result (sym c.row.ensures.row ∙ c.unwrap-row.ensures) c.pop-block.result c.pop-block.ensures.place c.pop-block.ensures.free c.pop-block.ensures.words) c.update.new.self c.update.ensures (index_on c.unwrap-row.result.class c.args.page c.pop-block.result) true c.pop-block.ensures.flags)
 
 pub returns-clause-words : goal.returns-clause-words
-returns-clause-words c = keeps_one c.args.self.now c.args.arena.now c.pop-index.new.arena c.args.page c.unwrap-row.result c.pop-index.result _ c.requires.together.classes (sym c.row.ensures.row ∙ c.unwrap-row.ensures) c.pop-index.ensures.free c.pop-index.ensures.words
+returns-clause-words c = popped_keeps c.args.self.now c.args.arena.now c.pop-block.new.arena c.requires.together.classes c.args.page c.unwrap-row.result (sym c.row.ensures.row ∙ c.unwrap-row.ensures) c.pop-block.result c.pop-block.ensures.place c.pop-block.ensures.free c.pop-block.ensures.words

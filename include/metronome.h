@@ -1,5 +1,6 @@
 /*
- * metronome.h: a real-time garbage-collected heap, for C11 and C++17. Link with libmetronome_c.a.
+ * metronome.h: a real-time garbage-collected heap, for C11, C17 and C++17. Link with libmetronome_c.a, or with -lmetronome
+ * where bin/install has put it.
  *
  * A program names objects by slots and never by pointers: each mutator has slots 0 to slots - 1, and all mutators share
  * the statics. What no slot, no static and no reference cell of such an object leads to is freed by a cycle of the
@@ -22,7 +23,10 @@
  *
  * MEMORY comes from malloc by metronome_create and goes back by metronome_destroy; no other call asks for any.
  *
- * docs/EMBEDDING.md says what is proved of each function.
+ * Slots can be managed by frames, and the collector by a pace: both are at the end of this header, as plain C over the calls.
+ *
+ * docs/EMBEDDING.md says what is proved of each function. Of what this header has as `static inline` nothing is: it is only
+ * tested.
  */
 #ifndef METRONOME_H
 #define METRONOME_H
@@ -64,27 +68,29 @@ typedef struct metronome_settings {
 #define METRONOME_SETTINGS(pages, mutators, slots) \
     { (pages), (mutators), (slots), 0, INT64_MAX, 0, 0, 10, 12, 100, (mutators) }
 
-/* What a call comes to. Of several reasons a command tells the first in the order: 1 of the mutator, 15, 14, 1 of the slots
- * as they are named, 8, 2, 4, 3; of a new object 1, 5, 6, 7. Nothing has changed then. */
+/* What a call comes to, and what a program does then. Nothing has changed by a call that is refused. Of several reasons a
+ * command tells the first in the order: 1 of the mutator, 15, 14, 1 of the slots as they are named, 8, 2, 4, 3; of a new object
+ * 1, 5, 6, 7. What is a mistake of the program comes again as long as the call is the same. */
 enum metronome_status {
     METRONOME_OK = 0,
-    METRONOME_BAD_SLOT = 1,          /* no such mutator, or no such slot */
-    METRONOME_NULL_SLOT = 2,         /* the slot that names the object holds null */
-    METRONOME_BAD_INDEX = 3,         /* the object has no cell of that number */
-    METRONOME_WRONG_KIND = 4,        /* the object has no cells of that kind */
-    METRONOME_TOO_LARGE = 5,         /* more than 252 cells, or than 4000000 of an array */
-    METRONOME_IDENTITIES_SPENT = 6,  /* the next identity is above the setting */
-    METRONOME_NO_SPACE = 7,          /* no room for the object: a whole cycle may free some */
-    METRONOME_BAD_STATIC = 8,        /* no such static */
-    METRONOME_NO_MEMORY = 9,         /* malloc refused */
-    METRONOME_BUSY = 11,             /* a cycle is on already */
-    METRONOME_BAD_BUDGET = 12,       /* the budget of a quantum isn't 256 to 1000000 */
-    METRONOME_NOT_LIVE = 14,         /* the mutator isn't live */
-    METRONOME_ALREADY_LIVE = 15,     /* the mutator is live, and wants to join */
-    METRONOME_NO_HEAP = 16,          /* the handle holds no heap */
-    METRONOME_OPEN = 17,             /* the handle holds a heap already */
-    METRONOME_BAD_SCHEDULE = 18,     /* collector_ticks * rate isn't 256 to 1000000 */
-    METRONOME_BAD_SETTING = 20       /* and the place of the first setting out of its range, 0 (pages) to 10 (live) */
+    METRONOME_BAD_SLOT = 1,         /* no such mutator, or no such slot: a mistake, or of frames that the row has none left */
+    METRONOME_NULL_SLOT = 2,        /* the slot that names the object holds null: the end of a list, say; else a mistake */
+    METRONOME_BAD_INDEX = 3,        /* the object has no cell of that number: a mistake, or the end of an array */
+    METRONOME_WRONG_KIND = 4,       /* the object has no cells of that kind: a mistake */
+    METRONOME_TOO_LARGE = 5,        /* more than 252 cells, or than 4000000 of an array: take an array, or several */
+    METRONOME_IDENTITIES_SPENT = 6, /* the next identity is above the setting: no object can be made in this heap any more */
+    METRONOME_NO_SPACE = 7,         /* no room for the object: metronome_whole_cycle, and the call again. If it is refused then
+                                     * too, what can be reached leaves no room: let go of some, or make a heap of more pages */
+    METRONOME_BAD_STATIC = 8,       /* no such static: a mistake */
+    METRONOME_NO_MEMORY = 9,        /* malloc refused: give memory back, or ask for fewer pages */
+    METRONOME_BUSY = 11,            /* a cycle is on already: go on with it by metronome_quantum */
+    METRONOME_BAD_BUDGET = 12,      /* the budget of a quantum isn't 256 to 1000000: a mistake */
+    METRONOME_NOT_LIVE = 14,        /* the mutator isn't live: metronome_join first */
+    METRONOME_ALREADY_LIVE = 15,    /* the mutator is live, and wants to join: a mistake, or go on with it */
+    METRONOME_NO_HEAP = 16,         /* the handle holds no heap: metronome_create first */
+    METRONOME_OPEN = 17,            /* the handle holds a heap already: metronome_destroy first */
+    METRONOME_BAD_SCHEDULE = 18,    /* collector_ticks * rate isn't 256 to 1000000: mend the settings */
+    METRONOME_BAD_SETTING = 20      /* and the place of the first setting out of its range, 0 (pages) to 10 (live): mend it */
 };
 
 /* What kind an answer is, and what its number tells. */
@@ -153,7 +159,9 @@ uint32_t metronome_create(metronome *heap, const metronome_settings *settings);
  * does nothing. */
 void metronome_destroy(metronome *heap);
 
-/* ---- Commands of mutators. Each is done at once, whatever phase the collector is in ---- */
+/* ---- Commands of mutators. Each is done at once, whatever phase the collector is in. Each needs a live mutator, but
+ * metronome_join, which needs one that isn't: all are live at first, or those below the setting `live`. A slot that is written
+ * to is named by its number, whatever it holds; one that names an object mustn't hold null ---- */
 
 /* A new object of so many reference cells, all null, and so many word cells, all 0, into slot dst. At most 252 cells.
  * MADE; refused: BAD_SLOT, TOO_LARGE, IDENTITIES_SPENT, NO_SPACE, NOT_LIVE, NO_HEAP. */
@@ -213,13 +221,13 @@ metronome_answer metronome_same(metronome *heap, uint32_t mutator, uint32_t a, u
  * left as it was. */
 metronome_answer metronome_describe(metronome *heap, uint32_t mutator, uint32_t a, metronome_shape *shape);
 
-/* A mutator that isn't live comes to be live. DONE; refused: BAD_SLOT, ALREADY_LIVE, NO_HEAP. */
+/* A mutator that isn't live comes to be live, with null in each slot. DONE; refused: BAD_SLOT, ALREADY_LIVE, NO_HEAP. */
 metronome_answer metronome_join(metronome *heap, uint32_t mutator);
 
 /* Null into each slot of a mutator, which is live no more. DONE; refused: BAD_SLOT, NOT_LIVE, NO_HEAP. */
 metronome_answer metronome_leave(metronome *heap, uint32_t mutator);
 
-/* ---- The collector ---- */
+/* ---- The collector. It needs no live mutator ---- */
 
 /* Begins a cycle; no unit is spent. OK, BUSY, NO_HEAP. */
 uint32_t metronome_begin(metronome *heap);
@@ -229,7 +237,8 @@ uint32_t metronome_begin(metronome *heap);
  * OK; BAD_BUDGET or NO_HEAP, and *spent is left as it was. */
 uint32_t metronome_quantum(metronome *heap, uint32_t budget, metronome_spent *spent);
 
-/* ---- Figures. Each is told through the last pointer, which is left as it was where the handle holds no heap ---- */
+/* ---- Figures. They need no live mutator. Each is told through the last pointer, which is left as it was where the handle
+ * holds no heap ---- */
 
 /* The phase, a metronome_phase_number. OK, NO_HEAP. */
 uint32_t metronome_phase(metronome *heap, uint32_t *phase);
@@ -255,5 +264,125 @@ uint32_t metronome_version(void);
 #ifdef __cplusplus
 }
 #endif
+
+#endif
+
+#if !defined(METRONOME_OVER_CALLS) && !defined(METRONOME_CALLS_ALONE)
+#define METRONOME_OVER_CALLS
+
+/*
+ * ---- Over the calls: plain C, of which nothing is proved ----
+ *
+ * A program that defines METRONOME_CALLS_ALONE leaves it out.
+ */
+
+/* ---- Frames: slots that are taken and given back as a stack ---- */
+
+/* A row of slots of one mutator. Those from `next` to `end - 1` are free, and hold null; nothing else may write to them. */
+typedef struct metronome_row {
+    uint32_t mutator;
+    uint32_t next;
+    uint32_t end;
+} metronome_row;
+
+/* The row of slots `first` to `end - 1` of a mutator, none of them taken: all of its slots, say, with 0 and the setting. */
+#define METRONOME_ROW(mutator, first, end) { (mutator), (first), (end) }
+
+/* A frame: the first slot that is taken in it, if one is. */
+typedef uint32_t metronome_frame;
+
+/* Opens a frame: what is taken from now on belongs to it, up to the next frame that is opened and not closed. */
+static inline metronome_frame metronome_open_frame(const metronome_row *row) {
+    return row->next;
+}
+
+/* Takes the next slot of the row, which holds null, and tells its number. OK; BAD_SLOT where no slot is left, and neither the
+ * row nor *slot has changed then: close a frame first, or make the heap with more slots (256 at most). */
+static inline uint32_t metronome_take_slot(metronome_row *row, uint32_t *slot) {
+    if (row->next >= row->end) return METRONOME_BAD_SLOT;
+    *slot = row->next++;
+    return METRONOME_OK;
+}
+
+/* Closes a frame, and those that were opened after it: null into each of their slots, which are free again. What is to be
+ * kept is copied into a slot of an outer frame before. Needs a live mutator. OK; NOT_LIVE, NO_HEAP, or BAD_SLOT where the row
+ * isn't one of the heap's, and the slots that weren't reached stay taken. */
+static inline uint32_t metronome_close_frame(metronome *heap, metronome_row *row, metronome_frame frame) {
+    while (row->next > frame) {
+        metronome_answer answer = metronome_clear(heap, row->mutator, row->next - 1);
+        if (answer.kind == METRONOME_REFUSED) return (uint32_t)answer.number;
+        row->next--;
+    }
+    return METRONOME_OK;
+}
+
+/* ---- The collector, paced by what is made ---- */
+
+/* Goes through two cycles, the one that is on among them, in quanta of so many units: what nothing leads to is freed then. So a
+ * program with a deadline paces itself (metronome_pace), and others do this where a new object is refused:
+ *
+ *     metronome_answer answer = metronome_new_plain(&heap, 0, slot, 1, 2);
+ *     if (answer.kind == METRONOME_REFUSED && answer.number == METRONOME_NO_SPACE
+ *         && metronome_whole_cycle(&heap, 100000) == METRONOME_OK)
+ *         answer = metronome_new_plain(&heap, 0, slot, 1, 2);
+ *
+ * OK, BAD_BUDGET, NO_HEAP. */
+static inline uint32_t metronome_whole_cycle(metronome *heap, uint32_t budget) {
+    metronome_spent spent = { 0, METRONOME_IDLE };
+    uint32_t status = METRONOME_OK;
+    for (int ends = 0; ends < 2 && status == METRONOME_OK; ends += spent.phase == METRONOME_IDLE) {
+        status = metronome_begin(heap);
+        if (status == METRONOME_OK || status == METRONOME_BUSY) status = metronome_quantum(heap, budget, &spent);
+    }
+    return status;
+}
+
+/* A pace: how often the collector works, by the words that the program makes. */
+typedef struct metronome_pacing {
+    uint64_t begin_below; /* a cycle begins where fewer pages than this are free; above `pages`, one is always on */
+    uint64_t words;       /* 1 or more: a quantum for each so many words made */
+    uint32_t budget;      /* 256 to 1000000: the units of a quantum */
+    uint64_t owed;        /* words made since the last quantum; 0 at first */
+} metronome_pacing;
+
+#define METRONOME_PACING(begin_below, words, budget) { (begin_below), (words), (budget), 0 }
+
+/* Tells the pace that so many words are about to be made; an object of n cells takes n + 4. For each so many as the pace says,
+ * it begins a cycle if none is on and too few pages are free, and spends a quantum of the cycle that is on. A program calls it
+ * before each new object. It takes no longer than a quantum, but where more words come at once than the pace has for one: an
+ * array of many words owes many quanta.
+ *
+ * HOW TO CHOOSE THE NUMBERS. The budget is the longest pause: a unit takes some 5 to 10 ns on a processor of 2.5 GHz. A cycle
+ * takes at most Q = limit / (budget - 255) + 1 quanta, where limit = statics + mutators * slots + 6144 * pages +
+ * (38 + defrag_pages) * pages + 4. Of blocks of one size at most B are made between two quanta: those for which `words` have
+ * room, and one more. No object is refused for want of space where begin_below pages have room for L + (2 * Q + 1) * B blocks
+ * of each size, of which live objects need L, and for 1 + defrag_pages pages of each size besides. In short, where half of the
+ * pages are live and the budget is 1000 or more: words = (budget - 255) / 16, begin_below = pages.
+ *
+ * For a program's own numbers, record a run (metronome_record.h) of settings whose collector_ticks * rate is the budget.
+ * `metronome pages --pace` tells Q, and of each size L, B and what was made between two cycles, and whether the pages suffice;
+ * that they do for every run at this pace is proved of the heap. That a program keeps to the pace is not: it does if it calls
+ * this before each new object, and if no more of its objects are live than in the run that was recorded.
+ *
+ * OK; BAD_BUDGET where the budget or the words are out of their range, NO_HEAP. */
+static inline uint32_t metronome_pace(metronome *heap, metronome_pacing *pacing, uint64_t words) {
+    if (pacing->words == 0) return METRONOME_BAD_BUDGET;
+    for (pacing->owed += words; pacing->owed >= pacing->words; pacing->owed -= pacing->words) {
+        metronome_spent spent;
+        uint32_t phase = METRONOME_IDLE;
+        uint64_t free_pages = 0;
+        uint32_t status = metronome_phase(heap, &phase);
+        if (status == METRONOME_OK) status = metronome_free_pages(heap, &free_pages);
+        if (status != METRONOME_OK) return status;
+        if (phase == METRONOME_IDLE && free_pages >= pacing->begin_below) {
+            pacing->owed %= pacing->words;
+            return METRONOME_OK;
+        }
+        if (phase == METRONOME_IDLE) metronome_begin(heap);
+        status = metronome_quantum(heap, pacing->budget, &spent);
+        if (status != METRONOME_OK) return status;
+    }
+    return METRONOME_OK;
+}
 
 #endif

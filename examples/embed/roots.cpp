@@ -1,0 +1,208 @@
+// The classes of metronome.hpp, each status that is theirs alone, and what is given back when they go out of scope. Built without
+// exceptions too, and then what throws is left out.
+#include "metronome.hpp"
+#include <cstdio>
+#include <cstring>
+
+using namespace barleynight;
+
+static int passed, failed;
+
+static void check(bool holds, int line) {
+    (holds ? passed : failed)++;
+    if (!holds) std::fprintf(stderr, "failed: line %d\n", line);
+}
+
+#define CHECK(holds) check(holds, __LINE__)
+#define IS(status, call) check((call) == static_cast<std::uint32_t>(status), __LINE__)
+
+static const metronome_settings SETTINGS = { 4, 2, 3, 1, 1000, 0, 0, 10, 12, 100, 1 };
+
+static std::uint64_t roots_used(Heap &heap) {
+    metronome_counts counts{};
+    IS(METRONOME_OK, heap.try_count(counts));
+    return counts.roots_used;
+}
+
+// A closed heap refuses; one that is open opens once; one that was moved away is closed.
+static void check_heaps() {
+    Heap heap;
+    std::optional<Mutator> mutator;
+    std::uint64_t pages = 7;
+    IS(METRONOME_NO_HEAP, heap.try_begin());
+    IS(METRONOME_NO_HEAP, heap.try_free_pages(pages));
+    IS(METRONOME_NO_HEAP, Mutator::try_join(heap, 0, mutator));
+    CHECK(pages == 7 && !mutator);
+    metronome_settings faulty = SETTINGS;
+    faulty.slots = 0;
+    IS(METRONOME_BAD_SETTING + 2, heap.try_open(faulty));
+    IS(METRONOME_OK, heap.try_open(SETTINGS));
+    IS(METRONOME_OPEN, heap.try_open(SETTINGS));
+    Heap moved = std::move(heap);
+    IS(METRONOME_NO_HEAP, heap.try_free_pages(pages)); // NOLINT: what was moved away is closed
+    IS(METRONOME_OK, moved.try_free_pages(pages));
+    CHECK(pages == 4);
+}
+
+// A number has one mutator at a time, which leaves when it goes out of scope, and stays where it is when its heap is moved.
+static void check_mutators() {
+    Heap heap;
+    IS(METRONOME_OK, heap.try_open(SETTINGS));
+    std::optional<Mutator> first, second;
+    IS(METRONOME_OK, Mutator::try_join(heap, 1, first));
+    IS(METRONOME_ALREADY_LIVE, Mutator::try_join(heap, 1, second));
+    IS(METRONOME_BAD_SLOT, Mutator::try_join(heap, 2, second));
+    IS(METRONOME_BAD_SLOT, Mutator::try_join(heap, 64, second));
+    CHECK(!second);
+    Heap moved = std::move(heap);
+    std::optional<Root> root;
+    IS(METRONOME_OK, first->try_null(root));
+    IS(METRONOME_OK, first->try_new_plain(1, 1, *root));
+    CHECK(roots_used(moved) == 1);
+    root.reset();
+    first.reset();
+    IS(METRONOME_OK, Mutator::try_join(moved, 1, second));
+    CHECK(roots_used(moved) == 0);
+    second.reset();
+}
+
+// Slots are roots until they go out of scope, in any order; when all are, there is no further one.
+static void check_slots(Heap &heap, Mutator &mutator) {
+    std::optional<Root> roots[4];
+    for (int i = 0; i < 3; i++) {
+        IS(METRONOME_OK, mutator.try_null(roots[i]));
+        IS(METRONOME_OK, mutator.try_new_words(2, *roots[i]));
+    }
+    IS(METRONOME_BAD_SLOT, mutator.try_null(roots[3]));
+    CHECK(!roots[3] && roots_used(heap) == 3);
+    roots[1].reset();
+    IS(METRONOME_OK, mutator.try_null(roots[3]));
+    bool is_null = false;
+    IS(METRONOME_OK, roots[3]->try_is_null(is_null));
+    CHECK(is_null && roots_used(heap) == 2);
+    Root moved = std::move(*roots[0]);
+    std::uint64_t word = 7;
+    IS(METRONOME_BAD_SLOT, roots[0]->try_get(0, word)); // NOLINT: what was moved away has no slot
+    IS(METRONOME_OK, moved.try_get(0, word));
+    CHECK(word == 0 && roots_used(heap) == 2);
+}
+
+// What each call finds, and that a refused one leaves it.
+static void check_calls(Mutator &mutator) {
+    std::optional<Root> a, b, c;
+    IS(METRONOME_OK, mutator.try_null(a));
+    IS(METRONOME_OK, mutator.try_null(b));
+    IS(METRONOME_OK, mutator.try_null(c));
+    bool is = true;
+    Description described{};
+    IS(METRONOME_NULL_SLOT, a->try_describe(described));
+    IS(METRONOME_OK, mutator.try_new_plain(1, 2, *a));
+    IS(METRONOME_OK, a->try_describe(described));
+    CHECK(described.identity > 0 && described.shape.refs == 1 && described.shape.words == 2);
+    IS(METRONOME_OK, a->try_compare_store(0, *b, *a, is));
+    CHECK(is);
+    IS(METRONOME_OK, a->try_compare_store(0, *b, *b, is));
+    CHECK(!is);
+    IS(METRONOME_OK, a->try_load(0, *c));
+    IS(METRONOME_OK, a->try_same(*c, is));
+    CHECK(is);
+    IS(METRONOME_OK, a->try_put(1, 5));
+    IS(METRONOME_OK, a->try_compare_put(1, 4, 6, is));
+    CHECK(!is);
+    IS(METRONOME_OK, a->try_compare_put(1, 5, 6, is));
+    std::uint64_t word = 0;
+    IS(METRONOME_OK, c->try_get(1, word));
+    CHECK(is && word == 6);
+    IS(METRONOME_BAD_INDEX, c->try_get(2, word));
+    CHECK(word == 6);
+    IS(METRONOME_OK, mutator.try_compare_static(0, *b, *a, is));
+    CHECK(is);
+    IS(METRONOME_OK, c->try_clear());
+    IS(METRONOME_OK, mutator.try_load_static(0, *c));
+    IS(METRONOME_OK, c->try_same(*a, is));
+    CHECK(is);
+    IS(METRONOME_BAD_STATIC, mutator.try_store_static(1, *c));
+    IS(METRONOME_OK, mutator.try_store_static(0, *b));
+    IS(METRONOME_OK, c->try_assign(*b));
+    IS(METRONOME_OK, c->try_is_null(is));
+    CHECK(is);
+}
+
+// A root of one mutator beside one of another.
+static void check_strangers(Heap &heap, Mutator &mutator) {
+    std::optional<Mutator> other;
+    std::optional<Root> own, strange;
+    IS(METRONOME_OK, Mutator::try_join(heap, 1, other));
+    IS(METRONOME_OK, mutator.try_null(own));
+    IS(METRONOME_OK, other->try_null(strange));
+    bool is = false;
+    IS(METRONOME_BAD_SLOT, own->try_assign(*strange));
+    IS(METRONOME_BAD_SLOT, own->try_store(0, *strange));
+    IS(METRONOME_BAD_SLOT, own->try_same(*strange, is));
+    IS(METRONOME_BAD_SLOT, mutator.try_new_refs(1, *strange));
+    strange.reset();
+}
+
+#ifdef __cpp_exceptions
+
+// The status that a call throws, and its text.
+template <class Call> static void throws(std::uint32_t status, const char *text, int line, Call call) {
+    try {
+        call();
+        check(false, line);
+    } catch (const Refusal &refusal) {
+        check(refusal.status() == status && std::strcmp(refusal.what(), text) == 0, line);
+    }
+}
+
+static void check_throwing() {
+    metronome_settings settings = SETTINGS;
+    settings.slots = 8;
+    Heap heap(settings);
+    Mutator mutator(heap, 0);
+    throws(METRONOME_BAD_SLOT, "no such mutator or slot", __LINE__, [&] { Mutator third(heap, 2); });
+    throws(METRONOME_NO_SPACE, "no space", __LINE__, [&] { mutator.new_refs(100000); });
+    throws(METRONOME_BAD_BUDGET, "the budget is out of range", __LINE__, [&] { heap.quantum(255); });
+    throws(METRONOME_NULL_SLOT, "the slot holds null", __LINE__, [&] { mutator.null().get(0); });
+    throws(METRONOME_BAD_SETTING + 9, "rate is out of range", __LINE__, [] {
+        metronome_settings faulty = SETTINGS;
+        faulty.rate = 0;
+        Heap never(faulty);
+    });
+    Root list = mutator.null();
+    for (std::uint64_t i = 0; i < 3; i++) {
+        Root cell = mutator.new_plain(1, 1);
+        cell.put(0, i);
+        cell.store(0, list);
+        list = std::move(cell);
+    }
+    CHECK(list.get(0) == 2 && list.load(0).get(0) == 1 && list.load(0).load(0).load(0).is_null());
+    CHECK(list.compare_put(0, 2, 4) && !list.compare_put(0, 2, 5) && list.describe().shape.words == 1);
+    mutator.store_static(0, list);
+    CHECK(mutator.load_static(0).same(list) && !mutator.compare_static(0, mutator.null(), list));
+    CHECK(heap.begin() && !heap.begin() && heap.quantum(256).units > 0 && heap.phase() != METRONOME_IDLE && heap.units() > 0);
+    heap.whole_cycle(1000);
+    CHECK(heap.free_pages() == 3 && heap.count().objects == 3);
+}
+
+#else
+
+static void check_throwing() {}
+
+#endif
+
+int main() {
+    check_heaps();
+    check_mutators();
+    Heap heap;
+    IS(METRONOME_OK, heap.try_open(SETTINGS));
+    std::optional<Mutator> mutator;
+    IS(METRONOME_OK, Mutator::try_join(heap, 0, mutator));
+    check_slots(heap, *mutator);
+    check_calls(*mutator);
+    check_strangers(heap, *mutator);
+    CHECK(roots_used(heap) == 0);
+    check_throwing();
+    std::printf("%d passed, %d failed\n", passed, failed);
+    return failed != 0;
+}

@@ -1,0 +1,450 @@
+/*
+ * metronome.hpp: the heap of metronome.h for C++17, as classes: a heap that is moved and not copied, mutators, and roots, which
+ * give their slot back when they go out of scope. Plain C++ over the calls of metronome.h, of which nothing is proved.
+ *
+ * Each call comes twice. `try_NAME` throws nothing: it answers a metronome_status, and what it finds goes into its last
+ * parameter, which is left as it was where the call is refused. NAME answers what it finds, and throws a Refusal; a build
+ * without exceptions doesn't have it.
+ *
+ * A heap outlives its mutators, and a mutator its roots. A root is used with others of its own mutator: with one of another the
+ * call is refused as BAD_SLOT. A heap takes one call at a time, as metronome.h says; the end of a root is such a call too.
+ */
+#ifndef METRONOME_HPP
+#define METRONOME_HPP
+
+#include "metronome.h"
+
+#include <array>
+#include <bitset>
+#include <cassert>
+#include <cstddef>
+#include <cstdint>
+#include <exception>
+#include <memory>
+#include <new>
+#include <optional>
+#include <utility>
+
+namespace barleynight {
+
+class Mutator;
+class Root;
+
+namespace detail {
+
+constexpr std::size_t MOST_MUTATORS = 64, MOST_SLOTS = 256;
+
+// An answer as a status.
+inline std::uint32_t status_of(metronome_answer answer) noexcept {
+    constexpr std::uint32_t ok = METRONOME_OK;
+    return answer.kind == METRONOME_REFUSED ? static_cast<std::uint32_t>(answer.number) : ok;
+}
+
+// The number of an answer, told where it isn't refused.
+inline std::uint32_t tell(metronome_answer answer, std::uint64_t &number) noexcept {
+    if (answer.kind != METRONOME_REFUSED) number = answer.number;
+    return status_of(answer);
+}
+
+// Whether an answer is of a kind, told where it isn't refused.
+inline std::uint32_t tell_kind(metronome_answer answer, std::uint32_t kind, bool &is) noexcept {
+    if (answer.kind != METRONOME_REFUSED) is = answer.kind == kind;
+    return status_of(answer);
+}
+
+// A heap that stays where it is when its `Heap` is moved, and which of its mutators have a `Mutator`.
+struct HeapState {
+    HeapState() = default;
+    HeapState(const HeapState &) = delete;
+    HeapState &operator=(const HeapState &) = delete;
+    ~HeapState() {
+        assert(used.none() && "a heap outlives its mutators");
+        metronome_destroy(&handle);
+    }
+
+    metronome handle = METRONOME_CLOSED;
+    std::uint32_t slots = 0;
+    std::bitset<MOST_MUTATORS> used;
+};
+
+// A mutator, and its free slots.
+struct MutatorState {
+    MutatorState(HeapState &its_heap, std::uint32_t its_number) noexcept : heap(its_heap), number(its_number) {
+        for (std::uint32_t slot = heap.slots; slot > 0; slot--) give(slot - 1);
+    }
+    MutatorState(const MutatorState &) = delete;
+    MutatorState &operator=(const MutatorState &) = delete;
+    ~MutatorState() {
+        if (!is_on) return;
+        assert(left == heap.slots && "a mutator outlives its roots");
+        metronome_leave(&heap.handle, number);
+        heap.used.reset(number);
+    }
+
+    metronome *handle() noexcept { return &heap.handle; }
+    std::uint32_t take() noexcept { return free[--left]; }
+    void give(std::uint32_t slot) noexcept { free[left++] = slot; }
+
+    HeapState &heap;
+    std::uint32_t number;
+    std::size_t left = 0;
+    std::array<std::uint32_t, MOST_SLOTS> free;
+    bool is_on = false;
+};
+
+} // namespace detail
+
+#ifdef __cpp_exceptions
+
+// What a refused call throws: its status, and the text of it.
+class Refusal : public std::exception {
+public:
+    explicit Refusal(std::uint32_t status) noexcept : its_status(status) { metronome_text(status, text, sizeof text); }
+
+    std::uint32_t status() const noexcept { return its_status; }
+    const char *what() const noexcept override { return text; }
+
+private:
+    std::uint32_t its_status;
+    char text[64];
+};
+
+namespace detail {
+
+inline void need(std::uint32_t status) {
+    if (status != METRONOME_OK) throw Refusal(status);
+}
+
+} // namespace detail
+
+#endif
+
+// A heap, or none: of a closed one each call is refused as NO_HEAP.
+class Heap {
+public:
+    Heap() = default;
+
+    std::uint32_t try_open(const metronome_settings &settings) noexcept {
+        if (state) return METRONOME_OPEN;
+        std::unique_ptr<detail::HeapState> made(new (std::nothrow) detail::HeapState);
+        if (!made) return METRONOME_NO_MEMORY;
+        const std::uint32_t status = metronome_create(&made->handle, &settings);
+        if (status != METRONOME_OK) return status;
+        made->slots = static_cast<std::uint32_t>(settings.slots);
+        state = std::move(made);
+        return METRONOME_OK;
+    }
+
+    // BUSY where a cycle is on already.
+    std::uint32_t try_begin() noexcept { return metronome_begin(handle()); }
+    std::uint32_t try_quantum(std::uint32_t budget, metronome_spent &spent) noexcept {
+        return metronome_quantum(handle(), budget, &spent);
+    }
+    std::uint32_t try_whole_cycle(std::uint32_t budget) noexcept { return metronome_whole_cycle(handle(), budget); }
+    std::uint32_t try_pace(metronome_pacing &pacing, std::uint64_t words) noexcept {
+        return metronome_pace(handle(), &pacing, words);
+    }
+
+    std::uint32_t try_phase(std::uint32_t &phase) noexcept { return metronome_phase(handle(), &phase); }
+    std::uint32_t try_units(std::uint64_t &units) noexcept { return metronome_units(handle(), &units); }
+    std::uint32_t try_free_pages(std::uint64_t &pages) noexcept { return metronome_free_pages(handle(), &pages); }
+    std::uint32_t try_count(metronome_counts &counts) noexcept { return metronome_count(handle(), &counts); }
+
+    // The handle for calls of metronome.h. It is only read and written by these.
+    metronome *handle() noexcept { return state ? &state->handle : &none; }
+
+#ifdef __cpp_exceptions
+    explicit Heap(const metronome_settings &settings) { detail::need(try_open(settings)); }
+
+    // Whether a cycle began: none was on.
+    bool begin() {
+        const std::uint32_t status = try_begin();
+        if (status != METRONOME_BUSY) detail::need(status);
+        return status == METRONOME_OK;
+    }
+    metronome_spent quantum(std::uint32_t budget) {
+        metronome_spent spent{};
+        detail::need(try_quantum(budget, spent));
+        return spent;
+    }
+    void whole_cycle(std::uint32_t budget) { detail::need(try_whole_cycle(budget)); }
+    void pace(metronome_pacing &pacing, std::uint64_t words) { detail::need(try_pace(pacing, words)); }
+
+    std::uint32_t phase() {
+        std::uint32_t phase = METRONOME_IDLE;
+        detail::need(try_phase(phase));
+        return phase;
+    }
+    std::uint64_t units() {
+        std::uint64_t units = 0;
+        detail::need(try_units(units));
+        return units;
+    }
+    std::uint64_t free_pages() {
+        std::uint64_t pages = 0;
+        detail::need(try_free_pages(pages));
+        return pages;
+    }
+    metronome_counts count() {
+        metronome_counts counts{};
+        detail::need(try_count(counts));
+        return counts;
+    }
+#endif
+
+private:
+    friend class Mutator;
+
+    std::unique_ptr<detail::HeapState> state;
+    metronome none = METRONOME_CLOSED;
+};
+
+// What there is to tell of an object.
+struct Description {
+    std::uint64_t identity;
+    metronome_shape shape;
+};
+
+// A slot of a mutator, which is this root's alone until it goes out of scope: an object that it holds is kept. One that was moved
+// away has no slot: of it each call is refused as BAD_SLOT.
+class Root {
+public:
+    Root(Root &&other) noexcept : owner(std::exchange(other.owner, nullptr)), slot(other.slot) {}
+    Root &operator=(Root &&other) noexcept {
+        std::swap(owner, other.owner);
+        std::swap(slot, other.slot);
+        return *this;
+    }
+    Root(const Root &) = delete;
+    Root &operator=(const Root &) = delete;
+    ~Root() {
+        if (owner == nullptr) return;
+        metronome_clear(owner->handle(), owner->number, slot);
+        owner->give(slot);
+    }
+
+    std::uint32_t try_load(std::uint32_t i, Root &into) const noexcept {
+        if (!is_beside(into)) return METRONOME_BAD_SLOT;
+        return detail::status_of(metronome_load(owner->handle(), owner->number, into.slot, slot, i));
+    }
+    std::uint32_t try_store(std::uint32_t i, const Root &from) noexcept {
+        if (!is_beside(from)) return METRONOME_BAD_SLOT;
+        return detail::status_of(metronome_store(owner->handle(), owner->number, slot, i, from.slot));
+    }
+    std::uint32_t try_compare_store(std::uint32_t i, const Root &expect, const Root &replacement, bool &stored) noexcept {
+        if (!is_beside(expect) || !is_beside(replacement)) return METRONOME_BAD_SLOT;
+        return detail::tell_kind(metronome_compare_store(owner->handle(), owner->number, slot, i, expect.slot, replacement.slot),
+                                 METRONOME_STORED, stored);
+    }
+    std::uint32_t try_get(std::uint32_t i, std::uint64_t &word) const noexcept {
+        if (owner == nullptr) return METRONOME_BAD_SLOT;
+        return detail::tell(metronome_get(owner->handle(), owner->number, slot, i), word);
+    }
+    std::uint32_t try_put(std::uint32_t i, std::uint64_t word) noexcept {
+        if (owner == nullptr) return METRONOME_BAD_SLOT;
+        return detail::status_of(metronome_put(owner->handle(), owner->number, slot, i, word));
+    }
+    std::uint32_t try_compare_put(std::uint32_t i, std::uint64_t old, std::uint64_t replacement, bool &stored) noexcept {
+        if (owner == nullptr) return METRONOME_BAD_SLOT;
+        return detail::tell_kind(metronome_compare_put(owner->handle(), owner->number, slot, i, old, replacement),
+                                 METRONOME_STORED, stored);
+    }
+    // What the other root holds, into this one.
+    std::uint32_t try_assign(const Root &from) noexcept {
+        if (!is_beside(from)) return METRONOME_BAD_SLOT;
+        return detail::status_of(metronome_copy(owner->handle(), owner->number, slot, from.slot));
+    }
+    // Null, into this one.
+    std::uint32_t try_clear() noexcept {
+        if (owner == nullptr) return METRONOME_BAD_SLOT;
+        return detail::status_of(metronome_clear(owner->handle(), owner->number, slot));
+    }
+    // Whether both hold the same object, or null.
+    std::uint32_t try_same(const Root &other, bool &same) const noexcept {
+        if (!is_beside(other)) return METRONOME_BAD_SLOT;
+        std::uint64_t is = 0;
+        const std::uint32_t status = detail::tell(metronome_same(owner->handle(), owner->number, slot, other.slot), is);
+        if (status == METRONOME_OK) same = is != 0;
+        return status;
+    }
+    std::uint32_t try_describe(Description &described) const noexcept {
+        if (owner == nullptr) return METRONOME_BAD_SLOT;
+        return detail::tell(metronome_describe(owner->handle(), owner->number, slot, &described.shape), described.identity);
+    }
+    std::uint32_t try_is_null(bool &is) const noexcept {
+        Description described{};
+        const std::uint32_t status = try_describe(described);
+        if (status != METRONOME_OK && status != METRONOME_NULL_SLOT) return status;
+        is = status == METRONOME_NULL_SLOT;
+        return METRONOME_OK;
+    }
+
+#ifdef __cpp_exceptions
+    Root load(std::uint32_t i) const;
+    void load(std::uint32_t i, Root &into) const { detail::need(try_load(i, into)); }
+    void store(std::uint32_t i, const Root &from) { detail::need(try_store(i, from)); }
+    // Whether it was stored: the cell held what `expect` does.
+    bool compare_store(std::uint32_t i, const Root &expect, const Root &replacement) {
+        bool stored = false;
+        detail::need(try_compare_store(i, expect, replacement, stored));
+        return stored;
+    }
+    std::uint64_t get(std::uint32_t i) const {
+        std::uint64_t word = 0;
+        detail::need(try_get(i, word));
+        return word;
+    }
+    void put(std::uint32_t i, std::uint64_t word) { detail::need(try_put(i, word)); }
+    // Whether it was stored: the cell was `old`.
+    bool compare_put(std::uint32_t i, std::uint64_t old, std::uint64_t replacement) {
+        bool stored = false;
+        detail::need(try_compare_put(i, old, replacement, stored));
+        return stored;
+    }
+    void assign(const Root &from) { detail::need(try_assign(from)); }
+    void clear() { detail::need(try_clear()); }
+    bool same(const Root &other) const {
+        bool is = false;
+        detail::need(try_same(other, is));
+        return is;
+    }
+    Description describe() const {
+        Description described{};
+        detail::need(try_describe(described));
+        return described;
+    }
+    bool is_null() const {
+        bool is = false;
+        detail::need(try_is_null(is));
+        return is;
+    }
+#endif
+
+private:
+    friend class Mutator;
+
+    explicit Root(detail::MutatorState &of) noexcept : owner(&of), slot(of.take()) {}
+
+    // Takes a free slot of a mutator, which holds null.
+    static std::uint32_t take(detail::MutatorState &of, std::optional<Root> &root) noexcept {
+        if (of.left == 0) return METRONOME_BAD_SLOT;
+        root.emplace(Root(of));
+        return METRONOME_OK;
+    }
+
+    bool is_beside(const Root &other) const noexcept { return owner != nullptr && owner == other.owner; }
+
+    detail::MutatorState *owner;
+    std::uint32_t slot;
+};
+
+// A mutator of a heap, live from now on until it goes out of scope, and then null is in each of its slots.
+class Mutator {
+public:
+    // ALREADY_LIVE where there is a `Mutator` of that number; BAD_SLOT, NO_HEAP, NO_MEMORY.
+    static std::uint32_t try_join(Heap &heap, std::uint32_t number, std::optional<Mutator> &mutator) noexcept {
+        if (!heap.state) return METRONOME_NO_HEAP;
+        detail::HeapState &its_heap = *heap.state;
+        if (number < detail::MOST_MUTATORS && its_heap.used[number]) return METRONOME_ALREADY_LIVE;
+        std::unique_ptr<detail::MutatorState> made(new (std::nothrow) detail::MutatorState(its_heap, number));
+        if (!made) return METRONOME_NO_MEMORY;
+        const std::uint32_t status = detail::status_of(metronome_join(heap.handle(), number));
+        if (status != METRONOME_OK && status != METRONOME_ALREADY_LIVE) return status;
+        its_heap.used.set(number);
+        made->is_on = true;
+        mutator.emplace(Mutator(std::move(made)));
+        return METRONOME_OK;
+    }
+
+    // A root that holds null. BAD_SLOT where each slot of the mutator is a root already.
+    std::uint32_t try_null(std::optional<Root> &root) noexcept { return Root::take(*state, root); }
+
+    std::uint32_t try_new_plain(std::uint32_t refs, std::uint32_t words, Root &into) noexcept {
+        if (!owns(into)) return METRONOME_BAD_SLOT;
+        return detail::status_of(metronome_new_plain(state->handle(), state->number, into.slot, refs, words));
+    }
+    std::uint32_t try_new_refs(std::uint32_t refs, Root &into) noexcept {
+        if (!owns(into)) return METRONOME_BAD_SLOT;
+        return detail::status_of(metronome_new_refs(state->handle(), state->number, into.slot, refs));
+    }
+    std::uint32_t try_new_words(std::uint32_t words, Root &into) noexcept {
+        if (!owns(into)) return METRONOME_BAD_SLOT;
+        return detail::status_of(metronome_new_words(state->handle(), state->number, into.slot, words));
+    }
+    std::uint32_t try_load_static(std::uint32_t k, Root &into) noexcept {
+        if (!owns(into)) return METRONOME_BAD_SLOT;
+        return detail::status_of(metronome_load_static(state->handle(), state->number, into.slot, k));
+    }
+    std::uint32_t try_store_static(std::uint32_t k, const Root &from) noexcept {
+        if (!owns(from)) return METRONOME_BAD_SLOT;
+        return detail::status_of(metronome_store_static(state->handle(), state->number, k, from.slot));
+    }
+    std::uint32_t try_compare_static(std::uint32_t k, const Root &expect, const Root &replacement, bool &stored) noexcept {
+        if (!owns(expect) || !owns(replacement)) return METRONOME_BAD_SLOT;
+        return detail::tell_kind(metronome_compare_static(state->handle(), state->number, k, expect.slot, replacement.slot),
+                                 METRONOME_STORED, stored);
+    }
+
+#ifdef __cpp_exceptions
+    Mutator(Heap &heap, std::uint32_t number) {
+        std::optional<Mutator> made;
+        detail::need(try_join(heap, number, made));
+        state = std::move(made->state);
+    }
+
+    Root null() {
+        std::optional<Root> root;
+        detail::need(try_null(root));
+        return std::move(*root);
+    }
+    Root new_plain(std::uint32_t refs, std::uint32_t words) {
+        Root made = null();
+        new_plain(refs, words, made);
+        return made;
+    }
+    void new_plain(std::uint32_t refs, std::uint32_t words, Root &into) { detail::need(try_new_plain(refs, words, into)); }
+    Root new_refs(std::uint32_t refs) {
+        Root made = null();
+        detail::need(try_new_refs(refs, made));
+        return made;
+    }
+    Root new_words(std::uint32_t words) {
+        Root made = null();
+        detail::need(try_new_words(words, made));
+        return made;
+    }
+    Root load_static(std::uint32_t k) {
+        Root loaded = null();
+        detail::need(try_load_static(k, loaded));
+        return loaded;
+    }
+    void store_static(std::uint32_t k, const Root &from) { detail::need(try_store_static(k, from)); }
+    // Whether it was stored: the static held what `expect` does.
+    bool compare_static(std::uint32_t k, const Root &expect, const Root &replacement) {
+        bool stored = false;
+        detail::need(try_compare_static(k, expect, replacement, stored));
+        return stored;
+    }
+#endif
+
+private:
+    explicit Mutator(std::unique_ptr<detail::MutatorState> made) noexcept : state(std::move(made)) {}
+
+    bool owns(const Root &root) const noexcept { return root.owner == state.get(); }
+
+    std::unique_ptr<detail::MutatorState> state;
+};
+
+#ifdef __cpp_exceptions
+inline Root Root::load(std::uint32_t i) const {
+    if (owner == nullptr) throw Refusal(METRONOME_BAD_SLOT);
+    std::optional<Root> loaded;
+    detail::need(take(*owner, loaded));
+    detail::need(try_load(i, *loaded));
+    return std::move(*loaded);
+}
+#endif
+
+} // namespace barleynight
+
+#endif

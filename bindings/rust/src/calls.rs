@@ -1,0 +1,183 @@
+//! The calls of metronome.h, and its types.
+use std::ffi::c_void;
+use std::os::raw::c_char;
+
+use crate::refusal::{Refusal, Result};
+
+/// The version of metronome.h of which these declarations are.
+pub(crate) const VERSION: u32 = 1;
+
+pub(crate) const OK: u32 = 0;
+
+/// A handle that holds a heap, or none.
+#[repr(C)]
+pub(crate) struct Handle {
+    at: *mut c_void,
+    is_open: bool,
+}
+
+impl Handle {
+    pub(crate) const CLOSED: Handle = Handle { at: std::ptr::null_mut(), is_open: false };
+}
+
+/// The settings of a heap, each with its range.
+#[repr(C)]
+#[derive(Clone, Copy, Debug, PartialEq, Eq)]
+pub struct Settings {
+    /// 1 to 4096: pages of 2048 words of 8 bytes.
+    pub pages: i64,
+    /// 1 to 64.
+    pub mutators: i64,
+    /// 1 to 256: slots of each mutator.
+    pub slots: i64,
+    /// 0 to 256.
+    pub statics: i64,
+    /// 1 to `i64::MAX`: the greatest identity that is given to an object.
+    pub identities: i64,
+    /// 0 to 4097: a sweep that leaves fewer free pages is followed by moving.
+    pub defrag_below: i64,
+    /// 0 to 4096: pages that a cycle empties at most.
+    pub defrag_pages: i64,
+    /// 1 to 1000000. This and the next two only go into a schedule.
+    pub collector_ticks: i64,
+    /// 1 to 1000000.
+    pub mutator_ticks: i64,
+    /// 1 to 1000000; `collector_ticks * rate` is 256 to 1000000.
+    pub rate: i64,
+    /// 0 to `mutators`: how many are live before a [`crate::Mutator`] of them is made.
+    pub live: i64,
+}
+
+impl Settings {
+    /// So many pages, mutators, and slots of each; the defaults of the others.
+    pub const fn new(pages: i64, mutators: i64, slots: i64) -> Settings {
+        Settings {
+            pages,
+            mutators,
+            slots,
+            statics: 0,
+            identities: i64::MAX,
+            defrag_below: 0,
+            defrag_pages: 0,
+            collector_ticks: 10,
+            mutator_ticks: 12,
+            rate: 100,
+            live: mutators,
+        }
+    }
+}
+
+/// What a command comes to.
+#[repr(C)]
+pub(crate) struct Answer {
+    kind: u32,
+    number: u64,
+}
+
+const REFUSED: u32 = 0;
+const STORED: u32 = 5;
+
+impl Answer {
+    /// The number that is told, unless the command is refused.
+    pub(crate) fn number(&self) -> Result<u64> {
+        match self.kind {
+            REFUSED => Err(Refusal::of(self.number as u32)),
+            _ => Ok(self.number),
+        }
+    }
+
+    /// Whether a comparison held, and the number that is told of one that failed.
+    pub(crate) fn compared(&self) -> Result<Option<u64>> {
+        let number = self.number()?;
+        Ok(if self.kind == STORED { None } else { Some(number) })
+    }
+}
+
+/// A status as a result.
+pub(crate) fn done(status: u32) -> Result<()> {
+    match status {
+        OK => Ok(()),
+        status => Err(Refusal::of(status)),
+    }
+}
+
+#[repr(C)]
+#[derive(Default)]
+pub(crate) struct ShapeTold {
+    pub(crate) kind: u32,
+    pub(crate) refs: u32,
+    pub(crate) words: u32,
+}
+
+#[repr(C)]
+#[derive(Default)]
+pub(crate) struct SpentTold {
+    pub(crate) units: u32,
+    pub(crate) phase: u32,
+}
+
+/// The counts of a heap.
+#[repr(C)]
+#[derive(Clone, Copy, Debug, Default, PartialEq, Eq)]
+pub struct Counts {
+    /// All pages.
+    pub pages: u64,
+    /// Those that are free.
+    pub free_pages: u64,
+    /// Slots of all mutators, and statics.
+    pub root_cells: u64,
+    /// Those that don't hold null.
+    pub roots_used: u64,
+    /// Objects that lie in the heap: all that can be reached, and garbage that isn't freed yet.
+    pub objects: u64,
+    /// The parts that they are cut into.
+    pub parts: u64,
+    /// Blocks that were moved and aren't freed yet.
+    pub old_copies: u64,
+}
+
+extern "C" {
+    pub(crate) fn metronome_create(heap: *mut Handle, settings: *const Settings) -> u32;
+    pub(crate) fn metronome_destroy(heap: *mut Handle);
+    pub(crate) fn metronome_new_plain(heap: *mut Handle, mutator: u32, dst: u32, refs: u32, words: u32) -> Answer;
+    pub(crate) fn metronome_new_refs(heap: *mut Handle, mutator: u32, dst: u32, refs: u32) -> Answer;
+    pub(crate) fn metronome_new_words(heap: *mut Handle, mutator: u32, dst: u32, words: u32) -> Answer;
+    pub(crate) fn metronome_load(heap: *mut Handle, mutator: u32, dst: u32, obj: u32, i: u32) -> Answer;
+    pub(crate) fn metronome_store(heap: *mut Handle, mutator: u32, obj: u32, i: u32, src: u32) -> Answer;
+    pub(crate) fn metronome_compare_store(
+        heap: *mut Handle,
+        mutator: u32,
+        obj: u32,
+        i: u32,
+        expect: u32,
+        replacement: u32,
+    ) -> Answer;
+    pub(crate) fn metronome_get(heap: *mut Handle, mutator: u32, obj: u32, i: u32) -> Answer;
+    pub(crate) fn metronome_put(heap: *mut Handle, mutator: u32, obj: u32, i: u32, word: u64) -> Answer;
+    pub(crate) fn metronome_compare_put(
+        heap: *mut Handle,
+        mutator: u32,
+        obj: u32,
+        i: u32,
+        old: u64,
+        replacement: u64,
+    ) -> Answer;
+    pub(crate) fn metronome_copy(heap: *mut Handle, mutator: u32, dst: u32, src: u32) -> Answer;
+    pub(crate) fn metronome_clear(heap: *mut Handle, mutator: u32, dst: u32) -> Answer;
+    pub(crate) fn metronome_load_static(heap: *mut Handle, mutator: u32, dst: u32, k: u32) -> Answer;
+    pub(crate) fn metronome_store_static(heap: *mut Handle, mutator: u32, k: u32, src: u32) -> Answer;
+    pub(crate) fn metronome_compare_static(heap: *mut Handle, mutator: u32, k: u32, expect: u32, replacement: u32)
+        -> Answer;
+    pub(crate) fn metronome_same(heap: *mut Handle, mutator: u32, a: u32, b: u32) -> Answer;
+    pub(crate) fn metronome_describe(heap: *mut Handle, mutator: u32, a: u32, shape: *mut ShapeTold) -> Answer;
+    pub(crate) fn metronome_join(heap: *mut Handle, mutator: u32) -> Answer;
+    pub(crate) fn metronome_leave(heap: *mut Handle, mutator: u32) -> Answer;
+    pub(crate) fn metronome_begin(heap: *mut Handle) -> u32;
+    pub(crate) fn metronome_quantum(heap: *mut Handle, budget: u32, spent: *mut SpentTold) -> u32;
+    pub(crate) fn metronome_phase(heap: *mut Handle, phase: *mut u32) -> u32;
+    pub(crate) fn metronome_units(heap: *mut Handle, units: *mut u64) -> u32;
+    pub(crate) fn metronome_free_pages(heap: *mut Handle, free_pages: *mut u64) -> u32;
+    pub(crate) fn metronome_count(heap: *mut Handle, counts: *mut Counts) -> u32;
+    pub(crate) fn metronome_text(status: u32, text: *mut c_char, length: usize) -> usize;
+    pub(crate) fn metronome_version() -> u32;
+}

@@ -1,0 +1,193 @@
+//! The heap, and its collector.
+use std::cell::{Cell, UnsafeCell};
+use std::fmt;
+
+use crate::calls::{self, done, Counts, Handle, Settings, SpentTold};
+use crate::mutator::Mutator;
+use crate::refusal::{Refusal, Result};
+
+/// A heap. It may go to another thread, and gives its memory back when it is dropped.
+pub struct Heap {
+    handle: UnsafeCell<Handle>,
+    slots: u32,
+    /// A bit for each number of which there is a `Mutator`.
+    used: Cell<u64>,
+}
+
+// SAFETY: the library keeps nothing of a thread. A heap isn't `Sync`, so that its calls come one at a time.
+unsafe impl Send for Heap {}
+
+/// The phases of a cycle of the collector.
+#[derive(Clone, Copy, Debug, PartialEq, Eq)]
+pub enum Phase {
+    /// No cycle is on.
+    Idle,
+    /// Slots and statics are looked at.
+    Roots,
+    /// What they lead to is marked.
+    Marking,
+    /// What isn't marked is freed.
+    Sweeping,
+    /// Sparse pages are emptied.
+    Moving,
+}
+
+impl Phase {
+    fn of(number: u32) -> Phase {
+        const PHASES: [Phase; 5] = [Phase::Idle, Phase::Roots, Phase::Marking, Phase::Sweeping, Phase::Moving];
+        PHASES[number as usize]
+    }
+}
+
+/// What a quantum did.
+#[derive(Clone, Copy, Debug, PartialEq, Eq)]
+pub struct Spent {
+    /// Units of work.
+    pub units: u32,
+    /// The phase at the end.
+    pub phase: Phase,
+}
+
+/// A pace of the collector: as `metronome_pacing` of metronome.h, which says how to choose its numbers.
+#[derive(Clone, Copy, Debug, PartialEq, Eq)]
+pub struct Pacing {
+    begin_below: u64,
+    words: u64,
+    budget: u32,
+    owed: u64,
+}
+
+impl Pacing {
+    /// A cycle begins where fewer pages than `begin_below` are free, and a quantum of so many units is spent for each so many
+    /// words that are made.
+    pub const fn new(begin_below: u64, words: u64, budget: u32) -> Pacing {
+        Pacing { begin_below, words, budget, owed: 0 }
+    }
+}
+
+impl Heap {
+    /// Makes a heap, with all the memory that it will ever use. Refused: `BadSetting`, `BadSchedule`, `NoMemory`,
+    /// `OtherVersion`.
+    pub fn new(settings: &Settings) -> Result<Heap> {
+        // SAFETY: it may be called at any time.
+        if unsafe { calls::metronome_version() } != calls::VERSION {
+            return Err(Refusal::OtherVersion);
+        }
+        let mut handle = Handle::CLOSED;
+        // SAFETY: both live through the call, and the handle is closed.
+        done(unsafe { calls::metronome_create(&mut handle, settings) })?;
+        Ok(Heap { handle: UnsafeCell::new(handle), slots: settings.slots as u32, used: Cell::new(0) })
+    }
+
+    /// Mutator `number`, which is live until it goes out of scope. Refused: `AlreadyLive` where there is one of that number,
+    /// `BadSlot`.
+    pub fn mutator(&self, number: u32) -> Result<Mutator<'_>> {
+        let bit = 1u64.checked_shl(number).ok_or(Refusal::BadSlot)?;
+        if self.used.get() & bit != 0 {
+            return Err(Refusal::AlreadyLive);
+        }
+        let mutator = Mutator::join(self, number, self.slots)?;
+        self.used.set(self.used.get() | bit);
+        Ok(mutator)
+    }
+
+    /// Lets a mutator's number be used again.
+    pub(crate) fn release(&self, number: u32) {
+        self.used.set(self.used.get() & !(1 << number));
+    }
+
+    /// The handle for a call. No call uses it while another one runs: a heap isn't `Sync`, and the library calls nothing back.
+    pub(crate) fn handle(&self) -> *mut Handle {
+        self.handle.get()
+    }
+
+    /// Begins a cycle. Whether one began: none was on.
+    pub fn begin(&self) -> bool {
+        // SAFETY: the heap is open, and lives through the call.
+        unsafe { calls::metronome_begin(self.handle()) == calls::OK }
+    }
+
+    /// Spends at most `budget` units, 256 to 1000000, on the cycle that is on. Refused: `BadBudget`.
+    pub fn quantum(&self, budget: u32) -> Result<Spent> {
+        let mut told = SpentTold::default();
+        // SAFETY: the heap is open, and both live through the call.
+        done(unsafe { calls::metronome_quantum(self.handle(), budget, &mut told) })?;
+        Ok(Spent { units: told.units, phase: Phase::of(told.phase) })
+    }
+
+    /// Goes through two cycles, the one that is on among them, in quanta of so many units: what nothing leads to is freed then.
+    /// Refused: `BadBudget`.
+    pub fn whole_cycle(&self, budget: u32) -> Result<()> {
+        let mut ends = 0;
+        while ends < 2 {
+            self.begin();
+            ends += u32::from(self.quantum(budget)?.phase == Phase::Idle);
+        }
+        Ok(())
+    }
+
+    /// Tells the pace that so many words are about to be made: an object of n cells takes n + 4. Refused: `BadBudget`.
+    pub fn pace(&self, pacing: &mut Pacing, words: u64) -> Result<()> {
+        if pacing.words == 0 {
+            return Err(Refusal::BadBudget);
+        }
+        pacing.owed += words;
+        while pacing.owed >= pacing.words {
+            if self.phase() == Phase::Idle {
+                if self.free_pages() >= pacing.begin_below {
+                    pacing.owed %= pacing.words;
+                    return Ok(());
+                }
+                self.begin();
+            }
+            self.quantum(pacing.budget)?;
+            pacing.owed -= pacing.words;
+        }
+        Ok(())
+    }
+
+    /// The phase of the collector.
+    pub fn phase(&self) -> Phase {
+        let mut phase = 0;
+        // SAFETY: the heap is open, and both live through the call.
+        unsafe { calls::metronome_phase(self.handle(), &mut phase) };
+        Phase::of(phase)
+    }
+
+    /// The units that were spent since the last cycle began.
+    pub fn units(&self) -> u64 {
+        let mut units = 0;
+        // SAFETY: the heap is open, and both live through the call.
+        unsafe { calls::metronome_units(self.handle(), &mut units) };
+        units
+    }
+
+    /// How many pages are free.
+    pub fn free_pages(&self) -> u64 {
+        let mut pages = 0;
+        // SAFETY: the heap is open, and both live through the call.
+        unsafe { calls::metronome_free_pages(self.handle(), &mut pages) };
+        pages
+    }
+
+    /// All counts. It looks at each block of the heap, and so takes time by its size.
+    pub fn count(&self) -> Counts {
+        let mut counts = Counts::default();
+        // SAFETY: the heap is open, and both live through the call.
+        unsafe { calls::metronome_count(self.handle(), &mut counts) };
+        counts
+    }
+}
+
+impl fmt::Debug for Heap {
+    fn fmt(&self, out: &mut fmt::Formatter<'_>) -> fmt::Result {
+        out.debug_struct("Heap").field("slots", &self.slots).finish_non_exhaustive()
+    }
+}
+
+impl Drop for Heap {
+    fn drop(&mut self) {
+        // SAFETY: the handle lives through the call, and nothing borrows the heap any more.
+        unsafe { calls::metronome_destroy(self.handle()) }
+    }
+}

@@ -1,0 +1,51 @@
+//! A real-time garbage-collected heap, over the installed archive of `metronome.h`. This crate is plain Rust: of it nothing is
+//! proved. What is proved of the calls below it, docs/EMBEDDING.md of the library says.
+//!
+//! A [`Heap`] goes from thread to thread, but is used in one at a time. A [`Mutator`] is a row of slots, and a [`Root`] one of
+//! these: what it holds is kept, and when it goes out of scope its slot holds null and is free again.
+//!
+//! ```
+//! use metronome::{Heap, Refusal, Settings};
+//!
+//! fn main() -> Result<(), Refusal> {
+//!     let heap = Heap::new(&Settings::new(64, 1, 16))?; // pages, mutators, slots of each
+//!     let mutator = heap.mutator(0)?;
+//!     let cell = mutator.new_plain(1, 2)?; // one reference, two words
+//!     cell.put(1, 42)?;
+//!     heap.begin();
+//!     heap.quantum(1000)?; // a quantum of the collector: at most 1000 units
+//!     assert_eq!(cell.get(1)?, 42);
+//!     Ok(())
+//! }
+//! ```
+//!
+//! A heap takes one call at a time, so it isn't `Sync`:
+//!
+//! ```compile_fail,E0277
+//! fn shared<T: Sync>() {}
+//! shared::<metronome::Heap>();
+//! ```
+//!
+//! A root doesn't outlive its mutator, nor a mutator its heap:
+//!
+//! ```compile_fail,E0505
+//! use metronome::{Heap, Settings};
+//!
+//! let heap = Heap::new(&Settings::new(64, 1, 16)).unwrap();
+//! let mutator = heap.mutator(0).unwrap();
+//! drop(heap);
+//! mutator.null().unwrap();
+//! ```
+#![warn(missing_docs)]
+
+mod calls;
+mod heap;
+mod mutator;
+mod refusal;
+mod root;
+
+pub use calls::{Counts, Settings};
+pub use heap::{Heap, Pacing, Phase, Spent};
+pub use mutator::Mutator;
+pub use refusal::{Refusal, Result};
+pub use root::{Compared, Description, Root, Shape};

@@ -1,0 +1,99 @@
+//! Why a call was refused.
+use std::error::Error;
+use std::fmt;
+
+use crate::calls::metronome_text;
+
+/// What a call answers.
+pub type Result<T> = std::result::Result<T, Refusal>;
+
+/// Why a call was refused. Nothing has changed then.
+#[derive(Clone, Copy, Debug, PartialEq, Eq, Hash)]
+#[non_exhaustive]
+pub enum Refusal {
+    /// No such mutator, or no slot of it is left for a further root, or two roots are of different mutators.
+    BadSlot,
+    /// The root that names the object holds null.
+    NullSlot,
+    /// The object has no cell of that number.
+    BadIndex,
+    /// The object has no cells of that kind.
+    WrongKind,
+    /// More than 252 cells, or than 4000000 of an array.
+    TooLarge,
+    /// The next identity is above the setting.
+    IdentitiesSpent,
+    /// No room for the object: [`crate::Heap::whole_cycle`] may free some.
+    NoSpace,
+    /// No such static.
+    BadStatic,
+    /// The allocator refused.
+    NoMemory,
+    /// The budget of a quantum isn't 256 to 1000000, or a pace has no words.
+    BadBudget,
+    /// The mutator isn't live.
+    NotLive,
+    /// There is a [`crate::Mutator`] of that number already.
+    AlreadyLive,
+    /// `collector_ticks * rate` isn't 256 to 1000000.
+    BadSchedule,
+    /// The setting at this place, 0 (`pages`) to 10 (`live`), is out of its range.
+    BadSetting(u32),
+    /// The installed library is of another version than this crate.
+    OtherVersion,
+    /// A status of the library for which this crate has no other name.
+    Other(u32),
+}
+
+/// The numbers that metronome.h has for them.
+const NUMBERED: [(u32, Refusal); 13] = [
+    (1, Refusal::BadSlot),
+    (2, Refusal::NullSlot),
+    (3, Refusal::BadIndex),
+    (4, Refusal::WrongKind),
+    (5, Refusal::TooLarge),
+    (6, Refusal::IdentitiesSpent),
+    (7, Refusal::NoSpace),
+    (8, Refusal::BadStatic),
+    (9, Refusal::NoMemory),
+    (12, Refusal::BadBudget),
+    (14, Refusal::NotLive),
+    (15, Refusal::AlreadyLive),
+    (18, Refusal::BadSchedule),
+];
+
+const FIRST_SETTING: u32 = 20;
+const SETTINGS: u32 = 11;
+
+impl Refusal {
+    /// The refusal of a status.
+    pub(crate) fn of(status: u32) -> Refusal {
+        match status.checked_sub(FIRST_SETTING) {
+            Some(place) if place < SETTINGS => Refusal::BadSetting(place),
+            _ => NUMBERED.iter().find(|(number, _)| *number == status).map_or(Refusal::Other(status), |(_, it)| *it),
+        }
+    }
+
+    /// The status of metronome.h, where it has one.
+    pub fn status(self) -> Option<u32> {
+        match self {
+            Refusal::BadSetting(place) => Some(FIRST_SETTING + place),
+            Refusal::Other(status) => Some(status),
+            named => NUMBERED.iter().find(|(_, it)| *it == named).map(|(number, _)| *number),
+        }
+    }
+}
+
+impl fmt::Display for Refusal {
+    fn fmt(&self, out: &mut fmt::Formatter<'_>) -> fmt::Result {
+        let Some(status) = self.status() else {
+            return out.write_str("the library is of another version");
+        };
+        let mut text = [0u8; 64];
+        // SAFETY: `text` has so many bytes, and nothing else uses it while the call runs.
+        let length = unsafe { metronome_text(status, text.as_mut_ptr().cast(), text.len()) };
+        out.write_str(&String::from_utf8_lossy(&text[..length.min(text.len() - 1)]))
+    }
+}
+
+impl Error for Refusal {}

@@ -1,0 +1,185 @@
+//! Roots: slots that give themselves back.
+use std::fmt;
+use std::ptr;
+
+use crate::calls::{self, ShapeTold};
+use crate::mutator::Mutator;
+use crate::refusal::{Refusal, Result};
+
+/// A slot of a mutator, which is this root's alone until it is dropped. It holds null or an object, which is kept.
+///
+/// A root is used with others of its own mutator: with one of another the call is refused as `BadSlot`.
+pub struct Root<'m> {
+    mutator: &'m Mutator<'m>,
+    slot: u32,
+}
+
+/// What a comparison came to.
+#[derive(Clone, Copy, Debug, PartialEq, Eq)]
+pub enum Compared {
+    /// It held, and the cell was written.
+    Stored,
+    /// It failed: the word, or the identity of the object (0 for null), that stands there.
+    Kept(u64),
+}
+
+impl Compared {
+    pub(crate) fn of(kept: Option<u64>) -> Compared {
+        kept.map_or(Compared::Stored, Compared::Kept)
+    }
+}
+
+/// The shape of an object.
+#[derive(Clone, Copy, Debug, PartialEq, Eq)]
+pub enum Shape {
+    /// Reference cells and word cells.
+    Plain {
+        /// How many references.
+        refs: u32,
+        /// How many words.
+        words: u32,
+    },
+    /// An array of so many references.
+    Refs(u32),
+    /// An array of so many words.
+    Words(u32),
+}
+
+impl Shape {
+    fn of(told: &ShapeTold) -> Shape {
+        match told.kind {
+            0 => Shape::Plain { refs: told.refs, words: told.words },
+            1 => Shape::Refs(told.refs),
+            _ => Shape::Words(told.words),
+        }
+    }
+}
+
+/// What there is to tell of an object.
+#[derive(Clone, Copy, Debug, PartialEq, Eq)]
+pub struct Description {
+    /// Its number: 1 for the first one that was made in its heap, and so on.
+    pub identity: u64,
+    /// Its shape.
+    pub shape: Shape,
+}
+
+impl<'m> Root<'m> {
+    pub(crate) fn new(mutator: &'m Mutator<'m>, slot: u32) -> Root<'m> {
+        Root { mutator, slot }
+    }
+
+    /// The slot, where the root is one of this mutator.
+    pub(crate) fn slot_of(&self, mutator: &Mutator<'_>) -> Result<u32> {
+        if ptr::eq(self.mutator, mutator) {
+            Ok(self.slot)
+        } else {
+            Err(Refusal::BadSlot)
+        }
+    }
+
+    /// What reference cell `i` of this root's object holds. Refused: `BadSlot`, `NullSlot`, `WrongKind`, `BadIndex`.
+    pub fn load(&self, i: u32) -> Result<Root<'m>> {
+        let root = self.mutator.null()?;
+        self.load_into(i, &root)?;
+        Ok(root)
+    }
+
+    /// The same, into a root that there is: this one, say.
+    pub fn load_into(&self, i: u32, into: &Root<'_>) -> Result<()> {
+        let dst = into.slot_of(self.mutator)?;
+        // SAFETY: the heap is open, and lives through the call.
+        let answer = self.mutator.command(|heap, m| unsafe { calls::metronome_load(heap, m, dst, self.slot, i) });
+        answer.number().map(drop)
+    }
+
+    /// What another root holds, into reference cell `i` of this root's object. Refused as [`Root::load`].
+    pub fn store(&self, i: u32, from: &Root<'_>) -> Result<()> {
+        let src = from.slot_of(self.mutator)?;
+        // SAFETY: the heap is open, and lives through the call.
+        let answer = self.mutator.command(|heap, m| unsafe { calls::metronome_store(heap, m, self.slot, i, src) });
+        answer.number().map(drop)
+    }
+
+    /// What `replacement` holds, into reference cell `i`, if that holds what `expect` does. Refused as [`Root::load`].
+    pub fn compare_store(&self, i: u32, expect: &Root<'_>, replacement: &Root<'_>) -> Result<Compared> {
+        let (expect, new) = (expect.slot_of(self.mutator)?, replacement.slot_of(self.mutator)?);
+        // SAFETY: the heap is open, and lives through the call.
+        let call = |heap, m| unsafe { calls::metronome_compare_store(heap, m, self.slot, i, expect, new) };
+        self.mutator.command(call).compared().map(Compared::of)
+    }
+
+    /// Reads word cell `i` of this root's object. Refused: `NullSlot`, `WrongKind`, `BadIndex`.
+    pub fn get(&self, i: u32) -> Result<u64> {
+        // SAFETY: the heap is open, and lives through the call.
+        self.mutator.command(|heap, m| unsafe { calls::metronome_get(heap, m, self.slot, i) }).number()
+    }
+
+    /// Writes word cell `i` of this root's object. Refused as [`Root::get`].
+    pub fn put(&self, i: u32, word: u64) -> Result<()> {
+        // SAFETY: the heap is open, and lives through the call.
+        self.mutator.command(|heap, m| unsafe { calls::metronome_put(heap, m, self.slot, i, word) }).number().map(drop)
+    }
+
+    /// Writes word cell `i`, if that is `old`. Refused as [`Root::get`].
+    pub fn compare_put(&self, i: u32, old: u64, replacement: u64) -> Result<Compared> {
+        // SAFETY: the heap is open, and lives through the call.
+        let call = |heap, m| unsafe { calls::metronome_compare_put(heap, m, self.slot, i, old, replacement) };
+        self.mutator.command(call).compared().map(Compared::of)
+    }
+
+    /// What another root holds, into this one. Refused: `BadSlot`.
+    pub fn assign(&self, from: &Root<'_>) -> Result<()> {
+        let src = from.slot_of(self.mutator)?;
+        // SAFETY: the heap is open, and lives through the call.
+        self.mutator.command(|heap, m| unsafe { calls::metronome_copy(heap, m, self.slot, src) }).number().map(drop)
+    }
+
+    /// A further root of the same object. Refused: `BadSlot` where no slot is left.
+    pub fn another(&self) -> Result<Root<'m>> {
+        let root = self.mutator.null()?;
+        root.assign(self)?;
+        Ok(root)
+    }
+
+    /// Null into this root.
+    pub fn clear(&self) {
+        // SAFETY: the heap is open, and lives through the call.
+        self.mutator.command(|heap, m| unsafe { calls::metronome_clear(heap, m, self.slot) });
+    }
+
+    /// Whether both hold the same object, or null. Refused: `BadSlot`.
+    pub fn is_same(&self, other: &Root<'_>) -> Result<bool> {
+        let b = other.slot_of(self.mutator)?;
+        // SAFETY: the heap is open, and lives through the call.
+        let answer = self.mutator.command(|heap, m| unsafe { calls::metronome_same(heap, m, self.slot, b) });
+        answer.number().map(|is| is != 0)
+    }
+
+    /// The object that the root holds, None for null.
+    pub fn describe(&self) -> Option<Description> {
+        let mut told = ShapeTold::default();
+        // SAFETY: the heap is open, and both live through the call.
+        let answer = self.mutator.command(|heap, m| unsafe { calls::metronome_describe(heap, m, self.slot, &mut told) });
+        let identity = answer.number().ok()?;
+        Some(Description { identity, shape: Shape::of(&told) })
+    }
+
+    /// Whether the root holds null.
+    pub fn is_null(&self) -> bool {
+        self.describe().is_none()
+    }
+}
+
+impl fmt::Debug for Root<'_> {
+    fn fmt(&self, out: &mut fmt::Formatter<'_>) -> fmt::Result {
+        out.debug_struct("Root").field("slot", &self.slot).finish_non_exhaustive()
+    }
+}
+
+impl Drop for Root<'_> {
+    fn drop(&mut self) {
+        self.clear();
+        self.mutator.give_back(self.slot);
+    }
+}

@@ -1,0 +1,178 @@
+//! What the crate does with its slots, and what each call finds.
+use std::thread;
+
+use metronome::{Compared, Description, Heap, Pacing, Phase, Refusal, Result, Root, Settings, Shape};
+
+/// Two mutators of three slots, and one static.
+const SMALL: Settings = Settings { statics: 1, ..Settings::new(4, 2, 3) };
+
+#[test]
+fn roots_give_their_slots_back_in_any_order() -> Result<()> {
+    let heap = Heap::new(&SMALL)?;
+    let mutator = heap.mutator(0)?;
+    let (first, second, third) = (mutator.new_words(1)?, mutator.new_words(1)?, mutator.new_words(1)?);
+    assert_eq!(mutator.null().err(), Some(Refusal::BadSlot));
+    assert_eq!(heap.count().roots_used, 3);
+    drop(second);
+    assert_eq!(heap.count().roots_used, 2);
+    let fourth = mutator.null()?;
+    assert!(fourth.is_null());
+    drop(first);
+    drop(third);
+    drop(fourth);
+    assert_eq!(heap.count().roots_used, 0);
+    heap.whole_cycle(256)?;
+    assert_eq!(heap.count().objects, 0);
+    Ok(())
+}
+
+#[test]
+fn a_number_has_one_mutator_at_a_time() -> Result<()> {
+    let heap = Heap::new(&Settings { live: 0, ..SMALL })?;
+    let first = heap.mutator(0)?;
+    assert_eq!(heap.mutator(0).err(), Some(Refusal::AlreadyLive));
+    assert_eq!(heap.mutator(2).err(), Some(Refusal::BadSlot));
+    assert_eq!(heap.mutator(64).err(), Some(Refusal::BadSlot));
+    let second = heap.mutator(1)?;
+    drop(first);
+    let again = heap.mutator(0)?;
+    assert!(again.null()?.is_null() && second.null()?.is_null());
+    Ok(())
+}
+
+#[test]
+fn roots_of_two_mutators_do_not_mix() -> Result<()> {
+    let heap = Heap::new(&SMALL)?;
+    let (here, there) = (heap.mutator(0)?, heap.mutator(1)?);
+    let (own, strange) = (here.new_plain(1, 1)?, there.new_plain(1, 1)?);
+    let refusals = [
+        own.store(0, &strange).err(),
+        own.load_into(0, &strange).err(),
+        own.assign(&strange).err(),
+        own.is_same(&strange).err(),
+        own.compare_store(0, &own, &strange).err(),
+        here.store_static(0, &strange).err(),
+        here.compare_static(0, &strange, &own).err(),
+        here.new_plain_into(0, 0, &strange).err(),
+    ];
+    assert!(refusals.iter().all(|it| *it == Some(Refusal::BadSlot)), "{refusals:?}");
+    Ok(())
+}
+
+#[test]
+fn cells_are_read_and_written() -> Result<()> {
+    let heap = Heap::new(&Settings { statics: 1, ..Settings::new(8, 1, 8) })?;
+    let mutator = heap.mutator(0)?;
+    let (cell, null) = (mutator.new_plain(2, 1)?, mutator.null()?);
+    assert_eq!(cell.describe(), Some(Description { identity: 1, shape: Shape::Plain { refs: 2, words: 1 } }));
+    assert_eq!(mutator.new_refs(300)?.describe().map(|it| it.shape), Some(Shape::Refs(300)));
+    assert_eq!(mutator.new_words(300)?.describe().map(|it| it.shape), Some(Shape::Words(300)));
+    cell.put(0, u64::MAX)?;
+    assert_eq!(cell.compare_put(0, 1, 2)?, Compared::Kept(u64::MAX));
+    assert_eq!(cell.compare_put(0, u64::MAX, 2)?, Compared::Stored);
+    assert_eq!(cell.compare_store(1, &null, &cell)?, Compared::Stored);
+    assert_eq!(cell.compare_store(1, &null, &null)?, Compared::Kept(1));
+    assert!(cell.load(1)?.is_same(&cell)? && cell.load(0)?.is_null() && !cell.is_same(&null)?);
+    assert_eq!(cell.load(1)?.get(0)?, 2);
+    assert_eq!(mutator.compare_static(0, &null, &cell)?, Compared::Stored);
+    assert_eq!(mutator.compare_static(0, &null, &cell)?, Compared::Kept(1));
+    let other = cell.another()?;
+    cell.clear();
+    assert!(cell.is_null() && mutator.load_static(0)?.is_same(&other)?);
+    Ok(())
+}
+
+#[test]
+fn refusals_are_told() -> Result<()> {
+    let heap = Heap::new(&Settings { identities: 4, slots: 8, ..SMALL })?;
+    let mutator = heap.mutator(0)?;
+    let cell = mutator.new_plain(1, 1)?;
+    let words = mutator.new_words(1)?;
+    let told = [
+        (cell.get(1).err(), Refusal::BadIndex, "no such cell"),
+        (words.load(0).err(), Refusal::WrongKind, "the object has no such cells"),
+        (mutator.null()?.get(0).err(), Refusal::NullSlot, "the slot holds null"),
+        (mutator.new_plain(200, 53).err(), Refusal::TooLarge, "the object is too large"),
+        (mutator.new_refs(4_000_000).err(), Refusal::NoSpace, "no space"),
+        (mutator.load_static(1).err(), Refusal::BadStatic, "no such static"),
+        (heap.quantum(255).err(), Refusal::BadBudget, "the budget is out of range"),
+        (Heap::new(&Settings { rate: 0, ..SMALL }).err(), Refusal::BadSetting(9), "rate is out of range"),
+        (
+            Heap::new(&Settings { rate: 1, ..SMALL }).err(),
+            Refusal::BadSchedule,
+            "collector_ticks times rate is out of range",
+        ),
+    ];
+    for (found, wanted, text) in told {
+        assert_eq!(found, Some(wanted));
+        assert_eq!(wanted.to_string(), text);
+    }
+    drop(words);
+    let spent = [mutator.new_words(1).err(), mutator.new_words(1).err(), mutator.new_words(1).err()];
+    assert_eq!(spent, [None, None, Some(Refusal::IdentitiesSpent)]);
+    Ok(())
+}
+
+#[test]
+fn cycles_go_by_quanta() -> Result<()> {
+    let heap = Heap::new(&SMALL)?;
+    assert_eq!((heap.phase(), heap.units(), heap.free_pages()), (Phase::Idle, 0, 4));
+    assert!(heap.begin() && !heap.begin());
+    let spent = heap.quantum(256)?;
+    assert!(spent.units > 0 && spent.units <= 256 && u64::from(spent.units) == heap.units());
+    assert_eq!(spent.phase, heap.phase());
+    heap.whole_cycle(1000)?;
+    assert_eq!(heap.phase(), Phase::Idle);
+    Ok(())
+}
+
+/// Puts a cell of a word before those that a root holds.
+fn push<'m>(list: &Root<'m>, cell: Root<'m>, word: u64) -> Result<Root<'m>> {
+    cell.put(0, word)?;
+    cell.store(0, list)?;
+    Ok(cell)
+}
+
+#[test]
+fn a_heap_goes_to_a_thread_and_back() -> Result<()> {
+    let heap = Heap::new(&Settings { statics: 1, ..Settings::new(8, 1, 8) })?;
+    let filled = thread::spawn(move || -> Result<Heap> {
+        let mutator = heap.mutator(0)?;
+        let mut list = mutator.null()?;
+        for word in 0..100 {
+            list = push(&list, mutator.new_plain(1, 1)?, word)?;
+        }
+        mutator.store_static(0, &list)?;
+        drop(list);
+        drop(mutator);
+        Ok(heap)
+    });
+    let heap = filled.join().expect("the thread ends")?;
+    heap.whole_cycle(1000)?;
+    let mutator = heap.mutator(0)?;
+    let list = mutator.load_static(0)?;
+    for word in (0..100).rev() {
+        assert_eq!(list.get(0)?, word);
+        list.load_into(0, &list)?;
+    }
+    assert!(list.is_null());
+    Ok(())
+}
+
+#[test]
+fn nothing_is_refused_at_a_pace() -> Result<()> {
+    let heap = Heap::new(&Settings::new(16, 1, 8))?;
+    let mutator = heap.mutator(0)?;
+    let kept = mutator.new_refs(1000)?;
+    let mut pacing = Pacing::new(16, (1000 - 255) / 16, 1000);
+    for i in 0..100_000 {
+        heap.pace(&mut pacing, 6)?;
+        kept.store(i % 1000, &mutator.new_plain(1, 1)?)?;
+    }
+    assert_eq!(heap.pace(&mut Pacing::new(16, 0, 1000), 6).err(), Some(Refusal::BadBudget));
+    let mut never = Pacing::new(0, 10, 256);
+    heap.whole_cycle(1000)?;
+    heap.pace(&mut never, 1005)?;
+    assert_eq!(heap.phase(), Phase::Idle);
+    Ok(())
+}

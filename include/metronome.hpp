@@ -205,8 +205,8 @@ struct Description {
     metronome_shape shape;
 };
 
-// A slot of a mutator, which is this root's alone until it goes out of scope: an object that it holds is kept. One that was moved
-// away has no slot: of it each call is refused as BAD_SLOT.
+// A slot of a mutator, which is this root's alone until it goes out of scope: an object that it holds is kept. A root that was
+// moved away has no slot: of it each call is refused as BAD_SLOT.
 class Root {
 public:
     Root(Root &&other) noexcept : owner(std::exchange(other.owner, nullptr)), slot(other.slot) {}
@@ -233,8 +233,9 @@ public:
     }
     std::uint32_t try_compare_store(std::uint32_t i, const Root &expect, const Root &replacement, bool &stored) noexcept {
         if (!is_beside(expect) || !is_beside(replacement)) return METRONOME_BAD_SLOT;
-        return detail::tell_kind(metronome_compare_store(owner->handle(), owner->number, slot, i, expect.slot, replacement.slot),
-                                 METRONOME_STORED, stored);
+        const metronome_answer answer =
+            metronome_compare_store(owner->handle(), owner->number, slot, i, expect.slot, replacement.slot);
+        return detail::tell_kind(answer, METRONOME_STORED, stored);
     }
     std::uint32_t try_get(std::uint32_t i, std::uint64_t &word) const noexcept {
         if (owner == nullptr) return METRONOME_BAD_SLOT;

@@ -1,6 +1,8 @@
 /*
  * A small Lisp whose every value lies in the heap: integers, strings, symbols, pairs, closures, and the stack of the
  * evaluator too. Each so many evaluations the collector gets a quantum. It prints its longest pause.
+ *
+ * Built with RECORDED it takes three words, CONFIG TRACE HISTORY: it does less, and its calls are recorded into these files.
  */
 #include "values.h"
 #include <inttypes.h>
@@ -9,6 +11,12 @@
 #include <string.h>
 
 enum { EVALUATIONS_A_QUANTUM = 16, DEEPEST = 10000 };
+
+#ifdef RECORDED
+enum { REPEATS = 1, LEAST_MADE = 10000 };
+#else
+enum { REPEATS = 100, LEAST_MADE = 1000000 };
+#endif
 
 /* the symbols, in a list */
 enum { SYMBOLS, STATICS };
@@ -330,7 +338,21 @@ static void is_text(const char *text, const char *awaited) {
     check(strcmp(buffer, awaited) == 0, text);
 }
 
-int main(void) {
+/* Records what is done from now on, where this is built for it. */
+static void record(int count, char **words) {
+#ifdef RECORDED
+    FILE *files[3];
+    for (int i = 0; i < 3; i++)
+        if (count != 4 || (files[i] = fopen(words[i + 1], "w")) == NULL) fail("CONFIG TRACE HISTORY");
+    metronome_record(files[0], files[1], files[2]);
+#else
+    (void)words;
+    if (count != 1) fail("it takes no words");
+#endif
+}
+
+int main(int count, char **words) {
+    record(count, words);
     metronome_settings settings = METRONOME_SETTINGS(PAGES, 1, SLOTS);
     settings.statics = STATICS;
     settings.defrag_below = PAGES / 4;
@@ -349,10 +371,12 @@ int main(void) {
     gives("(fib 15)", 610);
     is_text("(string-append \"real\" \"-time\")", "real-time");
     gives("(string-length (string-append \"a string that goes over words\" \"\"))", 29);
-    gives("(repeat 100 0)", 5050);
+    char repeat[LONGEST_TEXT];
+    snprintf(repeat, sizeof repeat, "(repeat %d 0)", REPEATS);
+    gives(repeat, 5050);
     uint64_t free_pages;
     check(metronome_free_pages(&heap, &free_pages) == METRONOME_OK, "free pages");
-    check(work.made >= 1000000, "a million cells");
+    check(work.made >= LEAST_MADE, "so many cells");
     check(work.most_units <= BUDGET, "no quantum spends more than its budget");
     printf("%" PRIu64 " evaluations, %" PRIu64 " cells, %" PRIu64 " quanta in %" PRIu64 " cycles, most units %" PRIu64
            ", longest pause %.1f us of processor time, %" PRIu64 " of %d pages free\n",

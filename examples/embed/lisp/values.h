@@ -4,7 +4,11 @@
 #ifndef VALUES_H
 #define VALUES_H
 
+#ifdef RECORDED
+#include "metronome_record.h"
+#else
 #include "metronome.h"
+#endif
 
 enum { PAGES = 64, BUDGET = 1000, LONGEST_TEXT = 256 };
 

@@ -1,6 +1,6 @@
 /*
- * recorded CONFIG TRACE HISTORY: each call and each kind of answer, recorded into these files; and what isn't recorded: calls
- * of other heaps and of closed handles, a quantum that is refused, and a file that takes nothing.
+ * Each call and each kind of answer, recorded into calls.toml, calls.trace and calls.history; and what isn't recorded: calls of
+ * other heaps and of closed handles, a quantum that is refused, and a file that takes nothing.
  */
 #include "metronome_record.h"
 
@@ -105,11 +105,8 @@ static void check_full(const metronome_settings *settings) {
     fclose(null);
 }
 
-int main(int count, char **words) {
-    if (count != 4) return 2;
-    FILE *files[3];
-    for (int i = 0; i < 3; i++)
-        if ((files[i] = fopen(words[i + 1], "w")) == NULL) return 2;
+int main(void) {
+    FILE *files[] = { fopen("calls.toml", "w"), fopen("calls.trace", "w"), fopen("calls.history", "w") };
     metronome_settings settings = METRONOME_SETTINGS(16, 2, 8);
     settings.statics = 1;
     settings.live = 1;

@@ -6,23 +6,47 @@
 #include <time.h>
 
 metronome heap = METRONOME_CLOSED;
-struct work work;
+metronome_row row = METRONOME_ROW(0, 0, OF_ROW);
+uint64_t made;
+double longest_pause;
 
 _Noreturn void fail(const char *what) {
     fprintf(stderr, "lisp: %s\n", what);
     exit(1);
 }
 
-uint64_t ask(metronome_answer answer, uint32_t kind) {
+/* A status, which must be that all was done. */
+static void need(uint32_t status) {
     char text[LONGEST_TEXT];
-    if (answer.kind != kind) {
-        metronome_text((uint32_t)answer.number, text, sizeof text);
-        fail(answer.kind == METRONOME_REFUSED ? text : "not the answer that was awaited");
-    }
+    metronome_text(status, text, sizeof text);
+    if (status != METRONOME_OK) fail(text);
+}
+
+uint64_t ask(metronome_answer answer, uint32_t kind) {
+    if (answer.kind == METRONOME_REFUSED) need((uint32_t)answer.number);
+    if (answer.kind != kind) fail("not the answer that was awaited");
     return answer.number;
 }
 
-/* ---- The collector ---- */
+uint32_t local(void) {
+    uint32_t slot = 0;
+    need(metronome_take_slot(&row, &slot));
+    return slot;
+}
+
+void end(metronome_frame frame) { need(metronome_close_frame(&heap, &row, frame)); }
+
+/* ---- Values ---- */
+
+void copy(uint32_t to, uint32_t from) { ask(metronome_copy(&heap, 0, to, from), METRONOME_DONE); }
+void clear(uint32_t slot) { ask(metronome_clear(&heap, 0, slot), METRONOME_DONE); }
+void load(uint32_t to, uint32_t from, uint32_t i) { ask(metronome_load(&heap, 0, to, from, i), METRONOME_REF); }
+void store(uint32_t to, uint32_t i, uint32_t from) { ask(metronome_store(&heap, 0, to, i, from), METRONOME_DONE); }
+void load_static(uint32_t to, uint32_t k) { ask(metronome_load_static(&heap, 0, to, k), METRONOME_REF); }
+void store_static(uint32_t k, uint32_t from) { ask(metronome_store_static(&heap, 0, k, from), METRONOME_DONE); }
+uint64_t get(uint32_t slot, uint32_t i) { return ask(metronome_get(&heap, 0, slot, i), METRONOME_WORD); }
+void put(uint32_t slot, uint32_t i, uint64_t word) { ask(metronome_put(&heap, 0, slot, i, word), METRONOME_DONE); }
+int same(uint32_t a, uint32_t b) { return (int)ask(metronome_same(&heap, 0, a, b), METRONOME_IS); }
 
 /* Microseconds of this thread's processor time. */
 static double now(void) {
@@ -31,45 +55,19 @@ static double now(void) {
     return (double)t.tv_sec * 1e6 + (double)t.tv_nsec / 1e3;
 }
 
-uint32_t collect(void) {
-    metronome_spent spent;
+/* Tells the pace that an object of so many cells is about to be made. At this pace there is room for it while no more than a quarter
+ * of the pages are live. */
+static void pace(uint32_t cells) {
+    static metronome_pacing pacing = METRONOME_PACING(3 * PAGES / 4, (BUDGET - 255) / 16, BUDGET);
     double began = now();
-    if (metronome_begin(&heap) == METRONOME_OK) work.cycles++;
-    if (metronome_quantum(&heap, BUDGET, &spent) != METRONOME_OK) fail("no quantum");
+    need(metronome_pace(&heap, &pacing, cells + 4));
     double pause = now() - began;
-    if (pause > work.longest_pause) work.longest_pause = pause;
-    if (spent.units > work.most_units) work.most_units = spent.units;
-    work.quanta++;
-    return spent.phase;
-}
-
-/* Ends the cycle that is on, and goes through one more. */
-static void collect_all(void) {
-    for (int ends = 0; ends < 2;)
-        if (collect() == METRONOME_IDLE) ends++;
-}
-
-/* ---- Values ---- */
-
-void copy(uint32_t to, uint32_t from) { ask(metronome_copy(&heap, 0, to, from), METRONOME_DONE); }
-void clear(uint32_t slot) { ask(metronome_clear(&heap, 0, slot), METRONOME_DONE); }
-void load(uint32_t to, uint32_t from, uint32_t i) { ask(metronome_load(&heap, 0, to, from, i), METRONOME_REF); }
-void store(uint32_t to, uint32_t i, uint32_t from) { ask(metronome_store(&heap, 0, to, i, from), METRONOME_DONE); }
-uint64_t get(uint32_t slot, uint32_t i) { return ask(metronome_get(&heap, 0, slot, i), METRONOME_WORD); }
-void put(uint32_t slot, uint32_t i, uint64_t word) { ask(metronome_put(&heap, 0, slot, i, word), METRONOME_DONE); }
-int same(uint32_t a, uint32_t b) { return (int)ask(metronome_same(&heap, 0, a, b), METRONOME_IS); }
-
-/* Whether there was no space for an object. All garbage is freed then. */
-static int is_full(metronome_answer answer) {
-    if (answer.kind != METRONOME_REFUSED || answer.number != METRONOME_NO_SPACE) return 0;
-    collect_all();
-    return 1;
+    if (pause > longest_pause) longest_pause = pause;
 }
 
 void make(uint32_t slot, enum kind kind, uint32_t refs, uint32_t words) {
-    metronome_answer answer = metronome_new_plain(&heap, 0, slot, refs, words);
-    if (is_full(answer)) answer = metronome_new_plain(&heap, 0, slot, refs, words);
-    work.made = ask(answer, METRONOME_MADE);
+    pace(refs + words);
+    made = ask(metronome_new_plain(&heap, 0, slot, refs, words), METRONOME_MADE);
     put(slot, KIND, kind);
 }
 
@@ -96,33 +94,32 @@ int64_t integer_of(uint32_t slot) {
 }
 
 void cons(uint32_t to, uint32_t car, uint32_t cdr) {
-    make(U, PAIR, 2, 1);
-    store(U, CAR, car);
-    store(U, CDR, cdr);
-    copy(to, U);
-    clear(U);
+    make(NEW_PAIR, PAIR, 2, 1);
+    store(NEW_PAIR, CAR, car);
+    store(NEW_PAIR, CDR, cdr);
+    copy(to, NEW_PAIR);
 }
 
-void push(uint32_t slot) { cons(STACK, slot, STACK); }
-
-void pop(uint32_t slot) {
-    load(slot, STACK, CAR);
-    load(STACK, STACK, CDR);
+void append(uint32_t list, uint32_t last, uint32_t value) {
+    cons(MOVED, value, MOVED);
+    if (kind_of(list) == NIL) copy(list, MOVED);
+    else store(last, CDR, MOVED);
+    copy(last, MOVED);
+    clear(MOVED);
 }
 
 void item(uint32_t to, uint32_t list, int i) {
-    copy(T, list);
-    for (; i > 0; i--) load(T, T, CDR);
-    load(to, T, CAR);
+    copy(to, list);
+    for (; i > 0; i--) load(to, to, CDR);
+    load(to, to, CAR);
 }
 
 /* ---- Strings: word 0 is the length in bytes, and eight bytes lie in each further word ---- */
 
 void make_string(uint32_t slot, const char *text, uint64_t length) {
     uint32_t words = (uint32_t)(1 + (length + 7) / 8);
-    metronome_answer answer = metronome_new_words(&heap, 0, slot, words);
-    if (is_full(answer)) answer = metronome_new_words(&heap, 0, slot, words);
-    work.made = ask(answer, METRONOME_MADE);
+    pace(words);
+    made = ask(metronome_new_words(&heap, 0, slot, words), METRONOME_MADE);
     put(slot, 0, length);
     for (uint64_t i = 0; i < length; i += 8) {
         uint64_t word = 0;
@@ -141,4 +138,27 @@ uint64_t text_of(uint32_t slot, char *text) {
     }
     text[length] = 0;
     return length;
+}
+
+/* ---- The row in the heap: an array of what its slots hold, and then of what was moved before ---- */
+
+void move_out(void) {
+    pace(OF_ROW + 1);
+    made = ask(metronome_new_refs(&heap, 0, MOVED, OF_ROW + 1), METRONOME_MADE);
+    for (uint32_t slot = 0; slot < OF_ROW; slot++) store(MOVED, slot, slot);
+    end(0);
+    load_static(0, DEEPER);
+    store(MOVED, OF_ROW, 0);
+    store_static(DEEPER, MOVED);
+    clear(MOVED);
+    clear(0);
+}
+
+void move_back(uint32_t taken) {
+    load_static(MOVED, DEEPER);
+    load(0, MOVED, OF_ROW);
+    store_static(DEEPER, 0);
+    while (row.next < taken) local();
+    for (uint32_t slot = 0; slot < taken; slot++) load(slot, MOVED, slot);
+    clear(MOVED);
 }

@@ -1,10 +1,14 @@
 /*
- * The values of the Lisp. Every one lies in the heap, and is named by a slot.
+ * The values of the Lisp. Every one lies in the heap, and is named by a slot, which a frame gives back.
  */
 #ifndef VALUES_H
 #define VALUES_H
 
-#ifdef RECORDED
+#ifndef RECORDED
+#define RECORDED 0
+#endif
+
+#if RECORDED
 #include "metronome_record.h"
 #else
 #include "metronome.h"
@@ -12,8 +16,12 @@
 
 enum { PAGES = 64, BUDGET = 1000, LONGEST_TEXT = 256 };
 
-/* The slots, which are the registers of the evaluator. What a function here doesn't name it leaves, but for T and U. */
-enum { EXPR, ENV, VAL, FUN, ARGS, STACK, READ, NAME, LIST, T, U, SLOTS };
+/* The slots: those of the row, which frames take, and then those that one function uses at a time: what is evaluated in which
+ * scope, a new pair, and the row on its way into the heap. */
+enum { OF_ROW = 64, VAL = OF_ROW, ENV, NEW_PAIR, MOVED, SLOTS };
+
+/* The statics: the symbols, in a list, and what was moved out of the row. */
+enum { SYMBOLS, DEEPER, STATICS };
 
 /* What a value is. Strings are arrays of words, and null is the empty list; each other value has its kind in word 0. */
 enum kind { NIL, STRING, INTEGER, SYMBOL, PAIR, CLOSURE, PRIMITIVE };
@@ -24,15 +32,12 @@ enum { PARAMETERS, BODY, SCOPE }; /* a closure */
 enum { SPELLING, VALUE };         /* a symbol */
 enum { KIND, NUMBER, BOUND };     /* an integer's, a primitive's and a special form's number; whether a symbol has a value */
 
-/* What was done so far: quanta, cycles begun, the most units of a quantum, the longest in microseconds of processor time,
- * and the identity of the last object. */
-struct work {
-    uint64_t quanta, cycles, most_units, made;
-    double longest_pause;
-};
-
 extern metronome heap;
-extern struct work work;
+extern metronome_row row;
+
+/* The identity of the last object, and the longest call of the pace in microseconds of processor time. */
+extern uint64_t made;
+extern double longest_pause;
 
 /* Tells what went wrong, and ends the program. */
 _Noreturn void fail(const char *what);
@@ -40,13 +45,18 @@ _Noreturn void fail(const char *what);
 /* The number of an answer, which must be of this kind. */
 uint64_t ask(metronome_answer answer, uint32_t kind);
 
-/* Spends a quantum, and begins a cycle first where none is on. Answers the phase in which it ends. */
-uint32_t collect(void);
+/* A slot of the frame that is open. */
+uint32_t local(void);
+
+/* Closes a frame. */
+void end(metronome_frame frame);
 
 void copy(uint32_t to, uint32_t from);
 void clear(uint32_t slot);
 void load(uint32_t to, uint32_t from, uint32_t i);
 void store(uint32_t to, uint32_t i, uint32_t from);
+void load_static(uint32_t to, uint32_t k);
+void store_static(uint32_t k, uint32_t from);
 uint64_t get(uint32_t slot, uint32_t i);
 void put(uint32_t slot, uint32_t i, uint64_t word);
 int same(uint32_t a, uint32_t b);
@@ -61,8 +71,9 @@ int64_t integer_of(uint32_t slot);
 
 /* The pair of what two slots hold; `to` may be one of them. */
 void cons(uint32_t to, uint32_t car, uint32_t cdr);
-void push(uint32_t slot);
-void pop(uint32_t slot);
+
+/* A list with one more item at its end; `last` holds its last pair. */
+void append(uint32_t list, uint32_t last, uint32_t value);
 
 /* Item i of a list. */
 void item(uint32_t to, uint32_t list, int i);
@@ -71,5 +82,9 @@ void make_string(uint32_t slot, const char *text, uint64_t length);
 
 /* Copies a string out, and answers its length. */
 uint64_t text_of(uint32_t slot, char *text);
+
+/* Moves what the row holds into the heap, so that all its slots are free, and back, so that as many as before are taken. */
+void move_out(void);
+void move_back(uint32_t taken);
 
 #endif

@@ -1,0 +1,245 @@
+/*
+ * control [PERIODS [PERIOD [FILE.svg]]]: a control loop of a stated period in microseconds, 1000 if not said, over the heap. In
+ * each period it makes objects, each in the place of an older one, and spends one quantum of a stated budget.
+ *
+ * It prints how long it took to wake up, to work, and to do the quantum, and by what it missed a period; with FILE.svg it draws
+ * the first two. None of this is promised: of a quantum its units are, and not the time that it takes. The process locks its
+ * memory and asks for SCHED_FIFO where it may.
+ *
+ * Built with -DLIBGC=1 the same loop runs on libgc, which collects where it allocates; with -DLIBGC=2 incrementally, with one
+ * GC_collect_a_little for a quantum.
+ */
+#define _GNU_SOURCE
+#include <sched.h>
+#include <stdint.h>
+#include <stdio.h>
+#include <stdlib.h>
+#include <sys/mman.h>
+#include <time.h>
+
+#ifndef LIBGC
+#define LIBGC 0
+#endif
+
+/* A sixth of the pages is live, and 350 words are made in a period, so a budget of 3000 suffices, by the rule of metronome.h. */
+enum { LIVE = 20000, OBJECTS_A_PERIOD = 50, PAGES = 512, BUDGET = 3000 };
+
+static int failed;
+
+static void need(int holds, const char *what) {
+    if (holds) return;
+    fprintf(stderr, "control: %s\n", what);
+    exit(1);
+}
+
+/* ---- Memory: cells of a reference and two words, LIVE of them live ---- */
+
+#if LIBGC
+
+#include <gc.h>
+
+static const char *const MEMORY = LIBGC == 2 ? "libgc, incremental" : "libgc";
+
+struct cell {
+    struct cell *next;
+    uint64_t words[2];
+};
+
+static struct cell **cells;
+
+static void open_memory(void) {
+    GC_INIT();
+    if (LIBGC == 2) GC_enable_incremental();
+    cells = GC_MALLOC(LIVE * sizeof *cells);
+}
+
+/* Makes cell n with a word, in the place of an older one. */
+static void make(uint32_t place, uint64_t word) {
+    struct cell *cell = GC_MALLOC(sizeof *cell);
+    cell->words[1] = word;
+    cells[place] = cell;
+}
+
+static uint64_t word_of(uint32_t place) { return cells[place]->words[1]; }
+
+static void do_quantum(void) {
+    if (LIBGC == 2) GC_collect_a_little();
+}
+
+static void close_memory(void) { printf("collections: %lu\n", (unsigned long)GC_get_gc_no()); }
+
+#else
+
+#include "metronome.h"
+
+static const char *const MEMORY = "this heap";
+
+/* slots: the array of all cells, and one of them */
+enum { CELLS, CELL, SLOTS };
+
+static metronome heap = METRONOME_CLOSED;
+static uint64_t cycles;
+
+static void open_memory(void) {
+    metronome_settings settings = METRONOME_SETTINGS(PAGES, 1, SLOTS);
+    need(metronome_create(&heap, &settings) == METRONOME_OK, "no heap");
+    need(metronome_new_refs(&heap, 0, CELLS, LIVE).kind == METRONOME_MADE, "no room for the array");
+}
+
+/* Makes a cell with a word, in the place of an older one. */
+static void make(uint32_t place, uint64_t word) {
+    if (metronome_new_plain(&heap, 0, CELL, 1, 2).kind != METRONOME_MADE) failed++;
+    metronome_put(&heap, 0, CELL, 1, word);
+    metronome_store(&heap, 0, CELLS, place, CELL);
+}
+
+static uint64_t word_of(uint32_t place) {
+    metronome_load(&heap, 0, CELL, CELLS, place);
+    return metronome_get(&heap, 0, CELL, 1).number;
+}
+
+static void do_quantum(void) {
+    metronome_spent spent = { 0, METRONOME_IDLE };
+    if (metronome_begin(&heap) == METRONOME_OK) cycles++;
+    if (metronome_quantum(&heap, BUDGET, &spent) != METRONOME_OK || spent.units > BUDGET) failed++;
+}
+
+static void close_memory(void) {
+    printf("cycles: %llu\n", (unsigned long long)cycles);
+    metronome_destroy(&heap);
+}
+
+#endif
+
+/* ---- Time, in nanoseconds ---- */
+
+enum { WAKE, WORK, QUANTUM, TIMES };
+
+static const char *const names[TIMES] = { "wake-up", "work", "of it the quantum" };
+
+static int64_t *times[TIMES];
+
+static int64_t now(void) {
+    struct timespec t;
+    clock_gettime(CLOCK_MONOTONIC, &t);
+    return (int64_t)t.tv_sec * 1000000000 + t.tv_nsec;
+}
+
+static void sleep_until(int64_t time) {
+    struct timespec t = { .tv_sec = time / 1000000000, .tv_nsec = time % 1000000000 };
+    while (clock_nanosleep(CLOCK_MONOTONIC, TIMER_ABSTIME, &t, NULL) != 0) {}
+}
+
+/* Locks memory and takes a priority, where the process may. */
+static void be_realtime(void) {
+    struct sched_param priority = { .sched_priority = 50 };
+    int locked = mlockall(MCL_CURRENT | MCL_FUTURE) == 0;
+    int first = sched_setscheduler(0, SCHED_FIFO, &priority) == 0;
+    printf("memory locked: %s; SCHED_FIFO: %s\n", locked ? "yes" : "no", first ? "yes" : "no");
+}
+
+/* The loop. By how much it missed periods is told, by the end of the work. */
+static void run(uint32_t periods, int64_t period) {
+    int64_t due = now() + period, longest_miss = 0;
+    uint32_t missed = 0;
+    for (uint32_t n = 0; n < periods; n++, due += period) {
+        sleep_until(due);
+        int64_t woke = now();
+        for (uint32_t i = 0; i < OBJECTS_A_PERIOD; i++) {
+            uint64_t object = LIVE + (uint64_t)n * OBJECTS_A_PERIOD + i;
+            uint32_t place = (uint32_t)(object % LIVE);
+            if (word_of(place) != object - LIVE) failed++;
+            make(place, object);
+        }
+        int64_t before = now();
+        do_quantum();
+        int64_t end = now(), late = end - due - period;
+        times[WAKE][n] = woke - due;
+        times[WORK][n] = end - woke;
+        times[QUANTUM][n] = end - before;
+        if (late <= 0) continue;
+        missed++;
+        if (late > longest_miss) longest_miss = late;
+        while (due + period < end) due += period;
+    }
+    printf("periods missed: %u, by %.1f us at most\n", missed, (double)longest_miss / 1e3);
+}
+
+/* ---- What is told ---- */
+
+static int is_less(const void *a, const void *b) {
+    int64_t x = *(const int64_t *)a, y = *(const int64_t *)b;
+    return (x > y) - (x < y);
+}
+
+/* Tells the distribution of each time, and leaves the times in order. */
+static void print_times(uint32_t periods) {
+    printf("| %s | median us | 99 of 100 us | 999 of 1000 us | longest us |\n|---|---|---|---|---|\n", MEMORY);
+    for (int what = 0; what < TIMES; what++) {
+        const int64_t *sorted = times[what];
+        qsort(times[what], periods, sizeof *sorted, is_less);
+        printf("| %s | %.1f | %.1f | %.1f | %.1f |\n", names[what], (double)sorted[periods / 2] / 1e3,
+               (double)sorted[(uint64_t)periods * 99 / 100] / 1e3, (double)sorted[(uint64_t)periods * 999 / 1000] / 1e3,
+               (double)sorted[periods - 1] / 1e3);
+    }
+}
+
+/* A picture has a column for each of COLUMNS ranges of time, each 10^(1/8) times the one before, from 100 ns on. */
+enum { COLUMNS = 48, WIDTH = 14, HEIGHT = 160, MARGIN = 40 };
+
+static int column_of(int64_t time) {
+    int column = 0;
+    for (double limit = 100; column < COLUMNS - 1 && (double)time > limit; limit *= 1.333521432) column++;
+    return column;
+}
+
+/* A power of two for each unit of height, so that a single period shows. */
+static int height_of(uint32_t count) {
+    int height = 0;
+    for (; count > 0; count /= 2) height++;
+    return height * HEIGHT / 24;
+}
+
+static void draw_columns(FILE *file, int what, uint32_t periods, int base) {
+    uint32_t counts[COLUMNS] = { 0 };
+    for (uint32_t n = 0; n < periods; n++) counts[column_of(times[what][n])]++;
+    fprintf(file, "<text x='%d' y='%d'>%s, %s: longest %.1f us</text>\n", MARGIN, base - HEIGHT - 8, MEMORY, names[what],
+            (double)times[what][periods - 1] / 1e3);
+    for (int i = 0; i < COLUMNS; i++)
+        fprintf(file, "<rect x='%d' y='%d' width='%d' height='%d' fill='steelblue'/>\n", MARGIN + i * WIDTH,
+                base - height_of(counts[i]), WIDTH - 1, height_of(counts[i]));
+    static const char *const marks[] = { "0.1 us", "1 us", "10 us", "100 us", "1 ms", "10 ms" };
+    for (int i = 0; i < 6; i++)
+        fprintf(file, "<text x='%d' y='%d'>%s</text>\n", MARGIN + i * 8 * WIDTH, base + 16, marks[i]);
+}
+
+static void draw(const char *path, uint32_t periods) {
+    FILE *file = fopen(path, "w");
+    need(file != NULL, "the picture can't be written");
+    int width = 2 * MARGIN + COLUMNS * WIDTH, height = 2 * (HEIGHT + 2 * MARGIN);
+    fprintf(file, "<svg xmlns='http://www.w3.org/2000/svg' version='1.1' width='%d' height='%d' font-family='sans-serif' "
+                  "font-size='12'>\n<rect width='100%%' height='100%%' fill='white'/>\n", width, height);
+    draw_columns(file, WAKE, periods, MARGIN + HEIGHT);
+    draw_columns(file, WORK, periods, 3 * MARGIN + 2 * HEIGHT);
+    need(fprintf(file, "</svg>\n") > 0 && fclose(file) == 0, "the picture can't be written");
+}
+
+int main(int count, char **words) {
+    uint32_t periods = count > 1 ? (uint32_t)atoi(words[1]) : 10000;
+    int64_t period = count > 2 ? atoi(words[2]) : 1000;
+    need(count <= 4 && periods > 0 && period > 0, "[PERIODS [PERIOD [FILE.svg]]], in microseconds");
+    for (int what = 0; what < TIMES; what++)
+        need((times[what] = calloc(periods, sizeof *times[what])) != NULL, "no memory for the times");
+    open_memory();
+    for (uint32_t place = 0; place < LIVE; place++) make(place, place);
+    printf("%s: %u periods of %lld us, %d objects in each, %d live\n", MEMORY, periods, (long long)period, OBJECTS_A_PERIOD,
+           LIVE);
+    be_realtime();
+    run(periods, period * 1000);
+    print_times(periods);
+    if (count > 3) draw(words[3], periods);
+    close_memory();
+    for (int what = 0; what < TIMES; what++) free(times[what]);
+    printf("%d passed, %d failed\n", failed == 0, failed);
+    return failed != 0;
+}

@@ -93,7 +93,7 @@ static void check_whole_cycle(void) {
 
 /* The numbers that the header gives, with less than half of the pages live: a million cells, and none is refused. */
 static void check_refusals(void) {
-    metronome_pacing pacing = METRONOME_PACING(PAGES, (BUDGET - 255) / 16, BUDGET);
+    metronome_pacing pacing = METRONOME_PACING(PAGES, (BUDGET - 255) / 20, BUDGET);
     uint64_t refused = 0;
     CHECK(metronome_new_refs(&heap, 0, 1, LIVE).kind == METRONOME_MADE);
     for (uint32_t i = 0; i < 1000000; i++) {

@@ -164,7 +164,7 @@ fn nothing_is_refused_at_a_pace() -> Result<()> {
     let heap = Heap::new(&Settings::new(16, 1, 8))?;
     let mutator = heap.mutator(0)?;
     let kept = mutator.new_refs(1000)?;
-    let mut pacing = Pacing::new(16, (1000 - 255) / 16, 1000);
+    let mut pacing = Pacing::new(16, (1000 - 255) / 20, 1000);
     for i in 0..100_000 {
         heap.pace(&mut pacing, 6)?;
         kept.store(i % 1000, &mutator.new_plain(1, 1)?)?;

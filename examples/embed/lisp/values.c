@@ -58,7 +58,7 @@ static double now(void) {
 /* Tells the pace that an object of so many cells is about to be made. At this pace there is room for it while no more than a quarter
  * of the pages are live. */
 static void pace(uint32_t cells) {
-    static metronome_pacing pacing = METRONOME_PACING(3 * PAGES / 4, (BUDGET - 255) / 16, BUDGET);
+    static metronome_pacing pacing = METRONOME_PACING(3 * PAGES / 4, (BUDGET - 255) / 20, BUDGET);
     double began = now();
     need(metronome_pace(&heap, &pacing, cells + 4));
     double pause = now() - began;

@@ -9,7 +9,7 @@ use Rattle.graph_heap.specs.Shape.{fits}
 use Rattle.graph_heap.specs.Graph.{Object, Graph, no_object, object_of}
 use Rattle.graph_heap.specs.Effect.{object_at, found}
 use Rattle.graph_heap.specs.Reach.{Reaches}
-use Rattle.heap_model.specs.Store.{is_held, node_of}
+use Rattle.heap_model.specs.Store.{Store, is_held, node_of}
 use Rattle.heap_model.specs.Agree.{IsMain, Reads}
 use Rattle.heap_model.specs.Core.{Name}
 use Rattle.heap_model.specs.Cut.{name_of}
@@ -76,6 +76,21 @@ module _ (h : HeapState) (g : Graph) (a : Agrees h g) (root : ℕ) (below : root
 
   pub root_known : IsKnown g (get_or g.roots root 0)
   root_known = known_root g root (subst (λ n. root < n) a.roots below)
+
+-- what a root holds, of the value t as which the heap h is seen
+pub root_names : (h t : HeapState) → h ≡ t → (root x : ℕ) → root < length t.roots → x ≡ get_or h.roots root 0 → (r : Referent) → r ≡ referent_of h.store x → (g : Graph) → Agrees t g → Names t g (get_or g.roots root 0) r
+root_names h t is root x below get r named g a =
+    let a' = subst (λ (y : HeapState). Agrees y g) (sym is) a in
+    let below' = subst (λ (y : HeapState). root < length y.roots) (sym is) below in
+    subst (λ (y : HeapState). Names y g (get_or g.roots root 0) r) is (names_by h g x _ r (reads_root h g a' root below' x get) (root_known h g a' root below') named)
+
+-- the main copy of what isn't null isn't
+pub followed_some : (s : Store) (x : ℕ) (r : Referent) → x ≢ 0 → r ≡ referent_of s x → r.reference ≢ 0
+followed_some s x r some named null =
+    let main : r.reference ≡ (node_of s (x - 1)).forward + 1 =
+    ap (λ (z : Referent). z.reference) named
+    ∙ ap (λ b. (cond {A = Referent} b (record { identity = 0; reference = 0 }) (record { identity = (node_of s (node_of s (x - 1)).forward).identity; reference = (node_of s (x - 1)).forward + 1 })).reference) (ne_eqb x 0 some) in
+    absurd (omega (arith, main, null))
 
 -- null is no object
 pub null_object : (h : HeapState) (g : Graph) (id : ℕ) (r : Referent) → Names h g id r → r.reference ≡ 0 → object_at g.objects id ≡ Err refusals.NullSlot

@@ -30,10 +30,11 @@ impl Heap {
         ensures held { IfOk result (λ f. is_held self.now.store f.block ≡ true) }
         ensures fits { IfOk result (λ f. fits f.shape ≡ true) }
     {
-        let held = self.held(root);
-        if held.reference == 0 {
+        let reference = self.raw.roots.get(root);
+        if reference == 0 {
             return Err(Refusal::NullSlot);
         }
+        let held = self.raw.nodes.follow(reference);
         let block = held.reference as usize - 1;
         let shape = self.raw.nodes.shape(block);
         Ok(Found {

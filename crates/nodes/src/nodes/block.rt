@@ -67,6 +67,17 @@ impl Nodes {
                 reference: 0,
             };
         }
+        self.follow(reference)
+    }
+
+    /// The same of a reference that isn't null.
+    #[inline(always)]
+    pub fn follow(&self, reference: u64) -> Referent
+        requires some { reference ≢ 0 }
+        requires block { is_held self.now (reference - 1) ≡ true }
+        requires main { is_held self.now (node_of self.now (reference - 1)).forward ≡ true }
+        ensures { result ≡ referent_of self.now reference }
+    {
         let block = self.forward_of(reference as usize - 1) as usize;
         Referent {
             identity: self.identity(block),

@@ -1,35 +1,39 @@
-use Rattle.std.proofs.Common.{◌≡◌, ◌-◌, true, slice_index, subst, sym}
-use Rattle.graph_heap.specs.Graph.{Graph}
+use Rattle.std.proofs.Common.{◌≡◌, ◌-◌, ◌<◌, true, length, slice_index, ap, subst, sym, refl}
 use Rattle.heap_model.specs.Store.{is_held}
 use Rattle.heap_model.specs.State.{HeapState}
 use Rattle.heap_model.specs.Agreement.{Agrees}
-use Rattle.raw_heap.specs.Heap.{IsHeap}
+use Rattle.raw_heap.specs.Heap.{state_of}
 use Rattle.machine.specs.Reading.{Names, IsFound}
-use Rattle.nodes.specs.declared.nodes.Referent.{Referent}
+use Rattle.nodes.specs.Referent.{referent_of}
 use Rattle.machine.proofs.Doing.{at_present}
-use Rattle.machine.proofs.Finding.{null_object, object_held, object_fits, finds_by}
+use Rattle.machine.proofs.Writing.{root_follows}
+use Rattle.machine.proofs.Finding.{root_names, followed_some, null_object, object_held, object_fits, finds_by}
 use Rattle.machine.proofs.heap.Heap.object.Goals as goal
 
--- what the root holds at present
-named : (h t : HeapState) → h ≡ t → (w : IsHeap h) (root : _) (r : Referent) → ((g : Graph) → Agrees t g → Names t g (slice_index g.roots root) r) → Names h w.present (slice_index w.present.roots root) r
-named h t is w root r = at_present (λ x g. Names x g (slice_index g.roots root) r) h t is w
+pub follow-held-requires-clause-block : goal.follow-held-requires-clause-block
+follow-held-requires-clause-block c = (root_follows (state_of c.self.inside.raw) c.self.invariant.heap c.args.root c.get-reference.result (subst (λ (x : HeapState). c.args.root < length x.roots) (sym c.self.view_is) c.requires) c.get-reference.ensures c.if-reference-eq0.false).0
+
+pub follow-held-requires-clause-main : goal.follow-held-requires-clause-main
+follow-held-requires-clause-main c = (root_follows (state_of c.self.inside.raw) c.self.invariant.heap c.args.root c.get-reference.result (subst (λ (x : HeapState). c.args.root < length x.roots) (sym c.self.view_is) c.requires) c.get-reference.ensures c.if-reference-eq0.false).1
 
 pub shape-shape-requires : goal.shape-shape-requires
-shape-shape-requires c = object_held _ c.self.invariant.heap c.held-held.result c.if-held-eq0.false _ (named _ _ c.self.view_is c.self.invariant.heap c.args.root c.held-held.result c.held-held.ensures)
+shape-shape-requires c = object_held _ c.self.invariant.heap c.follow-held.result (followed_some _ c.get-reference.result c.follow-held.result c.if-reference-eq0.false c.follow-held.ensures) _ (at_present (λ x g. Names x g (slice_index g.roots c.args.root) c.follow-held.result) _ _ c.self.view_is c.self.invariant.heap (root_names _ _ c.self.view_is c.args.root c.get-reference.result c.requires c.get-reference.ensures c.follow-held.result c.follow-held.ensures))
 
-pub returns-then-held-eq0-clause-finds : goal.returns-then-held-eq0-clause-finds
-returns-then-held-eq0-clause-finds c g a = null_object _ g _ c.held-held.result (c.held-held.ensures g a) c.if-held-eq0.true
+pub returns-then-reference-eq0-clause-finds : goal.returns-then-reference-eq0-clause-finds
+returns-then-reference-eq0-clause-finds c g a =
+    null_object _ g _ (record { identity = 0; reference = 0 })
+    (root_names _ _ c.self.view_is c.args.root c.get-reference.result c.requires c.get-reference.ensures (record { identity = 0; reference = 0 }) (sym (ap (referent_of _) c.if-reference-eq0.true)) g a) refl
 
 pub returns-clause-finds : goal.returns-clause-finds
 returns-clause-finds c g a =
-    subst (λ (x : HeapState). IsFound x g (slice_index g.roots c.args.root) (record { block = c.held-held.result.reference - 1; id = c.held-held.result.identity; shape = c.shape-shape.result })) c.self.view_is
-    (finds_by _ c.self.invariant.heap c.held-held.result c.if-held-eq0.false g (subst (λ (x : HeapState). Agrees x g) (sym c.self.view_is) a) _
-    (subst (λ (x : HeapState). Names x g (slice_index g.roots c.args.root) c.held-held.result) (sym c.self.view_is) (c.held-held.ensures g a)) c.shape-shape.result c.shape-shape.ensures)
+    subst (λ (x : HeapState). IsFound x g (slice_index g.roots c.args.root) (record { block = c.follow-held.result.reference - 1; id = c.follow-held.result.identity; shape = c.shape-shape.result })) c.self.view_is
+    (finds_by _ c.self.invariant.heap c.follow-held.result (followed_some _ c.get-reference.result c.follow-held.result c.if-reference-eq0.false c.follow-held.ensures) g (subst (λ (x : HeapState). Agrees x g) (sym c.self.view_is) a) _
+    (subst (λ (x : HeapState). Names x g (slice_index g.roots c.args.root) c.follow-held.result) (sym c.self.view_is) ((root_names _ _ c.self.view_is c.args.root c.get-reference.result c.requires c.get-reference.ensures c.follow-held.result c.follow-held.ensures) g a)) c.shape-shape.result c.shape-shape.ensures)
 
 pub returns-clause-held : goal.returns-clause-held
 returns-clause-held c =
-    subst (λ (x : HeapState). is_held x.store (c.held-held.result.reference - 1) ≡ true) c.self.view_is
-    (object_held _ c.self.invariant.heap c.held-held.result c.if-held-eq0.false _ (named _ _ c.self.view_is c.self.invariant.heap c.args.root c.held-held.result c.held-held.ensures))
+    subst (λ (x : HeapState). is_held x.store (c.follow-held.result.reference - 1) ≡ true) c.self.view_is
+    (object_held _ c.self.invariant.heap c.follow-held.result (followed_some _ c.get-reference.result c.follow-held.result c.if-reference-eq0.false c.follow-held.ensures) _ (at_present (λ x g. Names x g (slice_index g.roots c.args.root) c.follow-held.result) _ _ c.self.view_is c.self.invariant.heap (root_names _ _ c.self.view_is c.args.root c.get-reference.result c.requires c.get-reference.ensures c.follow-held.result c.follow-held.ensures)))
 
 pub returns-clause-fits : goal.returns-clause-fits
-returns-clause-fits c = object_fits _ c.self.invariant.heap c.held-held.result c.if-held-eq0.false _ (named _ _ c.self.view_is c.self.invariant.heap c.args.root c.held-held.result c.held-held.ensures) c.shape-shape.result c.shape-shape.ensures
+returns-clause-fits c = object_fits _ c.self.invariant.heap c.follow-held.result (followed_some _ c.get-reference.result c.follow-held.result c.if-reference-eq0.false c.follow-held.ensures) _ (at_present (λ x g. Names x g (slice_index g.roots c.args.root) c.follow-held.result) _ _ c.self.view_is c.self.invariant.heap (root_names _ _ c.self.view_is c.args.root c.get-reference.result c.requires c.get-reference.ensures c.follow-held.result c.follow-held.ensures)) c.shape-shape.result c.shape-shape.ensures

@@ -29,6 +29,12 @@ const FOUR_PAGES: Settings = Settings {
     live: 2,
 };
 
+const MANY_SLOTS: Settings = Settings {
+    slots: 256,
+    statics: 0,
+    ..FOUR_PAGES
+};
+
 /// Makes an object, puts it into the static if that is empty, and loads what the static holds.
 const RACE: [Command; 3] = [
     Command::New {

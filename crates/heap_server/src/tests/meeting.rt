@@ -68,6 +68,7 @@ impl Gate for Meeting {
     }
 }
 
+/// Of 512 roots each budget scans 256.
 #[test]
 fn all_three_meet(rt: HostRuntime) -> Result<(), NoMemory> {
     let alloc = rt.alloc();
@@ -76,10 +77,10 @@ fn all_three_meet(rt: HostRuntime) -> Result<(), NoMemory> {
         vec![in alloc; Command::Clear { dst: 0 }, Command::Clear { dst: 2 }]?,
         vec![in alloc; Command::Clear { dst: 1 }, Command::Clear { dst: 3 }]?,
     ];
-    let config = config_of(&rt, &FOUR_PAGES);
+    let config = config_of(&rt, &MANY_SLOTS);
     assert!(&rt; config.mutators == 2);
     let outcome = play_threads(&rt, alloc, &config, &scripts, &[256; 2], &meeting)?;
-    assert!(&rt; outcome.all);
+    assert!(&rt; outcome.all && outcome.recorded.heap().units() == 512);
     for flag in &meeting.flags {
         assert!(&rt; flag.load(Ordering::SeqCst) == 1);
     }

@@ -23,12 +23,6 @@ const SPARSE: Settings = Settings {
     ..ONE_PAGE
 };
 
-const MANY_SLOTS: Settings = Settings {
-    slots: 256,
-    statics: 0,
-    ..FOUR_PAGES
-};
-
 /// The shape of a large object: eight fill a page.
 const LARGE: Shape = Shape::WordArray(252);
 

@@ -15,14 +15,16 @@ def text_of(file):
         return opened.read()
 
 
+HERE = os.path.dirname(os.path.abspath(__file__))
+JUDGES_SUM = hashlib.sha256(b"".join(text_of(f"{HERE}/{it}") for it in JUDGES)).hexdigest()
+
+
 class Kept:
     """The store, as it stands for the files that the crates have when the run begins."""
 
     def __init__(self, anew):
         self.anew = anew
         self.stamps, self.places = {}, {}
-        here = os.path.dirname(os.path.abspath(__file__))
-        self.judges = hashlib.sha256(b"".join(text_of(f"{here}/{it}") for it in JUDGES)).hexdigest()
 
     def stamp(self, crate):
         """A sum of the crate's files, those of the crates below, and the toolchain, as they were when first asked for."""
@@ -33,7 +35,7 @@ class Kept:
     def place(self, edit):
         """The file that holds how the prover refused an edit, as it was when first asked for."""
         if edit.name not in self.places:
-            told = (self.stamp(edit.crate), self.judges, edit.name, text_of(edit.file))
+            told = (self.stamp(edit.crate), JUDGES_SUM, edit.name, text_of(edit.file))
             self.places[edit.name] = f"{STORE}/{hashlib.sha256(repr(told).encode()).hexdigest()}"
         return self.places[edit.name]
 

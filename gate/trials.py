@@ -15,6 +15,9 @@ MOST = 10
 # What `rt` writes before why an edit came to what it did.
 LABEL = re.compile(r"^must-fail \S+: (?:refused, as it must be|NOT REFUSED|BAD EDIT|NOT TRIED)[: ]*")
 
+# Where the compiler rejects a text.
+REJECTED = re.compile(r"^(?:\./)?(src/\S+?):(\d+):\d+: error\[", re.M)
+
 
 @dataclass
 class Trial:
@@ -93,13 +96,25 @@ def whole(trial):
     return Result(edit, found, LABEL.sub("", said))
 
 
-def halves(trial):
-    """A trial's edits in two trials; a single one by itself."""
+def lines_of(edit):
+    """The lines that an edit changes: the file's path, and the first and the last one's number."""
+    path, start, end, _ = edit.places[0]
+    with open(f"{edit.crate.folder}/{path}", encoding="utf-8") as file:
+        text = file.read()
+    return path, text.count("\n", 0, start) + 1, text.count("\n", 0, end) + 1
+
+
+def parted(trial, said):
+    """A trial that came to no verdict, in parts: apart from what the compiler rejects, or in halves; a single edit by itself."""
     if len(trial.edits) == 1:
         return [Trial(trial.crate, trial.edits, [None])]
-    middle = len(trial.edits) // 2
-    parts = (slice(0, middle), slice(middle, None))
-    return [Trial(trial.crate, trial.edits[it], trial.paths[it]) for it in parts]
+    rejected = [(path, int(line)) for path, line in REJECTED.findall(said)]
+    lines = [lines_of(it) for it in trial.edits]
+    bad = [any(path == file and first <= line <= last for file, line in rejected) for path, first, last in lines]
+    if not any(bad) or all(bad):
+        bad = [at < len(bad) // 2 for at in range(len(bad))]
+    both = [[pair for pair, it in zip(zip(trial.edits, trial.paths), bad) if it == part] for part in (True, False)]
+    return [Trial(trial.crate, [it for it, _ in part], [it for _, it in part]) for part in both]
 
 
 def first_fault(said):
@@ -119,7 +134,7 @@ def tried(trial):
     wrong = [name for name, it in others.items() if it.fails_by_itself]
     if wrong or not verdicts.ended(said) or all(it.state != "proved" for it in others.values()):
         print(f"{trial.crate.name}: {len(trial.edits)} at once came to no verdict: {first_fault(said)}", flush=True)
-        return [], halves(trial), wrong
+        return [], parted(trial, said), wrong
     results, again = [], []
     for edit, path in zip(trial.edits, trial.paths):
         kind, why = verdicts.verdict(path, told)

@@ -357,7 +357,7 @@ typedef struct metronome_pacing {
  * (38 + defrag_pages) * pages + 4. Of blocks of one size at most B are made between two quanta: those for which `words` have
  * room, and one more. No object is refused for want of space where begin_below pages have room for L + (2 * Q + 1) * B blocks
  * of each size, of which live objects need L, and for 1 + defrag_pages pages of each size besides. In short, with a budget of
- * 1000 or more, a few sizes, and half of the pages live: words = (budget - 255) / 20 and begin_below = pages.
+ * 1000 or more, a few sizes, no moving, and half of the pages live: words = (budget - 255) / 20 and begin_below = pages.
  *
  * For a program's own numbers, record a run (metronome_record.h) of settings whose collector_ticks * rate is the budget.
  * `metronome pages --pace` tells Q, and of each size L, B and what was made between two cycles, and whether the pages suffice;

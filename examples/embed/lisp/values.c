@@ -55,8 +55,7 @@ static double now(void) {
     return (double)t.tv_sec * 1e6 + (double)t.tv_nsec / 1e3;
 }
 
-/* Tells the pace that an object of so many cells is about to be made. At this pace there is room for it while no more than a quarter
- * of the pages are live. */
+/* Tells the pace that an object of so many cells is about to be made. Where there is no room all the same, `ask` fails. */
 static void pace(uint32_t cells) {
     static metronome_pacing pacing = METRONOME_PACING(3 * PAGES / 4, (BUDGET - 255) / 20, BUDGET);
     double began = now();

@@ -31,7 +31,9 @@ use Rattle.space.specs.Demand.{asked_by}
 use Rattle.space.specs.Counts.{main_blocks, leaving_pages, IsBounded}
 use Rattle.space.specs.Placement.{class_in, IsTidy, KeepsOnly, HasBoundedPages, KeepsShapes, MayLeave}
 use Rattle.space.proofs.Counts.{takes_bounded, zero_or}
-use Rattle.space.proofs.Spacing.{KeepsSettings, same_spare, shades_same, bounded_same, bounded_pages}
+use Rattle.heap_model.specs.Settings.{HeapSettings}
+use Rattle.heap_model.proofs.Settings.{change_settings}
+use Rattle.space.proofs.Spacing.{KeepsSettings, may_spare, shades_same, bounded_same, bounded_pages}
 use Rattle.space.proofs.Tidying.{SameHead, same_head, head_then, head_is, not_same, Shrinks, shrinks_none, shrinks_then, shrinks_writes, shrinks_shades, class_by, tidy_same, only_less}
 
 -- shapes stay
@@ -77,11 +79,11 @@ tidy_objects s old new k w = record {
 }
 
 -- a block of a new object
-record IsMade (n : Node) (at : ℕ → ℕ) (p id : ℕ) (s : Shape) : Type 0 where
-  identity : n.identity ≡ id
-  part : n.part ≡ p
-  shape : n.shape ≡ s
-  forward : n.forward ≡ at p
+pub record IsMade (n : Node) (at : ℕ → ℕ) (p id : ℕ) (s : Shape) : Type 0 where
+  pub identity : n.identity ≡ id
+  pub part : n.part ≡ p
+  pub shape : n.shape ≡ s
+  pub forward : n.forward ≡ at p
 
 made_head : (m n : Node) (at : ℕ → ℕ) (p id : ℕ) (shape : Shape) → SameHead m n → IsMade n at p id shape → IsMade m at p id shape
 made_head m n at p id shape h w = record { identity = h.identity ∙ w.identity; part = h.part ∙ w.part; shape = h.shape ∙ w.shape; forward = h.forward ∙ w.forward }
@@ -89,14 +91,14 @@ made_head m n at p id shape h w = record { identity = h.identity ∙ w.identity;
 made_is : (n : Node) (shape : Shape) (colour : Bool) (at : ℕ → ℕ) (p id : ℕ) → n ≡ new_node (at p) (record { shape = shape; part = p; colour = colour }) id → IsMade n at p id shape
 made_is n shape colour at p id e = record { identity = ap (λ (z : Node). z.identity) e; part = ap (λ (z : Node). z.part) e; shape = ap (λ (z : Node). z.shape) e; forward = ap (λ (z : Node). z.forward) e }
 
-abbrev WasOrMade : Store → Store → (ℕ → ℕ) → ℕ → ℕ → Shape → ℕ → Type 0
+abbrev pub WasOrMade : Store → Store → (ℕ → ℕ) → ℕ → ℕ → Shape → ℕ → Type 0
 WasOrMade old new at k id shape b = ((is_held old b ≡ true) × SameHead (node_of new b) (node_of old b)) ⊎ ((p : ℕ) × (p < k) × (b ≡ at p) × IsMade (node_of new b) at p id shape)
 
 was_more : (old s t : Store) (at : ℕ → ℕ) (k n id : ℕ) (shape : Shape) (b : ℕ) → k ≤ n → SameHead (node_of t b) (node_of s b) → WasOrMade old s at k id shape b → WasOrMade old t at n id shape b
 was_more old s t at k n id shape b l h (inl w) = inl (w.0, head_then (node_of t b) (node_of s b) (node_of old b) h w.1)
 was_more old s t at k n id shape b l h (inr w) = inr (w.0, (let x = w.1 in omega arith), w.2, made_head (node_of t b) (node_of s b) at w.0 id shape h w.3)
 
-made_blocks : (old : Store) (shape : Shape) (colour : Bool) (id : ℕ) (at : ℕ → ℕ) (k : ℕ) (new : Store) → Making old shape colour id at k new → (b : ℕ) → is_held new b ≡ true → WasOrMade old new at k id shape b
+pub made_blocks : (old : Store) (shape : Shape) (colour : Bool) (id : ℕ) (at : ℕ → ℕ) (k : ℕ) (new : Store) → Making old shape colour id at k new → (b : ℕ) → is_held new b ≡ true → WasOrMade old new at k id shape b
 made_blocks old shape colour id at k new Nothing_made b held = inl (held, same_head (node_of old b))
 made_blocks old shape colour id at k new (Part_made part s t u m a first linked) b held = by_part (zero_or part) (λ l. by_here (b == at part) refl (λ x. made_blocks old shape colour id at part s m b x) l)
   where
@@ -210,7 +212,7 @@ tidy_new s new objects shape colour id at same makes takes w = record {
     by_two a b f g x y (inr p) (inl q) = absurd (let u = w.given b q.0 in let i = q.1.identity in let j = p.3.identity in omega (arith, u, i, j, x, same))
 
 -- the barrier
-shrinks_records : (h k : HeapState) (x : ℕ) → Records h x k → Shrinks h.store k.store × (k.store.pages ≡ h.store.pages) × KeepsSettings h k
+pub shrinks_records : (h k : HeapState) (x : ℕ) → Records h x k → Shrinks h.store k.store × (k.store.pages ≡ h.store.pages) × KeepsSettings h k
 shrinks_records h k x (Records_nothing e) = (shrinks_none h.store, refl, record { most = refl; below = refl })
 shrinks_records h k x (Records_main k0 e sh) = let f = shrinks_shades h k _ sh in let g = shades_same h k _ sh in (f.0, f.1, g.0)
 
@@ -286,7 +288,7 @@ bounded_change h after g c blocks spare pages asks (Does_new cell id shape k new
     record {
       used = t.bounded.used;
       leaving = subst (λ z. MayLeave spare z (leaving_pages new.pages) k.phase) (sym f.2.most) (subst (λ z. MayLeave spare h.defrag_pages z k.phase) (sym same) (subst (MayLeave spare h.defrag_pages (leaving_pages h.store.pages)) (sym (records_stay h k _ r).phase) w.leaving));
-      same = same_spare h k (record { most = f.2.most; below = f.2.below }) ∙ w.same;
+      same = may_spare h after blocks spare (record { most = f.2.most; below = f.2.below }) (ap (λ (s : HeapSettings). s.pages) (change_settings h after g c (Does_new cell id shape k new at r makes takes))) w.same;
     }
 bounded_change h after g c blocks spare pages asks (Does_join m) w = bounded_same h _ blocks spare w (record { most = refl; below = refl }) refl w.leaving
 bounded_change h after g c blocks spare pages asks (Does_leave m k clears) w =

@@ -32,16 +32,16 @@ module _ (config : Config) (h : HeapState) (o : IsOpening h) (same : settings_of
   limits : h.limits ≡ limits_of config
   limits = ap (λ (s : HeapSettings). s.limits) same
 
-  pages : length h.store.pages ≡ config.pages
+  pub pages : length h.store.pages ≡ config.pages
   pages = ap (λ (s : HeapSettings). s.pages) same
 
-  below : h.defrag_below ≡ config.defrag_below
+  pub below : h.defrag_below ≡ config.defrag_below
   below = ap (λ (s : HeapSettings). s.defrag_below) same
 
-  defrag : h.defrag_pages ≡ config.defrag_pages
+  pub defrag : h.defrag_pages ≡ config.defrag_pages
   defrag = ap (λ (s : HeapSettings). s.defrag_pages) same
 
-  some : 1 ≤ config.pages → 0 < length h.store.pages
+  pub some : 1 ≤ config.pages → 0 < length h.store.pages
   some one = let e = pages in omega (arith, e, one)
 
   same_limit : cycle_limit h ≡ limit_at config config.pages
@@ -50,7 +50,7 @@ module _ (config : Config) (h : HeapState) (o : IsOpening h) (same : settings_of
   same_quanta : most_quanta h (config.collector_ticks * config.rate) ≡ quanta_at config config.pages
   same_quanta = ap (λ z. z / (config.collector_ticks * config.rate - (LEAST_BUDGET - 1)) + 1) same_limit
 
-  same_spare : spare_of h ≡ spare_in config
+  pub same_spare : spare_of h ≡ spare_in config
   same_spare = ap (λ z. if z == 0 then 0 else h.defrag_pages) below ∙ ap (λ z. if config.defrag_below == 0 then 0 else z) defrag
 
   enough : (d : Demand) → Fits config d → space_for d (spare_of h) ≤ length h.store.pages

@@ -21,7 +21,7 @@ use Rattle.heap_model.proofs.Moved.{usable_fits}
 use Rattle.heap_model.proofs.Placed.{page_for_within}
 use Rattle.heap_model.proofs.Rooms.{set_sum, no_blocks, more_needed}
 use Rattle.heap_model.proofs.Taken.{class_low, takes_pages}
-use Rattle.space.specs.Space.{class_pages, pages_for}
+use Rattle.space.specs.Space.{class_sum, class_pages, pages_for}
 use Rattle.space.specs.Counts.{is_of, stays, main_on, main_blocks, used_pages, leaving_pages, IsBounded}
 
 abbrev pub one_if : Bool → ℕ
@@ -102,16 +102,11 @@ used class (o ∷ os) =
     let d = sum_by-cons (λ z. one_if (is_leaving z)) o os in
     (omega (arith, r.0, h.0, a, b, c), omega (arith, r.1, h.1, c, d))
 
--- a number for each class, added up
-abbrev pub class_sum : (ℕ → ℕ) → ℕ → ℕ
-class_sum f zero = 0
-class_sum f (suc n) = class_sum f n + f n
-
-class_sum_le : (f g : ℕ → ℕ) (n : ℕ) → ((k : ℕ) → k < n → f k ≤ g k) → class_sum f n ≤ class_sum g n
+pub class_sum_le : (f g : ℕ → ℕ) (n : ℕ) → ((k : ℕ) → k < n → f k ≤ g k) → class_sum f n ≤ class_sum g n
 class_sum_le f g zero l = omega arith
 class_sum_le f g (suc n) l = let r = class_sum_le f g n (λ k b. l k (omega arith)) in let h = l n (omega arith) in omega (arith, r, h)
 
-class_sum_both : (f g : ℕ → ℕ) (n : ℕ) → class_sum (λ k. f k + g k) n ≡ class_sum f n + class_sum g n
+pub class_sum_both : (f g : ℕ → ℕ) (n : ℕ) → class_sum (λ k. f k + g k) n ≡ class_sum f n + class_sum g n
 class_sum_both f g zero = refl
 class_sum_both f g (suc n) = let r = class_sum_both f g n in omega (arith, r)
 
@@ -122,14 +117,14 @@ class_sum_none c (suc n) l =
     let e : (c == n) ≡ false = ne_eqb c n (λ z. omega arith) in
     let o : one_if (c == n) ≡ 0 = ap one_if e in omega (arith, r, o)
 
-class_sum_one : (c n : ℕ) → c < n → class_sum (λ k. one_if (c == k)) n ≡ 1
+pub class_sum_one : (c n : ℕ) → c < n → class_sum (λ k. one_if (c == k)) n ≡ 1
 class_sum_one c zero l = absurd (omega arith)
 class_sum_one c (suc n) l = elim (eqb_tells c n) [
   | inl e ↦ (let r = class_sum_none c n (let q = e.1 in omega arith) in let o : one_if (c == n) ≡ 1 = ap one_if e.0 in omega (arith, r, o))
   | inr d ↦ (let r = class_sum_one c n (let q = d.1 in omega arith) in let o : one_if (c == n) ≡ 0 = ap one_if d.0 in omega (arith, r, o))
 ]
 
-zeros : (n : ℕ) → class_sum (λ k. 0) n ≡ 0
+pub zeros : (n : ℕ) → class_sum (λ k. 0) n ≡ 0
 zeros zero = refl
 zeros (suc n) = let r = zeros n in omega (arith, r)
 
@@ -138,7 +133,7 @@ one_class : (o : Option Page) → ((p : Page) → o ≡ Some p → IsPage p) →
 one_class None w = let z = zeros CLASSES in omega (arith, z)
 one_class (Some p) w = let r = class_sum_one p.class CLASSES ((w p refl).class) in omega (arith, r)
 
-class_sum_same : (f g : ℕ → ℕ) (n : ℕ) → ((k : ℕ) → f k ≡ g k) → class_sum f n ≡ class_sum g n
+pub class_sum_same : (f g : ℕ → ℕ) (n : ℕ) → ((k : ℕ) → f k ≡ g k) → class_sum f n ≡ class_sum g n
 class_sum_same f g zero e = refl
 class_sum_same f g (suc n) e = let r = class_sum_same f g n e in let h = e n in omega (arith, r, h)
 

@@ -108,7 +108,7 @@ new_less (Ok l) (Ok d) (Ok o) (Err e) shape room k = omega arith
 new_less (Ok l) (Ok d) (Ok o) (Ok id) shape true k = omega arith
 new_less (Ok l) (Ok d) (Ok o) (Ok id) shape false k = omega arith
 
-command_less : (h : HeapState) (g : Graph) (m : ℕ) (c : Command) (k : ℕ) → asked_by (change_by (room_for h c) g m c) k ≤ asked_for g m c k
+pub command_less : (h : HeapState) (g : Graph) (m : ℕ) (c : Command) (k : ℕ) → asked_by (change_by (room_for h c) g m c) k ≤ asked_for g m c k
 command_less h g m (commands.New dst shape) k = new_less (admitted g m (commands.New dst shape)) (slot_at g.limits m dst) (fitting shape) (next_identity g) shape (room_for h (commands.New dst shape)) k
 command_less h g m _ k = omega arith
 

@@ -47,7 +47,7 @@ use Rattle.space.specs.Demand.{Demand, LiveWithin, blocks_of, blocks_for, asked_
 use Rattle.space.specs.Tally.{Tally, opening_tally, after_event, is_tracing, KeepsTo, AllKeepTo, FindsRoom, NewFindsRoom, EveryNewFindsRoom}
 use Rattle.space.specs.Space.{pages_for, space_for, spare_of}
 use Rattle.space.specs.Counts.{is_of, main_blocks, leaving_pages, IsBounded}
-use Rattle.space.specs.Placement.{MayLeave, HasBoundedPages, IsTidy, KeepsOnly, KeepsShapes}
+use Rattle.space.specs.Placement.{MayLeave, MaySpare, HasBoundedPages, IsTidy, KeepsOnly, KeepsShapes}
 use Rattle.space.proofs.Counts.{one_if, bounded_room}
 use Rattle.space.proofs.Spacing.{bounded_pages, bounded_action, bounded_same}
 use Rattle.space.proofs.Tidying.{shrinks_keeps, tidy_same, tidy_action, only_less, only_action}
@@ -66,7 +66,7 @@ resting h present snapshot c off = by_phase h.phase refl off
     by_phase (phases.Sweeping page block) e z = absurd (cc)
     by_phase (phases.Moving m) e z = (stage_at (collector_of h) (view present) (view snapshot) c.parts In_moves (ap (progress_of h.store.pages) e)).0
 
-rest_only : (h : HeapState) (present snapshot : Graph) (ids : List ℕ) → Stands h present snapshot → is_tracing h.phase ≡ false → ((id : ℕ) → Reaches snapshot id → contains ids id ≡ true) → KeepsOnly h.store (length snapshot.objects) ids
+pub rest_only : (h : HeapState) (present snapshot : Graph) (ids : List ℕ) → Stands h present snapshot → is_tracing h.phase ≡ false → ((id : ℕ) → Reaches snapshot id → contains ids id ≡ true) → KeepsOnly h.store (length snapshot.objects) ids
 rest_only h present snapshot ids st off reached b l main small =
     let c = st.consistent in
     let r = resting h present snapshot c off in
@@ -79,12 +79,12 @@ rest_only h present snapshot ids st off reached b l main small =
     ]
 
 -- through a chain of actions
-record Went (h after : HeapState) (objects : List Object) (blocks : ℕ → ℕ) (spare : ℕ) : Type 0 where
-  tidy : IsTidy after.store objects
-  bounded : HasBoundedPages after blocks spare
-  count : length after.store.pages ≡ length h.store.pages
+pub record Went (h after : HeapState) (objects : List Object) (blocks : ℕ → ℕ) (spare : ℕ) : Type 0 where
+  pub tidy : IsTidy after.store objects
+  pub bounded : HasBoundedPages after blocks spare
+  pub count : length after.store.pages ≡ length h.store.pages
 
-chain_went : (h after : HeapState) (spent : ℕ) (present snapshot : Graph) (objects : List Object) (blocks : ℕ → ℕ) (spare : ℕ) → Stands h present snapshot → IsTidy h.store objects → HasBoundedPages h blocks spare → Chain h spent after → Went h after objects blocks spare
+pub chain_went : (h after : HeapState) (spent : ℕ) (present snapshot : Graph) (objects : List Object) (blocks : ℕ → ℕ) (spare : ℕ) → Stands h present snapshot → IsTidy h.store objects → HasBoundedPages h blocks spare → Chain h spent after → Went h after objects blocks spare
 chain_went h after spent g s objects blocks spare st tidy bounded Nothing_done = record { tidy = tidy; bounded = bounded; count = refl }
 chain_went h after spent g s objects blocks spare st tidy bounded (Then u cost j k linked chain links action) =
     let w = chain_went h j u g s objects blocks spare st tidy bounded chain in
@@ -92,20 +92,20 @@ chain_went h after spent g s objects blocks spare st tidy bounded (Then u cost j
     let si = stands_relinked j linked links g s (stands_chain h j u g s st chain) in
     record {
       tidy = tidy_action i k cost g s objects si action (tidy_same j.store linked objects (shrinks_keeps j.store linked links.blocks) links.pages w.tidy);
-      bounded = bounded_action i k cost blocks spare si.closed (bounded_same j i blocks spare w.bounded (record { most = refl; below = refl }) links.pages w.bounded.leaving) action;
+      bounded = bounded_action i k cost blocks spare si.pages si.closed (bounded_same j i blocks spare w.bounded (record { most = refl; below = refl }) links.pages w.bounded.leaving) action;
       count = action_count i k cost action ∙ ap length links.pages ∙ w.count;
     }
 
-chain_only : (h after : HeapState) (spent base : ℕ) (ids : List ℕ) → Chain h spent after → is_tracing after.phase ≡ true → KeepsOnly h.store base ids → KeepsOnly after.store base ids
+pub chain_only : (h after : HeapState) (spent base : ℕ) (ids : List ℕ) → Chain h spent after → is_tracing after.phase ≡ true → KeepsOnly h.store base ids → KeepsOnly after.store base ids
 chain_only h after spent base ids Nothing_done t w = w
 chain_only h after spent base ids (Then u cost j k linked chain links action) t w =
     only_action (record j { store = linked }) k cost base ids action t (λ on. only_less j.store linked base ids (shrinks_keeps j.store linked links.blocks) (chain_only h j u base ids chain on w))
 
-change_count : (h after : HeapState) (g : Graph) (c : Change) → DoesChange h g c after → length after.store.pages ≡ length h.store.pages
+pub change_count : (h after : HeapState) (g : Graph) (c : Change) → DoesChange h g c after → length after.store.pages ≡ length h.store.pages
 change_count h after g c does = ap (λ (s : HeapSettings). s.pages) (change_settings h after g c does)
 
 -- with room for what it needs, a new object isn't refused for want of space
-new_has_room : (l : Result Bool Refusal) (s : Result ℕ Refusal) (f : Result Shape Refusal) (n : Result ℕ Refusal) (shape : Shape) → IsOther l → IsOther s → IsOther f → IsOther n → (room : Bool)
+pub new_has_room : (l : Result Bool Refusal) (s : Result ℕ Refusal) (f : Result Shape Refusal) (n : Result ℕ Refusal) (shape : Shape) → IsOther l → IsOther s → IsOther f → IsOther n → (room : Bool)
     → (((k : ℕ) → asked_by (settled (new_effect l s f n shape true)).1 k ≡ needed shape k) → room ≡ true)
     → (had_room (settled (new_effect l s f n shape room)).0 ≡ true) × ((settled (new_effect l s f n shape room)).1 ≡ (settled (new_effect l s f n shape true)).1)
 new_has_room (Err e) s f n shape z a b c room h = (z, refl)
@@ -116,7 +116,7 @@ new_has_room (Ok l) (Ok d) (Ok o) (Ok id) shape z a b c true h = (refl, refl)
 new_has_room (Ok l) (Ok d) (Ok o) (Ok id) shape z a b c false h = absurd (let y : false ≡ true = h (λ k. refl) in cc)
 
 module _ (h : HeapState) (g : Graph) (blocks : ℕ → ℕ) (spare : ℕ) (w : ArePages h.store.pages) (b : IsBounded h.store.pages blocks spare) (room : pages_for blocks spare CLASSES ≤ length h.store.pages) where
-  command_has_room : (m : ℕ) (c : Command) → ((k : ℕ) → k < CLASSES → main_blocks h.store.pages k + asked_for g m c k ≤ blocks k) → FindsRoom c (reply_of (room_for h c) g m c) × (change_by (room_for h c) g m c ≡ change_by true g m c)
+  pub command_has_room : (m : ℕ) (c : Command) → ((k : ℕ) → k < CLASSES → main_blocks h.store.pages k + asked_for g m c k ≤ blocks k) → FindsRoom c (reply_of (room_for h c) g m c) × (change_by (room_for h c) g m c ≡ change_by true g m c)
   unfolding reply_of
   command_has_room m (commands.New dst shape) asks =
       new_has_room (admitted g m (commands.New dst shape)) (slot_at g.limits m dst) (fitting shape) (next_identity g) shape
@@ -142,10 +142,10 @@ record IsTracked (r : Course) (t : Tally) (d : Demand) (spare : ℕ) : Type 0 wh
   bounded : HasBoundedPages r.heap (blocks_for d) spare
   pages : space_for d spare ≤ length r.heap.store.pages
 
-shapes_same : (xs ys : List Object) → ys ≡ xs → KeepsShapes xs ys
+pub shapes_same : (xs ys : List Object) → ys ≡ xs → KeepsShapes xs ys
 shapes_same xs ys e = subst (KeepsShapes xs) (sym e) (record { more = omega arith; shape = λ id l. refl })
 
-shapes_into : (xs ys zs : List Object) → zs ≡ ys → KeepsShapes xs ys → KeepsShapes xs zs
+pub shapes_into : (xs ys zs : List Object) → zs ≡ ys → KeepsShapes xs ys → KeepsShapes xs zs
 shapes_into xs ys zs e k = subst (KeepsShapes xs) (sym e) k
 
 tracked_command : (r new : Course) (m : ℕ) (c : Command) (reply : Reply) (t : Tally) (d : Demand) (spare : ℕ) → IsCourse r → IsTracked r t d spare → KeepsTo d t (Command_done m c reply) → Enters r m c reply new
@@ -315,8 +315,8 @@ module _ (h : HeapState) (o : IsOpening h) (some : 0 < length h.store.pages) whe
   unfolding Reaches
   none_reached id r = let g = (consistent_agrees h (opening h.limits) (opening h.limits) course.stands.consistent).given id r in let l = g.below in let p = r.0 in omega (arith, l, p)
 
-  tracked : (d : Demand) → space_for d (spare_of h) ≤ length h.store.pages → IsTracked (opened h) (opening_tally h.limits) d (spare_of h)
-  tracked d fits = record {
+  tracked : (d : Demand) (spare : ℕ) → MaySpare h (blocks_for d) spare → space_for d spare ≤ length h.store.pages → IsTracked (opened h) (opening_tally h.limits) d spare
+  tracked d spare may fits = record {
     graph = refl;
     last = refl;
     live = record { ids = []; reached = λ id r. absurd (none_reached id r); blocks = λ class l. omega arith };
@@ -337,11 +337,14 @@ module _ (h : HeapState) (o : IsOpening h) (some : 0 < length h.store.pages) whe
     };
     bounded = record {
       used = λ class l. (let z = count_none (is_of class) refl in omega (arith, z));
-      leaving = subst (MayLeave (spare_of h) h.defrag_pages (leaving_pages h.store.pages)) (sym o.phase) (let z = count_none is_leaving refl in omega (arith, z));
-      same = refl;
+      leaving = subst (MayLeave spare h.defrag_pages (leaving_pages h.store.pages)) (sym o.phase) (let z = count_none is_leaving refl in omega (arith, z));
+      same = may;
     };
     pages = fits;
   }
 
 pub space_suffices : (h : HeapState) (es : List Event) (new : Course) (d : Demand) → IsOpening h → 0 < length h.store.pages → Runs (opened h) es new → AllKeepTo d (opening_tally h.limits) es → space_for d (spare_of h) ≤ length h.store.pages → EveryNewFindsRoom es
-space_suffices h es new d o some runs keeps fits = runs_find_room es (opened h) new (opening_tally h.limits) d (spare_of h) (course h o some) (tracked h o some d fits) runs keeps
+space_suffices h es new d o some runs keeps fits = runs_find_room es (opened h) new (opening_tally h.limits) d (spare_of h) (course h o some) (tracked h o some d (spare_of h) (inl refl) fits) runs keeps
+
+pub space_suffices_unmoved : (h : HeapState) (es : List Event) (new : Course) (d : Demand) → IsOpening h → 0 < length h.store.pages → Runs (opened h) es new → AllKeepTo d (opening_tally h.limits) es → space_for d 0 + h.defrag_below ≤ length h.store.pages → EveryNewFindsRoom es
+space_suffices_unmoved h es new d o some runs keeps fits = runs_find_room es (opened h) new (opening_tally h.limits) d 0 (course h o some) (tracked h o some d 0 (inr (refl, fits)) (omega (arith, fits))) runs keeps

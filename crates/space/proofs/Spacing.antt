@@ -1,20 +1,21 @@
 -- The pages of a heap stay within their bound through each action.
-use Rattle.std.proofs.Common.{◌≡◌, ℕ, suc, ◌<◌, ◌≤◌, Bool, true, false, ◌&&◌, ◌==◌, if◌then◌else◌, nat_lt, List, [], ◌∷◌, Option, Some, None, ap, ◌∙◌, sym, subst, arith, refl}
+use Rattle.std.proofs.Common.{◌≡◌, ℕ, zero, suc, ◌+◌, ◌<◌, ◌≤◌, inl, inr, length, Bool, true, false, ◌&&◌, ◌==◌, if◌then◌else◌, nat_lt, List, [], ◌∷◌, Option, Some, None, ap, ◌∙◌, sym, subst, arith, refl}
 use Rattle.std.proofs.lemmas.List.Sums.{sum_by-cons}
 use Rattle.heap_model.specs.declared.phase.Phase.{Phase}
 use Rattle.heap_model.specs.declared.phase.Phase.TheVariants as phases
 use Rattle.heap_model.specs.declared.phase.Moving.TheVariants as moves
 use Rattle.heap_model.specs.declared.phase.Candidate.{Candidate}
-use Rattle.heap_model.specs.Pages.{Page, page_at, with_held, free_pages}
+use Rattle.size_classes.specs.declared.class.TheConstants.{CLASSES}
+use Rattle.heap_model.specs.Pages.{Page, ArePages, page_at, with_held, free_pages}
 use Rattle.heap_model.specs.State.{HeapState, is_leaving}
 use Rattle.heap_model.specs.Marks.{HasNoMark, AreClosed}
 use Rattle.heap_model.specs.Action.{Shades, Was_marked, Is_marked, Action, Scans_root, Ends_roots, Scans_header, Scans_cell, Ends_marking, Frees_block, Passes_block, Closes_page, Ends_sweep, Looks_at_page, Chooses_page, Chooses_none, Moves_block, Ends_moving, AtPass, In_pass, After_page, held_on, closed, is_sparse}
 use Rattle.heap_model.proofs.Held.{page_within}
-use Rattle.heap_model.proofs.Marks.{no_mark}
-use Rattle.space.specs.Space.{spare_of}
+use Rattle.heap_model.proofs.Marks.{no_mark, action_count}
+use Rattle.space.specs.Space.{class_sum, class_pages, pages_for, spare_of}
 use Rattle.space.specs.Counts.{is_of, used_pages, leaving_pages, IsBounded}
-use Rattle.space.specs.Placement.{MayLeave, HasBoundedPages}
-use Rattle.space.proofs.Counts.{one_if, used_set, leaving_set}
+use Rattle.space.specs.Placement.{MayLeave, MaySpare, HasBoundedPages}
+use Rattle.space.proofs.Counts.{one_if, all_pages, used_set, leaving_set}
 
 few_leaving : (spare most leaving : ℕ) (p : Phase) → MayLeave spare most leaving p → leaving ≤ spare
 few_leaving spare most leaving phases.Idle l = l
@@ -35,19 +36,28 @@ pub record KeepsSettings (h k : HeapState) : Type 0 where
 pub same_spare : (h k : HeapState) → KeepsSettings h k → spare_of k ≡ spare_of h
 same_spare h k e = ap (λ z. if z == 0 then 0 else k.defrag_pages) e.below ∙ ap (λ z. if h.defrag_below == 0 then 0 else z) e.most
 
+pub may_spare : (h k : HeapState) (blocks : ℕ → ℕ) (spare : ℕ) → KeepsSettings h k → length k.store.pages ≡ length h.store.pages → MaySpare h blocks spare → MaySpare k blocks spare
+may_spare h k blocks spare e n (inl s) = inl (same_spare h k e ∙ s)
+may_spare h k blocks spare e n (inr s) = inr (s.0, (let a = s.1 in let b = e.below in omega (arith, a, b, n)))
+
+-- the pages of all classes are within what their blocks take
+used_within : (pages : List (Option Page)) (blocks : ℕ → ℕ) (n : ℕ) → ((class : ℕ) → class < n → used_pages pages class ≤ class_pages 0 class (blocks class)) → class_sum (used_pages pages) n ≤ pages_for blocks 0 n
+used_within pages blocks zero u = omega arith
+used_within pages blocks (suc n) u = let r = used_within pages blocks n (λ k l. u k (omega arith)) in let h = u n (omega arith) in omega (arith, r, h)
+
 -- fewer pages of each class
-pub bounded_less : (h k : HeapState) (blocks : ℕ → ℕ) (spare : ℕ) → HasBoundedPages h blocks spare → KeepsSettings h k → ((class : ℕ) → used_pages k.store.pages class ≤ used_pages h.store.pages class)
+pub bounded_less : (h k : HeapState) (blocks : ℕ → ℕ) (spare : ℕ) → HasBoundedPages h blocks spare → KeepsSettings h k → length k.store.pages ≡ length h.store.pages → ((class : ℕ) → used_pages k.store.pages class ≤ used_pages h.store.pages class)
     → MayLeave spare h.defrag_pages (leaving_pages k.store.pages) k.phase → HasBoundedPages k blocks spare
-bounded_less h k blocks spare w e less may = record {
+bounded_less h k blocks spare w e n less may = record {
   used = λ class l. (let u = less class in let q = w.used class l in omega (arith, u, q));
   leaving = subst (λ z. MayLeave spare z (leaving_pages k.store.pages) k.phase) (sym e.most) may;
-  same = same_spare h k e ∙ w.same;
+  same = may_spare h k blocks spare e n w.same;
 }
 
 -- the same pages
 pub bounded_same : (h k : HeapState) (blocks : ℕ → ℕ) (spare : ℕ) → HasBoundedPages h blocks spare → KeepsSettings h k → k.store.pages ≡ h.store.pages → MayLeave spare h.defrag_pages (leaving_pages h.store.pages) k.phase → HasBoundedPages k blocks spare
 bounded_same h k blocks spare w e same may =
-    bounded_less h k blocks spare w e (λ class. (let u : used_pages k.store.pages class ≡ used_pages h.store.pages class = ap (λ z. used_pages z class) same in omega (arith, u)))
+    bounded_less h k blocks spare w e (ap length same) (λ class. (let u : used_pages k.store.pages class ≡ used_pages h.store.pages class = ap (λ z. used_pages z class) same in omega (arith, u)))
     (subst (λ z. MayLeave spare h.defrag_pages (leaving_pages z) k.phase) (sym same) may)
 
 pub shades_same : (h k : HeapState) (x : ℕ) → Shades h x k → KeepsSettings h k × (k.store.pages ≡ h.store.pages)
@@ -88,60 +98,67 @@ at_pass h blocks spare class page best chosen w (After_page class0 page0 block c
     let m : (leaving_pages h.store.pages ≤ chosen) × (chosen ≤ spare) × (spare ≡ h.defrag_pages) = subst (MayLeave spare h.defrag_pages (leaving_pages h.store.pages)) e w.leaving in
     let s = m.2 in (m.0, omega arith, m.2)
 
-pub bounded_action : (h after : HeapState) (cost : ℕ) (blocks : ℕ → ℕ) (spare : ℕ) → AreClosed h.store.pages h.phase → HasBoundedPages h blocks spare → Action h cost after → HasBoundedPages after blocks spare
-bounded_action h after cost blocks spare c w (Scans_root next k e l sh) =
+pub bounded_action : (h after : HeapState) (cost : ℕ) (blocks : ℕ → ℕ) (spare : ℕ) → ArePages h.store.pages → AreClosed h.store.pages h.phase → HasBoundedPages h blocks spare → Action h cost after → HasBoundedPages after blocks spare
+bounded_action h after cost blocks spare ap_ c w (Scans_root next k e l sh) =
     let s = shades_same _ k _ sh in bounded_same h _ blocks spare w (record { most = s.0.most; below = s.0.below }) s.1 (few_leaving spare h.defrag_pages _ h.phase w.leaving)
-bounded_action h after cost blocks spare c w (Ends_roots next e l) = bounded_same h _ blocks spare w (record { most = refl; below = refl }) refl (few_leaving spare h.defrag_pages _ h.phase w.leaving)
-bounded_action h after cost blocks spare c w (Scans_header part cell x front back e f n) = bounded_same h _ blocks spare w (record { most = refl; below = refl }) refl (few_leaving spare h.defrag_pages _ h.phase w.leaving)
-bounded_action h after cost blocks spare c w (Scans_cell part cell new k e l w0 sh) =
+bounded_action h after cost blocks spare ap_ c w (Ends_roots next e l) = bounded_same h _ blocks spare w (record { most = refl; below = refl }) refl (few_leaving spare h.defrag_pages _ h.phase w.leaving)
+bounded_action h after cost blocks spare ap_ c w (Scans_header part cell x front back e f n) = bounded_same h _ blocks spare w (record { most = refl; below = refl }) refl (few_leaving spare h.defrag_pages _ h.phase w.leaving)
+bounded_action h after cost blocks spare ap_ c w (Scans_cell part cell new k e l w0 sh) =
     let s = shades_same _ k _ sh in bounded_same h _ blocks spare w (record { most = s.0.most; below = s.0.below }) (s.1 ∙ w0.pages) (few_leaving spare h.defrag_pages _ h.phase w.leaving)
-bounded_action h after cost blocks spare c w (Ends_marking part cell e f n) = bounded_same h _ blocks spare w (record { most = refl; below = refl }) refl (few_leaving spare h.defrag_pages _ h.phase w.leaving)
-bounded_action h after cost blocks spare c w (Frees_block page block p new e f was unmarked w0 pages) =
+bounded_action h after cost blocks spare ap_ c w (Ends_marking part cell e f n) = bounded_same h _ blocks spare w (record { most = refl; below = refl }) refl (few_leaving spare h.defrag_pages _ h.phase w.leaving)
+bounded_action h after cost blocks spare ap_ c w (Frees_block page block p new e f was unmarked w0 pages) =
     let l = page_within h.store.pages page p f in
     let v : Option Page = Some (with_held p block false) in
     let m = few_leaving spare h.defrag_pages _ h.phase w.leaving in
-    bounded_less h _ blocks spare w (record { most = refl; below = refl })
+    bounded_less h _ blocks spare w (record { most = refl; below = refl }) (action_count h after cost (Frees_block page block p new e f was unmarked w0 pages))
     (λ class. (let u = used_set h.store.pages new.pages page (Some p) v l f pages class in omega (arith, u)))
     (let u = leaving_set h.store.pages new.pages page (Some p) v l f pages in omega (arith, u, m))
-bounded_action h after cost blocks spare c w (Passes_block page block p e f l marked) = bounded_same h _ blocks spare w (record { most = refl; below = refl }) refl (few_leaving spare h.defrag_pages _ h.phase w.leaving)
-bounded_action h after cost blocks spare c w (Closes_page page block new e l f w0 pages) =
+bounded_action h after cost blocks spare ap_ c w (Passes_block page block p e f l marked) = bounded_same h _ blocks spare w (record { most = refl; below = refl }) refl (few_leaving spare h.defrag_pages _ h.phase w.leaving)
+bounded_action h after cost blocks spare ap_ c w (Closes_page page block new e l f w0 pages) =
     let o = page_at h.store.pages page in
     let m = few_leaving spare h.defrag_pages _ h.phase w.leaving in
-    bounded_less h _ blocks spare w (record { most = refl; below = refl })
+    bounded_less h _ blocks spare w (record { most = refl; below = refl }) (action_count h after cost (Closes_page page block new e l f w0 pages))
     (λ class. (let u = used_set h.store.pages new.pages page o (closed o) l refl pages class in let d = (closed_less class o).0 in omega (arith, u, d)))
     (let u = leaving_set h.store.pages new.pages page o (closed o) l refl pages in let d = (closed_less 0 o).1 in omega (arith, u, d, m))
-bounded_action h after cost blocks spare c w (Ends_sweep page block e l) =
+bounded_action h after cost blocks spare ap_ c w (Ends_sweep page block e l) =
     let none = none_leaving h.store.pages (no_mark h.store.pages page (subst (AreClosed h.store.pages) e c) l) in
     bounded_same h _ blocks spare w (record { most = refl; below = refl }) refl (by_sparse none (is_sparse h) refl)
   where
-    chosen_none : (h.defrag_below == 0) ≡ false → spare ≡ h.defrag_pages
-    chosen_none n = sym w.same ∙ ap (λ z. if z then 0 else h.defrag_pages) n
+    chosen_none : spare_of h ≡ spare → (h.defrag_below == 0) ≡ false → spare ≡ h.defrag_pages
+    chosen_none s n = sym s ∙ ap (λ z. if z then 0 else h.defrag_pages) n
+
+    few : spare ≡ 0 → pages_for blocks 0 CLASSES + h.defrag_below ≤ length h.store.pages → free_pages h.store.pages < h.defrag_below → ⊥
+    few z enough below =
+        let u = used_within h.store.pages blocks CLASSES (λ k s. subst (λ y. used_pages h.store.pages k ≤ class_pages y k (blocks k)) z (w.used k s)) in
+        let a = all_pages h.store.pages ap_ in omega (arith, u, a, enough, below)
 
     by_sparse : leaving_pages h.store.pages ≡ 0 → (b : Bool) → is_sparse h ≡ b → MayLeave spare h.defrag_pages (leaving_pages h.store.pages) (if b then phases.Moving (moves.Pass 0 0 None 0) else phases.Idle)
     by_sparse none true s =
         let q = both_true (nat_lt 0 h.defrag_pages) (nat_lt (free_pages h.store.pages) h.defrag_below) s in
         let some : 0 < h.defrag_pages = (let a = q.0 in grind arith) in
-        let below : 0 < h.defrag_below = (let a = q.1 in grind arith) in
+        let low : free_pages h.store.pages < h.defrag_below = (let a = q.1 in grind arith) in
         let n : (h.defrag_below == 0) ≡ false = grind arith in
-        let same = chosen_none n in
-        (omega (arith, none), omega (arith, same, some), same)
+        elim w.same [
+          | inl e ↦ (let same = chosen_none e n in (omega (arith, none), omega (arith, same, some), same))
+          | inr e ↦ absurd (few e.0 e.1 low)
+        ]
     by_sparse none false s = omega (arith, none)
-bounded_action h after cost blocks spare c w (Looks_at_page class page best chosen at few more) = bounded_same h _ blocks spare w (record { most = refl; below = refl }) refl (at_pass h blocks spare class page best chosen w at)
-bounded_action h after cost blocks spare c w (Chooses_page class page best chosen k p new at few last is good there w0 pages) =
+bounded_action h after cost blocks spare ap_ c w (Looks_at_page class page best chosen at few more) = bounded_same h _ blocks spare w (record { most = refl; below = refl }) refl (at_pass h blocks spare class page best chosen w at)
+bounded_action h after cost blocks spare ap_ c w (Chooses_page class page best chosen k p new at few last is good there w0 pages) =
     let l = page_within h.store.pages k.page p there in
     let v : Option Page = Some (record p { leaving = true }) in
     let m = at_pass h blocks spare class page best chosen w at in
     let b = m.0 in
-    bounded_less h _ blocks spare w (record { most = refl; below = refl })
+    bounded_less h _ blocks spare w (record { most = refl; below = refl }) (action_count h after cost (Chooses_page class page best chosen k p new at few last is good there w0 pages))
     (λ class. (let u = used_set h.store.pages new.pages k.page (Some p) v l there pages class in omega (arith, u)))
     ((let u = leaving_set h.store.pages new.pages k.page (Some p) v l there pages in omega (arith, u, b)), (let b = m.1 in omega (arith, b)), m.2)
-bounded_action h after cost blocks spare c w (Chooses_none class page best chosen at few last is) = bounded_same h _ blocks spare w (record { most = refl; below = refl }) refl (at_pass h blocks spare class page best chosen w at)
-bounded_action h after cost blocks spare c w (Moves_block class page block chosen i to j p q new e at leaving next place there empty w0 pages) =
+bounded_action h after cost blocks spare ap_ c w (Chooses_none class page best chosen at few last is) = bounded_same h _ blocks spare w (record { most = refl; below = refl }) refl (at_pass h blocks spare class page best chosen w at)
+bounded_action h after cost blocks spare ap_ c w (Moves_block class page block chosen i to j p q new e at leaving next place there empty w0 pages) =
     let l = page_within h.store.pages to q there in
     let v : Option Page = Some (record (with_held q j true) { receiving = true }) in
     let m : MayLeave spare h.defrag_pages (leaving_pages h.store.pages) (phases.Moving (moves.Emptying class page block chosen)) = subst (MayLeave spare h.defrag_pages (leaving_pages h.store.pages)) e w.leaving in
     let b = m.0 in
-    bounded_less h _ blocks spare w (record { most = refl; below = refl })
+    bounded_less h _ blocks spare w (record { most = refl; below = refl }) (action_count h after cost (Moves_block class page block chosen i to j p q new e at leaving next place there empty w0 pages))
     (λ class. (let u = used_set h.store.pages new.pages to (Some q) v l there pages class in omega (arith, u)))
     ((let u = leaving_set h.store.pages new.pages to (Some q) v l there pages in omega (arith, u, b)), m.1, m.2)
-bounded_action h after cost blocks spare c w (Ends_moving done) = bounded_same h _ blocks spare w (record { most = refl; below = refl }) refl (few_leaving spare h.defrag_pages _ h.phase w.leaving)
+bounded_action h after cost blocks spare ap_ c w (Ends_moving done) = bounded_same h _ blocks spare w (record { most = refl; below = refl }) refl (few_leaving spare h.defrag_pages _ h.phase w.leaving)

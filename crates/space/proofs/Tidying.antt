@@ -83,7 +83,7 @@ shrinks_keeps s t k = record {
   head = λ b l. head_is (node_of t b) (node_of s b) (k.nodes b (sym (k.held b) ∙ l));
 }
 
-shrinks_frees : (s t : Store) (a : ℕ) → Frees s t a → Shrinks s t
+pub shrinks_frees : (s t : Store) (a : ℕ) → Frees s t a → Shrinks s t
 shrinks_frees s t a f = record { held = λ b l. sym (f.same b (apart b l)) ∙ l; head = λ b l. head_is (node_of t b) (node_of s b) (f.nodes b (apart b l) (sym (f.same b (apart b l)) ∙ l)) }
   where
     apart : (b : ℕ) → is_held t b ≡ true → b ≢ a
@@ -138,7 +138,7 @@ tidy_put s t objects k p q f at is same on w =
     (λ b m i. inr (leave_put s.pages t.pages k (Some q) l is (λ z. on (sym (ap is_leaving at) ∙ z)) (b / 2048) i)) w
 
 -- what stands on a page when the sweeper closes it is a main copy
-closes_main : (h : HeapState) (present snapshot : Graph) (page block : ℕ) → ArePages h.store.pages → Consistent h present snapshot → h.phase ≡ phases.Sweeping page block → is_looked_at (page_at h.store.pages page) block ≡ true
+pub closes_main : (h : HeapState) (present snapshot : Graph) (page block : ℕ) → ArePages h.store.pages → Consistent h present snapshot → h.phase ≡ phases.Sweeping page block → is_looked_at (page_at h.store.pages page) block ≡ true
     → (b : ℕ) → b / 2048 ≡ page → is_held h.store b ≡ true → (node_of h.store b).forward ≡ b
 closes_main h present snapshot page block pages c e looked b here l =
     let w : Sweeping (seen h) (view present) (view snapshot) c.parts.at (reference_of h.store.pages page block) = stage_at (collector_of h) (view present) (view snapshot) c.parts (In_sweep (reference_of h.store.pages page block)) (ap (progress_of h.store.pages) e) in

@@ -1,5 +1,5 @@
 -- Where blocks stand, and on how many pages.
-use Rattle.std.specs.Prelude.{◌≡◌, ℕ, ◌/◌, ◌<◌, ◌≤◌, ◌⊎◌, true, List, Option, Some, None, length}
+use Rattle.std.specs.Prelude.{◌≡◌, ℕ, ◌+◌, ◌/◌, ◌<◌, ◌≤◌, ◌⊎◌, true, List, Option, Some, None, length}
 use Rattle.graph_heap.specs.Graph.{Object, object_of}
 use Rattle.size_classes.specs.declared.class.TheConstants.{CLASSES, PAGE_WORDS}
 use Rattle.size_classes.specs.Sizes.{class_for}
@@ -11,7 +11,7 @@ use Rattle.heap_model.specs.Pages.{Page, page_at}
 use Rattle.heap_model.specs.Store.{Store, is_held, node_of}
 use Rattle.heap_model.specs.Collector.{contains}
 use Rattle.heap_model.specs.State.{HeapState, is_leaving}
-use Rattle.space.specs.Space.{class_pages, spare_of}
+use Rattle.space.specs.Space.{class_pages, pages_for, spare_of}
 use Rattle.space.specs.Counts.{used_pages, leaving_pages}
 
 -- in moving as many pages are leaving as were chosen, and else as many as may be
@@ -23,11 +23,16 @@ MayLeave spare most leaving (phases.Sweeping page block) = leaving ≤ spare
 MayLeave spare most leaving (phases.Moving (moves.Pass class page best chosen)) = (leaving ≤ chosen) × (chosen < spare) × (spare ≡ most)
 MayLeave spare most leaving (phases.Moving (moves.Emptying class page block chosen)) = (leaving ≤ chosen) × (chosen ≤ spare) × (spare ≡ most)
 
+-- as many pages may be left sparse as a cycle may empty; or none, where so many are free after each sweep that
+-- moving never begins
+abbrev pub MaySpare : HeapState → (ℕ → ℕ) → ℕ → Type 0
+MaySpare h blocks spare = (spare_of h ≡ spare) ⊎ ((spare ≡ 0) × (pages_for blocks 0 CLASSES + h.defrag_below ≤ length h.store.pages))
+
 -- no class has more pages than its blocks take, and no more pages are leaving than may be
 pub record HasBoundedPages (h : HeapState) (blocks : ℕ → ℕ) (spare : ℕ) : Type 0 where
   pub used : (class : ℕ) → class < CLASSES → used_pages h.store.pages class ≤ class_pages spare class (blocks class)
   pub leaving : MayLeave spare h.defrag_pages (leaving_pages h.store.pages) h.phase
-  pub same : spare_of h ≡ spare
+  pub same : MaySpare h blocks spare
 
 -- the class of a page; a free page has none
 abbrev pub class_in : Option Page → Option ℕ

@@ -5,6 +5,11 @@ use Rattle.heap_model.specs.Pages.{whole_pages}
 use Rattle.heap_model.specs.State.{HeapState}
 use Rattle.space.specs.Demand.{Demand, blocks_for}
 
+-- a number for each of the first classes, added up
+abbrev pub class_sum : (ℕ → ℕ) → ℕ → ℕ
+class_sum number zero = 0
+class_sum number (suc class) = class_sum number class + number class
+
 -- The pages that a class takes for so many blocks, and `spare` more that may be left sparse; none where it
 -- has no block.
 abbrev pub class_pages : ℕ → ℕ → ℕ → ℕ

@@ -1,5 +1,5 @@
 //! The laws of the space bound. Each function does nothing: its contract is the law.
-ghost use Rattle.std.specs.Prelude.{◌≡◌, ℕ, ◌*◌, ◌<◌, ◌≤◌, List, length};
+ghost use Rattle.std.specs.Prelude.{◌≡◌, ℕ, ◌+◌, ◌*◌, ◌<◌, ◌≤◌, List, length};
 ghost use Rattle.graph_heap.specs.declared.command.Command.{Command};
 ghost use Rattle.graph_heap.specs.Graph.{Graph};
 ghost use Rattle.size_classes.specs.declared.config.Config.{Config};
@@ -22,6 +22,13 @@ ghost use Rattle.space.specs.Room.{asks, AllHaveRoom};
 pub fn space_suffices()
     ensures { (h : HeapState) (es : List Event) (new : Course) (d : Demand) → IsOpening h → 0 < length h.store.pages → Runs (opened h) es new → AllKeepTo d (opening_tally h.limits) es
         → space_for d (spare_of h) ≤ length h.store.pages → EveryNewFindsRoom es }
+{}
+
+/// Nor is one refused where as many pages stay free beside those that the demand takes as moving begins below: then
+/// no sweep is followed by moving, and no page is left sparse.
+pub fn space_suffices_unmoved()
+    ensures { (h : HeapState) (es : List Event) (new : Course) (d : Demand) → IsOpening h → 0 < length h.store.pages → Runs (opened h) es new → AllKeepTo d (opening_tally h.limits) es
+        → space_for d 0 + h.defrag_below ≤ length h.store.pages → EveryNewFindsRoom es }
 {}
 
 /// A run that keeps to a pace keeps to a demand. A cycle takes at most so many quanta, so that what is asked

@@ -36,7 +36,7 @@ pub fn taken_blocks_stay_bounded()
 
 /// Each action of the collector keeps the pages within their bound.
 pub fn actions_stay_bounded()
-    ensures { (h after : HeapState) (cost : ℕ) (blocks : ℕ → ℕ) (spare : ℕ) → AreClosed h.store.pages h.phase → HasBoundedPages h blocks spare → Action h cost after → HasBoundedPages after blocks spare }
+    ensures { (h after : HeapState) (cost : ℕ) (blocks : ℕ → ℕ) (spare : ℕ) → ArePages h.store.pages → AreClosed h.store.pages h.phase → HasBoundedPages h blocks spare → Action h cost after → HasBoundedPages after blocks spare }
 {}
 
 /// Each action of the collector leaves blocks where they should stand, and until the sweep's end no

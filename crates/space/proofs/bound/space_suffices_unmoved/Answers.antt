@@ -1,0 +1,5 @@
+use Rattle.space.proofs.Running.{space_suffices_unmoved as it}
+use Rattle.space.proofs.bound.space_suffices_unmoved.Goals as goal
+
+pub returns : goal.returns
+returns c = it

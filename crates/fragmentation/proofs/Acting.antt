@@ -1,0 +1,348 @@
+-- What holds of few pages and of what is left, through each action and each chain of actions.
+use Rattle.std.proofs.Common.{◌≡◌, ℕ, suc, ◌+◌, ◌-◌, ◌<◌, ◌≤◌, ◌⊎◌, inl, inr, Bool, true, false, ◌&&◌, if◌then◌else◌, nat_lt, List, [], ◌∷◌, Option, Some, None, length, ap, ◌∙◌, sym, subst, arith, refl}
+use Rattle.std.proofs.lemmas.List.Sums.{sum_by-cons}
+use Rattle.std.proofs.lemmas.List.Quantifiers.{position-Some}
+use Rattle.graph_heap.specs.Graph.{Graph, first_slot}
+use Rattle.graph_heap.specs.declared.command.Change.{Change}
+use Rattle.size_classes.specs.declared.class.TheConstants.{CLASSES}
+use Rattle.size_classes.specs.Parts.{cells_of, parts_in}
+use Rattle.heap_model.specs.declared.phase.Phase.{Phase}
+use Rattle.heap_model.specs.declared.phase.Phase.TheVariants as phases
+use Rattle.heap_model.specs.declared.phase.Moving.TheVariants as moves
+use Rattle.heap_model.specs.declared.phase.Candidate.{Candidate}
+use Rattle.heap_model.specs.Pages.{Page, is_usable, is_free, page_at, free_pages}
+use Rattle.heap_model.specs.Store.{Store}
+use Rattle.heap_model.specs.State.{HeapState, is_leaving}
+use Rattle.heap_model.specs.Marks.{HasNoMark, AreClosed}
+use Rattle.heap_model.specs.Placed.{IsPlaced}
+use Rattle.heap_model.specs.Settings.{HeapSettings, settings_of}
+use Rattle.heap_model.specs.Standing.{Stands, is_sweeping}
+use Rattle.heap_model.specs.Change.{DoesChange, Does_nothing, Does_root, Does_ref, Does_word, Does_new, Does_join, Does_leave}
+use Rattle.heap_model.specs.Action.{Relinks, Action, Chain, Nothing_done, Then, Scans_root, Ends_roots, Scans_header, Scans_cell, Ends_marking, Frees_block, Passes_block, Closes_page, Ends_sweep, Looks_at_page, Chooses_page, Chooses_none, Moves_block, Ends_moving, AtPass, In_pass, After_page, MovingDone, No_class, No_page, goes_to, after_sweep, is_sparse, is_choosable}
+use Rattle.heap_model.proofs.Marks.{no_mark}
+use Rattle.heap_model.proofs.Recorded.{records_stay}
+use Rattle.heap_model.proofs.Relinked.{stands_relinked, relinked_settings}
+use Rattle.heap_model.proofs.Settings.{action_settings}
+use Rattle.heap_model.proofs.Stood.{stands_action}
+use Rattle.space.specs.Demand.{asked_by}
+use Rattle.space.specs.Tally.{is_tracing}
+use Rattle.space.specs.Counts.{main_blocks, leaving_pages, used_pages}
+use Rattle.space.specs.Placement.{IsTidy}
+use Rattle.space.proofs.Counts.{one_if, used}
+use Rattle.space.proofs.Tidying.{shrinks_then, shrinks_writes, shrinks_shades, shrinks_frees, shrinks_keeps, tidy_same, tidy_action}
+use Rattle.space.proofs.Changing.{shrinks_records}
+use Rattle.fragmentation.specs.Gathering.{AreUsed, ReceivesFirst, AreTight, HasLooked, IsGathering}
+use Rattle.fragmentation.specs.Suffice.{gathered_pages, GathersAll}
+use Rattle.fragmentation.proofs.IsFew.{IsFew}
+use Rattle.fragmentation.proofs.IsLeftover.{IsSettled, IsMoved, IsEmptying, IsLeftover}
+use Rattle.fragmentation.proofs.Free.{both_true, chosen_free}
+use Rattle.fragmentation.proofs.Few.{few_starts, few_action, moving_not}
+use Rattle.fragmentation.proofs.Passing.{in_pass}
+use Rattle.fragmentation.proofs.Gathering.{gather_action, gather_same, clears_pages, tight_action}
+use Rattle.fragmentation.proofs.Leftover.{leftover_same, settled_freed, settled_closed, settled_used, none_leaves, at_look}
+use Rattle.fragmentation.proofs.Leaving.{chosen_left, block_left, never_cut, moved_settled}
+use Rattle.fragmentation.proofs.Growing.{few_made, takes_few}
+
+-- what is left, through each action but the change out of a sweep
+at_phase : (s : Store) (p q : Phase) (need : ℕ → ℕ) → p ≡ q → IsLeftover s p need → IsLeftover s q need
+at_phase s p q need e w = subst (λ z. IsLeftover s z need) e w
+
+pub left_action : (h after : HeapState) (cost : ℕ) (present snapshot : Graph) (need : ℕ → ℕ) → Stands h present snapshot → IsGathering h.store.pages (length h.store.pages) h.phase → GathersAll h → (is_tracing h.phase ≡ false → (class : ℕ) → class < CLASSES → main_blocks h.store.pages class ≤ need class)
+    → is_tracing after.phase ≡ is_tracing h.phase → Action h cost after → IsLeftover h.store h.phase need → IsLeftover after.store after.phase need
+left_action h after cost g s need st ga all census same (Scans_root next k e l sh) w = let f = shrinks_shades _ k _ sh in leftover_same h.store k.store (phases.Roots (next + 1)) need f.0 f.1 (at_phase h.store h.phase (phases.Roots next) need e w)
+left_action h after cost g s need st ga all census same (Ends_roots next e l) w = at_phase h.store h.phase (phases.Roots next) need e w
+left_action h after cost g s need st ga all census same (Scans_header part cell x front back e f n) w = at_phase h.store h.phase (phases.Marking part cell) need e w
+left_action h after cost g s need st ga all census same (Scans_cell part cell new k e l w0 sh) w =
+    let f = shrinks_shades _ k _ sh in
+    leftover_same h.store k.store (phases.Marking part (cell + 1)) need (shrinks_then h.store new k.store (shrinks_writes h.store new (part - 1) _ w0 (record { identity = refl; part = refl; shape = refl; forward = refl })) f.0) (f.1 ∙ w0.pages) (at_phase h.store h.phase (phases.Marking part cell) need e w)
+left_action h after cost g s need st ga all census same (Ends_marking part cell e f n) w = at_phase h.store h.phase (phases.Marking part cell) need e w
+left_action h after cost g s need st ga all census same (Frees_block page block p new e f was unmarked w0 pages) w =
+    let q : (class : ℕ) → class < CLASSES → IsSettled h.store class (need class) = at_phase h.store h.phase (phases.Sweeping page block) need e w in
+    λ class l. settled_freed h.store new page block class (need class) p (shrinks_frees h.store new _ w0) f pages (q class l)
+left_action h after cost g s need st ga all census same (Passes_block page block p e f l marked) w = at_phase h.store h.phase (phases.Sweeping page block) need e w
+left_action h after cost g s need st ga all census same (Closes_page page block new e l f w0 pages) w =
+    let q : (class : ℕ) → class < CLASSES → IsSettled h.store class (need class) = at_phase h.store h.phase (phases.Sweeping page block) need e w in
+    λ class small. settled_closed h g s page block class (need class) new small st e l f w0 pages (q class small)
+left_action h after cost g s need st ga all census same (Ends_sweep page block e l) w = absurd (ends (is_sparse h) (same ∙ ap is_tracing e))
+  where
+    ends : (b : Bool) → is_tracing (if b then phases.Moving (moves.Pass 0 0 None 0) else phases.Idle) ≡ true → ⊥
+    ends true e = cc
+    ends false e = cc
+left_action h after cost g s need st ga all census same (Looks_at_page class page best chosen at few more) w =
+    let q = at_look h class page best chosen need st.pages (census (sym same)) w at in (q.moved, q.count)
+left_action h after cost g s need st ga all census same (Chooses_page class page best chosen k p new at few last is good there w0 pages) w =
+    let q = at_look h class page best chosen need st.pages (census (sym same)) w at in
+    let i = in_pass h class page best chosen ga at in
+    let ok : is_choosable class (Some p) ≡ true = sym (ap (is_choosable class) there) ∙ (both_true _ _ good).0 in
+    chosen_left h.store new class k.page chosen p need st.pages i.used there ok (chosen_free h.store.pages class k st.pages good) few w0 pages
+    (λ c t. tight_action h _ 1 c st.pages (moving_not h class page best chosen at) (Chooses_page class page best chosen k p new at few last is good there w0 pages) t) q
+left_action h after cost g s need st ga all census same (Chooses_none class page best chosen at few last is) w =
+    let q = at_look h class page best chosen need st.pages (census (sym same)) w at in (q.moved, q.count)
+left_action h after cost g s need st ga all census same (Moves_block class page block chosen i to j p q new e at leaving next place there empty w0 pages) w =
+    let usable : is_usable p.class (Some q) ≡ true = ap (is_usable p.class) (sym there) ∙ (position-Some (is_usable p.class) h.store.pages to None place).1 in
+    block_left h.store new page block chosen i to j p q need st.pages at leaving next usable there empty w0 pages
+    (λ c t. tight_action h _ _ c st.pages (ap is_sweeping e) (Moves_block class page block chosen i to j p q new e at leaving next place there empty w0 pages) t)
+    (at_phase h.store h.phase (phases.Moving (moves.Emptying class page block chosen)) need e w)
+left_action h after cost g s need st ga all census same (Ends_moving done) w = ended done
+  where
+    main : (class : ℕ) → class < CLASSES → main_blocks h.store.pages class ≤ need class
+    main = census (sym same)
+
+    ended : MovingDone h → (class : ℕ) → class < CLASSES → IsSettled h.store class (need class)
+    ended (No_class page best chosen e) class small =
+        let q : ((class : ℕ) → class < CLASSES → IsMoved h.store class (need class)) × (chosen ≤ leaving_pages h.store.pages) = at_phase h.store h.phase (phases.Moving (moves.Pass CLASSES page best chosen)) need e w in
+        let t : AreUsed h.store.pages (length h.store.pages) × ReceivesFirst h.store.pages × AreTight h.store.pages CLASSES × HasLooked h.store.pages CLASSES page best = subst (IsGathering h.store.pages (length h.store.pages)) e ga in
+        moved_settled h.store class (need class) small st.pages (t.2 class small) (main class small) (q.0 class small)
+    ended (No_page k page block chosen p e at done most) class small =
+        let q : IsEmptying h.store page block chosen need = at_phase h.store h.phase (phases.Moving (moves.Emptying k page block chosen)) need e w in
+        let n = never_cut h.store page block chosen need q in
+        let a = all.all in
+        absurd (omega (arith, n, a, most))
+
+-- a heap that goes on
+pub record IsGoing (h : HeapState) (present snapshot : Graph) : Type 0 where
+  pub stands : Stands h present snapshot
+  pub tidy : IsTidy h.store present.objects
+  pub gathering : IsGathering h.store.pages (length h.store.pages) h.phase
+  pub all : GathersAll h
+
+gathers_same : (h k : HeapState) → settings_of k ≡ settings_of h → GathersAll h → GathersAll k
+gathers_same h k e w = record {
+  always = (let a : length k.store.pages ≡ length h.store.pages = ap (λ (s : HeapSettings). s.pages) e in let b : k.defrag_below ≡ h.defrag_below = ap (λ (s : HeapSettings). s.defrag_below) e in let c = w.always in omega (arith, a, b, c));
+  all = (let a : length k.store.pages ≡ length h.store.pages = ap (λ (s : HeapSettings). s.pages) e in let b : k.defrag_pages ≡ h.defrag_pages = ap (λ (s : HeapSettings). s.defrag_pages) e in let c = w.all in omega (arith, a, b, c));
+}
+
+pub gathers_settings : (h k : HeapState) → settings_of k ≡ settings_of h → GathersAll h → GathersAll k
+gathers_settings h k e w = gathers_same h k e w
+
+going_action : (h after : HeapState) (cost : ℕ) (present snapshot : Graph) → IsGoing h present snapshot → Action h cost after → IsGoing after present snapshot
+going_action h after cost g s w a = record {
+  stands = stands_action h after cost g s w.stands a;
+  tidy = tidy_action h after cost g s g.objects w.stands a w.tidy;
+  gathering = gather_action h after cost w.stands.pages w.stands.closed w.gathering a;
+  all = gathers_same h after (action_settings h after cost a) w.all;
+}
+
+going_relinked : (h : HeapState) (linked : Store) (present snapshot : Graph) → Relinks h.store linked → IsGoing h present snapshot → IsGoing (record h { store = linked }) present snapshot
+going_relinked h linked g s links w = record {
+  stands = stands_relinked h linked links g s w.stands;
+  tidy = tidy_same h.store linked g.objects (shrinks_keeps h.store linked links.blocks) links.pages w.tidy;
+  gathering = gather_same h.store.pages linked.pages h.phase h.phase links.pages refl w.gathering;
+  all = gathers_same h (record h { store = linked }) (relinked_settings h linked links) w.all;
+}
+
+-- out of a sweep
+record LeavesSweep (h after : HeapState) : Type 0 where
+  page : ℕ
+  block : ℕ
+  phase : h.phase ≡ phases.Sweeping page block
+  all : length h.store.pages ≤ page
+  after_is : after ≡ goes_to h 1 (after_sweep h)
+
+leaves_sweep : (h after : HeapState) (cost : ℕ) → Action h cost after → is_tracing h.phase ≡ true → is_tracing after.phase ≡ false → LeavesSweep h after
+leaves_sweep h after cost (Scans_root next k e l sh) x y = absurd (cc)
+leaves_sweep h after cost (Ends_roots next e l) x y = absurd (cc)
+leaves_sweep h after cost (Scans_header part cell z front back e f n) x y = absurd (cc)
+leaves_sweep h after cost (Scans_cell part cell new k e l w0 sh) x y = absurd (cc)
+leaves_sweep h after cost (Ends_marking part cell e f n) x y = absurd (cc)
+leaves_sweep h after cost (Frees_block page block p new e f was unmarked w0 pages) x y = absurd (cc)
+leaves_sweep h after cost (Passes_block page block p e f l marked) x y = absurd (cc)
+leaves_sweep h after cost (Closes_page page block new e l f w0 pages) x y = absurd (cc)
+leaves_sweep h after cost (Ends_sweep page block e l) x y = record { page = page; block = block; phase = e; all = l; after_is = refl }
+leaves_sweep h after cost (Looks_at_page class page best chosen at few more) x y = absurd (looks h class page best chosen at x)
+  where
+    looks : (h : HeapState) (class page : ℕ) (best : Option Candidate) (chosen : ℕ) → AtPass h class page best chosen → is_tracing h.phase ≡ true → ⊥
+    looks h class page best chosen (In_pass c p b n e) x = let z : false ≡ true = sym (ap is_tracing e) ∙ x in cc
+    looks h class page best chosen (After_page c p b n q e at on done few) x = let z : false ≡ true = sym (ap is_tracing e) ∙ x in cc
+leaves_sweep h after cost (Chooses_page class page best chosen k p new at few last is good there w0 pages) x y = absurd (looks h class page best chosen at x)
+  where
+    looks : (h : HeapState) (class page : ℕ) (best : Option Candidate) (chosen : ℕ) → AtPass h class page best chosen → is_tracing h.phase ≡ true → ⊥
+    looks h class page best chosen (In_pass c p b n e) x = let z : false ≡ true = sym (ap is_tracing e) ∙ x in cc
+    looks h class page best chosen (After_page c p b n q e at on done few) x = let z : false ≡ true = sym (ap is_tracing e) ∙ x in cc
+leaves_sweep h after cost (Chooses_none class page best chosen at few last is) x y = absurd (looks h class page best chosen at x)
+  where
+    looks : (h : HeapState) (class page : ℕ) (best : Option Candidate) (chosen : ℕ) → AtPass h class page best chosen → is_tracing h.phase ≡ true → ⊥
+    looks h class page best chosen (In_pass c p b n e) x = let z : false ≡ true = sym (ap is_tracing e) ∙ x in cc
+    looks h class page best chosen (After_page c p b n q e at on done few) x = let z : false ≡ true = sym (ap is_tracing e) ∙ x in cc
+leaves_sweep h after cost (Moves_block class page block chosen i to j p q new e at leaving next place there empty w0 pages) x y = absurd (let z : false ≡ true = sym (ap is_tracing e) ∙ x in cc)
+leaves_sweep h after cost (Ends_moving done) x y = absurd (ends done)
+  where
+    ends : MovingDone h → ⊥
+    ends (No_class page best chosen e) = let z : false ≡ true = sym (ap is_tracing e) ∙ x in cc
+    ends (No_page k page block chosen p e at done most) = let z : false ≡ true = sym (ap is_tracing e) ∙ x in cc
+
+-- with always enough to move, and all of it
+sparse_always : (h : HeapState) → 0 < length h.store.pages → GathersAll h → is_sparse h ≡ true
+sparse_always h some all = both _ _ (lt 0 h.defrag_pages (let a = all.all in omega (arith, a, some))) (lt (free_pages h.store.pages) h.defrag_below (let a = all.always in let f = free_few h.store.pages in omega (arith, a, f)))
+  where
+    both : (a b : Bool) → a ≡ true → b ≡ true → (a && b) ≡ true
+    both a b p q = cc
+
+    lt : (a b : ℕ) → a < b → nat_lt a b ≡ true
+    lt a b l = grind arith
+
+    free_few : (pages : List (Option Page)) → free_pages pages ≤ length pages
+    free_few [] = omega arith
+    free_few (o ∷ os) =
+        let r = free_few os in
+        let a = sum_by-cons (λ z. one_if (is_free z)) o os in
+        let c = few_one (is_free o) in
+        omega (arith, r, a, c)
+      where
+        few_one : (b : Bool) → one_if b ≤ 1
+        few_one true = omega arith
+        few_one false = omega arith
+
+none_leaving : (pages : List (Option Page)) → ((k : ℕ) → HasNoMark (page_at pages k)) → leaving_pages pages ≡ 0
+none_leaving [] n = refl
+none_leaving (o ∷ os) n =
+    let r = none_leaving os (λ k. n (suc k)) in
+    let h : one_if (is_leaving o) ≡ 0 = ap one_if (n 0).leaving in
+    let a = sum_by-cons (λ z. one_if (is_leaving z)) o os in omega (arith, r, h, a)
+
+-- how far a heap has come in a quantum whose cycle's sweep hadn't ended before: it hasn't ended, or it has
+pub record Before (h : HeapState) (first made old : ℕ → ℕ) : Type 0 where
+  pub tracing : is_tracing h.phase ≡ true
+  pub few : IsFew h.store.pages h.phase first made
+  pub left : IsLeftover h.store h.phase old
+
+pub record Behind (h : HeapState) (old new : ℕ → ℕ) : Type 0 where
+  pub tracing : is_tracing h.phase ≡ false
+  pub first : ℕ → ℕ
+  pub most : (class : ℕ) → class < CLASSES → first class ≤ gathered_pages class (old class)
+  pub few : IsFew h.store.pages h.phase first (λ class. 0)
+  pub left : IsLeftover h.store h.phase new
+
+-- no page is swept while blocks are moved, and no cycle begins by an action
+stays_out : (h after : HeapState) (cost : ℕ) → Action h cost after → is_tracing h.phase ≡ false → is_tracing after.phase ≡ false
+stays_out h after cost (Scans_root next k e l sh) x = absurd (let z : true ≡ false = sym (ap is_tracing e) ∙ x in cc)
+stays_out h after cost (Ends_roots next e l) x = absurd (let z : true ≡ false = sym (ap is_tracing e) ∙ x in cc)
+stays_out h after cost (Scans_header part cell z front back e f n) x = absurd (let z : true ≡ false = sym (ap is_tracing e) ∙ x in cc)
+stays_out h after cost (Scans_cell part cell new k e l w0 sh) x = absurd (let z : true ≡ false = sym (ap is_tracing e) ∙ x in cc)
+stays_out h after cost (Ends_marking part cell e f n) x = absurd (let z : true ≡ false = sym (ap is_tracing e) ∙ x in cc)
+stays_out h after cost (Frees_block page block p new e f was unmarked w0 pages) x = absurd (let z : true ≡ false = sym (ap is_tracing e) ∙ x in cc)
+stays_out h after cost (Passes_block page block p e f l marked) x = absurd (let z : true ≡ false = sym (ap is_tracing e) ∙ x in cc)
+stays_out h after cost (Closes_page page block new e l f w0 pages) x = absurd (let z : true ≡ false = sym (ap is_tracing e) ∙ x in cc)
+stays_out h after cost (Ends_sweep page block e l) x = absurd (let z : true ≡ false = sym (ap is_tracing e) ∙ x in cc)
+stays_out h after cost (Looks_at_page class page best chosen at few more) x = refl
+stays_out h after cost (Chooses_page class page best chosen k p new at few last is good there w0 pages) x = refl
+stays_out h after cost (Chooses_none class page best chosen at few last is) x = refl
+stays_out h after cost (Moves_block class page block chosen i to j p q new e at leaving next place there empty w0 pages) x = refl
+stays_out h after cost (Ends_moving done) x = refl
+
+pub chain_out : (h after : HeapState) (spent : ℕ) → Chain h spent after → is_tracing h.phase ≡ false → is_tracing after.phase ≡ false
+chain_out h after spent Nothing_done x = x
+chain_out h after spent (Then u cost j k linked chain links action) x = stays_out (record j { store = linked }) k cost action (chain_out h j u chain x)
+
+module _ (present snapshot : Graph) (first made old new : ℕ → ℕ) (census : (k : HeapState) → IsGoing k present snapshot → is_tracing k.phase ≡ false → (class : ℕ) → class < CLASSES → main_blocks k.store.pages class ≤ new class) where
+  behind_action : (h after : HeapState) (cost : ℕ) → IsGoing h present snapshot → Action h cost after → Behind h old new → Behind after old new
+  behind_action h after cost g a w =
+      let out = stays_out h after cost a w.tracing in
+      let same : is_tracing after.phase ≡ is_tracing h.phase = out ∙ sym w.tracing in
+      record {
+        tracing = out;
+        first = w.first;
+        most = w.most;
+        few = few_action h after cost w.first (λ class. 0) g.stands.pages same a w.few;
+        left = left_action h after cost present snapshot new g.stands g.gathering g.all (λ x. census h g x) same a w.left;
+      }
+
+  sweep_ends : (h after : HeapState) → IsGoing h present snapshot → LeavesSweep h after → Before h first made old → Behind after old new
+  sweep_ends h after g l w = subst (λ z. Behind z old new) (sym l.after_is) (subst (λ z. Behind (goes_to h 1 z) old new) (sym moving) (record {
+    tracing = refl;
+    first = used_pages h.store.pages;
+    most = λ class small. (let u = used class h.store.pages in let n = none_leaving h.store.pages none in let f = settled_used h.store class (old class) (settled class small) in omega (arith, u.0, u.1, n, f));
+    few = few_starts h.store.pages _ (λ class. refl);
+    left = (λ class small. inl (none_leaves h.store class none), omega arith);
+  }))
+    where
+      moving : after_sweep h ≡ phases.Moving (moves.Pass 0 0 None 0)
+      moving = ap (λ b. if b then phases.Moving (moves.Pass 0 0 None 0) else phases.Idle) (sparse_always h g.stands.some g.all)
+
+      none : (k : ℕ) → HasNoMark (page_at h.store.pages k)
+      none = no_mark h.store.pages l.page (subst (AreClosed h.store.pages) l.phase g.stands.closed) l.all
+
+      settled : (class : ℕ) → class < CLASSES → IsSettled h.store class (old class)
+      settled = at_phase h.store h.phase (phases.Sweeping l.page l.block) old l.phase w.left
+
+  came_action : (h after : HeapState) (cost : ℕ) → IsGoing h present snapshot → Action h cost after → (Before h first made old ⊎ Behind h old new) → (Before after first made old ⊎ Behind after old new)
+  came_action h after cost g a (inr w) = inr (behind_action h after cost g a w)
+  came_action h after cost g a (inl w) = by_tracing (is_tracing after.phase) refl
+    where
+      by_tracing : (b : Bool) → is_tracing after.phase ≡ b → (Before after first made old ⊎ Behind after old new)
+      by_tracing true e =
+          let same : is_tracing after.phase ≡ is_tracing h.phase = e ∙ sym w.tracing in
+          inl (record {
+            tracing = e;
+            few = few_action h after cost first made g.stands.pages same a w.few;
+            left = left_action h after cost present snapshot old g.stands g.gathering g.all (λ x. absurd (let z : true ≡ false = sym w.tracing ∙ x in cc)) same a w.left;
+          })
+      by_tracing false e = inr (sweep_ends h after g (leaves_sweep h after cost a w.tracing e) w)
+
+  came_relinked : (h : HeapState) (linked : Store) → Relinks h.store linked → (Before h first made old ⊎ Behind h old new) → (Before (record h { store = linked }) first made old ⊎ Behind (record h { store = linked }) old new)
+  came_relinked h linked links (inl w) = inl (record {
+    tracing = w.tracing;
+    few = subst (λ z. IsFew z h.phase first made) (sym links.pages) w.few;
+    left = leftover_same h.store linked h.phase old (shrinks_keeps h.store linked links.blocks) links.pages w.left;
+  })
+  came_relinked h linked links (inr w) = inr (record {
+    tracing = w.tracing;
+    first = w.first;
+    most = w.most;
+    few = subst (λ z. IsFew z h.phase w.first (λ class. 0)) (sym links.pages) w.few;
+    left = leftover_same h.store linked h.phase new (shrinks_keeps h.store linked links.blocks) links.pages w.left;
+  })
+
+  -- a chain of actions
+  pub came_chain : (h after : HeapState) (spent : ℕ) → IsGoing h present snapshot → Chain h spent after → (Before h first made old ⊎ Behind h old new) → IsGoing after present snapshot × (Before after first made old ⊎ Behind after old new)
+  came_chain h after spent g Nothing_done w = (g, w)
+  came_chain h after spent g (Then u cost j k linked chain links action) w =
+      let r = came_chain h j u g chain w in
+      let i = going_relinked j linked present snapshot links r.0 in
+      (going_action (record j { store = linked }) k cost present snapshot i action, came_action (record j { store = linked }) k cost i action (came_relinked j linked links r.1))
+
+  -- in a quantum whose cycle's sweep had ended before
+  pub record Out (h : HeapState) : Type 0 where
+    pub tracing : is_tracing h.phase ≡ false
+    pub few : IsFew h.store.pages h.phase first made
+    pub left : IsLeftover h.store h.phase new
+
+  pub out_chain : (h after : HeapState) (spent : ℕ) → IsGoing h present snapshot → Chain h spent after → Out h → IsGoing after present snapshot × Out after
+  out_chain h after spent g Nothing_done w = (g, w)
+  out_chain h after spent g (Then u cost j k linked chain links action) w =
+      let r = out_chain h j u g chain w in
+      let i = going_relinked j linked present snapshot links r.0 in
+      let l : HeapState = record j { store = linked } in
+      let out = stays_out l k cost action r.1.tracing in
+      let same : is_tracing k.phase ≡ is_tracing l.phase = out ∙ sym r.1.tracing in
+      let few : IsFew linked.pages j.phase first made = subst (λ z. IsFew z j.phase first made) (sym links.pages) r.1.few in
+      let left = leftover_same j.store linked j.phase new (shrinks_keeps j.store linked links.blocks) links.pages r.1.left in (
+        going_action l k cost present snapshot i action,
+        record {
+          tracing = out;
+          few = few_action l k cost first made i.stands.pages same action few;
+          left = left_action l k cost present snapshot new i.stands i.gathering i.all (λ x. census l i x) same action left;
+        },
+      )
+
+-- what a command changes
+few_phase : (pages : List (Option Page)) (p q : Phase) (first made : ℕ → ℕ) → q ≡ p → IsFew pages p first made → IsFew pages q first made
+few_phase pages p q first made e w = subst (λ z. IsFew pages z first made) (sym e) w
+
+pub few_change : (h after : HeapState) (g : Graph) (c : Change) (first made : ℕ → ℕ) → IsPlaced h.store.pages h.phase → DoesChange h g c after → IsFew h.store.pages h.phase first made → IsFew after.store.pages after.phase first (λ k. made k + asked_by c k)
+few_change h after g c first made placed Does_nothing w = few_made h.store.pages h.phase first made _ (λ k. omega arith) w
+few_change h after g c first made placed (Does_root cell id y k r i) w =
+    few_phase k.store.pages h.phase k.phase first _ (records_stay h k _ r).phase (few_made k.store.pages h.phase first made _ (λ n. omega arith) (subst (λ z. IsFew z h.phase first made) (sym (shrinks_records h k _ r).1) w))
+few_change h after g c first made placed (Does_ref id i value address y k new at r main writes) w =
+    few_phase new.pages h.phase k.phase first _ (records_stay h k _ r).phase (few_made new.pages h.phase first made _ (λ n. omega arith) (subst (λ z. IsFew z h.phase first made) (sym (writes.pages ∙ (shrinks_records h k _ r).1)) w))
+few_change h after g c first made placed (Does_word id i word address new at writes) w = few_made new.pages h.phase first made _ (λ n. omega arith) (subst (λ z. IsFew z h.phase first made) (sym writes.pages) w)
+few_change h after g c first made placed (Does_new cell id shape k new at r makes takes) w =
+    let same = (shrinks_records h k _ r).1 in
+    let phase = (records_stay h k _ r).phase in
+    let before = few_phase k.store.pages h.phase k.phase first made phase (subst (λ z. IsFew z h.phase first made) (sym same) w) in
+    let there : IsPlaced k.store.pages k.phase = subst (λ z. IsPlaced k.store.pages z) (sym phase) (subst (λ z. IsPlaced z h.phase) (sym same) placed) in
+    takes_few (cells_of shape) at k.store.pages (parts_in (cells_of shape)) new.pages k.phase first made there takes before
+few_change h after g c first made placed (Does_join m) w = few_made h.store.pages h.phase first made _ (λ k. omega arith) w
+few_change h after g c first made placed (Does_leave m k clears) w =
+    let e = clears_pages h (first_slot g.limits m) g.limits.slots k clears in
+    few_phase k.store.pages h.phase k.phase first _ e.1 (few_made k.store.pages h.phase first made _ (λ n. omega arith) (subst (λ z. IsFew z h.phase first made) (sym e.0) w))

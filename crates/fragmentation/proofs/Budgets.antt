@@ -1,0 +1,175 @@
+-- A run that keeps to a budget keeps within its pages.
+use Rattle.std.proofs.Common.{◌≡◌, ℕ, zero, suc, ◌+◌, ◌-◌, ◌*◌, ◌/◌, ◌<◌, ◌≤◌, ◌⊎◌, inl, inr, Bool, true, false, if◌then◌else◌, nat_lt, List, [], ◌∷◌, length, drop, ap, sym, subst, arith, refl}
+use Rattle.std.proofs.lemmas.List.Sums.{sum_by-cons}
+use Rattle.std.proofs.Math.Nat.{div-mul-le_self, lt-div-mul-add, mul-le-mul_right}
+use Rattle.graph_heap.specs.declared.command.Command.{Command}
+use Rattle.graph_heap.specs.declared.command.Reply.{Reply}
+use Rattle.graph_heap.specs.Graph.{Graph, Object}
+use Rattle.size_classes.specs.declared.class.TheConstants.{CLASSES}
+use Rattle.size_classes.specs.Sizes.{blocks_in}
+use Rattle.size_classes.specs.Need.{needed}
+use Rattle.size_classes.proofs.Table.{blocks_some}
+use Rattle.heap_model.specs.declared.phase.Phase.{Phase}
+use Rattle.heap_model.specs.Pages.{whole_pages}
+use Rattle.heap_model.specs.State.{HeapState}
+use Rattle.heap_model.specs.Opening.{IsOpening}
+use Rattle.heap_model.specs.Led.{opened}
+use Rattle.heap_model.specs.Event.{Course, Event, Command_done, Cycle_begun, Cycle_on, Quantum_done, Quantum_refused, Enters, Does, Runs, IsCourse, present_of}
+use Rattle.heap_model.proofs.Course.{opening_course}
+use Rattle.space.specs.Demand.{blocks_of, asked_for}
+use Rattle.space.specs.Tally.{is_tracing, NewFindsRoom, EveryNewFindsRoom}
+use Rattle.space.specs.Space.{class_sum}
+use Rattle.space.proofs.Counts.{class_sum_le, class_sum_both, zeros}
+use Rattle.space.proofs.Pacing.{command_less}
+use Rattle.fragmentation.specs.Season.{Season, Lives, opening_season, made_since, season_swept, season_after, Keeps, AllKeep}
+use Rattle.fragmentation.specs.Suffice.{gathered_pages, season_pages, WithinPages, pages_of, Budget, budget_pages, WithinBudget, GathersAll}
+use Rattle.fragmentation.proofs.Few.{whole_more, whole_none}
+use Rattle.fragmentation.proofs.Counted.{IsCounted, counted_command, made_more, base_low, all_find_room, opening_counted}
+use Rattle.fragmentation.proofs.Moving.{IsMoving, moving_step, opening_moving}
+
+pages_more : (f g : ℕ → ℕ) → ((k : ℕ) → k < CLASSES → f k ≤ g k) → pages_of f ≤ pages_of g
+pages_more f g e = class_sum_le _ _ CLASSES (λ k l. whole_more k (f k) (g k) l (e k l))
+
+-- pages for two numbers of blocks
+whole_both : (b x y : ℕ) → 0 < b → (x + y + (b - 1)) / b ≤ (x + (b - 1)) / b + (y + (b - 1)) / b
+whole_both b x y some =
+    let p : x + (b - 1) < (x + (b - 1)) / b * b + b = lt-div-mul-add some in
+    let q : y + (b - 1) < (y + (b - 1)) / b * b + b = lt-div-mul-add some in
+    let r = div-mul-le_self (x + y + (b - 1)) b in
+    within ((x + (b - 1)) / b) ((y + (b - 1)) / b) ((x + y + (b - 1)) / b) (omega (arith, p, some)) (omega (arith, q, some)) r
+  where
+    order : (a c : ℕ) → (a ≤ c) ⊎ (c + 1 ≤ a)
+    order a c = grind arith
+
+    within : (u v w : ℕ) → x ≤ u * b → y ≤ v * b → w * b ≤ x + y + (b - 1) → w ≤ u + v
+    within u v w p q r = elim (order w (u + v)) [
+      | inl l ↦ l
+      | inr l ↦ absurd (
+          let m = mul-le-mul_right b l in
+          let d : (u + v + 1) * b ≡ u * b + v * b + b = omega arith in
+          omega (arith, m, d, p, q, r, some))
+    ]
+
+pages_both : (f g : ℕ → ℕ) → pages_of (λ k. f k + g k) ≤ pages_of f + pages_of g
+pages_both f g =
+    let l = class_sum_le (λ k. whole_pages k (f k + g k)) (λ k. whole_pages k (f k) + whole_pages k (g k)) CLASSES (λ k l. whole_both (blocks_in k) (f k) (g k) (blocks_some k l)) in
+    let e = class_sum_both (λ k. whole_pages k (f k)) (λ k. whole_pages k (g k)) CLASSES in
+    omega (arith, l, e)
+
+none_pages : pages_of (λ class. 0) ≡ 0
+none_pages =
+    let l = class_sum_le (λ k. whole_pages k 0) (λ k. 0) CLASSES (λ k l. (let h = whole_none k l in omega (arith, h))) in
+    let z = zeros CLASSES in
+    omega (arith, l, z)
+
+ones : (n : ℕ) → class_sum (λ k. 1) n ≡ n
+ones zero = refl
+ones (suc n) = let r = ones n in omega (arith, r)
+
+season_few : (s : Season) (asked : ℕ → ℕ) → season_pages s asked ≤ pages_of s.before + CLASSES + pages_of (λ class. made_since s.swept s class + asked class)
+season_few s asked =
+    let l = class_sum_le (λ k. gathered_pages k (s.before k) + whole_pages k (made_since s.swept s k + asked k)) (λ k. whole_pages k (s.before k) + 1 + whole_pages k (made_since s.swept s k + asked k)) CLASSES (λ k l. (let g = one_more k (nat_lt (s.before k) (blocks_in k)) in omega (arith, g))) in
+    let a = class_sum_both (λ k. whole_pages k (s.before k) + 1) (λ k. whole_pages k (made_since s.swept s k + asked k)) CLASSES in
+    let b = class_sum_both (λ k. whole_pages k (s.before k)) (λ k. 1) CLASSES in
+    let o = ones CLASSES in
+    omega (arith, l, a, b, o)
+  where
+    one_more : (k : ℕ) (b : Bool) → (if b then whole_pages k (s.before k) else whole_pages k (s.before k) + 1) ≤ whole_pages k (s.before k) + 1
+    one_more k true = omega arith
+    one_more k false = omega arith
+
+-- fewer objects since later
+drop_less : (m n : ℕ) (xs : List Object) (class : ℕ) → m ≤ n → blocks_of (drop n xs) class ≤ blocks_of (drop m xs) class
+drop_less zero zero xs class l = omega arith
+drop_less zero (suc n) [] class l = omega arith
+drop_less zero (suc n) (x ∷ xs) class l =
+    let r = drop_less zero n xs class (omega arith) in
+    let a = sum_by-cons (λ (o : Object). needed o.shape class) x xs in
+    omega (arith, r, a)
+drop_less (suc m) zero xs class l = absurd (omega (arith, l))
+drop_less (suc m) (suc n) [] class l = omega arith
+drop_less (suc m) (suc n) (x ∷ xs) class l = drop_less m n xs class (omega (arith, l))
+
+-- what is kept
+module _ (live : Lives) (b : Budget) (lives : (n : ℕ) → pages_of (live n) ≤ b.live) where
+  record IsBudgeted (r : Course) (s : Season) : Type 0 where
+    moving : IsMoving live (budget_pages b) r s
+    since : pages_of (made_since s.base s) ≤ b.made
+    before : pages_of s.before ≤ b.live + b.made
+    last : s.last ≤ length s.graph.objects
+    base : s.base ≤ s.last
+    swept : s.base ≤ s.swept
+
+  -- a command that keeps to the budget keeps within its pages
+  budget_within : (s : Season) (asked : ℕ → ℕ) → s.base ≤ s.swept → pages_of s.before ≤ b.live + b.made → WithinBudget b s asked → WithinPages (budget_pages b) s asked
+  budget_within s asked later before keeps =
+      let p = season_few s asked in
+      let q = pages_more (λ class. made_since s.swept s class + asked class) (λ class. made_since s.base s class + asked class) (λ class l. (let d = drop_less s.base s.swept s.graph.objects class later in omega (arith, d))) in
+      omega (arith, p, q, before, keeps)
+
+  budget_command : (r new : Course) (m : ℕ) (c : Command) (reply : Reply) (s : Season) → IsCourse r → IsCounted r s live → IsBudgeted r s → WithinBudget b s (asked_for s.graph m c) → Enters r m c reply new
+      → IsMoving live (budget_pages b) new (season_after live s (Command_done m c reply)) → IsBudgeted new (season_after live s (Command_done m c reply))
+  budget_command r new m c reply s w i k keeps e moving = record {
+    moving = moving;
+    since = (let p = pages_more (made_since s.base (season_after live s (Command_done m c reply))) (λ class. made_since s.base s class + asked_for s.graph m c class) (λ class l. grows class) in omega (arith, p, keeps));
+    before = k.before;
+    last = (let x = i.last in let y = after_counted.last in let z = after_counted.kept_last.more in let u : length (season_after live s (Command_done m c reply)).graph.objects ≡ length (present_of new).objects = ap (λ (z : Graph). length z.objects) after_counted.graph in omega (arith, x, y, z, u));
+    base = k.base;
+    swept = k.swept;
+  }
+    where
+      after_counted : IsCounted new (season_after live s (Command_done m c reply)) live
+      after_counted = counted_command r new m c reply s live w i e
+
+      grows : (class : ℕ) → made_since s.base (season_after live s (Command_done m c reply)) class ≤ made_since s.base s class + asked_for s.graph m c class
+      grows class =
+          let a = made_more r new m c reply s live w i e s.base class (base_low r new m c reply s live w i e) in
+          let d = command_less r.heap (present_of r) m c class in
+          let f : asked_for s.graph m c class ≡ asked_for (present_of r) m c class = ap (λ z. asked_for z m c class) i.graph in
+          omega (arith, a, d, f)
+
+  budget_quantum : (r new : Course) (budget units : ℕ) (phase : Phase) (s : Season) → IsBudgeted r s → IsMoving live (budget_pages b) new (season_after live s (Quantum_done budget units phase)) → IsBudgeted new (season_after live s (Quantum_done budget units phase))
+  budget_quantum r new budget units phase s k moving = by_phase (is_tracing phase) moving
+    where
+      same : IsMoving live (budget_pages b) new s → IsBudgeted new s
+      same m = record { moving = m; since = k.since; before = k.before; last = k.last; base = k.base; swept = k.swept }
+
+      ended : IsMoving live (budget_pages b) new (season_swept live s) → IsBudgeted new (season_swept live s)
+      ended m = record {
+        moving = m;
+        since = (let p = pages_more (made_since s.last s) (made_since s.base s) (λ class l. drop_less s.base s.last s.graph.objects class k.base) in let x = k.since in omega (arith, p, x));
+        before = (let p = pages_both (live s.number) (made_since s.base s) in let x = k.since in let y = lives s.number in omega (arith, p, x, y));
+        last = k.last;
+        base = omega arith;
+        swept = k.last;
+      }
+
+      by_tracing : (t : Bool) → IsMoving live (budget_pages b) new (if t then season_swept live s else s) → IsBudgeted new (if t then season_swept live s else s)
+      by_tracing true m = ended m
+      by_tracing false m = same m
+
+      by_phase : (t : Bool) → IsMoving live (budget_pages b) new (if t then s else (if s.tracing then season_swept live s else s)) → IsBudgeted new (if t then s else (if s.tracing then season_swept live s else s))
+      by_phase true m = same m
+      by_phase false m = by_tracing s.tracing m
+
+  budget_step : (r : Course) (e : Event) (new : Course) (s : Season) → IsCourse r → IsCounted r s live → IsBudgeted r s → Keeps (WithinBudget b) live s e → Does r e new → IsBudgeted new (season_after live s e) × NewFindsRoom e
+  budget_step r (Command_done m c reply) new s w i k keeps does =
+      let x = moving_step live (budget_pages b) r (Command_done m c reply) new s w i k.moving (budget_within s (asked_for s.graph m c) k.swept k.before keeps) does in
+      (budget_command r new m c reply s w i k keeps does x.0, x.1)
+  budget_step r Cycle_begun new s w i k keeps does =
+      let x = moving_step live (budget_pages b) r Cycle_begun new s w i k.moving keeps does in
+      (record { moving = x.0; since = k.since; before = k.before; last = omega arith; base = (let y = k.base in let z = k.last in omega (arith, y, z)); swept = k.swept }, tt)
+  budget_step r Cycle_on new s w i k keeps does = (subst (λ z. IsBudgeted z s) (sym does.1) k, tt)
+  budget_step r (Quantum_done budget units phase) new s w i k keeps does =
+      let x = moving_step live (budget_pages b) r (Quantum_done budget units phase) new s w i k.moving keeps does in
+      (budget_quantum r new budget units phase s k x.0, tt)
+  budget_step r (Quantum_refused budget) new s w i k keeps does = (subst (λ z. IsBudgeted z s) (sym does.1) k, tt)
+
+pub budget_suffices : (h : HeapState) (es : List Event) (new : Course) (b : Budget) (live : Lives) → IsOpening h → 0 < length h.store.pages → GathersAll h → Runs (opened h) es new → ((n : ℕ) → pages_of (live n) ≤ b.live) → AllKeep (WithinBudget b) live (opening_season h.limits) es
+    → budget_pages b ≤ length h.store.pages → EveryNewFindsRoom es
+budget_suffices h es new b live o some all runs lives keeps fits =
+    all_find_room (WithinBudget b) live (IsBudgeted live b lives) (budget_step live b lives) es (opened h) new (opening_season h.limits) (opening_course h o some) (opening_counted h o some live)
+    (record { moving = opening_moving h live (budget_pages b) o some all fits; since = omega (arith, none); before = omega (arith, none); last = omega arith; base = omega arith; swept = omega arith }) runs keeps
+  where
+    none : pages_of (λ class. 0) ≡ 0
+    none = none_pages

@@ -1,0 +1,349 @@
+-- How many pages a class has since a sweep ended, through actions and blocks that are taken.
+use Rattle.std.proofs.Common.{◌≡◌, ℕ, zero, suc, ◌+◌, ◌-◌, ◌*◌, ◌<◌, ◌≤◌, inl, inr, Bool, true, false, not, ◌&&◌, cond, ◌==◌, if◌then◌else◌, List, [], ◌∷◌, Option, Some, None, length, set, drop, get_or, ap, ◌∙◌, sym, subst, arith, refl}
+use Rattle.std.specs.Prelude.{count_by}
+use Rattle.std.proofs.lemmas.Bool.{eq-eqb, ne_eqb}
+use Rattle.std.proofs.lemmas.List.Sums.{sum_by-cons}
+use Rattle.std.proofs.lemmas.List.Quantifiers.{position-Some}
+use Rattle.std.proofs.lemmas.Nat.{le-div}
+use Rattle.std.proofs.lemmas.Option.{slice_get_within, get_or_from_slice_get, same_Some}
+use Rattle.std.proofs.Math.Nat.{div-eq_of_lt, mul-le-mul_left, div-mul-le_self}
+use Rattle.size_classes.specs.declared.class.TheConstants.{CLASSES}
+use Rattle.size_classes.specs.Sizes.{blocks_in}
+use Rattle.size_classes.proofs.Table.{blocks_some}
+use Rattle.heap_model.specs.declared.phase.Phase.{Phase}
+use Rattle.heap_model.specs.declared.phase.Phase.TheVariants as phases
+use Rattle.heap_model.specs.declared.phase.Moving.TheVariants as moves
+use Rattle.heap_model.specs.declared.phase.Candidate.{Candidate}
+use Rattle.heap_model.specs.Pages.{Page, IsPage, ArePages, IsOpen, is_usable, with_held, page_at, free_on, free_blocks, whole_pages}
+use Rattle.heap_model.specs.State.{HeapState}
+use Rattle.heap_model.specs.Standing.{is_sweeping}
+use Rattle.heap_model.specs.Action.{IsNext, Action, Scans_root, Ends_roots, Scans_header, Scans_cell, Ends_marking, Frees_block, Passes_block, Closes_page, Ends_sweep, Looks_at_page, Chooses_page, Chooses_none, Moves_block, Ends_moving, AtPass, In_pass, After_page, MovingDone, No_class, No_page, held_on, closed, is_sparse, is_choosable}
+use Rattle.heap_model.proofs.Held.{set_page, set_page_here, page_within}
+use Rattle.heap_model.proofs.Rooms.{set_sum}
+use Rattle.heap_model.proofs.Moved.{same_number, usable_fits}
+use Rattle.space.specs.Tally.{is_tracing}
+use Rattle.space.specs.Counts.{is_of, used_pages}
+use Rattle.space.proofs.Counts.{one_if, used_set}
+use Rattle.space.proofs.Spacing.{shades_same}
+use Rattle.fragmentation.specs.Tight.{IsTight}
+use Rattle.fragmentation.proofs.IsFew.{held_from, to_move, IsFew}
+use Rattle.fragmentation.proofs.Free.{both_true, flags_all, free_change, Choosable, choosable_is, choosable_all, chosen_free}
+use Rattle.fragmentation.proofs.Taken.{free_less}
+use Rattle.fragmentation.proofs.Gathering.{tight_action}
+
+-- the next held flag is one of those from a place on
+next_flag : (flags : List Bool) (block i : ℕ) → block ≤ i → get_or flags i false ≡ true → ((k : ℕ) → block ≤ k → k < i → get_or flags k false ≡ false) → count_by (λ b. b) (drop block flags) ≡ count_by (λ b. b) (drop (suc i) flags) + 1
+next_flag [] block i l at first = absurd (cc)
+next_flag (f ∷ fs) zero zero l at first = let a = sum_by-cons (λ b. one_if b) f fs in let o : one_if f ≡ 1 = ap one_if at in omega (arith, a, o)
+next_flag (f ∷ fs) zero (suc j) l at first =
+    let r = next_flag fs zero j (omega arith) at (λ k x y. first (suc k) (omega arith) (omega (arith, y))) in
+    let a = sum_by-cons (λ b. one_if b) f fs in
+    let o : one_if f ≡ 0 = ap one_if (first 0 (omega arith) (omega arith)) in
+    omega (arith, a, o, r)
+next_flag (f ∷ fs) (suc b) zero l at first = absurd (omega (arith, l))
+next_flag (f ∷ fs) (suc b) (suc j) l at first = next_flag fs b j (omega (arith, l)) at (λ k x y. first (suc k) (omega (arith, x)) (omega (arith, y)))
+
+next_fewer : (p : Page) (block i : ℕ) → IsNext p block i → count_by (λ b. b) (drop block p.held) ≡ count_by (λ b. b) (drop (i + 1) p.held) + 1
+next_fewer p block i n =
+    let e : suc i ≡ i + 1 = omega arith in
+    next_flag p.held block i n.from (get_or_from_slice_get p.held i true false n.held) (λ k x y. get_or_from_slice_get p.held k false false (n.first k x y)) ∙ ap (λ z. count_by (λ b. b) (drop z p.held) + 1) e
+
+-- a class whose page was free or used
+of_one : (class k : ℕ) (p : Page) → p.class ≡ class → (class == k) ≡ true → one_if (is_of k (Some p)) ≡ 1
+of_one class k p c e = ap one_if (ap (λ z. z == k) c ∙ e)
+
+of_none : (class k : ℕ) (p : Page) → p.class ≡ class → (class == k) ≡ false → one_if (is_of k (Some p)) ≡ 0
+of_none class k p c e = ap one_if (ap (λ z. z == k) c ∙ e)
+
+pub whole_more : (class m n : ℕ) → class < CLASSES → m ≤ n → whole_pages class m ≤ whole_pages class n
+whole_more class m n small l =
+    let some = blocks_some class small in
+    let d = div-mul-le_self (m + (blocks_in class - 1)) (blocks_in class) in
+    le-div (whole_pages class m) (n + (blocks_in class - 1)) (blocks_in class) some (omega (arith, d, l))
+
+pub whole_none : (class : ℕ) → class < CLASSES → whole_pages class 0 ≡ 0
+whole_none class small = let some = blocks_some class small in div-eq_of_lt (omega (arith, some))
+
+-- pages and phase that leave the numbers as they are, or make them no worse
+few_less : (old new : List (Option Page)) (p q : Phase) (first made : ℕ → ℕ) → IsFew old p first made
+    → ((class : ℕ) → class < CLASSES → used_pages new class ≤ used_pages old class)
+    → ((class : ℕ) → class < CLASSES → blocks_in class * used_pages new class + to_move new class q + free_blocks old class ≤ blocks_in class * used_pages old class + to_move old class p + free_blocks new class)
+    → (is_sweeping q ≡ false → (is_sweeping p ≡ false) × ((class : ℕ) → IsTight old class → IsTight new class)) → IsFew new q first made
+few_less old new p q first made w used fair still = record {
+  few = λ class l. (let a = w.few class l in let b = used class l in omega (arith, a, b));
+  fair = λ class l. (let a = w.fair class l in let b = fair class l in omega (arith, a, b));
+  still = λ e class l. (let s = still e in elim (w.still s.0 class l) [ inl t ↦ inl (s.1 class t) | inr u ↦ inr (let b = used class l in omega (arith, u, b)) ]);
+}
+
+few_same : (old new : List (Option Page)) (p q : Phase) (first made : ℕ → ℕ) → IsFew old p first made → new ≡ old → ((class : ℕ) → to_move new class q ≡ 0) → (is_sweeping q ≡ false → is_sweeping p ≡ false) → IsFew new q first made
+few_same old new p q first made w e none still = few_less old new p q first made w
+    (λ class l. (let u : used_pages new class ≡ used_pages old class = ap (λ z. used_pages z class) e in omega (arith, u)))
+    (λ class l. (let u : blocks_in class * used_pages new class ≡ blocks_in class * used_pages old class = ap (λ z. blocks_in class * used_pages z class) e in let f : free_blocks new class ≡ free_blocks old class = ap (λ z. free_blocks z class) e in let z = none class in omega (arith, u, f, z)))
+    (λ s. (still s, λ class t. subst (λ z. IsTight z class) (sym e) t))
+
+-- where a sweep ends
+pub few_starts : (pages : List (Option Page)) (p : Phase) → ((class : ℕ) → to_move pages class p ≡ 0) → IsFew pages p (used_pages pages) (λ class. 0)
+few_starts pages p none = record {
+  few = λ class l. omega arith;
+  fair = λ class l. (let z = none class in omega (arith, z));
+  still = λ e class l. inr (omega arith);
+}
+
+sweeping_is : (h : HeapState) (page block : ℕ) → h.phase ≡ phases.Sweeping page block → is_sweeping h.phase ≡ true
+sweeping_is h page block e = ap is_sweeping e
+
+true_false : (b : Bool) → b ≡ true → b ≡ false → ⊥
+true_false b p q = cc
+
+-- a page that is closed
+module _ (old new : List (Option Page)) (page : ℕ) (l : page < length old) (w : ArePages old) (is : new ≡ set old page (closed (page_at old page))) where
+  close_counts : (k : ℕ) → (used_pages new k ≤ used_pages old k) × (blocks_in k * used_pages new k + free_blocks old k ≤ blocks_in k * used_pages old k + free_blocks new k)
+  close_counts k = by_page (page_at old page) refl
+    where
+      u : used_pages new k + one_if (is_of k (page_at old page)) ≡ used_pages old k + one_if (is_of k (closed (page_at old page)))
+      u = used_set old new page (page_at old page) (closed (page_at old page)) l refl is k
+
+      f : free_blocks new k + free_on k (page_at old page) ≡ free_blocks old k + free_on k (closed (page_at old page))
+      f = free_change old new page (page_at old page) (closed (page_at old page)) l refl is k
+
+      -- numbers
+      gone : (b x y m n a c : ℕ) → x + c ≡ y + 0 → m + a ≡ n + 0 → a ≤ b * c → (x ≤ y) × (b * x + n ≤ b * y + m)
+      gone b x y m n a c p q r = let d : b * y ≡ b * x + b * c = times b x c y (omega (arith, p)) in (omega (arith, p), omega (arith, d, q, r))
+        where
+          times : (b x c y : ℕ) → y ≡ x + c → b * y ≡ b * x + b * c
+          times b x c y e = let z : b * (x + c) ≡ b * x + b * c = omega arith in ap (λ t. b * t) e ∙ z
+
+      stays : (b x y m n a d c : ℕ) → x + c ≡ y + c → m + a ≡ n + d → a ≤ d → (x ≤ y) × (b * x + n ≤ b * y + m)
+      stays b x y m n a d c p q r = let e : x ≡ y = omega (arith, p) in let t : b * x ≡ b * y = ap (λ z. b * z) e in (omega (arith, e), omega (arith, t, q, r))
+
+      at_most : (p : Page) → IsPage p → free_on k (Some p) ≤ blocks_in k * one_if (p.class == k)
+      at_most p i = by_class (p.class == k) refl
+        where
+          all : count_by not p.held ≤ length p.held
+          all = let a = flags_all p.held in omega (arith, a)
+
+          by_leaving : (l : Bool) → p.class ≡ k → cond (true && not l) (count_by not p.held) 0 ≤ blocks_in k * 1
+          by_leaving true c = omega arith
+          by_leaving false c = let b = i.blocks in let m : length p.held ≡ blocks_in k = b ∙ ap blocks_in c in omega (arith, all, m)
+
+          by_class : (b : Bool) → (p.class == k) ≡ b → cond (b && not p.leaving) (count_by not p.held) 0 ≤ blocks_in k * one_if b
+          by_class true e = by_leaving p.leaving (same_number p.class k e)
+          by_class false e = omega arith
+
+      more_free : (p : Page) → free_on k (Some p) ≤ free_on k (Some (record p { leaving = false; receiving = false }))
+      more_free p = by_tests (p.class == k) p.leaving
+        where
+          by_tests : (b l : Bool) → cond (b && not l) (count_by not p.held) 0 ≤ cond (b && true) (count_by not p.held) 0
+          by_tests true true = omega arith
+          by_tests true false = omega arith
+          by_tests false true = omega arith
+          by_tests false false = omega arith
+
+      Goal : Type 0
+      Goal = (used_pages new k ≤ used_pages old k) × (blocks_in k * used_pages new k + free_blocks old k ≤ blocks_in k * used_pages old k + free_blocks new k)
+
+      by_page : (o : Option Page) → page_at old page ≡ o → Goal
+      by_page None e =
+          let uo : one_if (is_of k (page_at old page)) ≡ 0 = ap (λ z. one_if (is_of k z)) e in
+          let uc : one_if (is_of k (closed (page_at old page))) ≡ 0 = ap (λ z. one_if (is_of k (closed z))) e in
+          let fo : free_on k (page_at old page) ≡ 0 = ap (free_on k) e in
+          let fc : free_on k (closed (page_at old page)) ≡ 0 = ap (λ z. free_on k (closed z)) e in
+          stays (blocks_in k) (used_pages new k) (used_pages old k) (free_blocks new k) (free_blocks old k) 0 0 0 (omega (arith, u, uo, uc)) (omega (arith, f, fo, fc)) (omega arith)
+      by_page (Some p) e = by_held (held_on (Some p) == 0) refl
+        where
+          uo : one_if (is_of k (page_at old page)) ≡ one_if (p.class == k)
+          uo = ap (λ z. one_if (is_of k z)) e
+
+          fo : free_on k (page_at old page) ≡ free_on k (Some p)
+          fo = ap (free_on k) e
+
+          by_held : (b : Bool) → (held_on (Some p) == 0) ≡ b → Goal
+          by_held true t =
+              let c : closed (page_at old page) ≡ None = ap closed e ∙ ap (λ b. if b then None else Some (record p { leaving = false; receiving = false })) t in
+              let uc : one_if (is_of k (closed (page_at old page))) ≡ 0 = ap (λ z. one_if (is_of k z)) c in
+              let fc : free_on k (closed (page_at old page)) ≡ 0 = ap (free_on k) c in
+              gone (blocks_in k) (used_pages new k) (used_pages old k) (free_blocks new k) (free_blocks old k) (free_on k (Some p)) (one_if (p.class == k)) (omega (arith, u, uo, uc)) (omega (arith, f, fo, fc)) (at_most p (w.each page p e))
+          by_held false t =
+              let c : closed (page_at old page) ≡ Some (record p { leaving = false; receiving = false }) = ap closed e ∙ ap (λ b. if b then None else Some (record p { leaving = false; receiving = false })) t in
+              let uc : one_if (is_of k (closed (page_at old page))) ≡ one_if (p.class == k) = ap (λ z. one_if (is_of k z)) c in
+              let fc : free_on k (closed (page_at old page)) ≡ free_on k (Some (record p { leaving = false; receiving = false })) = ap (free_on k) c in
+              stays (blocks_in k) (used_pages new k) (used_pages old k) (free_blocks new k) (free_blocks old k) (free_on k (Some p)) (free_on k (Some (record p { leaving = false; receiving = false }))) (one_if (p.class == k)) (omega (arith, u, uo, uc)) (omega (arith, f, fo, fc)) (more_free p)
+
+-- a page that is chosen: its class has as many free blocks as a page, so that no page was opened for it
+chosen_few : (old new : List (Option Page)) (class page chosen : ℕ) (p : Page) (q : Phase) (first made : ℕ → ℕ) → ArePages old → page_at old page ≡ Some p → is_choosable class (Some p) ≡ true → blocks_in class ≤ free_blocks old class
+    → new ≡ set old page (Some (record p { leaving = true })) → is_sweeping q ≡ false → ((class : ℕ) → IsTight old class → IsTight new class) → IsFew old q first made → IsFew new (phases.Moving (moves.Emptying class page 0 chosen)) first made
+chosen_few old new class page chosen p q first made pages at good free is off tight w = record {
+  few = λ k l. (let u = used k in let a = w.few k l in omega (arith, u, a));
+  fair = λ k l. by_class k l (class == k) refl;
+  still = λ e k l. elim (w.still off k l) [ inl t ↦ inl (tight k t) | inr s ↦ inr (let u = used k in omega (arith, u, s)) ];
+}
+  where
+    within : page < length old
+    within = page_within old page p at
+
+    c : Choosable class p
+    c = choosable_is class p good
+
+    used : (k : ℕ) → used_pages new k ≡ used_pages old k
+    used k = let u = used_set old new page (Some p) (Some (record p { leaving = true })) within at is k in omega (arith, u)
+
+    leaves : (k : ℕ) → free_on k (Some (record p { leaving = true })) ≡ 0
+    leaves k = by_test (p.class == k)
+      where
+        by_test : (b : Bool) → cond (b && false) (count_by not p.held) 0 ≡ 0
+        by_test true = refl
+        by_test false = refl
+
+    now : page_at new page ≡ Some (record p { leaving = true })
+    now = ap (λ z. page_at z page) is ∙ set_page_here old page _ within
+
+    Fair : ℕ → Type 0
+    Fair k = blocks_in k * used_pages new k + to_move new k (phases.Moving (moves.Emptying class page 0 chosen)) ≤ blocks_in k * first k + made k + free_blocks new k
+
+    by_class : (k : ℕ) → k < CLASSES → (b : Bool) → (class == k) ≡ b → Fair k
+    by_class k l true e = subst Fair same own_class
+      where
+        same : class ≡ k
+        same = same_number class k e
+
+        own_class : Fair class
+        own_class = elim (w.still off class (subst (λ z. z < CLASSES) (sym same) l)) [
+          | inl t ↦ absurd (omega (arith, t, free))
+          | inr s ↦ (
+              let u = used class in
+              let m = mul-le-mul_left (blocks_in class) s in
+              let mu : blocks_in class * used_pages new class ≡ blocks_in class * used_pages old class = ap (λ z. blocks_in class * z) u in
+              let f = free_change old new page (Some p) (Some (record p { leaving = true })) within at is class in
+              let z = leaves class in
+              let all = choosable_all class p (pages.each page p at) good in
+              let x : (p.class == class) ≡ true = ap (λ z. z == class) c.own ∙ eq-eqb class class refl in
+              let r : to_move new class (phases.Moving (moves.Emptying class page 0 chosen)) ≡ held_on (Some p) = ap (held_from class 0) now ∙ ap (λ b. if b then count_by (λ b. b) p.held else 0) x in
+              omega (arith, m, mu, f, z, all, r, free))
+        ]
+    by_class k l false e =
+        let u = used k in
+        let mu : blocks_in k * used_pages new k ≡ blocks_in k * used_pages old k = ap (λ z. blocks_in k * z) u in
+        let f = free_change old new page (Some p) (Some (record p { leaving = true })) within at is k in
+        let z = leaves k in
+        let x : (p.class == k) ≡ false = ap (λ z. z == k) c.own ∙ e in
+        let none : free_on k (Some p) ≡ 0 = ap (λ b. cond (b && not p.leaving) (count_by not p.held) 0) x in
+        let r : to_move new k (phases.Moving (moves.Emptying class page 0 chosen)) ≡ 0 = ap (held_from k 0) now ∙ ap (λ b. if b then count_by (λ b. b) p.held else 0) x in
+        let a = w.fair k l in
+        omega (arith, mu, f, z, none, r, a)
+
+-- one free block less on a page that can be used
+pub one_less : (q : Page) (class j : ℕ) → is_usable class (Some q) ≡ true → IsOpen q j → free_on class (Some (with_held q j true)) + 1 ≡ free_on class (Some q)
+one_less q class j u o =
+    let fit = usable_fits class q u in
+    let t : ((q.class == class) && not q.leaving) ≡ true = grind (arith, fit.0, fit.1) in
+    let a : free_on class (Some (with_held q j true)) ≡ count_by not (set q.held j true) = ap (λ b. cond b (count_by not (set q.held j true)) 0) t in
+    let b : free_on class (Some q) ≡ count_by not q.held = ap (λ b. cond b (count_by not q.held) 0) t in
+    let f = free_less q.held j o in
+    omega (arith, a, b, f)
+
+pub none_less : (q : Page) (class k j : ℕ) → q.class ≡ class → (class == k) ≡ false → (free_on k (Some (with_held q j true)) ≡ 0) × (free_on k (Some q) ≡ 0)
+none_less q class k j c e =
+    let x : (q.class == k) ≡ false = ap (λ z. z == k) c ∙ e in
+    (ap (λ b. cond (b && not q.leaving) (count_by not (set q.held j true)) 0) x, ap (λ b. cond (b && not q.leaving) (count_by not q.held) 0) x)
+
+-- a block that is moved
+moved_few : (old new : List (Option Page)) (class page block chosen i to j : ℕ) (p q : Page) (first made : ℕ → ℕ) → page_at old page ≡ Some p → p.leaving ≡ true → IsNext p block i
+    → is_usable p.class (Some q) ≡ true → page_at old to ≡ Some q → IsOpen q j → new ≡ set old to (Some (record (with_held q j true) { receiving = true })) → ((class : ℕ) → IsTight old class → IsTight new class)
+    → IsFew old (phases.Moving (moves.Emptying class page block chosen)) first made → IsFew new (phases.Moving (moves.Emptying class page (i + 1) chosen)) first made
+moved_few old new class page block chosen i to j p q first made at leaving next usable there spare is tight w =
+    few_less old new _ _ first made w (λ k l. (let u = used k in omega (arith, u))) (λ k l. by_class k (p.class == k) refl) (λ e. (e, tight))
+  where
+    within : to < length old
+    within = page_within old to q there
+
+    fit : (q.class ≡ p.class) × (q.leaving ≡ false)
+    fit = usable_fits p.class q usable
+
+    used : (k : ℕ) → used_pages new k ≡ used_pages old k
+    used k = let u = used_set old new to (Some q) (Some (record (with_held q j true) { receiving = true })) within there is k in omega (arith, u)
+
+    apart : (page == to) ≡ false
+    apart = ne_eqb page to (λ e. (let z : p ≡ q = same_Some p q (sym at ∙ ap (page_at old) e ∙ there) in let y : true ≡ false = sym leaving ∙ ap (λ (z : Page). z.leaving) z ∙ fit.1 in cc))
+
+    now : page_at new page ≡ Some p
+    now = ap (λ z. page_at z page) is ∙ set_page old to page _ within ∙ ap (λ b. if b then Some (record (with_held q j true) { receiving = true }) else page_at old page) apart ∙ at
+
+    by_class : (k : ℕ) (b : Bool) → (p.class == k) ≡ b
+        → blocks_in k * used_pages new k + to_move new k (phases.Moving (moves.Emptying class page (i + 1) chosen)) + free_blocks old k ≤ blocks_in k * used_pages old k + to_move old k (phases.Moving (moves.Emptying class page block chosen)) + free_blocks new k
+    by_class k true e =
+        let mu : blocks_in k * used_pages new k ≡ blocks_in k * used_pages old k = ap (λ z. blocks_in k * z) (used k) in
+        let f = free_change old new to (Some q) (Some (record (with_held q j true) { receiving = true })) within there is k in
+        let same = same_number p.class k e in
+        let one : free_on k (Some (with_held q j true)) + 1 ≡ free_on k (Some q) = one_less q k j (subst (λ z. is_usable z (Some q) ≡ true) same usable) spare in
+        let a : to_move old k (phases.Moving (moves.Emptying class page block chosen)) ≡ count_by (λ b. b) (drop block p.held) = ap (held_from k block) at ∙ ap (λ b. if b then count_by (λ b. b) (drop block p.held) else 0) e in
+        let b : to_move new k (phases.Moving (moves.Emptying class page (i + 1) chosen)) ≡ count_by (λ b. b) (drop (i + 1) p.held) = ap (held_from k (i + 1)) now ∙ ap (λ b. if b then count_by (λ b. b) (drop (i + 1) p.held) else 0) e in
+        let n = next_fewer p block i next in
+        omega (arith, mu, f, one, a, b, n)
+    by_class k false e =
+        let mu : blocks_in k * used_pages new k ≡ blocks_in k * used_pages old k = ap (λ z. blocks_in k * z) (used k) in
+        let f = free_change old new to (Some q) (Some (record (with_held q j true) { receiving = true })) within there is k in
+        let none = none_less q p.class k j fit.0 e in
+        let a : to_move old k (phases.Moving (moves.Emptying class page block chosen)) ≡ 0 = ap (held_from k block) at ∙ ap (λ b. if b then count_by (λ b. b) (drop block p.held) else 0) e in
+        let b : to_move new k (phases.Moving (moves.Emptying class page (i + 1) chosen)) ≡ 0 = ap (held_from k (i + 1)) now ∙ ap (λ b. if b then count_by (λ b. b) (drop (i + 1) p.held) else 0) e in
+        omega (arith, mu, f, none.0, none.1, a, b)
+
+-- at a look of a pass, and where moving ends, no page is swept
+pub moving_not : (h : HeapState) (class page : ℕ) (best : Option Candidate) (chosen : ℕ) → AtPass h class page best chosen → is_sweeping h.phase ≡ false
+moving_not h class page best chosen (In_pass class0 page0 best0 chosen0 e) = ap is_sweeping e
+moving_not h class page best chosen (After_page class0 page0 block chosen0 p e at on done few) = ap is_sweeping e
+
+done_not : (h : HeapState) → MovingDone h → is_sweeping h.phase ≡ false
+done_not h (No_class page best chosen e) = ap is_sweeping e
+done_not h (No_page class page block chosen p e at done l) = ap is_sweeping e
+
+-- each action but the change out of a sweep
+pub few_action : (h after : HeapState) (cost : ℕ) (first made : ℕ → ℕ) → ArePages h.store.pages → is_tracing after.phase ≡ is_tracing h.phase → Action h cost after → IsFew h.store.pages h.phase first made → IsFew after.store.pages after.phase first made
+few_action h after cost first made a same (Scans_root next k e l sh) w = few_same _ _ _ _ first made w (shades_same _ k _ sh).1 (λ class. refl) (λ s. ap is_sweeping e)
+few_action h after cost first made a same (Ends_roots next e l) w = few_same _ _ _ _ first made w refl (λ class. refl) (λ s. ap is_sweeping e)
+few_action h after cost first made a same (Scans_header part cell x front back e f n) w = few_same _ _ _ _ first made w refl (λ class. refl) (λ s. ap is_sweeping e)
+few_action h after cost first made a same (Scans_cell part cell new k e l w0 sh) w = few_same _ _ _ _ first made w ((shades_same _ k _ sh).1 ∙ w0.pages) (λ class. refl) (λ s. ap is_sweeping e)
+few_action h after cost first made a same (Ends_marking part cell e f n) w = few_same _ _ _ _ first made w refl (λ class. refl) (λ s. absurd (cc))
+few_action h after cost first made a same (Frees_block page block p new e f was unmarked w0 pages) w =
+    let l = page_within h.store.pages page p f in
+    few_less h.store.pages new.pages h.phase _ first made w
+    (λ k b. (let u = used_set h.store.pages new.pages page (Some p) (Some (with_held p block false)) l f pages k in omega (arith, u)))
+    (λ k b. (let u = used_set h.store.pages new.pages page (Some p) (Some (with_held p block false)) l f pages k in
+    let uu : used_pages new.pages k ≡ used_pages h.store.pages k = omega (arith, u) in
+    let mu : blocks_in k * used_pages new.pages k ≡ blocks_in k * used_pages h.store.pages k = ap (λ z. blocks_in k * z) uu in
+    let v = free_change h.store.pages new.pages page (Some p) (Some (with_held p block false)) l f pages k in
+    let m = more k in omega (arith, mu, v, m)))
+    (λ s. absurd (cc))
+  where
+    flags : count_by not p.held ≤ count_by not (set p.held block false)
+    flags = let z = set_sum (λ b. one_if (not b)) p.held block true false false (slice_get_within p.held block true was) (get_or_from_slice_get p.held block true false was) in omega (arith, z)
+
+    more : (k : ℕ) → free_on k (Some p) ≤ free_on k (Some (with_held p block false))
+    more k = by_test ((p.class == k) && not p.leaving)
+      where
+        by_test : (b : Bool) → cond b (count_by not p.held) 0 ≤ cond b (count_by not (set p.held block false)) 0
+        by_test true = flags
+        by_test false = omega arith
+few_action h after cost first made a same (Passes_block page block p e f l marked) w = few_same _ _ _ _ first made w refl (λ class. refl) (λ s. absurd (cc))
+few_action h after cost first made a same (Closes_page page block new e l f w0 pages) w =
+    few_less h.store.pages new.pages h.phase _ first made w
+    (λ k b. (close_counts h.store.pages new.pages page l a pages k).0)
+    (λ k b. (let c = (close_counts h.store.pages new.pages page l a pages k).1 in omega (arith, c)))
+    (λ s. absurd (cc))
+few_action h after cost first made a same (Ends_sweep page block e l) w = absurd (ends (is_sparse h) (same ∙ ap is_tracing e))
+  where
+    ends : (b : Bool) → is_tracing (if b then phases.Moving (moves.Pass 0 0 None 0) else phases.Idle) ≡ true → ⊥
+    ends true e = cc
+    ends false e = cc
+few_action h after cost first made a same (Looks_at_page class page best chosen at few more) w = few_same _ _ _ _ first made w refl (λ class. refl) (λ s. moving_not h class page best chosen at)
+few_action h after cost first made a same (Chooses_page class page best chosen k p new at few last is good there w0 pages) w =
+    let ok : is_choosable class (Some p) ≡ true = sym (ap (is_choosable class) there) ∙ (both_true _ _ good).0 in
+    let off = moving_not h class page best chosen at in
+    chosen_few h.store.pages new.pages class k.page (chosen + 1) p h.phase first made a there ok (chosen_free h.store.pages class k a good) pages off
+    (λ c t. tight_action h _ 1 c a off (Chooses_page class page best chosen k p new at few last is good there w0 pages) t) w
+few_action h after cost first made a same (Chooses_none class page best chosen at few last is) w = few_same _ _ _ _ first made w refl (λ class. refl) (λ s. moving_not h class page best chosen at)
+few_action h after cost first made a same (Moves_block class page block chosen i to j p q new e at leaving next place there empty w0 pages) w =
+    let usable : is_usable p.class (Some q) ≡ true = ap (is_usable p.class) (sym there) ∙ (position-Some (is_usable p.class) h.store.pages to None place).1 in
+    moved_few h.store.pages new.pages class page block chosen i to j p q first made at leaving next usable there empty pages
+    (λ c t. tight_action h _ _ c a (ap is_sweeping e) (Moves_block class page block chosen i to j p q new e at leaving next place there empty w0 pages) t)
+    (subst (λ z. IsFew h.store.pages z first made) e w)
+few_action h after cost first made a same (Ends_moving done) w = few_same _ _ _ _ first made w refl (λ class. refl) (λ s. done_not h done)

@@ -1,0 +1,91 @@
+-- No new object is refused in a run that keeps to a demand taken together.
+use Rattle.std.proofs.Common.{◌≡◌, ℕ, ◌+◌, ◌<◌, ◌≤◌, inl, inr, true, List, length, ap, sym, subst, arith, refl}
+use Rattle.size_classes.specs.declared.class.TheConstants.{CLASSES}
+use Rattle.graph_heap.specs.Graph.{Graph}
+use Rattle.graph_heap.specs.Effect.{reply_of}
+use Rattle.graph_heap.specs.declared.command.Command.{Command}
+use Rattle.graph_heap.specs.declared.command.Reply.{Reply}
+use Rattle.heap_model.specs.declared.phase.Phase.{Phase}
+use Rattle.heap_model.specs.State.{HeapState, is_leaving}
+use Rattle.heap_model.specs.Opening.{IsOpening}
+use Rattle.heap_model.specs.Event.{Course, Event, Command_done, Cycle_begun, Cycle_on, Quantum_done, Quantum_refused, Enters, Begins, Collects, Does, Runs, IsCourse, present_of, snapshot_of, room_for, change_by}
+use Rattle.heap_model.specs.Led.{opened}
+use Rattle.heap_model.proofs.Course.{opening_course}
+use Rattle.space.specs.Demand.{asked_for, asked_by}
+use Rattle.space.specs.Tally.{FindsRoom, NewFindsRoom, EveryNewFindsRoom}
+use Rattle.space.specs.Counts.{is_of, main_blocks, leaving_pages}
+use Rattle.space.specs.Space.{pages_for, spare_of}
+use Rattle.space.specs.Placement.{MayLeave, MaySpare, HasBoundedPages}
+use Rattle.space.proofs.Spacing.{bounded_pages, bounded_same}
+use Rattle.space.proofs.Changing.{bounded_change}
+use Rattle.space.proofs.Running.{Went, chain_went, command_has_room, change_count}
+use Rattle.fragmentation.specs.Season.{Season, Lives, opening_season, season_after, Keeps, AllKeep}
+use Rattle.fragmentation.specs.Suffice.{WithinBlocks}
+use Rattle.fragmentation.proofs.Counted.{IsCounted, counted_held, all_find_room, count_none, opening_counted}
+
+-- what a command asks for, with the main copies, is within so many blocks
+pub within_blocks : (r : Course) (s : Season) (live : Lives) (blocks : ℕ → ℕ) (m : ℕ) (c : Command) → IsCourse r → IsCounted r s live → WithinBlocks blocks live s (asked_for s.graph m c) → (class : ℕ) → class < CLASSES → main_blocks r.heap.store.pages class + asked_for (present_of r) m c class ≤ blocks class
+within_blocks r s live blocks m c w k keeps class l =
+    let x = counted_held r s live w k class l in
+    let a = keeps class l in
+    let asked : asked_for s.graph m c class ≡ asked_for (present_of r) m c class = ap (λ z. asked_for z m c class) k.graph in
+    omega (arith, x, a, asked)
+
+-- the pages stay within their bound
+pub bounded_begins : (r new : Course) (blocks : ℕ → ℕ) (spare : ℕ) → Begins r new → HasBoundedPages r.heap blocks spare → HasBoundedPages new.heap blocks spare
+bounded_begins r new blocks spare b k = subst (λ z. HasBoundedPages z blocks spare) (sym b.heap) (bounded_same r.heap _ blocks spare k (record { most = refl; below = refl }) refl (let q = bounded_pages r.heap blocks spare k in q.leaving))
+
+pub bounded_opening : (h : HeapState) (blocks : ℕ → ℕ) (spare : ℕ) → IsOpening h → 0 < length h.store.pages → MaySpare h blocks spare → HasBoundedPages h blocks spare
+bounded_opening h blocks spare o some may = record {
+  used = λ class l. (let z = count_none h o some (is_of class) refl in omega (arith, z));
+  leaving = subst (MayLeave spare h.defrag_pages (leaving_pages h.store.pages)) (sym o.phase) (let z = count_none h o some is_leaving refl in omega (arith, z));
+  same = may;
+}
+
+module _ (live : Lives) (blocks : ℕ → ℕ) (spare : ℕ) where
+  record IsJoint (r : Course) (s : Season) : Type 0 where
+    bounded : HasBoundedPages r.heap blocks spare
+    pages : pages_for blocks spare CLASSES ≤ length r.heap.store.pages
+
+  joint_command : (r new : Course) (m : ℕ) (c : Command) (reply : Reply) (s : Season) → IsCourse r → IsCounted r s live → IsJoint r s → WithinBlocks blocks live s (asked_for s.graph m c) → Enters r m c reply new
+      → IsJoint new (season_after live s (Command_done m c reply)) × FindsRoom c reply
+  joint_command r new m c reply s w i k keeps e = (
+    record {
+      bounded = bounded_change r.heap new.heap g _ blocks spare w.stands.pages (λ n l. (let a = asks n l in let same = ap (λ z. asked_by z n) finds.1 in omega (arith, a, same))) e.change k.bounded;
+      pages = (let p = k.pages in let l = change_count r.heap new.heap g _ e.change in omega (arith, p, l));
+    },
+    subst (FindsRoom c) (sym e.replies) finds.0,
+  )
+    where
+      g : Graph
+      g = present_of r
+
+      asks : (n : ℕ) → n < CLASSES → main_blocks r.heap.store.pages n + asked_for g m c n ≤ blocks n
+      asks = within_blocks r s live blocks m c w i keeps
+
+      finds : FindsRoom c (reply_of (room_for r.heap c) g m c) × (change_by (room_for r.heap c) g m c ≡ change_by true g m c)
+      finds = command_has_room r.heap g blocks spare w.stands.pages (bounded_pages r.heap blocks spare k.bounded) k.pages m c asks
+
+  joint_quantum : (r new : Course) (budget units : ℕ) (phase : Phase) (s : Season) → IsCourse r → IsCounted r s live → IsJoint r s → Collects r budget units phase new → IsJoint new (season_after live s (Quantum_done budget units phase))
+  joint_quantum r new budget units phase s w i k q = record { bounded = went.bounded; pages = (let p = k.pages in let c = went.count in omega (arith, p, c)) }
+    where
+      went : Went r.heap new.heap (present_of r).objects blocks spare
+      went = chain_went r.heap new.heap units (present_of r) (snapshot_of r) (present_of r).objects blocks spare w.stands i.tidy k.bounded q.turn.chain
+
+  joint_step : (r : Course) (e : Event) (new : Course) (s : Season) → IsCourse r → IsCounted r s live → IsJoint r s → Keeps (WithinBlocks blocks live) live s e → Does r e new → IsJoint new (season_after live s e) × NewFindsRoom e
+  joint_step r (Command_done m c reply) new s w i k keeps does = joint_command r new m c reply s w i k keeps does
+  joint_step r Cycle_begun new s w i k keeps does = (record { bounded = bounded_begins r new blocks spare does k.bounded; pages = subst (λ (z : HeapState). pages_for blocks spare CLASSES ≤ length z.store.pages) (sym does.heap) k.pages }, tt)
+  joint_step r Cycle_on new s w i k keeps does = (subst (λ z. IsJoint z s) (sym does.1) k, tt)
+  joint_step r (Quantum_done budget units phase) new s w i k keeps does = (joint_quantum r new budget units phase s w i k does, tt)
+  joint_step r (Quantum_refused budget) new s w i k keeps does = (subst (λ z. IsJoint z s) (sym does.1) k, tt)
+
+  pub joint_runs : (h : HeapState) (es : List Event) (new : Course) → IsOpening h → 0 < length h.store.pages → Runs (opened h) es new → AllKeep (WithinBlocks blocks live) live (opening_season h.limits) es → MaySpare h blocks spare → pages_for blocks spare CLASSES ≤ length h.store.pages → EveryNewFindsRoom es
+  joint_runs h es new o some runs keeps may fits =
+      all_find_room (WithinBlocks blocks live) live IsJoint joint_step es (opened h) new (opening_season h.limits) (opening_course h o some) (opening_counted h o some live)
+      (record { bounded = bounded_opening h blocks spare o some may; pages = fits }) runs keeps
+
+pub joint_suffices : (h : HeapState) (es : List Event) (new : Course) (blocks : ℕ → ℕ) (live : Lives) → IsOpening h → 0 < length h.store.pages → Runs (opened h) es new → AllKeep (WithinBlocks blocks live) live (opening_season h.limits) es → pages_for blocks (spare_of h) CLASSES ≤ length h.store.pages → EveryNewFindsRoom es
+joint_suffices h es new blocks live o some runs keeps fits = joint_runs live blocks (spare_of h) h es new o some runs keeps (inl refl) fits
+
+pub joint_suffices_unmoved : (h : HeapState) (es : List Event) (new : Course) (blocks : ℕ → ℕ) (live : Lives) → IsOpening h → 0 < length h.store.pages → Runs (opened h) es new → AllKeep (WithinBlocks blocks live) live (opening_season h.limits) es → pages_for blocks 0 CLASSES + h.defrag_below ≤ length h.store.pages → EveryNewFindsRoom es
+joint_suffices_unmoved h es new blocks live o some runs keeps fits = joint_runs live blocks 0 h es new o some runs keeps (inr (refl, fits)) (omega (arith, fits))

@@ -1,0 +1,11 @@
+use Rattle.fragmentation.proofs.Configured.{joint_configured, moving_configured, budget_configured}
+use Rattle.fragmentation.proofs.configured_pages_suffice.Goals as goal
+
+pub returns-clause-joint : goal.returns-clause-joint
+returns-clause-joint c = λ config h es new blocks live one o same runs keeps fits. joint_configured config h o same one es new live runs blocks keeps fits
+
+pub returns-clause-moving : goal.returns-clause-moving
+returns-clause-moving c = λ config h es new live one o same moves runs keeps. moving_configured config h o same one es new live runs moves keeps
+
+pub returns-clause-budget : goal.returns-clause-budget
+returns-clause-budget c = λ config h es new b live one o same moves runs lives keeps fits. budget_configured config h o same one es new live runs b moves lives keeps fits

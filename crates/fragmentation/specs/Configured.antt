@@ -1,0 +1,21 @@
+-- What suffices, in a configuration's numbers.
+use Rattle.std.specs.Prelude.{ℕ, ◌+◌, ◌<◌, ◌≤◌, ◌⊎◌}
+use Rattle.size_classes.specs.declared.class.TheConstants.{CLASSES}
+use Rattle.size_classes.specs.declared.config.Config.{Config}
+use Rattle.space.specs.Space.{pages_for}
+use Rattle.space.specs.Fitting.{spare_in}
+use Rattle.fragmentation.specs.Suffice.{sparse_pages}
+
+-- moving follows each sweep, and as many pages as there are may be emptied
+pub record MovesAll (c : Config) : Type 0 where
+  pub always : c.pages < c.defrag_below
+  pub all : c.pages ≤ c.defrag_pages
+
+-- There are as many pages as so many blocks of each class take: with as many more for each class as a cycle may
+-- empty; with none, where so many stay free that moving never begins; or with the one of each class that may be left,
+-- and as many more, once for all classes, as a cycle may empty.
+abbrev pub FitsTogether : Config → (ℕ → ℕ) → Type 0
+FitsTogether c blocks =
+    (pages_for blocks (spare_in c) CLASSES ≤ c.pages)
+    ⊎ ((pages_for blocks 0 CLASSES + c.defrag_below ≤ c.pages)
+    ⊎ (sparse_pages blocks + spare_in c ≤ c.pages))

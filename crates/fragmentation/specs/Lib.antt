@@ -1,0 +1,5 @@
+pub mod Tight
+pub mod Gathering
+pub mod Season
+pub mod Suffice
+pub mod Configured

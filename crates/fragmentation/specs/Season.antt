@@ -1,0 +1,78 @@
+-- What a list of events comes to by the events alone, where what is needed shifts from cycle to cycle.
+use Rattle.std.specs.Prelude.{ℕ, ◌+◌, Bool, true, false, if◌then◌else◌, List, [], ◌∷◌, length, drop}
+use Rattle.graph_heap.specs.declared.command.Limits.{Limits}
+use Rattle.graph_heap.specs.Graph.{Graph, opening}
+use Rattle.graph_heap.specs.History.{after_entry}
+use Rattle.heap_model.specs.Event.{Event, Command_done, Cycle_begun, Cycle_on, Quantum_done, Quantum_refused}
+use Rattle.space.specs.Demand.{LiveWithin, blocks_of, asked_for}
+use Rattle.space.specs.Tally.{is_tracing}
+
+-- The graph heap to which the events lead; how many cycles began; whether one is on whose sweep hasn't ended; how many
+-- objects there were when the last cycle began, when that one began whose sweep ended last, and at that sweep's end;
+-- which cycle that was; and of each class what was needed up to that sweep's end since the cycle before began.
+pub record Season : Type 0 where
+  pub graph : Graph
+  pub cycles : ℕ
+  pub tracing : Bool
+  pub last : ℕ
+  pub base : ℕ
+  pub swept : ℕ
+  pub number : ℕ
+  pub before : ℕ → ℕ
+
+abbrev pub opening_season : Limits → Season
+opening_season l = record {
+  graph = opening l;
+  cycles = 0;
+  tracing = false;
+  last = 0;
+  base = 0;
+  swept = 0;
+  number = 0;
+  before = λ class. 0;
+}
+
+-- what live objects need at most where the nth cycle begins, by class; before the first, n is 0
+abbrev pub Lives : Type 0
+Lives = ℕ → ℕ → ℕ
+
+-- the blocks of a class that objects need which were made since there were so many
+abbrev pub made_since : ℕ → Season → ℕ → ℕ
+made_since count s class = blocks_of (drop count s.graph.objects) class
+
+-- of a class, what was live where the cycle began whose sweep ended last, with what is made since
+abbrev pub needed_since : Lives → Season → ℕ → ℕ
+needed_since live s class = live s.number class + made_since s.base s class
+
+-- where a sweep ended: the cycle whose sweep it was is now the one whose sweep ended last
+abbrev pub season_swept : Lives → Season → Season
+season_swept live s = record s {
+  tracing = false;
+  base = s.last;
+  swept = length s.graph.objects;
+  number = s.cycles;
+  before = needed_since live s;
+}
+
+abbrev pub season_after : Lives → Season → Event → Season
+season_after live s (Command_done m c reply) =
+    record s { graph = after_entry s.graph (record { mutator = m; command = c; reply = reply }) }
+season_after live s Cycle_begun = record s { cycles = s.cycles + 1; tracing = true; last = length s.graph.objects }
+season_after live s Cycle_on = s
+season_after live s (Quantum_done budget units phase) =
+    if is_tracing phase then s else (if s.tracing then season_swept live s else s)
+season_after live s (Quantum_refused budget) = s
+
+-- An event keeps to a bound. At a command the bound holds of the season and of the blocks that are asked for; and where
+-- a cycle begins, what is live needs no more than was said.
+abbrev pub Keeps : (Season → (ℕ → ℕ) → Type 0) → Lives → Season → Event → Type 0
+Keeps Bound live s (Command_done m c reply) = Bound s (asked_for s.graph m c)
+Keeps Bound live s Cycle_begun = LiveWithin s.graph (live (s.cycles + 1))
+Keeps Bound live s Cycle_on = Unit {0}
+Keeps Bound live s (Quantum_done budget units phase) = Unit {0}
+Keeps Bound live s (Quantum_refused budget) = Unit {0}
+
+-- each of the events does
+abbrev pub AllKeep : (Season → (ℕ → ℕ) → Type 0) → Lives → Season → List Event → Type 0
+AllKeep Bound live s [] = Unit {0}
+AllKeep Bound live s (e ∷ es) = Keeps Bound live s e × AllKeep Bound live (season_after live s e) es

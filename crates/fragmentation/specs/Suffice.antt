@@ -1,0 +1,58 @@
+-- How many pages suffice for what is needed in a season.
+use Rattle.std.specs.Prelude.{ℕ, ◌+◌, ◌*◌, ◌<◌, ◌≤◌, if◌then◌else◌, nat_lt, length}
+use Rattle.size_classes.specs.declared.class.TheConstants.{CLASSES}
+use Rattle.size_classes.specs.Sizes.{blocks_in}
+use Rattle.heap_model.specs.Pages.{whole_pages}
+use Rattle.heap_model.specs.State.{HeapState}
+use Rattle.space.specs.Space.{class_sum}
+use Rattle.fragmentation.specs.Season.{Season, Lives, made_since, needed_since}
+
+-- after each sweep a heap gathers every class: moving always follows, and as many pages as there are may be emptied
+pub record GathersAll (h : HeapState) : Type 0 where
+  pub always : length h.store.pages < h.defrag_below
+  pub all : length h.store.pages ≤ h.defrag_pages
+
+-- The pages of a class whose blocks were gathered, for so many blocks: the whole pages that these take, and one more
+-- where they fill a page, since one page may be left whose blocks found no place.
+abbrev pub gathered_pages : ℕ → ℕ → ℕ
+gathered_pages class blocks =
+    if nat_lt blocks (blocks_in class) then whole_pages class blocks else whole_pages class blocks + 1
+
+-- Of all classes, the pages that were gathered at the last sweep's end, and those that were opened since, with what is
+-- asked for.
+abbrev pub season_pages : Season → (ℕ → ℕ) → ℕ
+season_pages s asked =
+    class_sum (λ class. gathered_pages class (s.before class) + whole_pages class (made_since s.swept s class + asked class))
+    CLASSES
+
+-- a season and what is asked for take at most so many pages
+abbrev pub WithinPages : ℕ → Season → (ℕ → ℕ) → Type 0
+WithinPages pages s asked = season_pages s asked ≤ pages
+
+-- A demand that is taken together: of each class, what was live when the cycle began whose sweep ended last, what is
+-- made since and what is asked for are at most so many blocks.
+abbrev pub WithinBlocks : (ℕ → ℕ) → Lives → Season → (ℕ → ℕ) → Type 0
+WithinBlocks blocks live s asked =
+    (class : ℕ) → class < CLASSES → needed_since live s class + asked class ≤ blocks class
+
+-- the pages for so many blocks of each class, with one that may be left
+abbrev pub sparse_pages : (ℕ → ℕ) → ℕ
+sparse_pages blocks = class_sum (λ class. gathered_pages class (blocks class)) CLASSES
+
+-- the whole pages that so many blocks of each class take
+abbrev pub pages_of : (ℕ → ℕ) → ℕ
+pages_of blocks = class_sum (λ class. whole_pages class (blocks class)) CLASSES
+
+-- How many pages live objects take at most where a cycle begins, all classes together, and how many the objects that
+-- are made from a cycle's beginning up to the end of the next cycle's sweep.
+pub record Budget : Type 0 where
+  pub live : ℕ
+  pub made : ℕ
+
+-- the pages that suffice: those of live objects, twice those made, and one for each class
+abbrev pub budget_pages : Budget → ℕ
+budget_pages b = b.live + 2 * b.made + CLASSES
+
+-- what is made since the cycle began whose sweep ended last, and what is asked for, take at most so many pages
+abbrev pub WithinBudget : Budget → Season → (ℕ → ℕ) → Type 0
+WithinBudget b s asked = pages_of (λ class. made_since s.base s class + asked class) ≤ b.made

@@ -180,7 +180,8 @@ impl Recorded {
     /// that only grows; what is freed is unreachable there; when a sweep ends, the heap holds exactly
     /// what was reachable when its cycle began and what was made since; and a cycle ends soon. From a heap
     /// that was just made no reply is the refusal for want of space, where the events keep to a demand that
-    /// fits its configuration (`space::fits`), or to a pace (`space::pace_fits`).
+    /// fits its configuration (`space::fits`), or to a pace (`space::pace_fits`); nor, where moving follows each
+    /// sweep and may empty all pages, where they keep to a budget of pages, whatever the sizes of the objects.
     pub fn run(&mut self, events: &[Event]) -> Result<(), NoMemory>
         ensures headline { AlwaysHolds self.old.course }
         ensures space { FindsSpace self.old.course }

@@ -8,3 +8,4 @@ pub mod Summing
 pub mod Playing
 pub mod Texts
 pub mod Cycles
+pub mod Promising

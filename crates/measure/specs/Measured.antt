@@ -1,7 +1,9 @@
 -- What events needed at most.
-use Rattle.std.specs.Prelude.{ℕ, ◌<◌, ◌≤◌, ◌^◌, ◌↔◌, List, MatchOption}
+use Rattle.std.specs.Prelude.{◌≡◌, ℕ, ◌*◌, ◌<◌, ◌≤◌, ◌^◌, ◌↔◌, min, List, Option, Some, None, MatchOption}
 use Rattle.graph_heap.specs.declared.command.Limits.{Limits}
 use Rattle.size_classes.specs.declared.class.TheConstants.{CLASSES}
+use Rattle.size_classes.specs.declared.config.Config.{Config}
+use Rattle.heap_model.specs.Settings.{settings_by}
 use Rattle.heap_model.specs.Event.{Event, HaveBudgets}
 use Rattle.space.specs.Demand.{Demand}
 use Rattle.space.specs.Tally.{opening_tally, AllKeepTo}
@@ -42,3 +44,13 @@ pub record IsMeasured (l : Limits) (es : List Event) (m : Measured) : Type 0 whe
   pub demand : MatchOption m.demand ((d : Demand) → IsStated d → AllKeepTo d (opening_tally l) es → ⊥) (λ table. IsLeastDemand l es (demand_in table))
   pub pace : MatchOption m.pace ((p : Pace) (k : ℕ) → IsPaceStated p → AllKeepPace p k (opening_beat l) es → ⊥) (λ table. IsLeastPace l es (pace_in table))
   pub budget : MatchOption m.budget ((k : ℕ) → HaveBudgets k es) (IsLeastBudget es)
+
+-- the units that each quantum has at least, of a run with this least budget and of a configuration's schedule
+abbrev pub least_units : Config → Option ℕ → ℕ
+least_units c None = c.collector_ticks * c.rate
+least_units c (Some least) = min least (c.collector_ticks * c.rate)
+
+-- a configuration of the same heaps, whose schedule gives a quantum so many units
+pub record HasUnits (c : Config) (units : ℕ) (slow : Config) : Type 0 where
+  pub same : settings_by slow ≡ settings_by c
+  pub budget : slow.collector_ticks * slow.rate ≡ units

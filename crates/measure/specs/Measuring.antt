@@ -23,13 +23,22 @@ use Rattle.player.specs.Playing.{Stage, stage, TellsVersionOf, PlaysText, Stops,
 use Rattle.measure.specs.declared.measured.Measured.{Measured}
 use Rattle.measure.specs.declared.run.Run.{Run}
 use Rattle.measure.specs.Measured.{IsMeasured}
+use Rattle.measure.specs.Promises.{Promises}
 use Rattle.measure.specs.Meter.{Measures}
+
+-- An input was played to its end on a new player, this was measured of its events, and so much is promised of them.
+pub record RunMeasured (config : Config) (given : Given) (m : Measured) : Type 0 where
+  pub old : PlayerState
+  pub new : Stage
+  pub played : Played Nothing given (stage old []) new (Ok tt)
+  pub is_new : IsNew config old
+  pub is : IsMeasured old.course.heap.limits played.over.events m
+  pub promises : Promises config played.over.events m
 
 -- The lines of an input are played on a new player, and what they needed is answered; or the fault with which
 -- playing them ends; or memory was refused.
 abbrev pub TraceMeasured : Config → Given → Result Measured TextFault → Type 0
-TraceMeasured config given (Ok m) =
-    (old : PlayerState) × (new : Stage) × (played : Played Nothing given (stage old []) new (Ok tt)) × IsNew config old × IsMeasured old.course.heap.limits played.over.events m
+TraceMeasured config given (Ok m) = RunMeasured config given m
 TraceMeasured config given (Err Without_memory) = Unit {0}
 TraceMeasured config given (Err fault) = (old : PlayerState) × (new : Stage) × Played Nothing given (stage old []) new (Err fault) × IsNew config old
 

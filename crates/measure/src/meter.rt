@@ -2,6 +2,7 @@
 ghost use Rattle.std.specs.Prelude.{◌≡◌, ◌<◌, ◌≤◌, ◌^◌, ◌↔◌, ◌⊎◌, ℕ, true, false, List, [], ◌∷◌, ◌++◌, length, IfOk, OnOk, IfSome, IsNone, IsTrue};
 ghost use Rattle.graph_heap.specs.declared.command.Limits.{Limits as Bounds};
 ghost use Rattle.graph_heap.specs.Graph.{root_cells};
+ghost use Rattle.size_classes.specs.declared.config.TheConstants.{LEAST_BUDGET};
 ghost use Rattle.graph_heap.specs.History.{IsEntryOf, after_entry};
 ghost use Rattle.graph_heap.specs.Reaching.{AreReached};
 ghost use Rattle.heap_model.specs.Event.{Course, Event, Command_done, Cycle_begun, Enters, Begins, IsCourse};
@@ -233,6 +234,7 @@ impl Meter {
 
     /// What the events needed.
     pub fn measured(&self) -> Measured
+        requires { IfSome self.now.budget (λ least. LEAST_BUDGET ≤ least) }
         ensures { (l : Bounds) (es : List Event) (r : Course) → Measures l es r self.now → IsMeasured l es result }
     {
         Measured {

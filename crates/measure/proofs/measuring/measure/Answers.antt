@@ -4,7 +4,9 @@ use Rattle.trace.proofs.Reading.{reading_at_first, reading_on}
 use Rattle.trace.proofs.GoingOver.{stays_on, at_first, goes_on, ends_without, ends_over, ends_at}
 use Rattle.player.specs.declared.style.Style.TheVariants.{Nothing}
 use Rattle.player.specs.Playing.{stage, TellsVersionOf, PlaysText, StopsText}
+use Rattle.size_classes.specs.declared.config.TheConstants.{LEAST_BUDGET}
 use Rattle.player.proofs.Lines.{ends_so}
+use Rattle.measure.proofs.Promising.{run_budgets, promised}
 use Rattle.measure.proofs.Texts.{ends_measured, stops_measured}
 use Rattle.measure.proofs.measuring.measure.Goals as goal
 
@@ -50,16 +52,24 @@ returns-in_err-measure_line-clause-measured g c =
     (ends_at i.done c.next_line.new.self _ _ _ e.hands c.if-branch.true _ c.line.ensures (Unit {0}) (StopsText Nothing) _ _ (stage c.measure_line.new.run.player []) c.number.ensures stops))
     i.fresh)
 
+pub measured-requires : goal.measured-requires
+measured-requires g c =
+    let i = c.loop-run.invariant in
+    (i.at.measures.needs.budget LEAST_BUDGET).0 (run_budgets i.done.events _ _ i.at.runs)
+
 pub returns-clause-measured : goal.returns-clause-measured
 returns-clause-measured g c =
     let e = c.in_ok-next_line.ensures in
-    let i = c.loop-run.invariant in (
-      i.first,
-      stage c.loop-run.run.player [],
-      ends_so (ends_over i.done c.next_line.new.self _ _ _ e.hands c.if-branch.false _ (λ rest all. (all.0, all.1, refl))),
-      i.fresh,
-      c.measured.ensures _ _ _ i.at.measures,
-    )
+    let i = c.loop-run.invariant in
+    let is = c.measured.ensures _ _ _ i.at.measures in
+    record {
+      old = i.first;
+      new = stage c.loop-run.run.player [];
+      played = ends_so (ends_over i.done c.next_line.new.self _ _ _ e.hands c.if-branch.false _ (λ rest all. (all.0, all.1, refl)));
+      is_new = i.fresh;
+      is = is;
+      promises = promised c.args.config.now i.first.course.heap i.done.events _ c.measured.result i.fresh.heap i.fresh.settings i.at.runs is;
+    }
 
 pub returns-in_err-next_line-clause-input : goal.returns-in_err-next_line-clause-input
 returns-in_err-next_line-clause-input g c =

@@ -1,14 +1,17 @@
 -- What is told of the pages that a program needs: lines of text.
-use Rattle.std.specs.Prelude.{◌≡◌, ℕ, zero, suc, ◌+◌, ◌*◌, ◌==◌, nat_le, nat_lt, Bool, true, false, if◌then◌else◌, List, [], ◌++◌, Option, Some, None, codes, decimal}
+use Rattle.std.specs.Prelude.{◌≡◌, ℕ, zero, suc, ◌+◌, ◌*◌, ◌≤◌, ◌==◌, nat_le, Bool, true, false, if◌then◌else◌, List, [], ◌++◌, Option, Some, None, codes, decimal}
 use Rattle.size_classes.specs.declared.class.TheConstants.{CLASSES}
 use Rattle.size_classes.specs.declared.config.Config.{Config}
+use Rattle.size_classes.specs.declared.config.TheConstants.{MOST_PAGES}
 use Rattle.size_classes.specs.Sizes.{size_of}
 use Rattle.space.specs.Demand.{Demand, blocks_for}
 use Rattle.space.specs.Pace.{Pace, demand_of}
 use Rattle.space.specs.Space.{class_pages, space_for}
 use Rattle.space.specs.declared.demand.Demand.{Demand as DemandTable}
 use Rattle.space.specs.declared.pace.Pace.{Pace as PaceTable}
-use Rattle.space.specs.Fitting.{demand_in, pace_in, spare_in, quanta_at, IsLeast}
+use Rattle.space.specs.Fitting.{demand_in, pace_in, spare_in, quanta_at, FitsIn, IsLeast}
+use Rattle.space_report.specs.declared.lines.Scope.{Scope}
+use Rattle.space_report.specs.declared.lines.Scope.TheVariants.{Demand as By_demand, Pace as By_pace, Load as By_load}
 
 -- the line of a class of which blocks are needed: its size in words, its blocks of live objects and of those that
 -- are made, and the pages that they take
@@ -21,21 +24,24 @@ unfoldable pub demand_lines : Demand → ℕ → ℕ → List ℕ
 demand_lines d spare zero = []
 demand_lines d spare (suc class) = demand_lines d spare class ++ demand_line d spare class
 
--- how many pages are needed, of how many that there are
-abbrev pub verdict : Bool → List ℕ
-verdict true = codes ": suffice\n"
-verdict false = codes ": do not suffice\n"
+-- for which runs the pages suffice, where they are as many as are needed; else a run may be refused an object or not
+abbrev pub verdict : Scope → Bool → List ℕ
+verdict By_demand true = codes ": suffice for this run, and for each that needs no more\n"
+verdict By_pace true = codes ": suffice for this run, and for each at this pace\n"
+verdict By_load true = codes ": suffice for the load\n"
+verdict scope false = codes ": may not suffice\n"
 
-abbrev pub pages_line : ℕ → ℕ → List ℕ
-pages_line needed pages = codes "pages " ++ (decimal needed ++ (codes " of " ++ (decimal pages ++ verdict (nat_le needed pages))))
+-- how many pages are needed, of how many that there are
+abbrev pub pages_line : Scope → ℕ → ℕ → List ℕ
+pages_line scope needed pages = codes "pages " ++ (decimal needed ++ (codes " of " ++ (decimal pages ++ verdict scope (nat_le needed pages))))
 
 -- all that is told of a demand
 abbrev pub demand_report : Config → Demand → List ℕ
-demand_report c d = demand_lines d (spare_in c) CLASSES ++ pages_line (space_for d (spare_in c)) c.pages
+demand_report c d = demand_lines d (spare_in c) CLASSES ++ pages_line By_demand (space_for d (spare_in c)) c.pages
 
 -- where no table has room for the blocks
 abbrev pub too_many : List ℕ
-too_many = codes "more blocks than can be counted: no number of pages suffices\n"
+too_many = codes "more blocks than can be counted: no number of pages is known to suffice\n"
 
 -- the same of a table, if there is one
 abbrev pub demand_told : Config → Option DemandTable → List ℕ
@@ -56,27 +62,26 @@ pace_lines p (suc class) = pace_lines p class ++ pace_line p class
 abbrev pub quanta_line : ℕ → ℕ → List ℕ
 quanta_line quanta units = codes "quanta " ++ (decimal quanta ++ (codes " units " ++ (decimal units ++ codes "\n")))
 
--- the least number of pages in which a pace fits, if it fits in any
-abbrev pub least_line : Option ℕ → List ℕ
-least_line (Some least) = codes "least pages " ++ (decimal least ++ codes "\n")
-least_line None = codes "no pages up to 4096 suffice: with each page more a cycle takes longer, in which more is made than a page holds\n"
+-- from so many pages on a pace fits in each number that a configuration may have, and from no fewer on; or it
+-- doesn't fit in the most
+abbrev pub IsFrom : Config → Pace → Option ℕ → Type 0
+IsFrom c p None = FitsIn c p MOST_PAGES → ⊥
+IsFrom c p (Some from) = (1 ≤ from) × (from ≤ MOST_PAGES) × ((pages : ℕ) → from ≤ pages → pages ≤ MOST_PAGES → FitsIn c p pages) × ((pages : ℕ) → pages + 1 ≡ from → 1 ≤ pages → FitsIn c p pages → ⊥)
 
--- a quantum had fewer units than those of the schedule, for which the pace is reckoned
-abbrev pub short_line : Bool → ℕ → List ℕ
-short_line true units = codes "a quantum had " ++ (decimal units ++ codes " units, fewer than the schedule gives: of such a run nothing is promised\n")
-short_line false units = []
+-- the least number of pages in which a pace fits, and from how many on it fits in each
+abbrev pub from_line : Option ℕ → List ℕ
+from_line (Some from) = codes "all from " ++ (decimal from ++ codes " to 4096 suffice\n")
+from_line None = codes "4096 may not suffice\n"
 
-abbrev pub budget_line : ℕ → Option ℕ → List ℕ
-budget_line schedule None = []
-budget_line schedule (Some least) = short_line (nat_lt least schedule) least
+abbrev pub least_lines : Option ℕ → Option ℕ → List ℕ
+least_lines (Some least) from = codes "least pages " ++ (decimal least ++ (codes "\n" ++ from_line from))
+least_lines None from = codes "no number of pages up to 4096 is known to suffice\n"
 
--- all that is told of a pace, in a run whose quanta had so many units at least, if there was any: the pages that there
--- are, and the least number that suffices
-abbrev pub pace_report : Config → Pace → Option ℕ → Option ℕ → List ℕ
-pace_report c p budget least =
-    pace_lines p CLASSES ++ quanta_line (quanta_at c c.pages) (c.collector_ticks * c.rate) ++ budget_line (c.collector_ticks * c.rate) budget
-    ++ pages_line (space_for (demand_of p (quanta_at c c.pages)) (spare_in c)) c.pages ++ least_line least
+-- all that is told of a pace with quanta of the configuration's schedule
+abbrev pub pace_report : Scope → Config → Pace → Option ℕ → Option ℕ → List ℕ
+pace_report scope c p least from =
+    pace_lines p CLASSES ++ quanta_line (quanta_at c c.pages) (c.collector_ticks * c.rate) ++ pages_line scope (space_for (demand_of p (quanta_at c c.pages)) (spare_in c)) c.pages ++ least_lines least from
 
-abbrev pub IsPaceReport : Config → Option PaceTable → Option ℕ → List ℕ → Type 0
-IsPaceReport c None budget text = text ≡ too_many
-IsPaceReport c (Some p) budget text = (least : Option ℕ) × IsLeast c (pace_in p) least × (text ≡ pace_report c (pace_in p) budget least)
+abbrev pub IsPaceReport : Scope → Config → Option PaceTable → List ℕ → Type 0
+IsPaceReport scope c None text = text ≡ too_many
+IsPaceReport scope c (Some p) text = (least : Option ℕ) × (from : Option ℕ) × IsLeast c (pace_in p) least × IsFrom c (pace_in p) from × (text ≡ pace_report scope c (pace_in p) least from)

@@ -4,7 +4,7 @@ ghost use Rattle.size_classes.specs.declared.class.TheConstants.{CLASSES};
 ghost use Rattle.space.specs.Fitting.{demand_in};
 ghost use Rattle.space_report.specs.Report.{demand_line, demand_lines, demand_report, demand_told};
 
-use crate::lines::{pages_line, too_many};
+use crate::lines::{Scope, pages_line, too_many};
 use size_classes::{CLASSES, Class, Config};
 use space::{Demand, pages_of_class, spare};
 use std::alloc::{AllocError, Global};
@@ -47,14 +47,15 @@ fn demand_lines(alloc: Global, config: &Config, demand: &Demand) -> Result<Strin
 {
     let spare = spare(config);
     let mut text = class_lines(alloc, demand, spare)?;
-    let last = pages_line(alloc, demand.pages(spare), config.pages)?;
+    let last = pages_line(alloc, Scope::Demand, demand.pages(spare), config.pages)?;
     text.push_str(last.as_str())?;
     Ok(text)
 }
 
 /// What is told of a demand in a heap of a configuration: of each class of which blocks are needed its size in words,
 /// the blocks of live objects, of those that are made, and the pages that they take; then how many pages are needed, of
-/// how many that there are. Without a demand, that the blocks are too many.
+/// how many that there are, and whether they suffice for a run of this demand and each that needs no more. Without a
+/// demand, that the blocks are too many.
 pub fn demand_report(
     alloc: Global,
     config: &Config,

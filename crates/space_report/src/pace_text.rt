@@ -1,10 +1,11 @@
 //! What is told of a pace.
-ghost use Rattle.std.specs.Prelude.{◌≡◌, ◌*◌, ◌++◌, ◌<◌, IfOk, string_bytes};
+ghost use Rattle.std.specs.Prelude.{◌≡◌, ◌<◌, Some, IfOk, string_bytes};
 ghost use Rattle.size_classes.specs.declared.class.TheConstants.{CLASSES};
 ghost use Rattle.space.specs.Fitting.{pace_in};
-ghost use Rattle.space_report.specs.Report.{pace_line, pace_lines, quanta_line, least_line, budget_line, pace_report, IsPaceReport};
+ghost use Rattle.space_report.specs.Report.{pace_line, pace_lines, quanta_line, from_line, least_lines, pace_report, IsPaceReport};
 
-use crate::lines::{pages_line, too_many};
+use crate::from::fits_from;
+use crate::lines::{Scope, pages_line, too_many};
 use size_classes::{CLASSES, Class, Config};
 use space::{Pace, least_pages, quanta, spare};
 use std::alloc::{AllocError, Global};
@@ -41,81 +42,67 @@ fn quanta_line(alloc: Global, quanta: u64, units: u32) -> Result<String, AllocEr
     format!(in alloc; "quanta {quanta} units {units}\n")
 }
 
-/// The least number of pages that suffices, if any does.
-fn least_line(alloc: Global, least: Option<u32>) -> Result<String, AllocError>
-    ensures { IfOk result (λ line. string_bytes line ≡ least_line least) }
+/// From how many pages on each number suffices, or that the most may not.
+fn from_line(alloc: Global, from: Option<u32>) -> Result<String, AllocError>
+    ensures { IfOk result (λ line. string_bytes line ≡ from_line from) }
 {
-    match least {
-        Some(least) => format!(in alloc; "least pages {least}\n"),
-        None => format!(in alloc;
-            "no pages up to 4096 suffice: with each page more a cycle takes longer, in which more is made than a page holds\n"
-        ),
+    match from {
+        Some(from) => format!(in alloc; "all from {from} to 4096 suffice\n"),
+        None => format!(in alloc; "4096 may not suffice\n"),
     }
 }
 
-/// That a quantum had fewer units than those of the schedule, if one had.
-fn budget_line(alloc: Global, schedule: u32, budget: Option<u32>) -> Result<String, AllocError>
-    ensures { IfOk result (λ line. string_bytes line ≡ budget_line schedule budget) }
+/// The least number of pages that suffices, and from how many on each does; or that none is known.
+fn least_lines(alloc: Global, least: Option<u32>, from: Option<u32>) -> Result<String, AllocError>
+    ensures { IfOk result (λ text. string_bytes text ≡ least_lines least from) }
 {
-    match budget {
-        Some(least) if least < schedule => format!(in alloc;
-            "a quantum had {least} units, fewer than the schedule gives: of such a run nothing is promised\n"
-        ),
-        _ => Ok(String::new(alloc)),
-    }
+    let Some(least) = least else {
+        return format!(in alloc; "no number of pages up to 4096 is known to suffice\n");
+    };
+    let from = from_line(alloc, from)?;
+    format!(in alloc; "least pages {least}\n{from}")
 }
 
-/// How many quanta a cycle takes, and whether one of the run had fewer units.
-fn quanta_lines(
-    alloc: Global,
-    config: &Config,
-    quanta: u64,
-    budget: Option<u32>,
-) -> Result<String, AllocError>
-    ensures { IfOk result (λ text. string_bytes text ≡ quanta_line quanta (config.now.collector_ticks * config.now.rate) ++ budget_line (config.now.collector_ticks * config.now.rate) budget) }
-{
-    let mut text = quanta_line(alloc, quanta, config.budget())?;
-    let short = budget_line(alloc, config.budget(), budget)?;
-    text.push_str(short.as_str())?;
-    Ok(text)
-}
-
-/// All lines of a pace that fits in so many pages at least.
+/// All lines of a pace.
 fn lines_with(
     alloc: Global,
     config: &Config,
     pace: &Pace,
-    budget: Option<u32>,
-    least: Option<u32>,
+    scope: Scope,
 ) -> Result<String, AllocError>
-    ensures { IfOk result (λ text. string_bytes text ≡ pace_report config.now (pace_in pace.now) budget least) }
+    ensures { IfOk result (λ text. IsPaceReport scope config.now (Some pace.now) (string_bytes text)) }
 {
     let quanta = quanta(config, config.pages);
     let mut text = class_lines(alloc, pace)?;
-    let cycle = quanta_lines(alloc, config, quanta, budget)?;
+    let cycle = quanta_line(alloc, quanta, config.budget())?;
     text.push_str(cycle.as_str())?;
-    let pages = pages_line(alloc, pace.pages(quanta, spare(config)), config.pages)?;
+    let pages = pages_line(
+        alloc,
+        scope,
+        pace.pages(quanta, spare(config)),
+        config.pages,
+    )?;
     text.push_str(pages.as_str())?;
-    let last = least_line(alloc, least)?;
+    let last = least_lines(alloc, least_pages(config, pace), fits_from(config, pace))?;
     text.push_str(last.as_str())?;
     Ok(text)
 }
 
-/// What is told of a pace in a heap of a configuration, and of a run whose quanta had so many units at least: of each
-/// class of which blocks are needed its size in words, the blocks of live objects, of what is asked for while a cycle is
-/// on up to the next quantum, and between two cycles; how many quanta of the schedule's units a cycle takes at most, and
-/// whether one of the run had fewer; how many pages are needed, of how many that there are; and the least number of pages
-/// that suffices. Without a pace, that the blocks are too many.
+/// What is told of a pace in a heap of a configuration, with quanta of its schedule's units: of each class of which blocks
+/// are needed its size in words, the blocks of live objects, of what is asked for while a cycle is on up to the next
+/// quantum, and between two cycles; how many quanta a cycle takes at most; how many pages are needed, of how many that
+/// there are, and for which runs they suffice; the least number of pages that does, and from how many on each does.
+/// Without a pace, that the blocks are too many.
 pub fn pace_report(
     alloc: Global,
     config: &Config,
     pace: &Option<Pace>,
-    budget: Option<u32>,
+    scope: Scope,
 ) -> Result<String, AllocError>
-    ensures { IfOk result (λ text. IsPaceReport config.now pace.now budget (string_bytes text)) }
+    ensures { IfOk result (λ text. IsPaceReport scope config.now pace.now (string_bytes text)) }
 {
     match pace {
-        Some(pace) => lines_with(alloc, config, pace, budget, least_pages(config, pace)),
+        Some(pace) => lines_with(alloc, config, pace, scope),
         None => too_many(alloc),
     }
 }

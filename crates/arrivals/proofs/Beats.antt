@@ -42,6 +42,16 @@ live_more live b (Quantum_done budget units phase ∷ es) fs a =
     (subst (λ g. AllLive live g es) s r.0, r.1)
 live_more live b (Quantum_refused budget ∷ es) fs a = live_more live b es fs a
 
+-- at a pace no more is live than it has
+pub pace_lives : (p : Pace) (k : ℕ) (b : Beat) (es : List Event) → AllKeepPace p k b es → AllLive p.live b.graph es
+pace_lives p k b [] a = tt
+pace_lives p k b (Command_done m c reply ∷ es) a = pace_lives p k (next_beat b (Command_done m c reply)) es a.1
+pace_lives p k b (Cycle_begun ∷ es) a = (a.0, pace_lives p k (next_beat b Cycle_begun) es a.1)
+pace_lives p k b (Cycle_on ∷ es) a = pace_lives p k b es a.1
+pace_lives p k b (Quantum_done budget units phase ∷ es) a =
+    subst (λ g. AllLive p.live g es) (next_graph b budget units phase) (pace_lives p k (next_beat b (Quantum_done budget units phase)) es a.1)
+pace_lives p k b (Quantum_refused budget ∷ es) a = pace_lives p k b es a.1
+
 pub on_or_off : (b : Bool) → (b ≡ true) ⊎ (b ≡ false)
 on_or_off true = inl refl
 on_or_off false = inr refl

@@ -1,8 +1,7 @@
 //! The laws of the space bound by the clock. Each function does nothing: its contract is the law.
-ghost use Rattle.std.specs.Prelude.{◌≡◌, ◌↔◌, ◌++◌, ℕ, ◌*◌, ◌≤◌, List};
+ghost use Rattle.std.specs.Prelude.{◌≡◌, ◌↔◌, ◌++◌, ℕ, ◌≤◌, List};
 ghost use Rattle.graph_heap.specs.Graph.{opening};
 ghost use Rattle.size_classes.specs.declared.config.Config.{Config as Numbers};
-ghost use Rattle.size_classes.specs.Config.{limits_of};
 ghost use Rattle.heap_model.specs.Opening.{IsOpening};
 ghost use Rattle.heap_model.specs.Event.{Event};
 ghost use Rattle.quanta.specs.Timetable as timetables;
@@ -11,11 +10,9 @@ ghost use Rattle.trace.specs.declared.version.Version.{Version};
 ghost use Rattle.trace.specs.GoneOver.{LinesDone};
 ghost use Rattle.player.specs.declared.style.Style.{Style};
 ghost use Rattle.player.specs.Playing.{Stage, TellsVersionOf, PlaysText};
-ghost use Rattle.space.specs.Fitting.{FitsIn};
-ghost use Rattle.space.specs.Room.{AllHaveRoom};
 ghost use Rattle.space.specs.Pace.{AllKeepPace, opening_beat};
-ghost use Rattle.player.specs.New.{IsNew};
 ghost use Rattle.arrivals.specs.Load.{Load, Arrives, StaysInBucket, Says, KeepsLoad, AllLive, pace_of};
+ghost use Rattle.arrivals.specs.New.{LoadFits, LoadFindsRoom};
 
 /// Where the lines of a text are played on a heap that was just made, and keep to a load, the events keep to
 /// its pace.
@@ -28,9 +25,7 @@ pub fn lines_keep_a_pace()
 /// The space bound by the clock. Where the lines of a text are played on a new player of a configuration, and
 /// keep to a load whose pace fits in the configuration's pages, no reply is the refusal for want of space.
 pub fn lines_find_room()
-    ensures { (config : Numbers) (style : Style) (old new : Stage) (text : List (List ℕ)) (version : Version) (es : List Event) (l : Load) → IsNew config old.player
-        → LinesDone (TellsVersionOf style) (PlaysText style) old text version es new → KeepsLoad l (config.collector_ticks * config.rate) text → AllLive l.live (opening (limits_of config)) es
-        → FitsIn config (pace_of l config.collector_ticks config.mutator_ticks) config.pages → AllHaveRoom es }
+    ensures { (config : Numbers) (l : Load) → LoadFits config l → LoadFindsRoom config l }
 {}
 
 /// A bucket that each tick drains stays within the burst just where what arrives between any two times is within

@@ -1,11 +1,12 @@
 -- What is told of a trace and of a load: whether the trace keeps to the load, and how many pages the load needs.
-use Rattle.std.specs.Prelude.{◌≡◌, ℕ, zero, suc, nat_lt, if◌then◌else◌, List, [], ◌++◌, Option, Some, None, codes, decimal}
+use Rattle.std.specs.Prelude.{◌≡◌, ◌↔◌, ℕ, zero, suc, ◌<◌, ◌≤◌, nat_lt, Bool, true, false, IsTrue, if◌then◌else◌, List, [], ◌++◌, slice_index, Option, Some, None, codes, decimal}
 use Rattle.size_classes.specs.declared.class.TheConstants.{CLASSES}
 use Rattle.size_classes.specs.declared.config.Config.{Config}
 use Rattle.size_classes.specs.Sizes.{size_of}
 use Rattle.space.specs.declared.pace.Pace.{Pace as PaceTable}
 use Rattle.space.specs.Pace.{Pace}
 use Rattle.space.specs.Fitting.{pace_in}
+use Rattle.space_report.specs.declared.lines.Scope.TheVariants.{Load as By_load}
 use Rattle.space_report.specs.Report.{IsPaceReport}
 use Rattle.arrivals.specs.declared.load.Load.{Load as LoadTable}
 use Rattle.arrivals.specs.declared.keeping.Breach.{Breach}
@@ -42,14 +43,27 @@ abbrev pub live_told : Load → Option PaceTable → List ℕ
 live_told load None = codes "more live blocks than can be counted\n"
 live_told load (Some measured) = live_lines load (pace_in measured) CLASSES
 
+-- A load covers a run that keeps to it, and of which no more was live than it has.
+abbrev pub IsCovered : LoadTable → Kept → Option PaceTable → Type 0
+IsCovered load Keeps (Some measured) = (class : ℕ) → class < CLASSES → slice_index measured.live class ≤ slice_index load.live class
+IsCovered load Keeps None = ⊥
+IsCovered load (Breaks line by) measured = ⊥
+
+-- whether what is told of the load holds for the run too
+abbrev pub covered_line : Bool → List ℕ
+covered_line true = codes "this run is within the load\n"
+covered_line false = codes "nothing is promised of this run\n"
+
 -- what is told of the pages that a load needs: the report of its pace, with the schedule of the configuration
 pub record IsNeedReport (c : Config) (load : Load) (text : List ℕ) : Type 0 where
   pub pace : PaceTable
   pub is_of_load : IsSamePace (pace_in pace) (pace_of load c.collector_ticks c.mutator_ticks)
-  pub is_told : IsPaceReport c (Some pace) None text
+  pub is_told : IsPaceReport By_load c (Some pace) text
 
 -- All that is told of a load, of whether a trace keeps to it, and of the pace that was measured of the trace.
 pub record IsLoadReport (c : Config) (load : LoadTable) (kept : Kept) (measured : Option PaceTable) (text : List ℕ) : Type 0 where
+  pub covered : Bool
+  pub is_covered : IsTrue covered ↔ IsCovered load kept measured
   pub need : List ℕ
   pub is_need : IsNeedReport c (load_in load) need
-  pub lines : text ≡ kept_line kept ++ live_told (load_in load) measured ++ need
+  pub lines : text ≡ kept_line kept ++ live_told (load_in load) measured ++ covered_line covered ++ need

@@ -3,12 +3,13 @@ ghost use Rattle.std.specs.Prelude.{IfOk, string_bytes};
 ghost use Rattle.arrivals.specs.Fitting.{load_in};
 ghost use Rattle.load_report.specs.Report.{IsNeedReport, IsLoadReport};
 
+use crate::covering::{covered_line, is_covered};
 use crate::kept_text::kept_line;
 use crate::live_text::live_told;
 use arrivals::{Kept, Load};
 use size_classes::Config;
 use space::Pace;
-use space_report::pace_report;
+use space_report::{Scope, pace_report};
 use std::alloc::{AllocError, Global};
 
 /// What is told of the pages that a load needs.
@@ -16,13 +17,14 @@ fn need_report(alloc: Global, config: &Config, load: &Load) -> Result<String, Al
     ensures { IfOk result (λ text. IsNeedReport config.now (load_in load.now) (string_bytes text)) }
 {
     let pace = Some(load.pace(config));
-    pace_report(alloc, config, &pace, None)
+    pace_report(alloc, config, &pace, Scope::Load)
 }
 
 /// What is told of a load in a heap of a configuration, and of a trace: whether the trace keeps to the load, or else
 /// the first line with which it breaks it, and how; of each class of which more blocks were live where a cycle began
 /// than the load has, its size in words and the blocks of both, or without a measured pace that these blocks are too
-/// many; and what is told of the pages that the load needs, as of the pace to which it comes.
+/// many; whether the load covers the run, or nothing is promised of it; and what is told of the pages that the load needs,
+/// as of the pace to which it comes.
 pub fn load_report(
     alloc: Global,
     config: &Config,
@@ -32,9 +34,11 @@ pub fn load_report(
 ) -> Result<String, AllocError>
     ensures { IfOk result (λ text. IsLoadReport config.now load.now kept pace.now (string_bytes text)) }
 {
+    let covered = covered_line(alloc, is_covered(load, &kept, pace))?;
     let mut text = kept_line(alloc, kept)?;
     let live = live_told(alloc, load, pace)?;
     text.push_str(live.as_str())?;
+    text.push_str(covered.as_str())?;
     let need = need_report(alloc, config, load)?;
     text.push_str(need.as_str())?;
     Ok(text)

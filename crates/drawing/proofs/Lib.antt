@@ -1,4 +1,4 @@
 pub mod Parts
 pub mod Squares
-pub mod Curves
+pub mod Points
 pub mod Samples

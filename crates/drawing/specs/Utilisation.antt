@@ -1,4 +1,4 @@
--- The picture of the mutators' least shares of windows of all lengths.
+-- The picture of the mutators' least shares of windows of some lengths.
 use Rattle.std.specs.Prelude.{◌≡◌, ℕ, ◌+◌, ◌-◌, ◌*◌, ◌/◌, ◌%◌, ◌<◌, max, ◌==◌, if◌then◌else◌, List, [], ◌∷◌, ◌++◌, length, take, slice_index}
 use Rattle.std.specs.List.{AllZip}
 use Rattle.size_classes.specs.declared.config.Config.{Config}
@@ -39,27 +39,20 @@ window_x place = 80 + 90 * (place / 3) + (if place % 3 == 0 then 0 else if place
 abbrev pub share_y : ℕ → ℕ
 share_y permille = 400 - 3 * permille / 10
 
--- what is drawn of a window: lines from the shares of the window before it to its own,
--- a square at the promised one and a dot at the measured one, and its length
-abbrev pub window_marks : ℕ → Share → Share → List Element
-window_marks place before now =
-    Line (window_x (place - 1)) (share_y before.promised) (window_x place) (share_y now.promised) Orange
-    ∷ Line (window_x (place - 1)) (share_y before.measured) (window_x place) (share_y now.measured) Blue
-    ∷ Rectangle (window_x place - 5) (share_y now.promised - 5) 10 10 Orange
-    ∷ Dot (window_x place) (share_y now.measured) Blue
+-- what is drawn of a window: a square at the promised share and a dot at the measured one, and its length. Nothing is
+-- drawn between two windows: one of a length between theirs may have a lower share than both.
+abbrev pub window_marks : ℕ → Share → List Element
+window_marks place share =
+    Rectangle (window_x place - 5) (share_y share.promised - 5) 10 10 Orange
+    ∷ Dot (window_x place) (share_y share.measured) Blue
     ∷ Line (window_x place) 400 (window_x place) 405 Black
-    ∷ Text (window_x place) (418 + 12 * (place % 3)) 9 (Number now.window)
+    ∷ Text (window_x place) (418 + 12 * (place % 3)) 9 (Number share.window)
     ∷ []
 
 -- of windows from a place on
-abbrev pub curves_from : ℕ → Share → List Share → List Element
-curves_from place before [] = []
-curves_from place before (now ∷ later) = window_marks place before now ++ curves_from (place + 1) now later
-
--- of all windows: the first one has none before it but itself
-abbrev pub curves : List Share → List Element
-curves [] = []
-curves (first ∷ later) = curves_from 0 first (first ∷ later)
+abbrev pub points_from : ℕ → List Share → List Element
+points_from place [] = []
+points_from place (share ∷ later) = window_marks place share ++ points_from (place + 1) later
 
 -- the axes with their units, and what the colours mean
 abbrev pub axes : List Element
@@ -75,7 +68,7 @@ abbrev pub chart_frame : List Element
 chart_frame = frame 1200 480 LeastUtilisation
 
 abbrev pub share_chart : List Share → List Element
-share_chart shares = chart_frame ++ (axes ++ (curves shares ++ Close ∷ []))
+share_chart shares = chart_frame ++ (axes ++ (points_from 0 shares ++ Close ∷ []))
 
 -- the text of the picture
 abbrev pub utilisation_picture : List Share → List ℕ

@@ -1,9 +1,9 @@
-//! The picture of the mutators' least shares of windows of all lengths.
+//! The picture of the mutators' least shares of windows of some lengths.
 ghost use Rattle.std.specs.Prelude.{◌≡◌, ◌<◌, ◌≤◌, ◌+◌, ◌++◌, List, length, OnOk, OnErr};
 ghost use Rattle.trace.specs.Streams.{GrowsByPart, failed};
 ghost use Rattle.drawing.specs.Elements.{svg_text};
 ghost use Rattle.drawing.specs.Utilisation as utilisation;
-ghost use Rattle.drawing.specs.Utilisation.{AreShares, window_x, share_y, window_marks, curves, utilisation_picture};
+ghost use Rattle.drawing.specs.Utilisation.{AreShares, window_x, share_y, window_marks, points_from, utilisation_picture};
 
 use crate::caption::{Caption, Words};
 use crate::colour::Colour;
@@ -40,36 +40,28 @@ fn y_of(permille: u64) -> u32
 }
 
 /// What is drawn of a window.
-fn marks(place: u32, before: &Share, now: &Share) -> [Element; 6]
+fn marks(place: u32, share: &Share) -> [Element; 4]
     requires { place < 64 }
-    ensures { result ≡ window_marks place before.now now.now }
+    ensures { result ≡ window_marks place share.now }
 {
-    let (x1, x) = (x_of(place.saturating_sub(1)), x_of(place));
-    let (promised, measured) = (y_of(now.promised), y_of(now.measured));
+    let x = x_of(place);
     [
-        Element::Line(x1, y_of(before.promised), x, promised, Colour::Orange),
-        Element::Line(x1, y_of(before.measured), x, measured, Colour::Blue),
-        Element::Rectangle(x - 5, promised - 5, 10, 10, Colour::Orange),
-        Element::Dot(x, measured, Colour::Blue),
+        Element::Rectangle(x - 5, y_of(share.promised) - 5, 10, 10, Colour::Orange),
+        Element::Dot(x, y_of(share.measured), Colour::Blue),
         Element::Line(x, 400, x, 405, Colour::Black),
-        Element::Text(x, 418 + 12 * (place % 3), 9, Caption::Number(now.window)),
+        Element::Text(x, 418 + 12 * (place % 3), 9, Caption::Number(share.window)),
     ]
 }
 
 /// Writes what is drawn of each window.
-fn write_curves<K: Sink>(shares: &[Share], sink: &mut K) -> Result<(), WriteFailed>
+fn write_points<K: Sink>(shares: &[Share], sink: &mut K) -> Result<(), WriteFailed>
     requires { length shares.now < 64 }
-    ensures ok { OnOk result (K.taken sink.new ≡ K.taken sink.old ++ svg_text (curves shares.now)) }
-    ensures err { OnErr result (GrowsByPart (K.taken sink.old) (K.taken sink.new) (svg_text (curves shares.now))) }
+    ensures ok { OnOk result (K.taken sink.new ≡ K.taken sink.old ++ svg_text (points_from 0 shares.now)) }
+    ensures err { OnErr result (GrowsByPart (K.taken sink.old) (K.taken sink.new) (svg_text (points_from 0 shares.now))) }
     ensures cause { K.failures sink.new ≡ K.failures sink.old + failed result }
 {
-    let Some(first) = shares.first() else {
-        return Ok(());
-    };
-    let mut before = *first;
-    for (place, now) in shares.iter().enumerate() {
-        write_elements(sink, &marks(place as u32, &before, now))?;
-        before = *now;
+    for (place, share) in shares.iter().enumerate() {
+        write_elements(sink, &marks(place as u32, share))?;
     }
     Ok(())
 }
@@ -109,14 +101,15 @@ fn draw_shares<K: Sink>(shares: &[Share], sink: &mut K) -> Result<(), WriteFaile
     ensures cause { K.failures sink.new ≡ K.failures sink.old + failed result }
 {
     write_head(1200, 480, Words::LeastUtilisation, &axes(), sink)?;
-    write_curves(shares, sink)?;
+    write_points(shares, sink)?;
     write_close(sink)
 }
 
 /// Writes the mutators' shares of windows of 1, 2, 5, 10, 20, 50 ticks and so on, up to the time that has
 /// passed, to a sink, as an SVG document of lines that end with LF: the length of a window goes to the
 /// right on a logarithmic axis, and up goes the share, in per cent, that the mutators had of any such
-/// window at least, beside what the schedule promises them. It takes no memory. After an error, which
+/// window at least, beside what the schedule promises them: two points for each length, and none of a length
+/// between them. It takes no memory. After an error, which
 /// comes only where the sink failed, the sink has taken a beginning of the document.
 pub fn draw_utilisation<K: Sink>(
     config: &Config,

@@ -1,6 +1,6 @@
 -- What is drawn of windows, window after window, and their shares.
-use Rattle.std.proofs.Common.{◌≡◌, ℕ, ◌+◌, ◌<◌, ◌≤◌, List, [], ◌∷◌, ◌++◌, length, length-take, take, drop, get_or, refl, ap, ◌∙◌, sym, subst, arith}
-use Rattle.std.specs.Prelude.{Some, None, slice_get, slice_index}
+use Rattle.std.proofs.Common.{◌≡◌, ℕ, ◌+◌, ◌<◌, ◌≤◌, List, [], ◌∷◌, ◌++◌, length, length-take, take, drop, get_or, ap, ◌∙◌, sym, subst, arith}
+use Rattle.std.specs.Prelude.{slice_index}
 use Rattle.std.specs.List.{AllZip}
 use Rattle.std.proofs.lemmas.List.{drop_more, take_more, take_more_set}
 use Rattle.std.proofs.Math.ListN.{set}
@@ -9,7 +9,7 @@ use Rattle.quanta.specs.Timetable.{Timetable}
 use Rattle.drawing.specs.declared.element.Element.{Element}
 use Rattle.drawing.specs.declared.share.Share.{Share}
 use Rattle.drawing.specs.declared.share.TheConstants.{WINDOWS}
-use Rattle.drawing.specs.Utilisation.{span_of, IsShare, AreShares, window_marks, curves_from, curves}
+use Rattle.drawing.specs.Utilisation.{span_of, IsShare, AreShares, window_marks, points_from}
 
 -- one pair more
 pub zip_more : {A B : Type 0} (R : A → B → Type 0) (xs : List A) (ys : List B) (x : A) (y : B) → AllZip R xs ys → R x y → AllZip R (xs ++ x ∷ []) (ys ++ y ∷ [])
@@ -25,21 +25,10 @@ zip_put {A} R xs ys i y l m h r =
     subst (λ (b : List A). AllZip R (take (i + 1) xs) b) (sym (take_more_set ys i y m))
     (subst (λ (a : List ℕ). AllZip R a (take i ys ++ y ∷ [])) (sym (take_more xs i 0 l)) (zip_more R (take i xs) (take i ys) (get_or xs i 0) y h r))
 
--- before the first window, which has none before it but itself
-pub curves_first : (shares : List Share) (first : Share) → Some first ≡ slice_get shares 0 → curves_from 0 first shares ≡ curves shares
-curves_first [] first e = cc
-curves_first (share ∷ later) first e =
-    let same : first ≡ share = cc in
-    ap (λ before. curves_from 0 before (share ∷ later)) same
-
-pub curves_of_none : (shares : List Share) → None ≡ slice_get shares 0 → [] ≡ curves shares
-curves_of_none [] e = refl
-curves_of_none (share ∷ later) e = cc
-
 -- the next window, and those behind it
-pub curves_on : (shares : List Share) (before now : Share) (k : ℕ) (here : List Element) → k < length shares → now ≡ get_or shares k now → here ≡ window_marks k before now → curves_from k before (drop k shares) ≡ here ++ curves_from (k + 1) now (drop (k + 1) shares)
-curves_on shares before now k here l is e =
-    ap (curves_from k before) (drop_more shares k now l ∙ ap (λ x. x ∷ drop (k + 1) shares) (sym is)) ∙ ap (λ xs. xs ++ curves_from (k + 1) now (drop (k + 1) shares)) (sym e)
+pub points_on : (shares : List Share) (share : Share) (k : ℕ) (here : List Element) → k < length shares → share ≡ get_or shares k share → here ≡ window_marks k share → points_from k (drop k shares) ≡ here ++ points_from (k + 1) (drop (k + 1) shares)
+points_on shares share k here l is e =
+    ap (points_from k) (drop_more shares k share l ∙ ap (λ x. x ∷ drop (k + 1) shares) (sym is)) ∙ ap (λ xs. xs ++ points_from (k + 1) (drop (k + 1) shares)) (sym e)
 
 -- the shares at the front of a list
 pub are_shares : (config : Config) (t : Timetable) (count : ℕ) (all shares : List Share) → shares ≡ take count all → count ≤ length all → AllZip (IsShare config t) (take count WINDOWS) (take count all) → (count < 37 → span_of t < slice_index WINDOWS count) → AreShares config t shares

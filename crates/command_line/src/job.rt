@@ -5,7 +5,7 @@
 pub enum Picture {
     /// The map of its pages.
     Pages,
-    /// The utilisation of windows of all lengths.
+    /// The least utilisation of windows of some lengths.
     Utilisation,
 }
 

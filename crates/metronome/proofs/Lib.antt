@@ -3,3 +3,4 @@ pub mod Writing
 pub mod Reading
 pub mod Telling
 pub mod Sharing
+pub mod Covering

@@ -1,18 +1,19 @@
 //! Telling what a load needs, and whether a trace keeps to it.
-ghost use Rattle.std.specs.Prelude.{◌≡◌, IfErr, IfOk};
-ghost use Rattle.trace.specs.Streams.{Stays, given_by, taken_by};
+ghost use Rattle.std.specs.Prelude.{IfErr, IfOk};
+ghost use Rattle.trace.specs.Streams.{given_by, taken_by};
+ghost use Rattle.arrivals.specs.Fitting.{load_in};
 ghost use Rattle.metronome.specs.Faults.{IsUnread};
-ghost use Rattle.metronome.specs.Told.{IsRest, LoadTold, ReadingsTold, TextTold};
+ghost use Rattle.metronome.specs.Told.{IsRest, LoadTold, TextMeasured, TextChecked, TextTold};
 
 use crate::fault::{Ending, RunFault};
 use crate::files::{Opener, read_document};
-use arrivals::{Load, keeps_load};
+use arrivals::{Kept, Load, keeps_load};
 use load_file::read_load;
 use load_report::load_report;
-use measure::measure;
+use measure::{Measured, measure};
 use size_classes::Config;
 use std::alloc::Global;
-use trace::{MemorySource, Sink, Source, write_all};
+use trace::{MemorySource, Sink, Source, TextFault, write_all};
 
 /// How many bytes of a source are asked for at a time.
 const PIECE: usize = 4096;
@@ -43,28 +44,24 @@ fn rest_of<S: Source>(alloc: Global, source: &mut S) -> Result<Vec<u8>, RunFault
     }
 }
 
-/// Plays a trace on a new heap, reads it again from another source, and writes whether it keeps to a load and how
-/// many pages the load needs.
-fn tell_readings<S: Source, T: Source, K: Sink>(
-    alloc: Global,
-    config: &Config,
-    load: &Load,
-    source: &mut S,
-    again: &mut T,
-    sink: &mut K,
-) -> Result<Ending, RunFault>
-    ensures told { ReadingsTold load.now config.now (given_by S.given S.ended source.old source.new) (given_by T.given T.ended again.old again.new) (taken_by K.taken sink.old sink.new) result }
-    ensures input { S.failures source.new ≡ S.failures source.old → Stays (S.input source.old) (S.input source.new) }
-    ensures again { T.failures again.new ≡ T.failures again.old → Stays (T.input again.old) (T.input again.new) }
+/// What the trace of a text needs on a new heap.
+fn measure_text(alloc: Global, config: &Config, text: &[u8]) -> Result<Measured, TextFault>
+    ensures { TextMeasured config.now text.now result }
 {
-    let measured = measure(alloc, config, source)?;
-    let kept = keeps_load(again, load, config)?;
-    let text = load_report(alloc, config, load, kept, &measured.pace)?;
-    write_all(sink, text.as_bytes())?;
-    Ok(Ending::Done)
+    let mut source = MemorySource::new(text);
+    measure(alloc, config, &mut source)
 }
 
-/// Does that with the trace of a text.
+/// Whether the trace of a text keeps to a load.
+fn check_text(config: &Config, load: &Load, text: &[u8]) -> Result<Kept, TextFault>
+    ensures { TextChecked config.now (load_in load.now) text.now result }
+{
+    let mut source = MemorySource::new(text);
+    keeps_load(&mut source, load, config)
+}
+
+/// Plays the trace of a text on a new heap, reads it again, and writes whether it keeps to a load and how many pages the
+/// load needs.
 fn tell_text<K: Sink>(
     alloc: Global,
     config: &Config,
@@ -72,11 +69,13 @@ fn tell_text<K: Sink>(
     text: &[u8],
     sink: &mut K,
 ) -> Result<Ending, RunFault>
-    ensures { TextTold load.now config.now text.now (taken_by K.taken sink.old sink.new) result }
+    ensures { TextTold config.now load.now text.now (taken_by K.taken sink.old sink.new) result }
 {
-    let mut source = MemorySource::new(text);
-    let mut again = MemorySource::new(text);
-    tell_readings(alloc, config, load, &mut source, &mut again, sink)
+    let measured = measure_text(alloc, config, text)?;
+    let kept = check_text(config, load, text)?;
+    let text = load_report(alloc, config, load, kept, &measured.pace)?;
+    write_all(sink, text.as_bytes())?;
+    Ok(Ending::Done)
 }
 
 /// Reads a trace into memory, since it is gone over twice, and writes whether it keeps to the load of a file and how

@@ -6,7 +6,7 @@ ghost use Rattle.metronome.specs.Told.{TellsPages, PagesTold};
 use crate::fault::{Ending, RunFault};
 use measure::{Measured, measure};
 use size_classes::Config;
-use space_report::{demand_report, pace_report};
+use space_report::{Scope, demand_report, pace_report};
 use std::alloc::{AllocError, Global};
 use trace::{Sink, Source, write_all};
 
@@ -20,13 +20,19 @@ fn told(
     ensures { IfOk result (λ text. TellsPages pace config.now measured.now (string_bytes text)) }
 {
     if pace {
-        pace_report(alloc, config, &measured.pace, measured.budget)
+        pace_report(
+            alloc,
+            &measured.slowest(config),
+            &measured.pace,
+            Scope::Pace,
+        )
     } else {
         demand_report(alloc, config, &measured.demand)
     }
 }
 
-/// Plays a trace on a new heap, and writes what it needs of each size class and how many pages suffice.
+/// Plays a trace on a new heap, and writes what it needs of each size class and how many pages suffice. Where those of the
+/// configuration do, no reply of this run was the refusal for want of space, nor is one of any run that needs no more.
 pub fn pages_job<S: Source, K: Sink>(
     alloc: Global,
     config: &Config,

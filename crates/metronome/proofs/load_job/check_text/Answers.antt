@@ -1,0 +1,9 @@
+use Rattle.std.proofs.Common.{sym}
+use Rattle.metronome.proofs.Reading.{reads_text}
+use Rattle.metronome.proofs.load_job.check_text.Goals as goal
+
+pub returns : goal.returns
+returns c =
+    let s = c.new-source in
+    let k = c.keeps_load in
+    (_, reads_text _ s.result k.new.source s.ensures.bytes s.ensures.place (k.ensures.input (sym k.ensures.reads)), k.ensures.checked)

@@ -1,0 +1,9 @@
+use Rattle.std.proofs.Common.{sym}
+use Rattle.metronome.proofs.Reading.{reads_text}
+use Rattle.metronome.proofs.load_job.measure_text.Goals as goal
+
+pub returns : goal.returns
+returns c =
+    let s = c.new-source in
+    let m = c.measure in
+    (_, reads_text _ s.result m.new.source s.ensures.bytes s.ensures.place (m.ensures.input (sym m.ensures.reads)), m.ensures.measured)

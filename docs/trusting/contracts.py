@@ -1,0 +1,96 @@
+"""What a piece of code names: definitions in what is said of it, and types."""
+import re
+import sys
+from dataclasses import dataclass, field
+
+from tree import TOP, Scope
+
+sys.path.append(f"{TOP}/gate")
+from functions import body_of, group_end
+
+GHOST = re.compile(r"(?:\b(?:requires|ensures)\b\*?\s*\w*|\bghost\s+(?P<label>\w+)\s*(?P<sign>[:=]))\s*\{")
+RUST_USE = re.compile(r"^(?:pub )?use (\w+)(?:::\w+)*?::(?:\{([^}]*)\}|(\w+));", re.M)
+CAPITAL = re.compile(r"\b[A-Z]\w*")
+IS_OWN = re.compile(r"\b[Ss]elf\b")
+
+
+@dataclass
+class Named:
+    """What a piece of code names: definitions, each a module and a name; types, each a crate and a name; and the definitions
+    that are asked of a type's values only, and say nothing of what contracts see of them."""
+
+    definitions: set = field(default_factory=set)
+    types: set = field(default_factory=set)
+    promises: set = field(default_factory=set)
+
+    def add(self, other):
+        self.definitions |= other.definitions
+        self.types |= other.types
+        self.promises |= other.promises
+
+
+@dataclass
+class Around:
+    """What stands around a piece of code: its crate, the types and the definitions that are taken from elsewhere, the type or
+    trait whose block it is in, and whether that block is a trait or of one, in which all is public."""
+
+    crate: str
+    types: dict
+    scope: Scope
+    owner: str = ""
+    is_trait: bool = False
+
+    def named(self, code, is_type=False):
+        """What a piece of code names. In a type a ghost part with a colon is asked of its values, if it isn't a public field."""
+        plain, ghosts, promises, at = "", "", "", 0
+        while found := GHOST.search(code, at):
+            end = group_end(code, found.end() - 1)
+            inside = code[found.end() : end - 1] + "\n"
+            is_asked = is_type and found["sign"] == ":" and not code[: found.start()].endswith("pub ")
+            is_promise = is_asked or found["label"] == "invariant"
+            ghosts, promises = ghosts + inside * (not is_promise), promises + inside * is_promise
+            plain, at = plain + code[at : found.start()], end
+        plain += code[at:]
+        types = {self.types.get(it, (self.crate, it)) for it in CAPITAL.findall(plain)}
+        if self.owner and IS_OWN.search(code):
+            types.add((self.crate, self.owner))
+        return Named(self.taken(ghosts), types, self.taken(promises))
+
+    def taken(self, ghosts):
+        """The definitions that a text of the logic names."""
+        return {it for it in self.scope.places(ghosts) if it[0]}
+
+    def within(self, owner, is_trait, text):
+        """The same in a block of a type or trait, with what its `use` lines add."""
+        uses = "\n".join(re.findall(r"^\s*ghost use .*", text, re.M))
+        return Around(self.crate, self.types, self.scope.within(uses), owner, is_trait)
+
+
+def around(crate, text):
+    """What stands around the items of a file."""
+    types = {}
+    for front, names, name in RUST_USE.findall(text):
+        of = crate if front in ("crate", "self", "super") else front
+        for word in (names or name).split(","):
+            there, _, here = word.strip().partition(" as ")
+            types[here or there] = (of, there)
+    scope = Scope().within("\n".join(re.findall(r"^ghost use .*", text, re.M)))
+    return Around(crate, types, scope)
+
+
+def contract_end(code, at):
+    """Where the contract ends of the function whose name ends at a place, and where the function does."""
+    body = body_of(code, at)
+    if body is not None:
+        return body, group_end(code, body)
+    end = closing(code, at, ";")
+    return end, end + 1
+
+
+def closing(code, at, signs):
+    """Where one of some signs stands first behind a place, in no bracket."""
+    depth = 0
+    while depth or code[at] not in signs:
+        depth += {"(": 1, "[": 1, "{": 1, ")": -1, "]": -1, "}": -1}.get(code[at], 0)
+        at += 1
+    return at

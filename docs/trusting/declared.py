@@ -1,0 +1,144 @@
+"""What a crate's code declares, and the contracts of its calls."""
+import re
+from dataclasses import dataclass
+
+from contracts import Named, around, closing, contract_end
+from functions import TYPE, group_end, hidden, without_generics
+from tree import Definition, Place, files_below
+
+ITEM = re.compile(
+    r"\bfn\s+(?P<call>\w+)|\bmod\s+(?P<mod>\w+)\s*\{|\b(?P<block>impl|trait)\b(?P<head>[^{;]*)\{"
+    r"|\b(?P<kind>struct|enum)\s+(?P<type>\w+)|\bconst\s+(?P<const>[A-Z_0-9]+)\s*:"
+)
+IS_PUBLIC = re.compile(r"\bpub\s+(?:unsafe\s+|extern\s+)*$")
+PART = re.compile(r"^ {4}(?:pub )?(?!ghost\b|pub\b)(\w+)(?=:|,| \{|\()", re.M)
+
+
+@dataclass
+class Call:
+    """A function with its contract: its crate and file, its type or trait and its name, whether it is declared public, and what
+    its contract names."""
+
+    crate: str
+    file: str
+    owner: str
+    name: str
+    is_public: bool
+    named: Named
+
+    def is_in(self, names):
+        """Whether it can be called from outside, where just these names of its crate can be named there."""
+        return self.is_public and (self.owner or self.name) in names
+
+
+class CodeFile:
+    """A file of code: what it declares, each with what it names; what the blocks of a type say of it, by the type; its calls;
+    and which types and constants are declared public."""
+
+    def __init__(self, crate, path, text):
+        self.crate, self.path, self.text = crate, path, text
+        self.code = hidden(text)
+        self.declared, self.said, self.calls, self.public = {}, {}, [], set()
+        self.items(0, len(text), around(crate, text))
+
+    def told(self):
+        """What the file says of itself."""
+        return " ".join(line[3:].strip() for line in self.text.split("\n") if line.startswith("//!"))
+
+    def items(self, at, end, here):
+        """Reads the items between two places; answers the text between them."""
+        rest = ""
+        while item := ITEM.search(self.code, at, end):
+            rest += self.code[at : item.start()]
+            if item["call"]:
+                at = self.call(item, at, here)
+            elif item["mod"]:
+                at = group_end(self.code, item.end() - 1)
+            elif item["block"]:
+                at = self.block(item, here)
+            else:
+                at = self.declaration(item, at, here)
+        return rest + self.code[at:end]
+
+    def call(self, item, begin, here):
+        """Reads a function; answers where it ends."""
+        contract, end = contract_end(self.code, item.end())
+        is_public = here.is_trait or bool(IS_PUBLIC.search(self.code, begin, item.start()))
+        named = here.named(self.code[item.end() : contract])
+        self.calls.append(Call(self.crate, self.path, here.owner, item["call"], is_public, named))
+        return end
+
+    def block(self, item, here):
+        """Reads a trait, or what a block says of a type; answers where it ends."""
+        end = group_end(self.code, item.end() - 1)
+        of, _, to = without_generics(item["head"].replace("->", "  ")).partition(" for ")
+        owner = TYPE.search((to or of).strip(" &"))
+        if not owner:
+            return end
+        is_trait = item["block"] == "trait"
+        within = here.within(owner[1], is_trait or bool(to), self.text[item.end() : end])
+        first = len(self.calls)
+        named = within.named(self.items(item.end(), end - 1, within))
+        if is_trait:
+            for call in self.calls[first:]:
+                named.add(call.named)
+            self.declare(owner[1], item, "", named)
+        else:
+            self.said.setdefault(owner[1], Named()).add(named)
+        return end
+
+    def declaration(self, item, begin, here):
+        """Reads a type or a constant; answers where it ends."""
+        if IS_PUBLIC.search(self.code, begin, item.start()):
+            self.public.add(item["type"] or item["const"])
+        if item["const"]:
+            end = closing(self.code, item.end(), ";")
+            name = f"{here.owner}::{item['const']}" if here.owner else item["const"]
+            value = " ".join(self.text[item.end() : end].split()).partition(" = ")[2]
+            self.declare(name, item, value.replace("[ ", "[").replace(", ]", "]"), Named())
+            return end
+        end = closing(self.code, item.end(), ";{")
+        end = group_end(self.code, end) if self.code[end] == "{" else end + 1
+        code = self.code[item.end() : end]
+        self.declare(item["type"], item, ", ".join(PART.findall(code)), here.named(code, is_type=True))
+        return end
+
+    def declare(self, name, item, value, named):
+        """A type, a trait or a constant is declared here."""
+        place = Place(self.crate, self.path, name)
+        comment, line = self.comment_above(item.start())
+        self.declared[place] = Definition(place, line, comment, value), named
+
+    def comment_above(self, at):
+        """The doc comment above the item at a place, and the item's line."""
+        lines = self.text[:at].split("\n")
+        found = []
+        for line in reversed(lines[:-1]):
+            if not re.match(r"\s*(///|#\[|\)\]$)", line):
+                break
+            found += [line.strip()[3:].strip()] if line.strip().startswith("///") else []
+        return " ".join(reversed(found)), len(lines)
+
+
+def read_code(crate):
+    """The files of a crate's code, without its tests."""
+    files = list(files_below(crate, "src", ".rt"))
+    return [CodeFile(crate, path, text) for path, text in files if "tests" not in path.split("/")]
+
+
+def public_names(files):
+    """The types, traits, constants and free functions of a crate that can be named from outside. Of a program or a library for
+    C all that it declares public counts."""
+    texts = {it.path: it.text for it in files}
+    root = texts.get("src/lib", "")
+    public_files, names = {"src/lib"}, set()
+    for path in sorted(texts):
+        if path in public_files:
+            above = path.removesuffix("/lib")
+            public_files |= {f"{above}/{it}" for it in re.findall(r"^pub mod (\w+);", texts[path], re.M)}
+    for words in re.findall(r"^pub use [\w:]+::\{?([\w\s,]+)\}?;", root, re.M):
+        names |= {it.strip() for it in words.split(",")}
+    if len(public_files) == 1 and not names and not re.search("^pub fn", root, re.M):
+        public_files = set(texts)
+    inside = [it for it in files if it.path in public_files]
+    return names.union(*(it.public for it in inside), *({call.name for call in it.calls if not call.owner} for it in inside))

@@ -1,6 +1,6 @@
 -- How a run ends.
 use Rattle.std.proofs.Common.{◌≡◌, ap}
-use Rattle.std.specs.Prelude.{Result, Ok, Err, OnOk}
+use Rattle.std.specs.Prelude.{Result, Ok, Err, IfOk, OnOk}
 use Rattle.std.specs.Result.{IsErrAnd}
 
 -- a result that is this error
@@ -12,3 +12,8 @@ failed_so (Err e) why h = ap Err h
 pub ok_so : {A E : Type 0} (r : Result A E) (P Q : Type 0) → (P → Q) → OnOk r P → OnOk r Q
 ok_so (Ok x) P Q f h = f h
 ok_so (Err e) P Q f h = tt
+
+-- what follows from what holds of a value
+pub value_so : {A E : Type 0} (r : Result A E) (P Q : A → Type 0) → ((x : A) → P x → Q x) → IfOk r P → IfOk r Q
+value_so (Ok x) P Q f h = f x h
+value_so (Err e) P Q f h = tt

@@ -1,4 +1,4 @@
-use Rattle.std.proofs.Common.{sym}
+use Rattle.std.proofs.Common.{arith}
 use Rattle.metronome.proofs.Reading.{reads_text}
 use Rattle.metronome.proofs.load_job.check_text.Goals as goal
 
@@ -6,4 +6,4 @@ pub returns : goal.returns
 returns c =
     let s = c.new-source in
     let k = c.keeps_load in
-    (_, reads_text _ s.result k.new.source s.ensures.bytes s.ensures.place (k.ensures.input (sym k.ensures.reads)), k.ensures.checked)
+    (_, reads_text _ s.result k.new.source s.ensures.bytes s.ensures.place (k.ensures.input (omega (arith, k.ensures.reads))), k.ensures.checked)

@@ -1,4 +1,4 @@
-use Rattle.std.proofs.Common.{sym}
+use Rattle.std.proofs.Common.{arith}
 use Rattle.metronome.proofs.Reading.{reads_text}
 use Rattle.metronome.proofs.load_job.measure_text.Goals as goal
 
@@ -6,4 +6,4 @@ pub returns : goal.returns
 returns c =
     let s = c.new-source in
     let m = c.measure in
-    (_, reads_text _ s.result m.new.source s.ensures.bytes s.ensures.place (m.ensures.input (sym m.ensures.reads)), m.ensures.measured)
+    (_, reads_text _ s.result m.new.source s.ensures.bytes s.ensures.place (m.ensures.input (omega (arith, m.ensures.reads))), m.ensures.measured)

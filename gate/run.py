@@ -7,6 +7,7 @@ import time
 from collections import Counter
 
 import edits
+import functions
 import lanes
 import trials
 import verdicts
@@ -44,28 +45,29 @@ class Run:
                 left.append(edit)
         return left
 
-    def proved(self, crate, threads):
-        """Whether the crate is proved; its check leaves the work that the trials begin with, and its library."""
+    def proved(self, crate, planned, threads):
+        """Whether the crate is proved, as far as trials ask it; its check leaves the work that they begin with, and its library."""
         crate, began = copy.copy(crate), time.time()
         os.makedirs(f"{crate.folder}/out", exist_ok=True)
         with tempfile.TemporaryFile("a+", errors="replace") as crate.out:
             flags = ["--jobs", str(threads)]
-            status = crate.build_rlib(flags, anew=False) if crate.makes_rlib() else crate.check(flags)
-            if not status and not crate.has_kept():
-                status = crate.check(flags)
+            status = crate.build_rlib(flags, anew=False) if crate.makes_rlib() else 0
+            if not status and planned and not crate.has_kept():
+                status = crate.check([*flags, *asked(crate, planned)])
             crate.out.seek(0)
             said = crate.out.read()
         if status:
             print(f"{crate.name} isn't proved:\n{said}", flush=True)
-        else:
+        elif planned:
             print(f"{crate.name} is proved ({time.time() - began:.0f} s)", flush=True)
         return not status
 
     def prove(self, crate, left, threads):
         """Proves a crate, and gives the trials of its edits."""
         lacking = [it.name for it in crate.below() if it.name in self.unproved]
-        if not lacking and self.proved(crate, threads):
-            return [self.task(crate, it) for it in trials.planned(crate, left)]
+        planned = trials.planned(crate, left)
+        if not lacking and self.proved(crate, planned, threads):
+            return [self.task(crate, it) for it in planned]
         self.unproved.add(crate.name)
         for edit in left:
             self.tell(edit, verdicts.NOT_TRIED, f"{lacking[0] if lacking else crate.name} isn't proved")
@@ -93,10 +95,19 @@ class Run:
         return [self.task(crate, it) for it in again]
 
 
+def asked(crate, planned):
+    """The flags that ask for just the functions of which trials ask; none where one asks for the whole crate."""
+    paths = {it for trial in planned for it in trial.paths}
+    if None in paths:
+        return []
+    return [word for it in sorted(paths | set(functions.unturned(crate, paths))) for word in ("--only", it)]
+
+
 def tasks_of(run, crates):
-    """The tasks that prove the crates which have edits to try, and those below them: first what most others wait for."""
+    """The tasks that prove the crates which have edits to try, and those below them whose library isn't built: first what most
+    others wait for."""
     left = {it: run.left(it) for it in crates}
-    needed = {below for it in crates if left[it] for below in [it, *it.below()]}
+    needed = {below for it in crates if left[it] for below in [it, *it.below()] if left.get(below) or not below.is_built()}
     order = sorted(needed, key=lambda it: len(it.below()))
     behind, tasks = Counter(), []
     for crate in reversed(order):
@@ -105,7 +116,8 @@ def tasks_of(run, crates):
             behind[below] = max(behind[below], behind[crate])
     for crate in order:
         call = lambda threads, it=crate: run.prove(it, left.get(it, []), threads)
-        tasks.append(lanes.Task((0, -behind[crate]), call, crate.name, {it.name for it in crate.below()}))
+        after = {it.name for it in crate.below() if not it.is_built()}
+        tasks.append(lanes.Task((0, -behind[crate]), call, crate.name, after))
     return tasks
 
 

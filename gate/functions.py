@@ -64,9 +64,11 @@ def without_generics(text):
 
 
 def name_of_impl(head):
-    """The name under which the prover prints an impl's functions: the type's, and then the trait's."""
+    """The name under which the prover prints an impl's functions: the type's, the trait's, and those of what the trait is given."""
     of, _, to = without_generics(head.replace("->", "  ")).partition(" for ")
-    names = [TYPE.search(it.strip(" &")) for it in ([to, of] if to else [of])]
+    given = re.search(r"<([^<>]*)>", re.sub(r"^\s*<[^<>]*>", "", head.partition(" for ")[0])) if to else None
+    words = [*([to, of] if to else [of]), *(given[1].split(",") if given else [])]
+    names = [TYPE.search(it.strip(" &")) for it in words]
     return "".join(it[1] for it in names) if all(names) else ""
 
 

@@ -134,13 +134,15 @@ def made(crates, jobs, anew):
     return run
 
 
-def tried(crates, jobs, anew):
+def tried(crates, jobs, anew, as_rt_ci=False):
     """How many edits of these crates were refused, and how many weren't; it says which."""
     run = made(crates, jobs, anew)
     for crate in crates:
         if run.checks[crate.name]:
             print(f"{crate.name}: {len(run.edits[crate.name])} edits, {run.checks[crate.name]} checks, {run.seconds[crate.name]:.0f} s")
-    failed = [f"{name}: {kind}" for name, (kind, _) in run.found.items() if kind != verdicts.REFUSED]
-    for it in failed:
-        print(f"FAILED: {it}")
-    return len(run.found) - len(failed), len(failed)
+    good = [verdicts.REFUSED, *((verdicts.NAMES, verdicts.AT_LIMIT) if as_rt_ci else ())]
+    passed = [kind in good for kind, _ in run.found.values()].count(True)
+    for name, (kind, _) in run.found.items():
+        if kind != verdicts.REFUSED:
+            print(f"{'told' if kind in good else 'FAILED'}: {name}: {kind}")
+    return passed, len(run.found) - passed

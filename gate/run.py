@@ -140,7 +140,7 @@ def tried(crates, jobs, anew, as_rt_ci=False):
     for crate in crates:
         if run.checks[crate.name]:
             print(f"{crate.name}: {len(run.edits[crate.name])} edits, {run.checks[crate.name]} checks, {run.seconds[crate.name]:.0f} s")
-    good = [verdicts.REFUSED, *((verdicts.NAMES, verdicts.AT_LIMIT) if as_rt_ci else ())]
+    good = [verdicts.REFUSED, *((verdicts.NAMES, verdicts.AT_LIMIT, verdicts.BAD) if as_rt_ci else ())]
     passed = [kind in good for kind, _ in run.found.values()].count(True)
     for name, (kind, _) in run.found.items():
         if kind != verdicts.REFUSED:

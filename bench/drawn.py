@@ -92,14 +92,17 @@ def command(draw, keys, mutator, shapes):
     return f"{mutator} {lines[kind]()}"
 
 
-def trace(draw, keys, length):
-    """The lines of a trace: commands of all mutators, which come and go in some, and what drives the collector."""
-    lines, shapes = [], palette(draw)
+def trace(draw, keys, length, phases=1):
+    """The lines of a trace: commands of all mutators, which come and go in some, and what drives the collector. In each of its
+    phases most objects are of other shapes."""
+    lines, shapes, phase = [], palette(draw), 1
     comes = "live" in keys or draw.random() < 0.3
     if comes:
         lines.append(SECOND)
     steady = draw.random() * 0.4
     while len(lines) < length:
+        if len(lines) * phases >= phase * length:
+            shapes, phase = palette(draw), phase + 1
         if draw.random() >= steady:
             mutator = draw.randint(0, keys["mutators"] - (draw.random() < 0.99))
             if comes and draw.random() < 0.05:

@@ -5,7 +5,9 @@
  * A program names objects by slots and never by pointers: each mutator has slots 0 to slots - 1, and all mutators share
  * the statics. What no slot, no static and no reference cell of such an object leads to is freed by a cycle of the
  * collector. A cycle is begun by metronome_begin, and goes on by metronome_quantum: no quantum does more units of work
- * than its budget. A unit is one look at a root, a cell, a block or a page; a block that is moved costs its words.
+ * than its budget. A unit is one look at a root, a cell, a block or a page; a block that is moved costs its words. A cycle
+ * takes at most `limit = statics + mutators * slots + 6144 * pages + (38 + defrag_pages) * pages + 4` units, and, in quanta of
+ * budgets of at least b, at most `limit / (b - 255) + 1` of these, whatever comes between them (metronome_cycle_limit).
  *
  * An identity is the number of an object: 1 for the first one that is made, and so on; 0 stands for null. A word is any
  * 64 bits. Cells are counted from 0, and each kind of cell by itself.
@@ -17,16 +19,18 @@
  * with threads.
  *
  * WHAT C MUST NOT DO, since nothing checks it: read or write the fields of a `metronome`; copy one and go on using both (one
- * may be moved between calls); drop one that is open without metronome_destroy (its memory is lost); pass NULL, or a pointer
- * to something else or to something that goes while the call runs, or pointers that overlap within one call; replace
- * malloc, realloc and free by functions that don't belong together, or that align less than C asks.
+ * may be moved between calls); drop one that is open without metronome_destroy (its memory is lost); pass NULL, of which the
+ * compiler tells where it sees it, or a pointer to something else or to something that goes while the call runs, or pointers
+ * that overlap within one call; replace malloc, realloc and free by functions that don't belong together, or that align less
+ * than C asks. A `metronome` that was never set is told as BAD_HANDLE, unless it has by chance the one value that the library
+ * leaves in an open one. What is told through a pointer needs no value before.
  *
  * MEMORY comes from malloc by metronome_create and goes back by metronome_destroy; no other call asks for any.
  *
- * Slots can be managed by frames, and the collector by a pace: both are at the end of this header, as plain C over the calls.
+ * Slots can be managed by frames, and the collector by a pace: both are in metronome_over_calls.h, which this header includes
+ * unless METRONOME_CALLS_ALONE is defined.
  *
- * docs/EMBEDDING.md says what is proved of each function. Of what this header has as `static inline` nothing is: it is only
- * tested.
+ * docs/EMBEDDING.md says what is proved of each function. Of what is `static inline` here nothing is: it is only tested.
  */
 #ifndef METRONOME_H
 #define METRONOME_H
@@ -39,16 +43,25 @@
 extern "C" {
 #endif
 
-/* The version of this header. A library of another one (metronome_version) doesn't fit it. */
-#define METRONOME_VERSION 1
+/* The version of this header. A library of another one (metronome_version) doesn't fit it, and metronome_create says so.
+ * Version 2 has another second field in a handle than 1, the statuses BAD_HANDLE and OTHER_VERSION, and metronome_page and
+ * metronome_cycle_limit. */
+#define METRONOME_VERSION 2
+
+/* Each pointer of a function leads to a value. */
+#ifdef __GNUC__
+#define METRONOME_NONNULL __attribute__((nonnull))
+#else
+#define METRONOME_NONNULL
+#endif
 
 /* A handle: it holds a heap, or none. All zeros hold none, as METRONOME_CLOSED. Its fields belong to the library. */
 typedef struct metronome {
     void *at;
-    bool is_open;
+    uint64_t check;
 } metronome;
 
-#define METRONOME_CLOSED { 0, false }
+#define METRONOME_CLOSED { 0, 0 }
 
 /* The settings of a heap, each with its range. METRONOME_SETTINGS fills in the defaults of the others. */
 typedef struct metronome_settings {
@@ -59,8 +72,8 @@ typedef struct metronome_settings {
     int64_t identities;      /* 1 to INT64_MAX, the default: the greatest identity that is given */
     int64_t defrag_below;    /* 0 to 4097: a sweep that leaves fewer free pages is followed by moving; default 0 */
     int64_t defrag_pages;    /* 0 to 4096: pages that a cycle empties at most; default 0 */
-    int64_t collector_ticks; /* 1 to 1000000; default 10. This and the next two only go into a schedule: here nothing but */
-    int64_t mutator_ticks;   /* 1 to 1000000; default 12. their ranges is used */
+    int64_t collector_ticks; /* 1 to 1000000; default 10. This and the next two only go into a schedule: nothing but their */
+    int64_t mutator_ticks;   /* 1 to 1000000; default 12. ranges and metronome_cycle_limit use them here */
     int64_t rate;            /* 1 to 1000000; default 100. collector_ticks * rate is 256 to 1000000 */
     int64_t live;            /* 0 to mutators, the default: mutators 0 to live - 1 are live at first */
 } metronome_settings;
@@ -90,7 +103,9 @@ enum metronome_status {
     METRONOME_NO_HEAP = 16,         /* the handle holds no heap: metronome_create first */
     METRONOME_OPEN = 17,            /* the handle holds a heap already: metronome_destroy first */
     METRONOME_BAD_SCHEDULE = 18,    /* collector_ticks * rate isn't 256 to 1000000: mend the settings */
-    METRONOME_BAD_SETTING = 20      /* and the place of the first setting out of its range, 0 (pages) to 10 (live): mend it */
+    METRONOME_BAD_HANDLE = 19,      /* what was given as a handle is none: set it to METRONOME_CLOSED where it is defined */
+    METRONOME_BAD_SETTING = 20,     /* and the place of the first setting out of its range, 0 (pages) to 10 (live): mend it */
+    METRONOME_OTHER_VERSION = 40    /* the library is of another version than this header: compile the program anew */
 };
 
 /* What kind an answer is, and what its number tells. */
@@ -149,114 +164,149 @@ typedef struct metronome_counts {
     uint64_t old_copies; /* blocks that were moved and aren't freed yet */
 } metronome_counts;
 
+/* A page: 2048 words in blocks of one size. Of a free page each number is 0. */
+typedef struct metronome_page_view {
+    uint32_t size;      /* the words of a block; the page has 2048 / size of them */
+    uint32_t held;      /* how many blocks hold parts of objects, or old copies of such */
+    uint32_t leaving;   /* 1 where its blocks are being moved away, and it gets no new one */
+    uint32_t receiving; /* 1 where a block was moved to it since the last sweep */
+} metronome_page_view;
+
+/* What a cycle takes at most. */
+typedef struct metronome_limit {
+    uint64_t units;
+    uint64_t quanta; /* of collector_ticks * rate units each, or of more */
+} metronome_limit;
+
 /* ---- Heaps ---- */
 
-/* Makes a heap where the handle holds none. Asks malloc for all the memory that the heap will ever use, about 17 KB a page.
- * OK, OPEN, NO_MEMORY, BAD_SCHEDULE, or BAD_SETTING and the place of a setting; the handle stays closed where it was. */
-uint32_t metronome_create(metronome *heap, const metronome_settings *settings);
+/* Makes a heap where the handle is closed, for a program that was built for this version. Asks malloc for all the memory that the
+ * heap will ever use, about 17 KB a page. Programs call metronome_create.
+ * OK, OPEN, NO_MEMORY, BAD_SCHEDULE, BAD_HANDLE, OTHER_VERSION, or BAD_SETTING and the place of a setting; the handle stays as
+ * it was unless it is OK. */
+uint32_t metronome_create_for(metronome *heap, const metronome_settings *settings, uint32_t version) METRONOME_NONNULL;
 
-/* Gives the memory of a heap back. The handle holds none then, and may be used for another. Of one that holds none it
- * does nothing. */
-void metronome_destroy(metronome *heap);
+/* The same, for this header's version. */
+METRONOME_NONNULL static inline uint32_t metronome_create(metronome *heap, const metronome_settings *settings) {
+    return metronome_create_for(heap, settings, METRONOME_VERSION);
+}
+
+/* Gives the memory of a heap back. The handle is closed then, and may be used for another. Where it holds none nothing is
+ * done. */
+void metronome_destroy(metronome *heap) METRONOME_NONNULL;
 
 /* ---- Commands of mutators. Each is done at once, whatever phase the collector is in. Each needs a live mutator, but
  * metronome_join, which needs one that isn't: all are live at first, or those below the setting `live`. A slot that is written
- * to is named by its number, whatever it holds; one that names an object mustn't hold null ---- */
+ * to is named by its number, whatever it holds; one that names an object mustn't hold null. Where NO_HEAP is told of a handle
+ * that is closed, here and below, BAD_HANDLE is told of what is none ---- */
 
 /* A new object of so many reference cells, all null, and so many word cells, all 0, into slot dst. At most 252 cells.
  * MADE; refused: BAD_SLOT, TOO_LARGE, IDENTITIES_SPENT, NO_SPACE, NOT_LIVE, NO_HEAP. */
-metronome_answer metronome_new_plain(metronome *heap, uint32_t mutator, uint32_t dst, uint32_t refs, uint32_t words);
+metronome_answer metronome_new_plain(metronome *heap, uint32_t mutator, uint32_t dst, uint32_t refs, uint32_t words) METRONOME_NONNULL;
 
 /* A new array of so many reference cells, all null, into slot dst. At most 4000000. It takes time by its length.
  * MADE; refused as metronome_new_plain. */
-metronome_answer metronome_new_refs(metronome *heap, uint32_t mutator, uint32_t dst, uint32_t refs);
+metronome_answer metronome_new_refs(metronome *heap, uint32_t mutator, uint32_t dst, uint32_t refs) METRONOME_NONNULL;
 
 /* A new array of so many word cells, all 0, into slot dst. At most 4000000. It takes time by its length.
  * MADE; refused as metronome_new_plain. */
-metronome_answer metronome_new_words(metronome *heap, uint32_t mutator, uint32_t dst, uint32_t words);
+metronome_answer metronome_new_words(metronome *heap, uint32_t mutator, uint32_t dst, uint32_t words) METRONOME_NONNULL;
 
 /* What reference cell i of slot obj's object holds, into slot dst.
  * REF; refused: BAD_SLOT, NULL_SLOT, WRONG_KIND, BAD_INDEX, NOT_LIVE, NO_HEAP. */
-metronome_answer metronome_load(metronome *heap, uint32_t mutator, uint32_t dst, uint32_t obj, uint32_t i);
+metronome_answer metronome_load(metronome *heap, uint32_t mutator, uint32_t dst, uint32_t obj, uint32_t i) METRONOME_NONNULL;
 
 /* What slot src holds, into reference cell i of slot obj's object. DONE; refused as metronome_load. */
-metronome_answer metronome_store(metronome *heap, uint32_t mutator, uint32_t obj, uint32_t i, uint32_t src);
+metronome_answer metronome_store(metronome *heap, uint32_t mutator, uint32_t obj, uint32_t i, uint32_t src) METRONOME_NONNULL;
 
 /* What slot replacement holds, into reference cell i of slot obj's object, if that holds what slot expect does.
  * STORED or KEPT; refused as metronome_load. */
 metronome_answer metronome_compare_store(metronome *heap, uint32_t mutator, uint32_t obj, uint32_t i, uint32_t expect,
-                                         uint32_t replacement);
+                                         uint32_t replacement) METRONOME_NONNULL;
 
 /* Reads word cell i of slot obj's object. WORD; refused as metronome_load. */
-metronome_answer metronome_get(metronome *heap, uint32_t mutator, uint32_t obj, uint32_t i);
+metronome_answer metronome_get(metronome *heap, uint32_t mutator, uint32_t obj, uint32_t i) METRONOME_NONNULL;
 
 /* Writes word cell i of slot obj's object. DONE; refused as metronome_load. */
-metronome_answer metronome_put(metronome *heap, uint32_t mutator, uint32_t obj, uint32_t i, uint64_t word);
+metronome_answer metronome_put(metronome *heap, uint32_t mutator, uint32_t obj, uint32_t i, uint64_t word) METRONOME_NONNULL;
 
 /* Writes word cell i of slot obj's object, if that is `old`. STORED or KEPT_WORD; refused as metronome_load. */
 metronome_answer metronome_compare_put(metronome *heap, uint32_t mutator, uint32_t obj, uint32_t i, uint64_t old,
-                                       uint64_t replacement);
+                                       uint64_t replacement) METRONOME_NONNULL;
 
 /* What slot src holds, into slot dst. DONE; refused: BAD_SLOT, NOT_LIVE, NO_HEAP. */
-metronome_answer metronome_copy(metronome *heap, uint32_t mutator, uint32_t dst, uint32_t src);
+metronome_answer metronome_copy(metronome *heap, uint32_t mutator, uint32_t dst, uint32_t src) METRONOME_NONNULL;
 
 /* Null into slot dst. DONE; refused as metronome_copy. */
-metronome_answer metronome_clear(metronome *heap, uint32_t mutator, uint32_t dst);
+metronome_answer metronome_clear(metronome *heap, uint32_t mutator, uint32_t dst) METRONOME_NONNULL;
 
 /* What static k holds, into slot dst. REF; refused: BAD_SLOT, BAD_STATIC, NOT_LIVE, NO_HEAP. */
-metronome_answer metronome_load_static(metronome *heap, uint32_t mutator, uint32_t dst, uint32_t k);
+metronome_answer metronome_load_static(metronome *heap, uint32_t mutator, uint32_t dst, uint32_t k) METRONOME_NONNULL;
 
 /* What slot src holds, into static k. DONE; refused as metronome_load_static. */
-metronome_answer metronome_store_static(metronome *heap, uint32_t mutator, uint32_t k, uint32_t src);
+metronome_answer metronome_store_static(metronome *heap, uint32_t mutator, uint32_t k, uint32_t src) METRONOME_NONNULL;
 
 /* What slot replacement holds, into static k, if that holds what slot expect does. STORED or KEPT; refused as
  * metronome_load_static. */
 metronome_answer metronome_compare_static(metronome *heap, uint32_t mutator, uint32_t k, uint32_t expect,
-                                          uint32_t replacement);
+                                          uint32_t replacement) METRONOME_NONNULL;
 
 /* Whether slots a and b hold the same object, or both null. IS; refused as metronome_copy. */
-metronome_answer metronome_same(metronome *heap, uint32_t mutator, uint32_t a, uint32_t b);
+metronome_answer metronome_same(metronome *heap, uint32_t mutator, uint32_t a, uint32_t b) METRONOME_NONNULL;
 
 /* The identity of slot a's object, and its shape. DESCRIBED; refused: BAD_SLOT, NULL_SLOT, NOT_LIVE, NO_HEAP, and *shape is
  * left as it was. */
-metronome_answer metronome_describe(metronome *heap, uint32_t mutator, uint32_t a, metronome_shape *shape);
+metronome_answer metronome_describe(metronome *heap, uint32_t mutator, uint32_t a, metronome_shape *shape) METRONOME_NONNULL;
 
 /* A mutator that isn't live comes to be live, with null in each slot. DONE; refused: BAD_SLOT, ALREADY_LIVE, NO_HEAP. */
-metronome_answer metronome_join(metronome *heap, uint32_t mutator);
+metronome_answer metronome_join(metronome *heap, uint32_t mutator) METRONOME_NONNULL;
 
 /* Null into each slot of a mutator, which is live no more. DONE; refused: BAD_SLOT, NOT_LIVE, NO_HEAP. */
-metronome_answer metronome_leave(metronome *heap, uint32_t mutator);
+metronome_answer metronome_leave(metronome *heap, uint32_t mutator) METRONOME_NONNULL;
 
 /* ---- The collector. It needs no live mutator ---- */
 
 /* Begins a cycle; no unit is spent. OK, BUSY, NO_HEAP. */
-uint32_t metronome_begin(metronome *heap);
+uint32_t metronome_begin(metronome *heap) METRONOME_NONNULL;
 
 /* Spends units on the cycle that is on, at most `budget` of them, 256 to 1000000. It ends where the cycle ends, or where the
  * next piece of work costs more than is left, which is less than 256 units. Where no cycle is on it spends none.
  * OK; BAD_BUDGET or NO_HEAP, and *spent is left as it was. */
-uint32_t metronome_quantum(metronome *heap, uint32_t budget, metronome_spent *spent);
+uint32_t metronome_quantum(metronome *heap, uint32_t budget, metronome_spent *spent) METRONOME_NONNULL;
+
+/* What a cycle takes at most in a heap of these settings, in quanta of collector_ticks * rate units or more. No heap is made.
+ * OK; BAD_SCHEDULE, or BAD_SETTING and the place of a setting, and *limit is left as it was. */
+uint32_t metronome_cycle_limit(const metronome_settings *settings, metronome_limit *limit) METRONOME_NONNULL;
 
 /* ---- Figures. They need no live mutator. Each is told through the last pointer, which is left as it was where the handle
  * holds no heap ---- */
 
 /* The phase, a metronome_phase_number. OK, NO_HEAP. */
-uint32_t metronome_phase(metronome *heap, uint32_t *phase);
+uint32_t metronome_phase(metronome *heap, uint32_t *phase) METRONOME_NONNULL;
 
 /* The units that were spent since the last cycle began. OK, NO_HEAP. */
-uint32_t metronome_units(metronome *heap, uint64_t *units);
+uint32_t metronome_units(metronome *heap, uint64_t *units) METRONOME_NONNULL;
 
 /* How many pages are free. OK, NO_HEAP. */
-uint32_t metronome_free_pages(metronome *heap, uint64_t *free_pages);
+uint32_t metronome_free_pages(metronome *heap, uint64_t *free_pages) METRONOME_NONNULL;
 
 /* All counts. It looks at each block of the heap, and so takes time by its size. OK, NO_HEAP. */
-uint32_t metronome_count(metronome *heap, metronome_counts *counts);
+uint32_t metronome_count(metronome *heap, metronome_counts *counts) METRONOME_NONNULL;
+
+/* A page, by its number from 0; one that there isn't is told as a free one. OK, NO_HEAP. */
+uint32_t metronome_page(metronome *heap, size_t number, metronome_page_view *page) METRONOME_NONNULL;
 
 /* ---- Texts ---- */
 
-/* Writes the text of a metronome_status in English, and 0 after it: as much of it as fits into so many bytes. Where length
- * is 0 nothing is written, but text isn't NULL. How many bytes the whole text has, without the 0. */
-size_t metronome_text(uint32_t status, char *text, size_t length);
+/* Writes the text of a metronome_status in English, and 0 after it: as much of it as fits into so many bytes; nothing where
+ * length is 0. How many bytes the whole text has, without the 0. Programs call metronome_text. */
+size_t metronome_text_into(uint32_t status, char *text, size_t length) METRONOME_NONNULL;
+
+/* The same. Where length is 0 text may be NULL. */
+static inline size_t metronome_text(uint32_t status, char *text, size_t length) {
+    char none;
+    return metronome_text_into(status, length == 0 ? &none : text, length);
+}
 
 /* The METRONOME_VERSION that the library was made for. */
 uint32_t metronome_version(void);
@@ -265,124 +315,8 @@ uint32_t metronome_version(void);
 }
 #endif
 
+#ifndef METRONOME_CALLS_ALONE
+#include "metronome_over_calls.h"
 #endif
-
-#if !defined(METRONOME_OVER_CALLS) && !defined(METRONOME_CALLS_ALONE)
-#define METRONOME_OVER_CALLS
-
-/*
- * ---- Over the calls: plain C, of which nothing is proved ----
- *
- * A program that defines METRONOME_CALLS_ALONE leaves it out.
- */
-
-/* ---- Frames: slots that are taken and given back as a stack ---- */
-
-/* A row of slots of one mutator. Those from `next` to `end - 1` are free, and hold null; nothing else may write to them. */
-typedef struct metronome_row {
-    uint32_t mutator;
-    uint32_t next;
-    uint32_t end;
-} metronome_row;
-
-/* The row of slots `first` to `end - 1` of a mutator, none of them taken: all of its slots, say, with 0 and the setting. */
-#define METRONOME_ROW(mutator, first, end) { (mutator), (first), (end) }
-
-/* A frame: the first slot that is taken in it, if one is. */
-typedef uint32_t metronome_frame;
-
-/* Opens a frame: what is taken from now on belongs to it, up to the next frame that is opened and not closed. */
-static inline metronome_frame metronome_open_frame(const metronome_row *row) {
-    return row->next;
-}
-
-/* Takes the next slot of the row, which holds null, and tells its number. OK; BAD_SLOT where no slot is left, and neither the
- * row nor *slot has changed then: close a frame first, or make the heap with more slots (256 at most). */
-static inline uint32_t metronome_take_slot(metronome_row *row, uint32_t *slot) {
-    if (row->next >= row->end) return METRONOME_BAD_SLOT;
-    *slot = row->next++;
-    return METRONOME_OK;
-}
-
-/* Closes a frame, and those that were opened after it: null into each of their slots, which are free again. What is to be
- * kept is copied into a slot of an outer frame before. Needs a live mutator. OK; NOT_LIVE, NO_HEAP, or BAD_SLOT where the row
- * isn't one of the heap's, and the slots that weren't reached stay taken. */
-static inline uint32_t metronome_close_frame(metronome *heap, metronome_row *row, metronome_frame frame) {
-    while (row->next > frame) {
-        metronome_answer answer = metronome_clear(heap, row->mutator, row->next - 1);
-        if (answer.kind == METRONOME_REFUSED) return (uint32_t)answer.number;
-        row->next--;
-    }
-    return METRONOME_OK;
-}
-
-/* ---- The collector, paced by what is made ---- */
-
-/* Goes through two cycles, the one that is on among them, in quanta of so many units: what nothing leads to is freed then. So a
- * program with a deadline paces itself (metronome_pace), and others do this where a new object is refused:
- *
- *     metronome_answer answer = metronome_new_plain(&heap, 0, slot, 1, 2);
- *     if (answer.kind == METRONOME_REFUSED && answer.number == METRONOME_NO_SPACE
- *         && metronome_whole_cycle(&heap, 100000) == METRONOME_OK)
- *         answer = metronome_new_plain(&heap, 0, slot, 1, 2);
- *
- * OK, BAD_BUDGET, NO_HEAP. */
-static inline uint32_t metronome_whole_cycle(metronome *heap, uint32_t budget) {
-    metronome_spent spent = { 0, METRONOME_IDLE };
-    uint32_t status = METRONOME_OK;
-    for (int ends = 0; ends < 2 && status == METRONOME_OK; ends += spent.phase == METRONOME_IDLE) {
-        status = metronome_begin(heap);
-        if (status == METRONOME_OK || status == METRONOME_BUSY) status = metronome_quantum(heap, budget, &spent);
-    }
-    return status;
-}
-
-/* A pace: how often the collector works, by the words that the program makes. */
-typedef struct metronome_pacing {
-    uint64_t begin_below; /* a cycle begins where fewer pages than this are free; above `pages`, one is always on */
-    uint64_t words;       /* 1 or more: a quantum for each so many words made */
-    uint32_t budget;      /* 256 to 1000000: the units of a quantum */
-    uint64_t owed;        /* words made since the last quantum; 0 at first */
-} metronome_pacing;
-
-#define METRONOME_PACING(begin_below, words, budget) { (begin_below), (words), (budget), 0 }
-
-/* Tells the pace that so many words are about to be made; an object of n cells takes n + 4. For each so many as the pace says,
- * it begins a cycle if none is on and too few pages are free, and spends a quantum of the cycle that is on. A program calls it
- * before each new object. It takes no longer than a quantum, but where more words come at once than the pace has for one: an
- * array of many words owes many quanta.
- *
- * HOW TO CHOOSE THE NUMBERS. The budget is the longest pause: a unit takes some 5 to 10 ns on a processor of 2.5 GHz. A cycle
- * takes at most Q = limit / (budget - 255) + 1 quanta, where limit = statics + mutators * slots + 6144 * pages +
- * (38 + defrag_pages) * pages + 4. Of blocks of one size at most B are made between two quanta: those for which `words` have
- * room, and one more. No object is refused for want of space where begin_below pages have room for L + (2 * Q + 1) * B blocks
- * of each size, of which live objects need L, and for 1 + defrag_pages pages of each size besides. In short, with a budget of
- * 1000 or more, a few sizes, no moving, and half of the pages live: words = (budget - 255) / 20 and begin_below = pages.
- *
- * For a program's own numbers, record a run (metronome_record.h) of settings whose collector_ticks * rate is the budget.
- * `metronome pages --pace` tells Q, and of each size L, B and what was made between two cycles, and whether the pages suffice;
- * that they do for every run at this pace is proved of the heap. That a program keeps to the pace is not: it does if it calls
- * this before each new object, and if no more of its objects are live than in the run that was recorded.
- *
- * OK; BAD_BUDGET where the budget or the words are out of their range, NO_HEAP. */
-static inline uint32_t metronome_pace(metronome *heap, metronome_pacing *pacing, uint64_t words) {
-    if (pacing->words == 0) return METRONOME_BAD_BUDGET;
-    for (pacing->owed += words; pacing->owed >= pacing->words; pacing->owed -= pacing->words) {
-        metronome_spent spent;
-        uint32_t phase = METRONOME_IDLE;
-        uint64_t free_pages = 0;
-        uint32_t status = metronome_phase(heap, &phase);
-        if (status == METRONOME_OK) status = metronome_free_pages(heap, &free_pages);
-        if (status != METRONOME_OK) return status;
-        if (phase == METRONOME_IDLE && free_pages >= pacing->begin_below) {
-            pacing->owed %= pacing->words;
-            return METRONOME_OK;
-        }
-        if (phase == METRONOME_IDLE) metronome_begin(heap);
-        status = metronome_quantum(heap, pacing->budget, &spent);
-        if (status != METRONOME_OK) return status;
-    }
-    return METRONOME_OK;
-}
 
 #endif

@@ -14,7 +14,7 @@
  * a closed handle; a quantum whose budget is refused; all lines from the first one on that its file doesn't take. Whatever else
  * is missing, the trace is whole up to such a file: none of these changes the heap that is recorded.
  *
- * Plain C over the calls: of it nothing is proved. A handle is told from others by its first field, which is the library's. The
+ * Plain C over the calls: of it nothing is proved. A handle is told from others by its fields, which are the library's. The
  * calls of a heap come one at a time, and so do their lines.
  */
 #ifndef METRONOME_RECORD_H
@@ -51,7 +51,7 @@ enum metronome_record_reason {
 struct metronome_recording {
     enum metronome_record_stage stage;
     FILE *settings, *trace, *history;
-    const void *heap; /* the recorded heap's handle has this in its first field */
+    metronome heap;   /* the fields of the recorded heap's handle */
     uint64_t lost;    /* calls that weren't recorded */
     uint32_t told;    /* a bit for each reason that was told */
 };
@@ -63,12 +63,13 @@ __attribute__((weak)) struct metronome_recording metronome_recording;
  * as `metronome play --history` gives them, to the third, unless that is NULL. The files stay the program's, to be closed after
  * metronome_destroy, which flushes them. Nothing is recorded where the first or the second is NULL. */
 static inline void metronome_record(FILE *settings, FILE *trace, FILE *history) {
+    static const metronome none = METRONOME_CLOSED;
     struct metronome_recording *it = &metronome_recording;
     it->stage = settings != NULL && trace != NULL ? METRONOME_RECORD_AWAITS : METRONOME_RECORD_OFF;
     it->settings = settings;
     it->trace = trace;
     it->history = history;
-    it->heap = NULL;
+    it->heap = none;
     it->lost = 0;
     it->told = 0;
 }
@@ -88,12 +89,22 @@ static inline void metronome_record_lose(enum metronome_record_reason reason) {
     it->told |= 1u << reason;
 }
 
+/* Whether a handle is closed, and whether it is that of the heap that is recorded. */
+static inline bool metronome_record_closed(const metronome *heap) {
+    return heap->check == 0;
+}
+
+static inline bool metronome_record_is_on(const metronome *heap) {
+    const struct metronome_recording *it = &metronome_recording;
+    return it->stage == METRONOME_RECORD_ON && heap->at == it->heap.at && heap->check == it->heap.check;
+}
+
 /* Whether a call on a handle is to be written. */
 static inline bool metronome_record_takes(const metronome *heap) {
     struct metronome_recording *it = &metronome_recording;
     if (it->stage == METRONOME_RECORD_OFF) return false;
-    if (it->stage == METRONOME_RECORD_ON && heap->is_open && heap->at == it->heap) return true;
-    if (!heap->is_open) metronome_record_lose(METRONOME_RECORD_CLOSED);
+    if (metronome_record_is_on(heap)) return true;
+    if (metronome_record_closed(heap)) metronome_record_lose(METRONOME_RECORD_CLOSED);
     else if (it->told >> METRONOME_RECORD_FILE & 1) metronome_record_lose(METRONOME_RECORD_FILE);
     else metronome_record_lose(METRONOME_RECORD_ANOTHER);
     return false;
@@ -174,7 +185,7 @@ static inline bool metronome_record_settings(FILE *file, const metronome_setting
 static inline void metronome_record_begin(const metronome *heap, const metronome_settings *settings) {
     static const char version[] = "version 2\n";
     struct metronome_recording *it = &metronome_recording;
-    it->heap = heap->at;
+    it->heap = *heap;
     it->stage = METRONOME_RECORD_ON;
     metronome_record_look(metronome_record_settings(it->settings, settings) && fputs(version, it->trace) >= 0
                           && (it->history == NULL || fputs(version, it->history) >= 0));
@@ -186,13 +197,13 @@ static inline uint32_t metronome_recorded_create(metronome *heap, const metronom
     uint32_t status = metronome_create(heap, settings);
     if (metronome_recording.stage == METRONOME_RECORD_OFF) return status;
     if (status == METRONOME_OK && metronome_recording.stage == METRONOME_RECORD_AWAITS) metronome_record_begin(heap, settings);
-    else metronome_record_lose(heap->is_open ? METRONOME_RECORD_ANOTHER : METRONOME_RECORD_CLOSED);
+    else metronome_record_lose(metronome_record_closed(heap) ? METRONOME_RECORD_CLOSED : METRONOME_RECORD_ANOTHER);
     return status;
 }
 
 static inline void metronome_recorded_destroy(metronome *heap) {
     struct metronome_recording *it = &metronome_recording;
-    if (it->stage == METRONOME_RECORD_ON && heap->is_open && heap->at == it->heap) {
+    if (metronome_record_is_on(heap)) {
         metronome_record_look(fflush(it->trace) == 0 && (it->history == NULL || fflush(it->history) == 0));
         it->stage = METRONOME_RECORD_OVER;
     }
@@ -277,7 +288,7 @@ static inline metronome_answer metronome_recorded_leave(metronome *heap, uint32_
 #undef METRONOME_LIST
 #undef METRONOME_RECORDED
 
-/* From here on the names of the calls are those that are recorded, also in what metronome.h has over the calls. */
+/* From here on the names of the calls are those that are recorded, also in what stands over the calls. */
 #define metronome_create metronome_recorded_create
 #define metronome_destroy metronome_recorded_destroy
 #define metronome_new_plain metronome_recorded_new_plain
@@ -301,6 +312,6 @@ static inline metronome_answer metronome_recorded_leave(metronome *heap, uint32_
 #define metronome_begin metronome_recorded_begin
 #define metronome_quantum metronome_recorded_quantum
 
-#include "metronome.h"
+#include "metronome_over_calls.h"
 
 #endif

@@ -71,9 +71,11 @@ static void check_texts(void) {
         { METRONOME_NO_HEAP, "the heap is closed" },
         { METRONOME_OPEN, "the heap is open already" },
         { METRONOME_BAD_SCHEDULE, "collector_ticks times rate is out of range" },
+        { METRONOME_BAD_HANDLE, "this is no handle" },
         { METRONOME_BAD_SETTING + 0, "pages is out of range" },
         { METRONOME_BAD_SETTING + 10, "live is out of range" },
         { METRONOME_BAD_SETTING + 11, "no such status" },
+        { METRONOME_OTHER_VERSION, "the program was built for another version" },
     };
     for (size_t i = 0; i < sizeof texts / sizeof *texts; i++) {
         char text[64];

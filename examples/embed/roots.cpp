@@ -36,6 +36,11 @@ static void check_heaps() {
     metronome_settings faulty = SETTINGS;
     faulty.slots = 0;
     IS(METRONOME_BAD_SETTING + 2, heap.try_open(faulty));
+    // 1 static and 6 slots, 3 * 2048 words of each of 4 pages, 38 looks at each, and 4; 745 units go into a quantum
+    metronome_limit limit{};
+    IS(METRONOME_BAD_SETTING + 2, try_cycle_limit(faulty, limit));
+    IS(METRONOME_OK, try_cycle_limit(SETTINGS, limit));
+    CHECK(limit.units == 24739 && limit.quanta == 34);
     IS(METRONOME_OK, heap.try_open(SETTINGS));
     IS(METRONOME_OPEN, heap.try_open(SETTINGS));
     Heap moved = std::move(heap);
@@ -183,6 +188,8 @@ static void check_throwing() {
     CHECK(heap.begin() && !heap.begin() && heap.quantum(256).units > 0 && heap.phase() != METRONOME_IDLE && heap.units() > 0);
     heap.whole_cycle(1000);
     CHECK(heap.free_pages() == 3 && heap.count().objects == 3);
+    CHECK(heap.page(0).size == 6 && heap.page(0).held == 3 && heap.page(1).size == 0);
+    CHECK(cycle_limit(SETTINGS).quanta == 34);
 }
 
 #else

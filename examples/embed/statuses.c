@@ -1,5 +1,5 @@
 /*
- * Each status that the header names of each function. Slot 0 holds an object with a cell of each kind, slot 1 an array of one
+ * Each status that the header names of each function, on handles that are open or closed; misuse.c has those on others. Slot 0 holds an object with a cell of each kind, slot 1 an array of one
  * word, slot 2 an array of one reference, and slot 3 null; mutator 1 isn't live, and there is no mutator 2.
  */
 #include "metronome.h"

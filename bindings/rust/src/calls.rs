@@ -5,7 +5,7 @@ use std::os::raw::c_char;
 use crate::refusal::{Refusal, Result};
 
 /// The version of metronome.h of which these declarations are.
-pub(crate) const VERSION: u32 = 1;
+pub(crate) const VERSION: u32 = 2;
 
 pub(crate) const OK: u32 = 0;
 
@@ -13,11 +13,11 @@ pub(crate) const OK: u32 = 0;
 #[repr(C)]
 pub(crate) struct Handle {
     at: *mut c_void,
-    is_open: bool,
+    check: u64,
 }
 
 impl Handle {
-    pub(crate) const CLOSED: Handle = Handle { at: std::ptr::null_mut(), is_open: false };
+    pub(crate) const CLOSED: Handle = Handle { at: std::ptr::null_mut(), check: 0 };
 }
 
 /// The settings of a heap, each with its range.
@@ -65,6 +65,20 @@ impl Settings {
             live: mutators,
         }
     }
+
+    /// What a cycle takes at most in a heap of these settings. Refused: `BadSetting`, `BadSchedule`.
+    pub fn cycle_limit(&self) -> Result<CycleLimit> {
+        let mut limit = CycleLimit::default();
+        // SAFETY: both live through the call.
+        done(unsafe { metronome_cycle_limit(self, &mut limit) })?;
+        Ok(limit)
+    }
+}
+
+/// The version of metronome.h of which the installed library is.
+pub fn version() -> u32 {
+    // SAFETY: it may be called at any time.
+    unsafe { metronome_version() }
 }
 
 /// What a command comes to.
@@ -136,8 +150,32 @@ pub struct Counts {
     pub old_copies: u64,
 }
 
+/// A page: 2048 words in blocks of one size. Of a free page each number is 0.
+#[repr(C)]
+#[derive(Clone, Copy, Debug, Default, PartialEq, Eq)]
+pub struct Page {
+    /// The words of a block; the page has 2048 / `size` of them.
+    pub size: u32,
+    /// How many blocks hold parts of objects, or old copies of such.
+    pub held: u32,
+    /// 1 where its blocks are being moved away, and it gets no new one.
+    pub leaving: u32,
+    /// 1 where a block was moved to it since the last sweep.
+    pub receiving: u32,
+}
+
+/// What a cycle takes at most.
+#[repr(C)]
+#[derive(Clone, Copy, Debug, Default, PartialEq, Eq)]
+pub struct CycleLimit {
+    /// Units.
+    pub units: u64,
+    /// Quanta of `collector_ticks * rate` units each, or of more.
+    pub quanta: u64,
+}
+
 extern "C" {
-    pub(crate) fn metronome_create(heap: *mut Handle, settings: *const Settings) -> u32;
+    pub(crate) fn metronome_create_for(heap: *mut Handle, settings: *const Settings, version: u32) -> u32;
     pub(crate) fn metronome_destroy(heap: *mut Handle);
     pub(crate) fn metronome_new_plain(heap: *mut Handle, mutator: u32, dst: u32, refs: u32, words: u32) -> Answer;
     pub(crate) fn metronome_new_refs(heap: *mut Handle, mutator: u32, dst: u32, refs: u32) -> Answer;
@@ -178,6 +216,8 @@ extern "C" {
     pub(crate) fn metronome_units(heap: *mut Handle, units: *mut u64) -> u32;
     pub(crate) fn metronome_free_pages(heap: *mut Handle, free_pages: *mut u64) -> u32;
     pub(crate) fn metronome_count(heap: *mut Handle, counts: *mut Counts) -> u32;
-    pub(crate) fn metronome_text(status: u32, text: *mut c_char, length: usize) -> usize;
+    pub(crate) fn metronome_page(heap: *mut Handle, number: usize, page: *mut Page) -> u32;
+    pub(crate) fn metronome_cycle_limit(settings: *const Settings, limit: *mut CycleLimit) -> u32;
+    pub(crate) fn metronome_text_into(status: u32, text: *mut c_char, length: usize) -> usize;
     pub(crate) fn metronome_version() -> u32;
 }

@@ -2,7 +2,7 @@
 use std::cell::{Cell, UnsafeCell};
 use std::fmt;
 
-use crate::calls::{self, done, Counts, Handle, Settings, SpentTold};
+use crate::calls::{self, done, Counts, Handle, Page, Settings, SpentTold};
 use crate::mutator::Mutator;
 use crate::refusal::{Refusal, Result};
 
@@ -48,7 +48,7 @@ pub struct Spent {
     pub phase: Phase,
 }
 
-/// A pace of the collector: as `metronome_pacing` of metronome.h, which says how to choose its numbers.
+/// A pace of the collector: as `metronome_pacing` of metronome_over_calls.h, which says how to choose its numbers.
 #[derive(Clone, Copy, Debug, PartialEq, Eq)]
 pub struct Pacing {
     begin_below: u64,
@@ -69,13 +69,9 @@ impl Heap {
     /// Makes a heap, with all the memory that it will ever use. Refused: `BadSetting`, `BadSchedule`, `NoMemory`,
     /// `OtherVersion`.
     pub fn new(settings: &Settings) -> Result<Heap> {
-        // SAFETY: it may be called at any time.
-        if unsafe { calls::metronome_version() } != calls::VERSION {
-            return Err(Refusal::OtherVersion);
-        }
         let mut handle = Handle::CLOSED;
         // SAFETY: both live through the call, and the handle is closed.
-        done(unsafe { calls::metronome_create(&mut handle, settings) })?;
+        done(unsafe { calls::metronome_create_for(&mut handle, settings, calls::VERSION) })?;
         Ok(Heap { handle: UnsafeCell::new(handle), slots: settings.slots as u32, used: Cell::new(0) })
     }
 
@@ -176,6 +172,14 @@ impl Heap {
         // SAFETY: the heap is open, and both live through the call.
         unsafe { calls::metronome_count(self.handle(), &mut counts) };
         counts
+    }
+
+    /// A page, by its number from 0; one that there isn't is told as a free one.
+    pub fn page(&self, number: usize) -> Page {
+        let mut page = Page::default();
+        // SAFETY: the heap is open, and both live through the call.
+        unsafe { calls::metronome_page(self.handle(), number, &mut page) };
+        page
     }
 }
 

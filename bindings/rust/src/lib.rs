@@ -44,7 +44,7 @@ mod mutator;
 mod refusal;
 mod root;
 
-pub use calls::{Counts, Settings};
+pub use calls::{version, Counts, CycleLimit, Page, Settings};
 pub use heap::{Heap, Pacing, Phase, Spent};
 pub use mutator::Mutator;
 pub use refusal::{Refusal, Result};

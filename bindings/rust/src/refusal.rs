@@ -2,7 +2,7 @@
 use std::error::Error;
 use std::fmt;
 
-use crate::calls::metronome_text;
+use crate::calls::metronome_text_into;
 
 /// What a call answers.
 pub type Result<T> = std::result::Result<T, Refusal>;
@@ -46,7 +46,7 @@ pub enum Refusal {
 }
 
 /// The numbers that metronome.h has for them.
-const NUMBERED: [(u32, Refusal); 13] = [
+const NUMBERED: [(u32, Refusal); 14] = [
     (1, Refusal::BadSlot),
     (2, Refusal::NullSlot),
     (3, Refusal::BadIndex),
@@ -60,6 +60,7 @@ const NUMBERED: [(u32, Refusal); 13] = [
     (14, Refusal::NotLive),
     (15, Refusal::AlreadyLive),
     (18, Refusal::BadSchedule),
+    (40, Refusal::OtherVersion),
 ];
 
 const FIRST_SETTING: u32 = 20;
@@ -86,12 +87,13 @@ impl Refusal {
 
 impl fmt::Display for Refusal {
     fn fmt(&self, out: &mut fmt::Formatter<'_>) -> fmt::Result {
-        let Some(status) = self.status() else {
-            return out.write_str("the library is of another version");
+        let status = match self.status() {
+            Some(status) if *self != Refusal::OtherVersion => status,
+            _ => return out.write_str("the library is of another version"),
         };
         let mut text = [0u8; 64];
         // SAFETY: `text` has so many bytes, and nothing else uses it while the call runs.
-        let length = unsafe { metronome_text(status, text.as_mut_ptr().cast(), text.len()) };
+        let length = unsafe { metronome_text_into(status, text.as_mut_ptr().cast(), text.len()) };
         out.write_str(&String::from_utf8_lossy(&text[..length.min(text.len() - 1)]))
     }
 }

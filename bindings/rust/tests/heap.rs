@@ -1,7 +1,9 @@
 //! What the crate does with its slots, and what each call finds.
 use std::thread;
 
-use metronome::{Compared, Description, Heap, Pacing, Phase, Refusal, Result, Root, Settings, Shape};
+use metronome::{
+    version, Compared, CycleLimit, Description, Heap, Pacing, Page, Phase, Refusal, Result, Root, Settings, Shape,
+};
 
 /// Two mutators of three slots, and one static.
 const SMALL: Settings = Settings { statics: 1, ..Settings::new(4, 2, 3) };
@@ -123,6 +125,26 @@ fn cycles_go_by_quanta() -> Result<()> {
     assert_eq!(spent.phase, heap.phase());
     heap.whole_cycle(1000)?;
     assert_eq!(heap.phase(), Phase::Idle);
+    Ok(())
+}
+
+#[test]
+fn pages_are_told() -> Result<()> {
+    let heap = Heap::new(&SMALL)?;
+    let mutator = heap.mutator(0)?;
+    let (_cell, _words) = (mutator.new_plain(1, 1)?, mutator.new_words(1)?);
+    assert_eq!(heap.page(0), Page { size: 6, held: 1, ..Page::default() });
+    assert_eq!(heap.page(1), Page { size: 5, held: 1, ..Page::default() });
+    assert_eq!([heap.page(2), heap.page(4)], [Page::default(); 2]);
+    Ok(())
+}
+
+/// 1 static and 6 slots, 3 * 2048 words of each of 4 pages, 38 looks at each, and 4: 24739 units; 745 go into a quantum.
+#[test]
+fn a_cycle_has_a_limit() -> Result<()> {
+    assert_eq!(SMALL.cycle_limit()?, CycleLimit { units: 24739, quanta: 34 });
+    assert_eq!(Settings { pages: 0, ..SMALL }.cycle_limit().err(), Some(Refusal::BadSetting(0)));
+    assert_eq!(version(), 2);
     Ok(())
 }
 

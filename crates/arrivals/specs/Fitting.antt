@@ -5,6 +5,7 @@ use Rattle.space.specs.Pace.{Pace}
 use Rattle.arrivals.specs.declared.load.Load.{Load as Table}
 use Rattle.arrivals.specs.Load.{Load}
 
+-- the load that a table by class states
 abbrev pub load_in : Table → Load
 load_in t = record { live = λ class. slice_index t.live class; rate = λ class. slice_index t.rate class; burst = λ class. slice_index t.burst class; gap = t.gap }
 

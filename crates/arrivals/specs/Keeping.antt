@@ -27,6 +27,7 @@ abbrev pub asks_by : ℕ → Line → ℕ
 asks_by class (lines.Command m c) = asks c class
 asks_by class line = 0
 
+-- for how many blocks of a class lines ask
 abbrev pub asked_in : ℕ → List Line → ℕ
 asked_in class [] = 0
 asked_in class (line ∷ rest) = asks_by class line + asked_in class rest

@@ -72,6 +72,7 @@ AreBudgets k (line ∷ rest) = AreBudgets k rest
 abbrev pub SaysNothing : Unit {0} → Unit {0} → Type 0
 SaysNothing old new = Unit {0}
 
+-- a line's text spells this line
 abbrev pub SaysLine : Version → List ℕ → Unit {0} → List Line → Unit {0} → Type 0
 SaysLine version bytes old said new = (line : Line) × Spells version bytes line × (said ≡ line ∷ [])
 

@@ -46,9 +46,11 @@ abbrev pub value_fault : ℤ → Key → Option Data → Option ConfigFault
 value_fault mutators key None = if is_some (row_of mutators key).default then None else Some (faults.Missing key)
 value_fault mutators key (Some value) = number_fault mutators key (as_integer value)
 
+-- what is wrong with a key of a document
 abbrev pub key_fault : Members → Key → Option ConfigFault
 key_fault document key = value_fault (mutators_of document) key (get_member (name_of key) document)
 
+-- the number that a document has for a key, or the key's default
 abbrev pub number_for : Members → Key → ℤ
 number_for document key = number_in (mutators_of document) key (get_member (name_of key) document)
 
@@ -56,6 +58,7 @@ number_for document key = number_in (mutators_of document) key (get_member (name
 abbrev pub HasRange : Members → Key → Type 0
 HasRange document key = pos (row_of (mutators_of document) key).least ≤ℤ (row_of (mutators_of document) key).greatest
 
+-- the settings that a document asks for
 abbrev pub settings_of : Members → Settings
 settings_of document = record {
   pages = number_for document keys_of_files.Pages;
@@ -75,6 +78,7 @@ settings_of document = record {
 abbrev pub keys_faults : Members → List (Option ConfigFault)
 keys_faults document = map (key_fault document) ALL
 
+-- a key of a document isn't known
 abbrev pub unknown_fault : Members → Option ConfigFault
 unknown_fault document = if has_unknown_key document then Some faults.UnknownKey else None
 
@@ -82,6 +86,7 @@ unknown_fault document = if has_unknown_key document then Some faults.UnknownKey
 abbrev pub document_fault : Members → Option ConfigFault
 document_fault document = first_some (unknown_fault document ∷ keys_faults document ++ budget_fault (settings_of document) ∷ [])
 
+-- the first fault of what was read of bytes, which may be no document
 abbrev pub fault_in : Option Members → Option ConfigFault
 fault_in None = Some faults.NotToml
 fault_in (Some document) = document_fault document

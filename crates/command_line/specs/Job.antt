@@ -6,7 +6,7 @@ use Rattle.size_classes.specs.declared.config.TheConstants.{LEAST_BUDGET, MOST_B
 use Rattle.command_line.specs.declared.job.Picture.{Picture}
 use Rattle.command_line.specs.declared.job.Picture.TheVariants as pictures
 use Rattle.command_line.specs.declared.job.Job.{Job}
-use Rattle.command_line.specs.declared.job.Job.TheVariants.{Play, Check, Threads, Inspect, Mmu, Draw, DrawTime, Pages}
+use Rattle.command_line.specs.declared.job.Job.TheVariants.{Play, Check, Threads, Inspect, Cycles, Mmu, Draw, DrawTime, Pages}
 
 -- a window has 1 to 1099511627776 ticks
 abbrev pub IsWindow : ℕ → Type 0
@@ -20,6 +20,7 @@ IsInRange (Threads config scripts turns budget) = (turns ≤ 10000) × (LEAST_BU
 IsInRange (Inspect config trace after) = IfSome after (λ lines. lines ≤ 4294967295)
 IsInRange (Draw config trace picture after) = IfSome after (λ lines. lines ≤ 4294967295)
 IsInRange (DrawTime config trace) = Unit {0}
+IsInRange (Cycles config trace csv) = Unit {0}
 IsInRange (Pages config trace by) = Unit {0}
 IsInRange (Mmu config trace windows) = (0 < length windows.items) × All IsWindow windows.items
 

@@ -21,6 +21,7 @@ pub record NeedsMemory (bytes : List ℕ) : Type 0 where
   pub text : IsUtf8 bytes
   pub said : ¬ (IsBlank bytes)
 
+-- a table of a TOML document
 abbrev pub Table : Type 0
 Table = BTreeMap (String Global) Value
 

@@ -12,6 +12,7 @@ pub fn program<'a>(alloc: Global) -> Result<Command<'a>, AllocError> {
         .subcommand(check(alloc)?)?
         .subcommand(threads(alloc)?)?
         .subcommand(inspect(alloc)?)?
+        .subcommand(cycles(alloc)?)?
         .subcommand(mmu(alloc)?)?
         .subcommand(draw(alloc)?)?
         .subcommand(pages(alloc)?)
@@ -108,6 +109,11 @@ fn after<'a>(alloc: Global) -> Arg<'a> {
 
 fn inspect<'a>(alloc: Global) -> Result<Command<'a>, AllocError> {
     playing(alloc, "inspect", "Play a trace and report the heap")?.arg(after(alloc))
+}
+
+fn cycles<'a>(alloc: Global) -> Result<Command<'a>, AllocError> {
+    let csv = flag(alloc, "csv", "Write commas between the figures");
+    playing(alloc, "cycles", "Play a trace and tell of each cycle")?.arg(csv)
 }
 
 fn mmu<'a>(alloc: Global) -> Result<Command<'a>, AllocError> {

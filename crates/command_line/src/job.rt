@@ -66,6 +66,12 @@ pub enum Job<'a> {
         config: &'a str,
         trace: &'a str,
     },
+    /// Play a trace, and tell of each cycle, with `csv` with commas between the figures.
+    Cycles {
+        config: &'a str,
+        trace: &'a str,
+        csv: bool,
+    },
     /// Play a trace, and tell how many pages suffice.
     Pages {
         config: &'a str,

@@ -39,6 +39,7 @@ fn job_of<'a>(alloc: Global, name: &str, found: &ArgMatches<'a>) -> Result<Job<'
         "check" => check(alloc, found),
         "threads" => threads(alloc, found),
         "inspect" => inspect(alloc, found),
+        "cycles" => cycles(alloc, found),
         "mmu" => mmu(alloc, found),
         "draw" => draw(alloc, found),
         "pages" => pages(alloc, found),
@@ -109,6 +110,16 @@ fn inspect<'a>(alloc: Global, found: &ArgMatches<'a>) -> Result<Job<'a>, WordsFa
         config: file(alloc, found, "CONFIG")?,
         trace: file(alloc, found, "TRACE")?,
         after: found.get_one("after"),
+    })
+}
+
+fn cycles<'a>(alloc: Global, found: &ArgMatches<'a>) -> Result<Job<'a>, WordsFault>
+    ensures { IfOk result IsInRange }
+{
+    Ok(Job::Cycles {
+        config: file(alloc, found, "CONFIG")?,
+        trace: file(alloc, found, "TRACE")?,
+        csv: found.get_flag("csv"),
     })
 }
 

@@ -1,4 +1,4 @@
 pub mod Parts
-pub mod Squares
-pub mod Points
+pub mod SquareLemmas
+pub mod Shares
 pub mod Samples

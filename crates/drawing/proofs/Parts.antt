@@ -7,7 +7,7 @@ use Rattle.std.proofs.Math.Seq.{take-append-add}
 use Rattle.trace.specs.Streams.{GrowsByPart, text_of}
 use Rattle.drawing.specs.declared.element.Element.{Element}
 use Rattle.drawing.specs.declared.element.Element.TheVariants.{Close}
-use Rattle.drawing.specs.Elements.{element_line, svg_text}
+use Rattle.drawing.specs.Elements.{element_line, each_from, svg_text}
 
 -- what holds, holds at an error too
 pub at_err : {A E : Type 0} (r : Result A E) (P : Type 0) → P → OnErr r P
@@ -96,6 +96,12 @@ module _ (head frame told shown : List Element) (is : head ≡ frame ++ told) (t
 
       pub to_end : t3 ≡ t2 ++ svg_text (Close ∷ []) → t3 ≡ t0 ++ svg_text (frame ++ (told ++ (shown ++ Close ∷ [])))
       to_end e = all_of t0 t3 _ _ (further t0 t2 _ _ drawn (Close ∷ []) [] refl t3 e) refl
+
+-- what is drawn of the next item of a list, and of those behind it
+pub each_on : {A : Type 0} (drawn : ℕ → A → List Element) (xs : List A) (d x : A) (k : ℕ) (here : List Element) → k < length xs → x ≡ get_or xs k d → here ≡ drawn k x
+    → each_from drawn k (drop k xs) ≡ here ++ each_from drawn (k + 1) (drop (k + 1) xs)
+each_on drawn xs d x k here l is e =
+    ap (each_from drawn k) (drop_more xs k d l ∙ ap (λ y. y ∷ drop (k + 1) xs) (sym is)) ∙ ap (λ ys. ys ++ each_from drawn (k + 1) (drop (k + 1) xs)) (sym e)
 
 -- the first elements of a list are written
 module _ (t0 t1 : List ℕ) (all : List Element) (i : ℕ) (d : Element) (l : i < length all) (so : t1 ≡ t0 ++ svg_text (take i all)) (t2 : List ℕ) where

@@ -1,80 +1,84 @@
--- The map of the pages of a heap: 16 squares in a row, one for each page.
-use Rattle.std.specs.Prelude.{ℕ, ◌+◌, ◌*◌, ◌/◌, ◌%◌, if◌then◌else◌, List, [], ◌∷◌, ◌++◌, length, Option, Some, None}
+-- The map of the pages of a heap: a square for each page, in rows.
+use Rattle.std.specs.Prelude.{ℕ, ◌+◌, ◌-◌, ◌*◌, ◌==◌, if◌then◌else◌, List, [], ◌∷◌, ◌++◌, length, Option, Some, None}
 use Rattle.std.specs.Int.{div_ceil}
 use Rattle.size_classes.specs.Sizes.{size_of, blocks_in}
-use Rattle.heap_model.specs.Pages.{Page, free_pages}
+use Rattle.heap_model.specs.Pages.{free_pages}
 use Rattle.heap_model.specs.State.{HeapState}
 use Rattle.nodes.specs.Copies.{copies_in}
 use Rattle.pages.specs.View.{view_of}
 use Rattle.pages.specs.declared.view.PageView.{PageView}
 use Rattle.drawing.specs.declared.colour.Colour.{Colour}
 use Rattle.drawing.specs.declared.colour.Colour.TheVariants.{Grey, Sky, Pale, Blue, Yellow, Orange}
-use Rattle.drawing.specs.declared.caption.Words.TheVariants.{PagesOfTheHeap, PageInUse, LeavingPage, ReceivingPage, FreePage, HeldBlocks, FreeBlocks}
-use Rattle.drawing.specs.declared.caption.Caption.TheVariants.{Number, OldCopies, BlockWords, Part, Heap}
+use Rattle.drawing.specs.declared.caption.Words.TheVariants.{PagesOfTheHeap, PageInUse, LeavingPage, ReceivingPage, FreePage, HeldBlocks, FreeBlocks, NumberOfWords}
+use Rattle.drawing.specs.declared.caption.Caption.TheVariants.{Number, OldCopies, Heap, Page as Page_caption}
+use Rattle.drawing.specs.declared.element.Anchor.TheVariants.{Start, End}
 use Rattle.drawing.specs.declared.element.Element.{Element}
-use Rattle.drawing.specs.declared.element.Element.TheVariants.{Rectangle, Text, Close}
+use Rattle.drawing.specs.declared.element.Element.TheVariants.{Group, Rectangle, Text, GroupEnd, Close}
+use Rattle.drawing.specs.declared.squares.Squares.{Squares}
 use Rattle.drawing.specs.Captions.{phase_words}
-use Rattle.drawing.specs.Elements.{svg_text}
+use Rattle.drawing.specs.Elements.{each_from, svg_text}
 use Rattle.drawing.specs.Frame.{frame, swatch, meaning}
+use Rattle.drawing.specs.Squares.{squares_for, scale_of, square_x, square_y, map_height}
 
--- the upper left corner of the square of a page
-abbrev pub page_x : ℕ → ℕ
-page_x number = 20 + 64 * (number % 16)
+-- the number of a page whose square is the first of a row
+abbrev pub row_number : ℕ → ℕ → ℕ → ℕ → List Element
+row_number x y scale number = if x == 36 then Text 32 (y + 7 * scale) 8 End (Number number) ∷ [] else []
 
-abbrev pub page_y : ℕ → ℕ
-page_y number = 110 + 64 * (number / 16)
-
--- how much of a bar of 52 units the held blocks fill, rounded up
-abbrev pub bar_width : ℕ → ℕ → ℕ
-bar_width held blocks = div_ceil (52 * held) blocks
-
--- the square of a free page: pale, with the number of the page
-abbrev pub free_square : ℕ → ℕ → ℕ → List Element
-free_square x y number = Rectangle x y 60 60 Pale ∷ Text (x + 4) (y + 14) 11 (Number number) ∷ []
+-- the square of a free page: pale
+abbrev pub free_square : ℕ → ℕ → ℕ → ℕ → List Element
+free_square x y scale number =
+    Group (Page_caption number None) ∷ Rectangle x y (18 * scale - 1) (11 * scale - 1) Pale ∷ GroupEnd ∷ []
 
 -- the colour of a page in use: leaving pages have one of their own, and receiving ones
 abbrev pub paper_of : PageView → Colour
 paper_of v = if v.leaving then Orange else if v.receiving then Yellow else Sky
 
--- the square of a page in use: its number, the words of a block, how many of its blocks are held, and a bar
--- of all blocks with the held ones at its left
-abbrev pub used_square : ℕ → ℕ → ℕ → PageView → List Element
-used_square x y number v =
-    Rectangle x y 60 60 (paper_of v)
-    ∷ Text (x + 4) (y + 14) 11 (Number number)
-    ∷ Text (x + 4) (y + 28) 9 (BlockWords (size_of v.class))
-    ∷ Text (x + 4) (y + 41) 9 (Part v.held (blocks_in v.class))
-    ∷ Rectangle (x + 4) (y + 46) 52 10 Grey
-    ∷ Rectangle (x + 4) (y + 46) (bar_width v.held (blocks_in v.class)) 10 Blue
-    ∷ []
+-- the square of a page in use: the words of a block, and a bar of all blocks with the held ones at its left, in
+-- sixteenths of its width, rounded up
+abbrev pub used_square : ℕ → ℕ → ℕ → ℕ → PageView → List Element
+used_square x y scale number v =
+    Group (Page_caption number (Some v))
+    ∷ Rectangle x y (18 * scale - 1) (11 * scale - 1) (paper_of v)
+    ∷ Text (x + scale) (y + 7 * scale) (4 + 4 * scale) Start (Number (size_of v.class))
+    ∷ Rectangle (x + scale) (y + 8 * scale) (16 * scale) (2 * scale) Grey
+    ∷ Rectangle (x + scale) (y + 8 * scale) (div_ceil (16 * v.held) (blocks_in v.class) * scale) (2 * scale) Blue
+    ∷ GroupEnd ∷ []
 
-abbrev pub square : ℕ → Option PageView → List Element
-square number None = free_square (page_x number) (page_y number) number
-square number (Some v) = used_square (page_x number) (page_y number) number v
+-- the square of a page at a place
+abbrev pub page_square : ℕ → ℕ → ℕ → ℕ → Option PageView → List Element
+page_square x y scale number None = free_square x y scale number
+page_square x y scale number (Some v) = used_square x y scale number v
 
--- the squares of pages, numbered from one on
-abbrev pub squares : ℕ → List (Option Page) → List Element
-squares number [] = []
-squares number (page ∷ pages) = square number (view_of page) ++ squares (number + 1) pages
+-- the square of a page, by its number, and before the first of a row that number
+abbrev pub square : Squares → ℕ → Option PageView → List Element
+square squares number page =
+    let x = square_x squares number in
+    let y = square_y squares number in
+    row_number x y (scale_of squares) number ++ page_square x y (scale_of squares) number page
 
--- how high a map of so many pages is
-abbrev pub map_height : ℕ → ℕ
-map_height pages = 126 + 64 * div_ceil pages 16
-
+-- what stands around the map of pages
 abbrev pub map_frame : HeapState → List Element
-map_frame h = frame 1060 (map_height (length h.store.pages)) PagesOfTheHeap
+map_frame h = frame 1200 (map_height (length h.store.pages)) PagesOfTheHeap
 
 -- the phase, the units spent in the cycle that is on, or else in the last one, all pages, and the free ones; what
 -- the colours mean; and how many old copies there are
 abbrev pub map_told : HeapState → List Element
 map_told h =
-    Text 20 52 13 (Heap (phase_words h.phase) h.units (length h.store.pages) (free_pages h.store.pages))
+    Text 1180 30 13 End (Heap (phase_words h.phase) h.units (length h.store.pages) (free_pages h.store.pages))
     ∷ swatch 0 Pale ∷ meaning 0 FreePage ∷ swatch 1 Sky ∷ meaning 1 PageInUse ∷ swatch 2 Orange ∷ meaning 2 LeavingPage
-    ∷ swatch 3 Yellow ∷ meaning 3 ReceivingPage ∷ swatch 4 Blue ∷ meaning 4 HeldBlocks ∷ swatch 5 Grey ∷ meaning 5 FreeBlocks
-    ∷ Text 800 78 12 (OldCopies (copies_in h.store).old) ∷ []
+    ∷ swatch 3 Yellow ∷ meaning 3 ReceivingPage ∷ swatch 4 Blue ∷ meaning 4 HeldBlocks
+    ∷ swatch 5 Grey ∷ meaning 5 FreeBlocks ∷ meaning 6 NumberOfWords
+    ∷ Text 1180 60 12 End (OldCopies (copies_in h.store).old) ∷ []
 
+-- the squares of all pages, as large as may be
+abbrev pub map_shown : HeapState → List Element
+map_shown h =
+    let squares = squares_for (length h.store.pages) in
+    each_from (λ number page. square squares number (view_of page)) 0 h.store.pages
+
+-- the elements of the picture of pages
 abbrev pub page_map : HeapState → List Element
-page_map h = map_frame h ++ (map_told h ++ (squares 0 h.store.pages ++ Close ∷ []))
+page_map h = map_frame h ++ (map_told h ++ (map_shown h ++ Close ∷ []))
 
 -- the text of the picture
 abbrev pub pages_picture : HeapState → List ℕ

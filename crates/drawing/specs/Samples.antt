@@ -1,25 +1,29 @@
 -- The picture of a heap over a run, from samples of it.
-use Rattle.std.specs.Prelude.{ℕ, ◌+◌, ◌-◌, ◌*◌, ◌/◌, min, max, Bool, if◌then◌else◌, List, [], ◌∷◌, ◌++◌, length, take, Option, Some, None}
+use Rattle.std.specs.Prelude.{ℕ, ◌+◌, ◌-◌, min, Bool, if◌then◌else◌, List, [], ◌∷◌, ◌++◌, length, take, slice_get, Option, Some, None}
 use Rattle.heap_model.specs.declared.phase.Phase.{Phase}
 use Rattle.heap_model.specs.Pages.{free_pages}
 use Rattle.heap_model.specs.State.{HeapState}
 use Rattle.nodes.specs.Copies.{copies_in}
+use Rattle.drawing.specs.declared.axis.Axis.TheVariants.{Lines, Pages, Objects as Objects_axis}
 use Rattle.drawing.specs.declared.colour.Colour.{Colour}
-use Rattle.drawing.specs.declared.colour.Colour.TheVariants.{Black, Pale, Sky, Blue, Green, Yellow, Orange, Purple}
-use Rattle.drawing.specs.declared.caption.Words.TheVariants.{HeapOverTime, PagesInUse, Objects, SamplesOfRun, Idle, Roots, Marking, Sweeping, Moving}
-use Rattle.drawing.specs.declared.caption.Caption.TheVariants.{Words, Number}
+use Rattle.drawing.specs.declared.colour.Colour.TheVariants.{Pale, Sky, Blue, Green, Yellow, Orange, Purple}
+use Rattle.drawing.specs.declared.caption.Words.TheVariants.{HeapOverTime, PagesInUse, Objects, LinesOfTrace, PhaseName, Idle, Roots, Marking, Sweeping, Moving}
+use Rattle.drawing.specs.declared.caption.Caption.TheVariants.{Words}
+use Rattle.drawing.specs.declared.element.Anchor.TheVariants.{Start, Middle, End}
 use Rattle.drawing.specs.declared.element.Element.{Element}
-use Rattle.drawing.specs.declared.element.Element.TheVariants.{Rectangle, Line, Dot, Text, Close}
+use Rattle.drawing.specs.declared.element.Element.TheVariants.{Rectangle, Veil, Text, Close}
 use Rattle.drawing.specs.declared.sample.Sample.{Sample}
 use Rattle.drawing.specs.declared.over_time.Scale.{Scale}
 use Rattle.drawing.specs.declared.over_time.TheConstants.{MOST_SAMPLES}
+use Rattle.drawing.specs.Axes.{line_x, height_of, axis_numbers}
 use Rattle.drawing.specs.Captions.{by_phase}
 use Rattle.drawing.specs.Elements.{svg_text}
 use Rattle.drawing.specs.Frame.{frame, swatch, meaning}
 
--- what a heap is like: its phase, its pages in use and, where they are counted, its objects
-abbrev pub sample_of : HeapState → Bool → Sample
-sample_of h counted = record {
+-- what a heap is like after a line: its phase, its pages in use and, where they are counted, its objects
+abbrev pub sample_of : HeapState → ℕ → Bool → Sample
+sample_of h line counted = record {
+  line = line;
   phase = h.phase;
   pages_in_use = length h.store.pages - free_pages h.store.pages;
   objects = if counted then Some (copies_in h.store).objects else None;
@@ -29,43 +33,53 @@ sample_of h counted = record {
 abbrev pub phase_colour : Phase → Colour
 phase_colour phase = by_phase Pale Yellow Orange Green Purple phase
 
--- how high a number stands, of 300 units for the greatest
-abbrev pub height_of : ℕ → ℕ → ℕ
-height_of n greatest = 300 * min n greatest / max 1 greatest
+-- the objects that were counted, as a dash of this width
+abbrev pub objects_dash : ℕ → ℕ → ℕ → Option ℕ → List Element
+objects_dash x width greatest None = []
+objects_dash x width greatest (Some n) = Rectangle x (439 - height_of n greatest) width 3 Blue ∷ []
 
--- the objects that were counted, as a dot
-abbrev pub objects_dot : ℕ → ℕ → Option ℕ → List Element
-objects_dot x greatest None = []
-objects_dot x greatest (Some n) = Dot x (400 - height_of n greatest) Blue ∷ []
+-- what is drawn of a sample from its line to an end: its pages in use as a bar, its phase as a band, and its objects
+abbrev pub sample_marks : Scale → Sample → ℕ → List Element
+sample_marks scale s end =
+    let x = line_x s.line scale.lines in
+    let width = end - x in
+    Veil x (250 - height_of s.pages_in_use scale.pages) width (height_of s.pages_in_use scale.pages) Blue
+    ∷ Rectangle x 454 width 14 (phase_colour s.phase)
+    ∷ objects_dash x width scale.objects s.objects
 
--- what is drawn of a sample, one unit wide: its pages in use as a bar, its phase as a band, and its objects
-abbrev pub sample_marks : ℕ → Scale → Sample → List Element
-sample_marks x scale s =
-    Rectangle x (400 - height_of s.pages_in_use scale.pages) 1 (height_of s.pages_in_use scale.pages) Sky
-    ∷ Rectangle x 408 1 14 (phase_colour s.phase)
-    ∷ objects_dot x scale.objects s.objects
+-- where the next sample begins, or, behind the last one, the picture ends
+abbrev pub next_x : ℕ → Option Sample → ℕ
+next_x lines None = 1160
+next_x lines (Some s) = line_x s.line lines
 
 -- samples one beside the other
-abbrev pub samples_from : ℕ → Scale → List Sample → List Element
-samples_from x scale [] = []
-samples_from x scale (s ∷ later) = sample_marks x scale s ++ samples_from (x + 1) scale later
+abbrev pub samples_from : Scale → List Sample → List Element
+samples_from scale [] = []
+samples_from scale (s ∷ later) = sample_marks scale s (next_x scale.lines (slice_get later 0)) ++ samples_from scale later
 
+-- the numbers of the axes, and the samples
+abbrev pub time_shown : Scale → List Sample → List Element
+time_shown scale samples =
+    axis_numbers Lines scale.lines
+    ++ (axis_numbers Pages scale.pages ++ (axis_numbers Objects_axis scale.objects ++ samples_from scale samples))
+
+-- what stands around the picture of a heap over time
 abbrev pub time_frame : List Element
-time_frame = frame 1200 480 HeapOverTime
+time_frame = frame 1200 528 HeapOverTime
 
--- what the colours mean, and the axes with their units
-abbrev pub time_axes : Scale → List Element
-time_axes scale =
-    swatch 0 Sky ∷ meaning 0 PagesInUse ∷ swatch 1 Blue ∷ meaning 1 Objects ∷ swatch 2 Pale ∷ meaning 2 Idle ∷ swatch 3 Yellow ∷ meaning 3 Roots
-    ∷ swatch 4 Orange ∷ meaning 4 Marking ∷ swatch 5 Green ∷ meaning 5 Sweeping ∷ swatch 6 Purple ∷ meaning 6 Moving
-    ∷ Line 80 100 80 400 Black ∷ Line 80 400 1080 400 Black ∷ Line 1080 100 1080 400 Black
-    ∷ Text 20 90 11 (Words PagesInUse) ∷ Text 40 104 11 (Number scale.pages) ∷ Text 40 404 11 (Number 0)
-    ∷ Text 1090 90 11 (Words Objects) ∷ Text 1090 104 11 (Number scale.objects) ∷ Text 1090 404 11 (Number 0)
-    ∷ Text 80 444 11 (Words SamplesOfRun)
+-- what the colours mean, and the names of the axes
+abbrev pub time_axes : List Element
+time_axes =
+    swatch 0 Sky ∷ meaning 0 PagesInUse ∷ swatch 1 Blue ∷ meaning 1 Objects ∷ swatch 2 Pale ∷ meaning 2 Idle
+    ∷ swatch 3 Yellow ∷ meaning 3 Roots ∷ swatch 4 Orange ∷ meaning 4 Marking ∷ swatch 5 Green ∷ meaning 5 Sweeping
+    ∷ swatch 6 Purple ∷ meaning 6 Moving
+    ∷ Text 20 86 11 Start (Words PagesInUse) ∷ Text 20 276 11 Start (Words Objects)
+    ∷ Text 72 465 11 End (Words PhaseName) ∷ Text 620 514 11 Middle (Words LinesOfTrace)
     ∷ []
 
+-- the elements of the picture of a heap over time
 abbrev pub time_chart : Scale → List Sample → List Element
-time_chart scale samples = time_frame ++ (time_axes scale ++ (samples_from 80 scale samples ++ Close ∷ []))
+time_chart scale samples = time_frame ++ (time_axes ++ (time_shown scale samples ++ Close ∷ []))
 
 -- the text of the picture, which has the first samples alone
 abbrev pub time_picture : Scale → List Sample → List ℕ

@@ -1,18 +1,24 @@
 -- The picture of the mutators' least shares of windows of some lengths.
-use Rattle.std.specs.Prelude.{◌≡◌, ℕ, ◌+◌, ◌-◌, ◌*◌, ◌/◌, ◌%◌, ◌<◌, max, ◌==◌, if◌then◌else◌, List, [], ◌∷◌, ◌++◌, length, take, slice_index}
+use Rattle.std.specs.Prelude.{◌≡◌, ℕ, zero, suc, ◌+◌, ◌-◌, ◌*◌, ◌/◌, ◌%◌, ◌<◌, min, max, ◌==◌, nat_le, if◌then◌else◌, List, [], ◌∷◌, ◌++◌, length, take, slice_index}
 use Rattle.std.specs.List.{AllZip}
 use Rattle.size_classes.specs.declared.config.Config.{Config}
 use Rattle.quanta.specs.Timetable.{Timetable, last_end}
 use Rattle.mmu_report.specs.Utilisation.{IsLeast, bound_of}
-use Rattle.drawing.specs.declared.colour.Colour.TheVariants.{Black, Pale, Blue, Orange}
+use Rattle.drawing.specs.declared.colour.Colour.TheVariants.{Light, Blue, Orange}
 use Rattle.drawing.specs.declared.caption.Words.TheVariants.{LeastUtilisation, Measured, Promised, WindowTicks, MutatorsShare}
 use Rattle.drawing.specs.declared.caption.Caption.TheVariants.{Words, Number, Percent}
+use Rattle.drawing.specs.declared.element.Anchor.TheVariants.{Start, Middle, End}
 use Rattle.drawing.specs.declared.element.Element.{Element}
 use Rattle.drawing.specs.declared.element.Element.TheVariants.{Rectangle, Line, Dot, Text, Close}
 use Rattle.drawing.specs.declared.share.Share.{Share}
 use Rattle.drawing.specs.declared.share.TheConstants.{WINDOWS}
-use Rattle.drawing.specs.Elements.{svg_text}
+use Rattle.drawing.specs.Elements.{each_from, svg_text}
 use Rattle.drawing.specs.Frame.{frame, swatch, meaning}
+
+-- so many powers of ten from one on, each with its double and its fivefold
+abbrev pub round_numbers : ℕ → ℕ → List ℕ
+round_numbers power zero = []
+round_numbers power (suc more) = power ∷ 2 * power ∷ 5 * power ∷ round_numbers (10 * power) more
 
 -- the ticks of which a timetable tells
 abbrev pub span_of : Timetable → ℕ
@@ -30,45 +36,65 @@ pub record AreShares (config : Config) (t : Timetable) (shares : List Share) : T
   pub each : AllZip (IsShare config t) (take (length shares) WINDOWS) shares
   pub next : length shares < length WINDOWS → span_of t < slice_index WINDOWS (length shares)
 
--- Where a window stands on the logarithmic axis, by its place among the windows: 90 units are ten times as long.
--- Twice as long are 27 of them, and five times 63.
-abbrev pub window_x : ℕ → ℕ
-window_x place = 80 + 90 * (place / 3) + (if place % 3 == 0 then 0 else if place % 3 == 1 then 27 else 63)
+-- The place of the window at which the axis ends: of the first that is longer than the span, but 2 at the least.
+abbrev pub end_place : List Share → ℕ
+end_place shares = max 1 (min (length shares) 38)
+
+-- How far a place is along a logarithmic axis: 90 units are ten times as long, 27 are twice, and 63 five times.
+abbrev pub log_of : ℕ → ℕ
+log_of place = 90 * (place / 3) + (if place % 3 == 0 then 0 else if place % 3 == 1 then 27 else 63)
+
+-- where a place stands, from 80 on to the last place at 1140
+abbrev pub window_x : ℕ → ℕ → ℕ
+window_x last place = 80 + 1060 * log_of place / log_of last
+
+-- the base line of a number of the axis: they stand in one row, or, where they are many, in three
+abbrev pub number_y : ℕ → ℕ → ℕ
+number_y last place = if nat_le last 18 then 430 else 430 + 13 * (place % 3)
+
+-- a number of the axis, with a light line
+abbrev pub window_number : ℕ → ℕ → ℕ → List Element
+window_number last place window =
+    Line (window_x last place) 100 (window_x last place) 406 Light
+    ∷ Text (window_x last place) (number_y last place) 10 Middle (Number window)
+    ∷ []
 
 -- how high a share in thousandths stands: none at 400, and all at 100
 abbrev pub share_y : ℕ → ℕ
 share_y permille = 400 - 3 * permille / 10
 
--- what is drawn of a window: a square at the promised share and a dot at the measured one, and its length. Nothing is
--- drawn between two windows: one of a length between theirs may have a lower share than both.
-abbrev pub window_marks : ℕ → Share → List Element
-window_marks place share =
-    Rectangle (window_x place - 5) (share_y share.promised - 5) 10 10 Orange
-    ∷ Dot (window_x place) (share_y share.measured) Blue
-    ∷ Line (window_x place) 400 (window_x place) 405 Black
-    ∷ Text (window_x place) (418 + 12 * (place % 3)) 9 (Number share.window)
+-- The points of a window: at its left a square at the promised share, and at its right a dot at the measured one.
+-- Nothing is drawn between two windows: one of a length between theirs may have a lower share than both.
+abbrev pub window_points : ℕ → ℕ → Share → List Element
+window_points last place share =
+    Rectangle (window_x last place - 10) (share_y share.promised - 4) 8 8 Orange
+    ∷ Dot (window_x last place + 6) (share_y share.measured) Blue
     ∷ []
 
--- of windows from a place on
-abbrev pub points_from : ℕ → List Share → List Element
-points_from place [] = []
-points_from place (share ∷ later) = window_marks place share ++ points_from (place + 1) later
+-- the axis of windows, with a number for each up to its end, and the points
+abbrev pub shares_shown : List Share → List Element
+shares_shown shares =
+    let last = end_place shares in
+    each_from (window_number last) 0 (take (last + 1) WINDOWS) ++ each_from (window_points last) 0 shares
 
--- the axes with their units, and what the colours mean
+-- what the colours mean, the axis of shares, and the names of both axes
 abbrev pub axes : List Element
 axes =
-    swatch 0 Blue ∷ meaning 0 Measured ∷ swatch 1 Orange ∷ meaning 1 Promised
-    ∷ Line 80 340 1180 340 Pale ∷ Line 80 280 1180 280 Pale ∷ Line 80 220 1180 220 Pale ∷ Line 80 160 1180 160 Pale ∷ Line 80 100 1180 100 Pale
-    ∷ Text 40 404 11 (Percent 0) ∷ Text 40 344 11 (Percent 20) ∷ Text 40 284 11 (Percent 40) ∷ Text 40 224 11 (Percent 60) ∷ Text 40 164 11 (Percent 80) ∷ Text 40 104 11 (Percent 100)
-    ∷ Line 80 100 80 400 Black ∷ Line 80 400 1180 400 Black
-    ∷ Text 40 90 11 (Words MutatorsShare) ∷ Text 80 464 11 (Words WindowTicks)
+    swatch 0 Orange ∷ meaning 0 Promised ∷ swatch 1 Blue ∷ meaning 1 Measured
+    ∷ Line 66 400 1160 400 Light ∷ Line 66 340 1160 340 Light ∷ Line 66 280 1160 280 Light
+    ∷ Line 66 220 1160 220 Light ∷ Line 66 160 1160 160 Light ∷ Line 66 100 1160 100 Light
+    ∷ Text 60 404 11 End (Percent 0) ∷ Text 60 344 11 End (Percent 20) ∷ Text 60 284 11 End (Percent 40)
+    ∷ Text 60 224 11 End (Percent 60) ∷ Text 60 164 11 End (Percent 80) ∷ Text 60 104 11 End (Percent 100)
+    ∷ Text 20 86 11 Start (Words MutatorsShare) ∷ Text 610 478 11 Middle (Words WindowTicks)
     ∷ []
 
+-- what stands around the picture of utilisation
 abbrev pub chart_frame : List Element
-chart_frame = frame 1200 480 LeastUtilisation
+chart_frame = frame 1200 490 LeastUtilisation
 
+-- the elements of the picture of utilisation
 abbrev pub share_chart : List Share → List Element
-share_chart shares = chart_frame ++ (axes ++ (points_from 0 shares ++ Close ∷ []))
+share_chart shares = chart_frame ++ (axes ++ (shares_shown shares ++ Close ∷ []))
 
 -- the text of the picture
 abbrev pub utilisation_picture : List Share → List ℕ

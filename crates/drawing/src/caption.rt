@@ -1,7 +1,8 @@
 //! The words that stand in pictures.
 ghost use Rattle.std.specs.Prelude.{◌≡◌, ◌≤◌, ◌+◌, ◌++◌, length, take};
-ghost use Rattle.drawing.specs.Captions.{words_text, caption_text};
+ghost use Rattle.drawing.specs.Captions.{words_text, marks_text, page_text, caption_text};
 
+use pages::PageView;
 use trace::{put, put_named};
 
 /// Fixed words.
@@ -14,6 +15,7 @@ pub enum Words {
     FreePage,
     HeldBlocks,
     FreeBlocks,
+    NumberOfWords,
     LeastUtilisation,
     Measured,
     Promised,
@@ -22,7 +24,8 @@ pub enum Words {
     HeapOverTime,
     PagesInUse,
     Objects,
-    SamplesOfRun,
+    LinesOfTrace,
+    PhaseName,
     Idle,
     Roots,
     Marking,
@@ -44,6 +47,7 @@ impl Words {
             Words::FreePage => b"free page",
             Words::HeldBlocks => b"held blocks",
             Words::FreeBlocks => b"free blocks",
+            Words::NumberOfWords => b"number: words of a block",
             Words::LeastUtilisation => b"Least share of the mutators",
             Words::Measured => b"least measured",
             Words::Promised => b"promised",
@@ -52,7 +56,8 @@ impl Words {
             Words::HeapOverTime => b"The heap over a run",
             Words::PagesInUse => b"pages in use",
             Words::Objects => b"objects",
-            Words::SamplesOfRun => b"samples of the run, in their order",
+            Words::LinesOfTrace => b"lines of the trace",
+            Words::PhaseName => b"phase",
             Words::Idle => b"idle",
             Words::Roots => b"roots",
             Words::Marking => b"marking",
@@ -73,13 +78,8 @@ pub enum Caption {
     Percent(u64),
     /// How many old copies there are.
     OldCopies(u64),
-    /// How many words the blocks of a page have.
-    BlockWords(u64),
-    /// So many of all.
-    Part {
-        some: u64,
-        all: u64,
-    },
+    /// A page, by its number, and what is told of it, if it is in use.
+    Page(u32, Option<PageView>),
     /// The state of a heap: its phase, the units of work in the cycle that is on, or else in the last
     /// one, how many pages there are, and how many are free.
     Heap {
@@ -90,11 +90,47 @@ pub enum Caption {
     },
 }
 
+/// Puts the marks of a page, and answers the place after them.
+fn put_marks(out: &mut [u8], at: usize, page: PageView) -> usize
+    requires { at + 18 ≤ length out.old }
+    ensures text { take result out.new ≡ take at out.old ++ marks_text page }
+    ensures place { result ≤ at + 18 }
+{
+    let end = if page.leaving {
+        put(out, at, b" leaving")
+    } else {
+        at
+    };
+    if page.receiving {
+        put(out, end, b" receiving")
+    } else {
+        end
+    }
+}
+
+/// Puts what is told of a page, and answers the place after it.
+fn put_page(out: &mut [u8], at: usize, number: u32, page: Option<PageView>) -> usize
+    requires { at + 130 ≤ length out.old }
+    ensures text { take result out.new ≡ take at out.old ++ page_text number page }
+    ensures place { result ≤ at + 130 }
+{
+    let end = put_named(out, at, b"page ", u64::from(number));
+    match page {
+        None => put(out, end, b" free"),
+        Some(page) => {
+            let end = put_named(out, end, b" size ", u64::from(page.class.size()));
+            let end = put_named(out, end, b" held ", page.held as u64);
+            let end = put_named(out, end, b" of ", u64::from(page.class.blocks_per_page()));
+            put_marks(out, end, page)
+        }
+    }
+}
+
 /// Puts a caption at a place of an array, and answers the place after it.
 pub(crate) fn put_caption(out: &mut [u8], at: usize, caption: Caption) -> usize
-    requires { at + 150 ≤ length out.old }
+    requires { at + 130 ≤ length out.old }
     ensures text { take result out.new ≡ take at out.old ++ caption_text caption }
-    ensures place { result ≤ at + 150 }
+    ensures place { result ≤ at + 130 }
 {
     match caption {
         Caption::Words(words) => put(out, at, words.text()),
@@ -104,14 +140,7 @@ pub(crate) fn put_caption(out: &mut [u8], at: usize, caption: Caption) -> usize
             put(out, end, b" %")
         }
         Caption::OldCopies(n) => put_named(out, at, b"old copies ", n),
-        Caption::BlockWords(n) => {
-            let end = put_named(out, at, b"", n);
-            put(out, end, b" words")
-        }
-        Caption::Part { some, all } => {
-            let end = put_named(out, at, b"", some);
-            put_named(out, end, b" of ", all)
-        }
+        Caption::Page(number, page) => put_page(out, at, number, page),
         Caption::Heap {
             phase,
             units,

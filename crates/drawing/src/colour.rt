@@ -1,4 +1,4 @@
-//! The colours of pictures. They differ in lightness too, so that they print without colour.
+//! The colours of pictures. Those of one legend stay apart for who doesn't see red and green.
 ghost use Rattle.std.specs.Prelude.{◌≡◌};
 ghost use Rattle.drawing.specs.Elements.{colour_code};
 
@@ -6,8 +6,8 @@ ghost use Rattle.drawing.specs.Elements.{colour_code};
 #[derive(Clone, Copy, Debug, PartialEq, Eq)]
 pub enum Colour {
     White,
-    Black,
     Pale,
+    Light,
     Grey,
     Sky,
     Blue,
@@ -24,15 +24,15 @@ impl Colour {
     {
         match self {
             Colour::White => b"#ffffff",
-            Colour::Black => b"#000000",
             Colour::Pale => b"#eeeeee",
-            Colour::Grey => b"#bbbbbb",
-            Colour::Sky => b"#cfe3f3",
+            Colour::Light => b"#bbbbbb",
+            Colour::Grey => b"#999999",
+            Colour::Sky => b"#8abedb",
             Colour::Blue => b"#0072b2",
             Colour::Green => b"#009e73",
             Colour::Yellow => b"#f0e442",
-            Colour::Orange => b"#e69f00",
-            Colour::Purple => b"#cc79a7",
+            Colour::Orange => b"#d55e00",
+            Colour::Purple => b"#661144",
         }
     }
 }

@@ -6,7 +6,7 @@ ghost use Rattle.drawing.specs.Frame as frames;
 
 use crate::caption::{Caption, Words};
 use crate::colour::Colour;
-use crate::element::Element;
+use crate::element::{Anchor, Element};
 use crate::writing::write_elements;
 use trace::{Sink, WriteFailed};
 
@@ -18,7 +18,7 @@ fn frame(width: u32, height: u32, title: Words) -> [Element; 4]
         Element::Open(width, height),
         Element::Title(title),
         Element::Rectangle(0, 0, width, height, Colour::White),
-        Element::Text(20, 30, 20, Caption::Words(title)),
+        Element::Text(20, 30, 20, Anchor::Start, Caption::Words(title)),
     ]
 }
 
@@ -27,7 +27,7 @@ pub(crate) fn swatch(place: u32, colour: Colour) -> Element
     requires { place < 16 }
     ensures { result ≡ frames.swatch place colour }
 {
-    Element::Rectangle(20 + 130 * place, 66, 14, 14, colour)
+    Element::Rectangle(20 + 130 * place, 48, 14, 14, colour)
 }
 
 /// What the colour at a place of the legend means.
@@ -35,7 +35,13 @@ pub(crate) fn meaning(place: u32, words: Words) -> Element
     requires { place < 16 }
     ensures { result ≡ frames.meaning place words }
 {
-    Element::Text(40 + 130 * place, 78, 12, Caption::Words(words))
+    Element::Text(
+        40 + 130 * place,
+        60,
+        12,
+        Anchor::Start,
+        Caption::Words(words),
+    )
 }
 
 /// Writes the beginning of a picture of this width and height, with a title, and what it tells.

@@ -1,16 +1,19 @@
 //! Pictures of a heap, as SVG documents in text.
 #![tactic(auto)]
 
+mod axis;
 mod caption;
 mod colour;
 mod element;
 mod frame;
+pub mod laws;
 mod look;
 mod measuring;
 mod over_time;
 mod page_map;
 mod sample;
 mod share;
+mod squares;
 mod utilisation;
 mod writing;
 

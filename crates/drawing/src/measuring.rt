@@ -24,10 +24,10 @@ fn share_of(config: &Config, schedule: &Schedule, window: u64) -> Option<Share>
 
 /// Puts the shares of the windows that aren't longer than the time that has passed at the front of an
 /// array, the shortest window first, and answers how many there are.
-pub(crate) fn put_shares(config: &Config, schedule: &Schedule, shares: &mut [Share; 37]) -> usize
-    ensures within { result ≤ 37 }
+pub(crate) fn put_shares(config: &Config, schedule: &Schedule, shares: &mut [Share; 39]) -> usize
+    ensures within { result ≤ 39 }
     ensures each { AllZip (IsShare config.now schedule.now) (take result WINDOWS) (take result shares.new) }
-    ensures next { result < 37 → span_of schedule.now < slice_index WINDOWS result }
+    ensures next { result < 39 → span_of schedule.now < slice_index WINDOWS result }
 {
     for (place, window) in WINDOWS.iter().enumerate() {
         let Some(share) = share_of(config, schedule, *window) else {

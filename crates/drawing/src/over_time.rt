@@ -1,12 +1,13 @@
 //! The picture of a heap over a run.
-ghost use Rattle.std.specs.Prelude.{◌≡◌, ◌<◌, ◌≤◌, ◌+◌, ◌++◌, length, OnOk, OnErr};
+ghost use Rattle.std.specs.Prelude.{◌≡◌, ◌<◌, ◌≤◌, ◌+◌, ◌++◌, length, slice_get, OnOk, OnErr};
 ghost use Rattle.trace.specs.Streams.{GrowsByPart, failed};
 ghost use Rattle.drawing.specs.Elements.{svg_text};
-ghost use Rattle.drawing.specs.Samples.{height_of, sample_marks, samples_from, time_axes, time_chart, time_picture};
+ghost use Rattle.drawing.specs.Samples.{next_x, sample_marks, samples_from, time_axes, time_shown, time_chart, time_picture};
 
+use crate::axis::{Axis, height, write_axis, x_of};
 use crate::caption::{Caption, Words};
 use crate::colour::Colour;
-use crate::element::Element;
+use crate::element::{Anchor, Element};
 use crate::frame::{meaning, swatch, write_head};
 use crate::look::look_of;
 use crate::sample::Sample;
@@ -16,40 +17,60 @@ use trace::{Sink, WriteFailed};
 /// How many samples a picture has at most.
 pub const MOST_SAMPLES: usize = 1000;
 
-/// What the height of a picture stands for.
+/// What the width and the height of a picture stand for: its last line, the most pages, and the most objects.
 #[derive(Clone, Copy, Debug, PartialEq, Eq)]
 pub struct Scale {
+    pub lines: u64,
     pub pages: u64,
     pub objects: u64,
 }
 
-/// How high a number stands, of 300 units for the greatest.
-fn height(n: u64, greatest: u64) -> u32
-    ensures height { result ≡ height_of n greatest }
-    ensures within { result ≤ 300 }
+/// The sample at a place, if there is one.
+fn item_at(samples: &[Sample], place: usize) -> Option<Sample>
+    ensures { result ≡ slice_get samples.now place }
 {
-    (300 * u128::from(n.min(greatest)) / u128::from(greatest.max(1))) as u32
+    if place < samples.len() {
+        Some(samples[place])
+    } else {
+        None
+    }
 }
 
-/// Writes what is drawn of a sample.
+/// Where the next sample begins, or, behind the last one, the picture ends.
+fn end_of(scale: &Scale, next: Option<Sample>) -> u32
+    ensures x { result ≡ next_x scale.now.lines next }
+    ensures within { result ≤ 1160 }
+{
+    match next {
+        None => 1160,
+        Some(sample) => x_of(sample.line, scale.lines),
+    }
+}
+
+/// Writes what is drawn of a sample, before the next one.
 fn write_sample<K: Sink>(
-    x: u32,
     scale: &Scale,
     sample: &Sample,
+    next: Option<Sample>,
     sink: &mut K,
 ) -> Result<(), WriteFailed>
-    ensures ok { OnOk result (K.taken sink.new ≡ K.taken sink.old ++ svg_text (sample_marks x scale.now sample.now)) }
-    ensures err { OnErr result (GrowsByPart (K.taken sink.old) (K.taken sink.new) (svg_text (sample_marks x scale.now sample.now))) }
+    ensures ok { OnOk result (K.taken sink.new
+        ≡ K.taken sink.old ++ svg_text (sample_marks scale.now sample.now (next_x scale.now.lines next))) }
+    ensures err { OnErr result (GrowsByPart (K.taken sink.old) (K.taken sink.new)
+        (svg_text (sample_marks scale.now sample.now (next_x scale.now.lines next)))) }
     ensures cause { K.failures sink.new ≡ K.failures sink.old + failed result }
 {
+    let x = x_of(sample.line, scale.lines);
+    let width = end_of(scale, next).saturating_sub(x);
     let high = height(sample.pages_in_use, scale.pages);
-    let pages = Element::Rectangle(x, 400 - high, 1, high, Colour::Sky);
+    let pages = Element::Veil(x, 250 - high, width, high, Colour::Blue);
     let (_, colour) = look_of(sample.phase);
-    let phase = Element::Rectangle(x, 408, 1, 14, colour);
+    let phase = Element::Rectangle(x, 454, width, 14, colour);
     match sample.objects {
         None => write_elements(sink, &[pages, phase]),
         Some(n) => {
-            let objects = Element::Dot(x, 400 - height(n, scale.objects), Colour::Blue);
+            let y = 439 - height(n, scale.objects);
+            let objects = Element::Rectangle(x, y, width, 3, Colour::Blue);
             write_elements(sink, &[pages, phase, objects])
         }
     }
@@ -61,20 +82,33 @@ fn write_samples<K: Sink>(
     samples: &[Sample],
     sink: &mut K,
 ) -> Result<(), WriteFailed>
-    requires { length samples.now ≤ MOST_SAMPLES }
-    ensures ok { OnOk result (K.taken sink.new ≡ K.taken sink.old ++ svg_text (samples_from 80 scale.now samples.now)) }
-    ensures err { OnErr result (GrowsByPart (K.taken sink.old) (K.taken sink.new) (svg_text (samples_from 80 scale.now samples.now))) }
+    ensures ok { OnOk result (K.taken sink.new ≡ K.taken sink.old ++ svg_text (samples_from scale.now samples.now)) }
+    ensures err { OnErr result (GrowsByPart (K.taken sink.old) (K.taken sink.new)
+        (svg_text (samples_from scale.now samples.now))) }
     ensures cause { K.failures sink.new ≡ K.failures sink.old + failed result }
 {
     for (place, sample) in samples.iter().enumerate() {
-        write_sample(80 + place as u32, scale, sample, sink)?;
+        write_sample(scale, sample, item_at(samples, place + 1), sink)?;
     }
     Ok(())
 }
 
-/// What the colours mean, and the axes with their units.
-fn axes(scale: &Scale) -> [Element; 24]
-    ensures { result ≡ time_axes scale.now }
+/// Writes the numbers of the axes, and what is drawn of samples.
+fn write_shown<K: Sink>(scale: &Scale, samples: &[Sample], sink: &mut K) -> Result<(), WriteFailed>
+    ensures ok { OnOk result (K.taken sink.new ≡ K.taken sink.old ++ svg_text (time_shown scale.now samples.now)) }
+    ensures err { OnErr result (GrowsByPart (K.taken sink.old) (K.taken sink.new)
+        (svg_text (time_shown scale.now samples.now))) }
+    ensures cause { K.failures sink.new ≡ K.failures sink.old + failed result }
+{
+    write_axis(Axis::Lines, scale.lines, sink)?;
+    write_axis(Axis::Pages, scale.pages, sink)?;
+    write_axis(Axis::Objects, scale.objects, sink)?;
+    write_samples(scale, samples, sink)
+}
+
+/// What the colours mean, and the names of the axes.
+fn axes() -> [Element; 18]
+    ensures { result ≡ time_axes }
 {
     [
         swatch(0, Colour::Sky),
@@ -91,44 +125,46 @@ fn axes(scale: &Scale) -> [Element; 24]
         meaning(5, Words::Sweeping),
         swatch(6, Colour::Purple),
         meaning(6, Words::Moving),
-        Element::Line(80, 100, 80, 400, Colour::Black),
-        Element::Line(80, 400, 1080, 400, Colour::Black),
-        Element::Line(1080, 100, 1080, 400, Colour::Black),
-        Element::Text(20, 90, 11, Caption::Words(Words::PagesInUse)),
-        Element::Text(40, 104, 11, Caption::Number(scale.pages)),
-        Element::Text(40, 404, 11, Caption::Number(0)),
-        Element::Text(1090, 90, 11, Caption::Words(Words::Objects)),
-        Element::Text(1090, 104, 11, Caption::Number(scale.objects)),
-        Element::Text(1090, 404, 11, Caption::Number(0)),
-        Element::Text(80, 444, 11, Caption::Words(Words::SamplesOfRun)),
+        Element::Text(20, 86, 11, Anchor::Start, Caption::Words(Words::PagesInUse)),
+        Element::Text(20, 276, 11, Anchor::Start, Caption::Words(Words::Objects)),
+        Element::Text(72, 465, 11, Anchor::End, Caption::Words(Words::PhaseName)),
+        Element::Text(
+            620,
+            514,
+            11,
+            Anchor::Middle,
+            Caption::Words(Words::LinesOfTrace),
+        ),
     ]
 }
 
 /// Writes the picture of so many samples.
 fn draw_samples<K: Sink>(scale: &Scale, samples: &[Sample], sink: &mut K) -> Result<(), WriteFailed>
-    requires { length samples.now ≤ MOST_SAMPLES }
     ensures ok { OnOk result (K.taken sink.new ≡ K.taken sink.old ++ svg_text (time_chart scale.now samples.now)) }
-    ensures err { OnErr result (GrowsByPart (K.taken sink.old) (K.taken sink.new) (svg_text (time_chart scale.now samples.now))) }
+    ensures err { OnErr result (GrowsByPart (K.taken sink.old) (K.taken sink.new)
+        (svg_text (time_chart scale.now samples.now))) }
     ensures cause { K.failures sink.new ≡ K.failures sink.old + failed result }
 {
-    write_head(1200, 480, Words::HeapOverTime, &axes(scale), sink)?;
-    write_samples(scale, samples, sink)?;
+    write_head(1200, 528, Words::HeapOverTime, &axes(), sink)?;
+    write_shown(scale, samples, sink)?;
     write_close(sink)
 }
 
-/// Writes the samples of a run to a sink, as an SVG document of lines that end with LF: from left to right
-/// a unit for each sample, the pages in use as bars, the phase as a band of colours below them, and the
-/// objects, where they were counted, as dots. The scale says for which numbers of pages and of objects
-/// the whole height stands; what is more is drawn as high. Only the first MOST_SAMPLES samples are drawn.
-/// It takes no memory. After an error, which comes only where the sink failed, the sink has taken a
-/// beginning of the document.
+/// Writes the samples of a run to a sink, as an SVG document of lines that end with LF: from left to right the lines of
+/// its trace, from the new heap before line 1 to the last line of the scale. Each sample is drawn from its line to that
+/// of the next: the pages in use as a bar, below it the objects, where they were counted, as a dash, and at the bottom
+/// the phase as a band of colours. The scale says for which numbers of pages and of objects the whole height stands; what
+/// is more is drawn as high, and a line behind the last one of the scale as far. Axes have round numbers. Only the first
+/// MOST_SAMPLES samples are drawn. It takes no memory. After an error, which comes only where the sink failed, the sink
+/// has taken a beginning of the document.
 pub fn draw_time<K: Sink>(
     scale: &Scale,
     samples: &[Sample],
     sink: &mut K,
 ) -> Result<(), WriteFailed>
     ensures ok { OnOk result (K.taken sink.new ≡ K.taken sink.old ++ time_picture scale.now samples.now) }
-    ensures err { OnErr result (GrowsByPart (K.taken sink.old) (K.taken sink.new) (time_picture scale.now samples.now)) }
+    ensures err { OnErr result (GrowsByPart (K.taken sink.old) (K.taken sink.new)
+        (time_picture scale.now samples.now)) }
     ensures cause { K.failures sink.new ≡ K.failures sink.old + failed result }
 {
     let count = samples.len().min(MOST_SAMPLES);

@@ -1,36 +1,61 @@
 //! The map of the pages of a heap.
-ghost use Rattle.std.specs.Prelude.{◌≡◌, ◌<◌, ◌≤◌, ◌+◌, ◌++◌, length, OnOk, OnErr};
+ghost use Rattle.std.specs.Prelude.{◌≡◌, ◌<◌, ◌≤◌, ◌+◌, ◌++◌, OnOk, OnErr, IfSome};
 ghost use Rattle.heap_model.specs.Pages.{page_at};
 ghost use Rattle.pages.specs.View.{view_of};
 ghost use Rattle.trace.specs.Streams.{GrowsByPart, failed};
 ghost use Rattle.drawing.specs.Elements.{svg_text};
-ghost use Rattle.drawing.specs.PageMap.{paper_of, free_square, used_square, square, squares, map_height, map_told, pages_picture};
+ghost use Rattle.drawing.specs.PageMap.{paper_of, row_number, free_square, used_square, page_square, square, map_shown, map_told, pages_picture};
 
 use crate::caption::{Caption, Words};
 use crate::colour::Colour;
-use crate::element::Element;
+use crate::element::{Anchor, Element};
 use crate::frame::{meaning, swatch, write_head};
 use crate::look::look_of;
+use crate::squares::{Squares, height};
 use crate::writing::{write_close, write_elements};
 use machine::Heap;
 use pages::PageView;
 use trace::{Sink, WriteFailed};
 
-/// The square of a free page.
-fn free_page(x: u32, y: u32, number: u32) -> [Element; 2]
-    requires within { (x ≤ 65536) × (y ≤ 65536) }
-    ensures { result ≡ free_square x y number }
+/// Writes the number of a page that is the first of a row.
+fn write_number<K: Sink>(
+    x: u32,
+    y: u32,
+    scale: u32,
+    number: u32,
+    sink: &mut K,
+) -> Result<(), WriteFailed>
+    requires within { (y ≤ 65536) × (scale ≤ 4) }
+    ensures ok { OnOk result (K.taken sink.new ≡ K.taken sink.old ++ svg_text (row_number x y scale number)) }
+    ensures err { OnErr result (GrowsByPart (K.taken sink.old) (K.taken sink.new)
+        (svg_text (row_number x y scale number))) }
+    ensures cause { K.failures sink.new ≡ K.failures sink.old + failed result }
 {
+    if x != 36 {
+        return Ok(());
+    }
     let name = Caption::Number(u64::from(number));
+    write_elements(
+        sink,
+        &[Element::Text(32, y + 7 * scale, 8, Anchor::End, name)],
+    )
+}
+
+/// The square of a free page.
+fn free_page(x: u32, y: u32, scale: u32, number: u32) -> [Element; 3]
+    requires within { (1 ≤ scale) × (scale ≤ 4) }
+    ensures { result ≡ free_square x y scale number }
+{
     [
-        Element::Rectangle(x, y, 60, 60, Colour::Pale),
-        Element::Text(x + 4, y + 14, 11, name),
+        Element::Group(Caption::Page(number, None)),
+        Element::Rectangle(x, y, 18 * scale - 1, 11 * scale - 1, Colour::Pale),
+        Element::GroupEnd,
     ]
 }
 
 /// The colour of the square of a page in use.
-fn paper(page: PageView) -> Colour
-    ensures { result ≡ paper_of page }
+fn paper(page: &PageView) -> Colour
+    ensures { result ≡ paper_of page.now }
 {
     if page.leaving {
         Colour::Orange
@@ -42,65 +67,83 @@ fn paper(page: PageView) -> Colour
 }
 
 /// The square of a page in use.
-fn used_page(x: u32, y: u32, number: u32, page: PageView) -> [Element; 6]
-    requires within { (x ≤ 65536) × (y ≤ 65536) }
+fn used_page(x: u32, y: u32, scale: u32, number: u32, page: PageView) -> [Element; 6]
+    requires within { (x ≤ 65536) × (y ≤ 65536) × (1 ≤ scale) × (scale ≤ 4) }
     requires held { page.held ≤ 512 }
-    ensures { result ≡ used_square x y number page }
+    ensures { result ≡ used_square x y scale number page }
 {
+    let paper = paper(&page);
     let held = page.held as u32;
     let blocks = page.class.blocks_per_page();
-    let name = Caption::Number(u64::from(number));
-    let size = Caption::BlockWords(u64::from(page.class.size()));
-    let part = Caption::Part {
-        some: u64::from(held),
-        all: u64::from(blocks),
-    };
-    let bar = (52 * held).div_ceil(blocks);
+    let size = Caption::Number(u64::from(page.class.size()));
+    let (left, bar) = (x + scale, y + 8 * scale);
+    let part = (16 * held).div_ceil(blocks);
     [
-        Element::Rectangle(x, y, 60, 60, paper(page)),
-        Element::Text(x + 4, y + 14, 11, name),
-        Element::Text(x + 4, y + 28, 9, size),
-        Element::Text(x + 4, y + 41, 9, part),
-        Element::Rectangle(x + 4, y + 46, 52, 10, Colour::Grey),
-        Element::Rectangle(x + 4, y + 46, bar, 10, Colour::Blue),
+        Element::Group(Caption::Page(number, Some(page))),
+        Element::Rectangle(x, y, 18 * scale - 1, 11 * scale - 1, paper),
+        Element::Text(left, y + 7 * scale, 4 + 4 * scale, Anchor::Start, size),
+        Element::Rectangle(left, bar, 16 * scale, 2 * scale, Colour::Grey),
+        Element::Rectangle(left, bar, part * scale, 2 * scale, Colour::Blue),
+        Element::GroupEnd,
     ]
 }
 
-/// Writes the square of a page.
-fn write_square<K: Sink>(heap: &Heap, number: u32, sink: &mut K) -> Result<(), WriteFailed>
-    requires { number < 4096 }
-    ensures ok { OnOk result (K.taken sink.new ≡ K.taken sink.old ++ svg_text (square number (view_of (page_at heap.now.store.pages number)))) }
-    ensures err { OnErr result (GrowsByPart (K.taken sink.old) (K.taken sink.new) (svg_text (square number (view_of (page_at heap.now.store.pages number))))) }
+/// Writes the square of a page at a place.
+fn write_page<K: Sink>(
+    x: u32,
+    y: u32,
+    scale: u32,
+    number: u32,
+    page: Option<PageView>,
+    sink: &mut K,
+) -> Result<(), WriteFailed>
+    requires within { (x ≤ 65536) × (y ≤ 65536) × (1 ≤ scale) × (scale ≤ 4) }
+    requires held { IfSome page (λ v. v.held ≤ 512) }
+    ensures ok { OnOk result (K.taken sink.new ≡ K.taken sink.old ++ svg_text (page_square x y scale number page)) }
+    ensures err { OnErr result (GrowsByPart (K.taken sink.old) (K.taken sink.new)
+        (svg_text (page_square x y scale number page))) }
     ensures cause { K.failures sink.new ≡ K.failures sink.old + failed result }
 {
-    let (x, y) = (20 + 64 * (number % 16), 110 + 64 * (number / 16));
-    match heap.page(number as usize) {
-        None => write_elements(sink, &free_page(x, y, number)),
-        Some(page) => write_elements(sink, &used_page(x, y, number, page)),
+    match page {
+        None => write_elements(sink, &free_page(x, y, scale, number)),
+        Some(page) => write_elements(sink, &used_page(x, y, scale, number, page)),
     }
+}
+
+/// Writes the square of a page, by its number, and before the first of a row that number.
+fn write_square<K: Sink>(
+    heap: &Heap,
+    squares: Squares,
+    number: u32,
+    sink: &mut K,
+) -> Result<(), WriteFailed>
+    requires { number < 4096 }
+    ensures ok { OnOk result (K.taken sink.new
+        ≡ K.taken sink.old ++ svg_text (square squares number (view_of (page_at heap.now.store.pages number)))) }
+    ensures err { OnErr result (GrowsByPart (K.taken sink.old) (K.taken sink.new)
+        (svg_text (square squares number (view_of (page_at heap.now.store.pages number))))) }
+    ensures cause { K.failures sink.new ≡ K.failures sink.old + failed result }
+{
+    let (x, y, scale) = (squares.x(number), squares.y(number), squares.scale());
+    write_number(x, y, scale, number, sink)?;
+    write_page(x, y, scale, number, heap.page(number as usize), sink)
 }
 
 /// Writes the squares of all pages.
 fn write_squares<K: Sink>(heap: &Heap, sink: &mut K) -> Result<(), WriteFailed>
-    ensures ok { OnOk result (K.taken sink.new ≡ K.taken sink.old ++ svg_text (squares 0 heap.now.store.pages)) }
-    ensures err { OnErr result (GrowsByPart (K.taken sink.old) (K.taken sink.new) (svg_text (squares 0 heap.now.store.pages))) }
+    ensures ok { OnOk result (K.taken sink.new ≡ K.taken sink.old ++ svg_text (map_shown heap.now)) }
+    ensures err { OnErr result (GrowsByPart (K.taken sink.old) (K.taken sink.new) (svg_text (map_shown heap.now))) }
     ensures cause { K.failures sink.new ≡ K.failures sink.old + failed result }
 {
+    let squares = Squares::for_pages(heap.pages());
     for page in 0..heap.pages() {
-        write_square(heap, page as u32, sink)?;
+        write_square(heap, squares, page as u32, sink)?;
     }
     Ok(())
 }
 
-/// How high the map is.
-fn height(heap: &Heap) -> u32
-    ensures { result ≡ map_height (length heap.now.store.pages) }
-{
-    126 + 64 * heap.pages().div_ceil(16) as u32
-}
-
 /// What is told of the heap as a whole, and what the colours mean.
-fn told(heap: &Heap) -> [Element; 14]
+fn told(heap: &Heap) -> [Element; 15]
     ensures { result ≡ map_told heap.now }
 {
     let (phase, _) = look_of(heap.phase());
@@ -110,8 +153,9 @@ fn told(heap: &Heap) -> [Element; 14]
         pages: heap.pages() as u64,
         free: heap.free_pages() as u64,
     };
+    let old = Caption::OldCopies(heap.copies().old as u64);
     [
-        Element::Text(20, 52, 13, summary),
+        Element::Text(1180, 30, 13, Anchor::End, summary),
         swatch(0, Colour::Pale),
         meaning(0, Words::FreePage),
         swatch(1, Colour::Sky),
@@ -124,23 +168,26 @@ fn told(heap: &Heap) -> [Element; 14]
         meaning(4, Words::HeldBlocks),
         swatch(5, Colour::Grey),
         meaning(5, Words::FreeBlocks),
-        Element::Text(800, 78, 12, Caption::OldCopies(heap.copies().old as u64)),
+        meaning(6, Words::NumberOfWords),
+        Element::Text(1180, 60, 12, Anchor::End, old),
     ]
 }
 
 /// Writes the map of the pages of a heap to a sink, as an SVG document of lines that end with LF: the
 /// phase, the units of work since the last cycle began, how many pages there are and how many are free,
-/// a legend with the number of old copies, and 16 squares in a row, one for each page, with its number. The
-/// square of a page in use tells the words of a block and how many of its blocks are held, and a bar shows
-/// these; it has a colour of its own where the page is leaving, and another where it is receiving. It takes
-/// no memory. After an error, which comes only where the sink failed, the sink has taken a beginning of the
-/// document.
+/// a legend with the number of old copies, and a square for each page. Up to 256 pages stand 16 in a row, up to 1024
+/// 32, and more 64, so all pages that a heap may have fit on 1200 by 800 units; the number of the first stands before
+/// each row. The square of a page in use tells the words of a block, and a bar shows how many of its blocks are held; it
+/// has a colour of its own where the page is leaving, and another where it is receiving. Where the pointer is, a
+/// square tells its page's number, the words of a block, the held blocks of all, and its marks. It takes no memory.
+/// After an error, which comes only where the sink failed, the sink has taken a beginning of the document.
 pub fn draw_pages<K: Sink>(heap: &Heap, sink: &mut K) -> Result<(), WriteFailed>
     ensures ok { OnOk result (K.taken sink.new ≡ K.taken sink.old ++ pages_picture heap.now) }
     ensures err { OnErr result (GrowsByPart (K.taken sink.old) (K.taken sink.new) (pages_picture heap.now)) }
     ensures cause { K.failures sink.new ≡ K.failures sink.old + failed result }
 {
-    write_head(1060, height(heap), Words::PagesOfTheHeap, &told(heap), sink)?;
+    let height = height(heap.pages());
+    write_head(1200, height, Words::PagesOfTheHeap, &told(heap), sink)?;
     write_squares(heap, sink)?;
     write_close(sink)
 }

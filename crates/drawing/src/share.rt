@@ -1,9 +1,9 @@
 //! The mutators' shares of windows.
 ghost use Rattle.std.specs.Prelude.{◌≤◌};
 
-/// The lengths of the windows, in ticks: the powers of ten, twice and five times these. No span of a
-/// schedule has a longer one.
-pub const WINDOWS: [u64; 37] = [
+/// The lengths of the windows, in ticks: powers of ten, twice and five times these. No span of a schedule is as long as the
+/// last two.
+pub const WINDOWS: [u64; 39] = [
     1,
     2,
     5,
@@ -41,6 +41,8 @@ pub const WINDOWS: [u64; 37] = [
     200000000000,
     500000000000,
     1000000000000,
+    2000000000000,
+    5000000000000,
 ];
 
 /// The mutators' shares of a window, in thousandths, rounded down.

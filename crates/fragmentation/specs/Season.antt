@@ -20,6 +20,7 @@ pub record Season : Type 0 where
   pub number : ℕ
   pub before : ℕ → ℕ
 
+-- where no event was done yet
 abbrev pub opening_season : Limits → Season
 opening_season l = record {
   graph = opening l;
@@ -54,6 +55,7 @@ season_swept live s = record s {
   before = needed_since live s;
 }
 
+-- where events have come to after one more
 abbrev pub season_after : Lives → Season → Event → Season
 season_after live s (Command_done m c reply) =
     record s { graph = after_entry s.graph (record { mutator = m; command = c; reply = reply }) }

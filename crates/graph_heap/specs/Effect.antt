@@ -23,6 +23,7 @@ abbrev pub ◌>>=◌ : {A B : Type 0} → Result A Refusal → (A → Result B R
 abbrev pub slot_at : Limits → ℕ → ℕ → Result ℕ Refusal
 slot_at l m s = if nat_lt m l.mutators && nat_lt s l.slots then Ok (m * l.slots + s) else Err refusals.BadSlot
 
+-- where a static stands in the row of roots, behind the slots
 abbrev pub static_at : Limits → ℕ → Result ℕ Refusal
 static_at l k = if nat_lt k l.statics then Ok (l.mutators * l.slots + k) else Err refusals.BadStatic
 
@@ -31,6 +32,7 @@ abbrev pub found : Option Object → Result Object Refusal
 found None = Err refusals.NullSlot
 found (Some o) = Ok o
 
+-- the object of an identity; null is refused
 abbrev pub object_at : List Object → ℕ → Result Object Refusal
 object_at objects id = if id == 0 then Err refusals.NullSlot else found (slice_get objects (id - 1))
 
@@ -38,12 +40,15 @@ object_at objects id = if id == 0 then Err refusals.NullSlot else found (slice_g
 abbrev pub ref_cell : Object → ℕ → Result ℕ Refusal
 ref_cell o i = if takes_refs o.shape then (if nat_lt i (length o.refs) then Ok (slice_index o.refs i) else Err refusals.BadIndex) else Err refusals.WrongKind
 
+-- what a word cell of an object holds
 abbrev pub word_cell : Object → ℕ → Result ℕ Refusal
 word_cell o i = if takes_words o.shape then (if nat_lt i (length o.words) then Ok (slice_index o.words i) else Err refusals.BadIndex) else Err refusals.WrongKind
 
+-- what a reference cell of the object of an identity holds
 abbrev pub ref_at : List Object → ℕ → ℕ → Result ℕ Refusal
 ref_at objects id i = object_at objects id >>= λ o. ref_cell o i
 
+-- what a word cell of the object of an identity holds
 abbrev pub word_at : List Object → ℕ → ℕ → Result ℕ Refusal
 word_at objects id i = object_at objects id >>= λ o. word_cell o i
 
@@ -55,6 +60,7 @@ fitting shape = if fits shape then Ok shape else Err refusals.TooLarge
 abbrev pub next_identity : Graph → Result ℕ Refusal
 next_identity g = if nat_lt (length g.objects) g.limits.identities then Ok (length g.objects + 1) else Err refusals.IdentitiesSpent
 
+-- the refusal for want of space, where there is no room
 abbrev pub with_room : Bool → Result Bool Refusal
 with_room room = if room then Ok true else Err refusals.NoSpace
 
@@ -159,6 +165,7 @@ settled (Err e) = (replies.Refused e, changes.Nothing)
 unfoldable pub reply_of : Bool → Graph → ℕ → Command → Reply
 reply_of room g m c = (settled (effect_of room g m c)).0
 
+-- the graph heap after a command of mutator m
 unfoldable pub next_of : Bool → Graph → ℕ → Command → Graph
 next_of room g m c = changed g (settled (effect_of room g m c)).1
 

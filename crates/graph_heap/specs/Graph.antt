@@ -59,6 +59,7 @@ object_of objects id = if id == 0 then no_object else slice_index_or objects (id
 abbrev pub with_ref : Object → ℕ → ℕ → Object
 with_ref o i v = record { shape = o.shape; refs = slice_set o.refs i v; words = o.words }
 
+-- an object with another value in one word cell
 abbrev pub with_word : Object → ℕ → ℕ → Object
 with_word o i v = record { shape = o.shape; refs = o.refs; words = slice_set o.words i v }
 

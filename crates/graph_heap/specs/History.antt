@@ -16,6 +16,7 @@ had_room _ = true
 abbrev pub IsEntryOf : Graph → Entry → Type 0
 IsEntryOf g e = reply_of (had_room e.reply) g e.mutator e.command ≡ e.reply
 
+-- the graph heap after an entry
 abbrev pub after_entry : Graph → Entry → Graph
 after_entry g e = next_of (had_room e.reply) g e.mutator e.command
 

@@ -4,6 +4,7 @@ use Rattle.graph_heap.specs.declared.reference.Reference.TheInside.{Inside}
 use Rattle.graph_heap.specs.Graph.{Graph, root_cells}
 use Rattle.graph_heap.specs.Stored.{object_in}
 
+-- the slow heap's fields, as a graph heap
 abbrev pub graph_in : Inside → Graph
 graph_in a = record { limits = a.limits; objects = map object_in a.objects.items; roots = a.roots.items; live = a.live.items }
 

@@ -2,6 +2,7 @@
 ghost use Rattle.std.specs.Prelude.{◌≡◌, ◌↔◌, ℕ, [], ◌∷◌, ◌++◌, List, Some, slice_get};
 ghost use Rattle.graph_heap.specs.declared.command.Entry.{Entry};
 ghost use Rattle.graph_heap.specs.declared.command.Change.{Change};
+ghost use Rattle.graph_heap.specs.declared.command.TheConstants.{ARRAY_CELLS, PLAIN_CELLS};
 ghost use Rattle.graph_heap.specs.Graph.{Graph, Object, changed};
 ghost use Rattle.graph_heap.specs.Effect.{IsStep};
 ghost use Rattle.graph_heap.specs.History.{after, after_entry, IsLegal, IsEntryOf};
@@ -22,4 +23,10 @@ pub fn one_step()
 pub fn shapes_stand()
     ensures { (g : Graph) (c : Change) (k : ℕ) (o : Object) → slice_get g.objects k ≡ Some o
         → (p : Object) × (slice_get (changed g c).objects k ≡ Some p) × (p.shape ≡ o.shape) }
+{}
+
+/// How many cells a plain object and an array have at most.
+pub fn cells_are_bounded()
+    ensures plain { PLAIN_CELLS ≡ 252 }
+    ensures array { ARRAY_CELLS ≡ 4000000 }
 {}

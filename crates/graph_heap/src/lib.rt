@@ -13,6 +13,6 @@ pub use admission::{admit, live_row, set_live};
 pub use command::{
     ARRAY_CELLS, Change, Command, Entry, Limits, PLAIN_CELLS, Refusal, Reply, Shape,
 };
-pub use laws::{one_more, one_step, shapes_stand};
+pub use laws::{cells_are_bounded, one_more, one_step, shapes_stand};
 pub use no_memory::NoMemory;
 pub use reference::Reference;

@@ -14,6 +14,7 @@ count_of o = parts_in (length o.refs + length o.words)
 abbrev pub width_by : Run → ℕ → ℕ
 width_by r refs = if r.spine then r.count else min r.count (refs - r.first)
 
+-- how many reference cells a part has, of an object with so many reference and word cells
 unfoldable pub width_in : ℕ → ℕ → ℕ → ℕ
 width_in refs words part = width_by (run_of (refs + words) part) refs
 
@@ -29,6 +30,7 @@ name_of identity = record { identity = identity; part = 0 }
 abbrev pub target_by : Run → ℕ → List ℕ → ℕ → Name
 target_by r identity refs i = if nat_lt i r.count then (if r.spine then record { identity = identity; part = r.first + i } else name_of (slice_index refs (r.first + i))) else null
 
+-- what a reference cell of an object's part names
 unfoldable pub target_of : ℕ → Object → ℕ → ℕ → Name
 target_of identity o part i = target_by (run_of (length o.refs + length o.words) part) identity o.refs i
 
@@ -36,6 +38,7 @@ target_of identity o part i = target_by (run_of (length o.refs + length o.words)
 abbrev pub words_by : Run → List ℕ → List ℕ
 words_by r words = if r.spine then [] else take PART_CELLS (drop r.first words)
 
+-- the word cells of an object's part
 unfoldable pub words_of : Object → ℕ → List ℕ
 words_of o part = words_by (run_of (length o.refs + length o.words) part) o.words
 

@@ -103,6 +103,9 @@ each_grows (s ∷ ss) xs ys p each = (record { begins = prefix_trans s.seen xs y
 pub known_grows : (ss : List SeatView) (xs ys : List Entry) → IsPrefix xs ys → All (IsKnown xs) ss → All (IsKnown ys) ss
 known_grows ss xs ys p each i d lt = let one = each i d lt in record { begins = prefix_trans (slice_index_or ss i d).seen xs ys one.begins p; calls = one.calls }
 
+pub all_seen : (ss : List SeatView) (log : List Entry) → All (IsKnown log) ss → All (λ s. IsPrefix s.seen log) ss
+all_seen ss log each i d lt = (each i d lt).begins
+
 -- of two beginnings of one list, one begins the other
 one_begins : (xs ys zs : List Entry) → IsPrefix xs zs → IsPrefix ys zs → (length xs ≤ length ys) ⊎ (length ys ≤ length xs) → IsPrefix xs ys ⊎ IsPrefix ys xs
 one_begins xs ys zs p q (inl le) = inl (prefix_shorter xs ys zs p q le)

@@ -13,6 +13,7 @@ use Rattle.heap_model.proofs.Left.{change_left}
 use Rattle.heap_model.proofs.Leading.{led_opening, led_more, led_course}
 use Rattle.heap_model.proofs.Settings.{does_settings}
 use Rattle.machine.proofs.Headline.{course_holds}
+use Rattle.machine.proofs.Space.{found_space}
 use Rattle.heap_server.specs.Views.{LockedView}
 use Rattle.heap_server.specs.Kept.{IsKept, cycles_on}
 use Rattle.heap_server.proofs.Turning.{cycles_fall}
@@ -27,7 +28,7 @@ event_kept settings v new e k d counted begun quanta spent cycles =
     (subst (λ (u : ℕ). IsLed new.course (v.begun + cycles_in (e ∷ [])) (v.quanta + quanta_in (e ∷ [])) u) spent more)) in
     record {
       some = k.some;
-      sound = record { settings_are = does_settings v.course e new.course d ∙ k.sound.settings_are; holds = course_holds new.course (led_course new.course new.begun new.quanta new.spent led) };
+      sound = record { settings_are = does_settings v.course e new.course d ∙ k.sound.settings_are; holds = course_holds new.course (led_course new.course new.begun new.quanta new.spent led); space = found_space new.course };
       counted = counted;
       led = led;
       cycles = cycles;
@@ -73,7 +74,7 @@ opening_kept settings v mutators o some history place is calls begun ended quant
     let idle : cycles_on v.course.heap.phase ≡ 0 = ap cycles_on o.phase in
     record {
       some = mutators;
-      sound = record { settings_are = is; holds = course_holds v.course (led_course v.course v.begun v.quanta v.spent led) };
+      sound = record { settings_are = is; holds = course_holds v.course (led_course v.course v.begun v.quanta v.spent led); space = found_space v.course };
       counted = ap length history ∙ sym calls;
       led = led;
       cycles = omega arith;

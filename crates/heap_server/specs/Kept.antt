@@ -6,12 +6,15 @@ use Rattle.heap_model.specs.Event.{Course}
 use Rattle.heap_model.specs.Led.{IsLed}
 use Rattle.heap_model.specs.Settings.{HeapSettings, settings_of}
 use Rattle.machine.specs.Headline.{Holds}
+use Rattle.machine.specs.Space.{FoundSpace}
 use Rattle.heap_server.specs.Views.{LockedView}
 
--- A heap has these settings, and what is promised of every heap with its history holds of it.
+-- A heap has these settings, what is promised of every heap with its history holds of it, and space sufficed for the events
+-- that led to it.
 pub record IsSound (settings : HeapSettings) (r : Course) : Type 0 where
   pub settings_are : settings_of r.heap ≡ settings
   pub holds : Holds r
+  pub space : FoundSpace r
 
 -- how many cycles are on: none in idle, else one
 abbrev pub cycles_on : Phase → ℕ

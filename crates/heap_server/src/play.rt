@@ -116,7 +116,7 @@ fn settled<N: Naming>(
 {
     count_calls(seats.as_slice(), scripts.len(), &mut done);
     let whole = is_whole(scripts, done.as_slice());
-    let (recorded, found) = server.close(seats, pacer);
+    let (recorded, found, _seen) = server.close(seats, pacer);
     let torn = found != recorded.history().len() as u64;
     let all = is_all(torn, whole, used, budgets.len());
     Outcome {

@@ -139,13 +139,16 @@ impl<N: Naming> Server<N> {
         self.locked.lock(rt).reserve(calls)
     }
 
-    /// The heap with the history of all calls, and the number of the place word. All that `new` gave comes back:
-    /// every seat, in any order, and the pacer. It waits for nobody.
-    pub fn close(self, seats: Vec<Seat<N>>, mut pacer: Pacer<N>) -> (Recorded, u64)
+    /// The heap with the history of all calls, the number of the place word, and what was seen of the log by the load that
+    /// found it. All that `new` gave comes back: every seat, in any order, and the pacer. It waits for nobody.
+    pub fn close(self, seats: Vec<Seat<N>>, mut pacer: Pacer<N>) -> (Recorded, u64, Front<N>)
         requires { IsPermutation (mutators_of seats.items) (upto N.names.settings.limits.mutators) }
         ensures sound { IsSound N.names.settings result.0.course }
         ensures counted { length result.0.course.history ≡ sum_by (λ s. s.calls) seats.items }
         ensures led { IsLed result.0.course pacer.begun pacer.quanta pacer.spent }
+        ensures found { result.1 ≡ length result.2 }
+        ensures whole { IsPrefix result.0.course.history result.2 }
+        ensures seen { All (λ s. IsPrefix s.seen result.2) seats.items }
         ensures begins { All (λ s. OneBegins result.0.course.history s.seen) seats.items }
         ensures told { result.1 ≡ length result.0.course.history → All (WasTold result.0.course.history) seats.items }
     {
@@ -158,7 +161,7 @@ impl<N: Naming> Server<N> {
         locked.calls.audit(&mut gathered(seats, &mut seen));
         let found = seen.observe(&place);
         let Locked { recorded, .. } = locked;
-        (recorded, found)
+        (recorded, found, seen)
     }
 }
 

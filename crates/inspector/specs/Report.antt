@@ -12,6 +12,7 @@ use Rattle.nodes.specs.Copies.{copies_in}
 use Rattle.nodes.specs.declared.nodes.counting.Copies.{Copies}
 use Rattle.trace.specs.Streams.{text_of}
 
+-- the name of a phase
 abbrev pub phase_name : Phase → List ℕ
 phase_name phases.Idle = codes "idle"
 phase_name (phases.Roots next) = codes "roots"
@@ -23,6 +24,7 @@ phase_name (phases.Moving m) = codes "moving"
 abbrev pub phase_line : HeapState → List ℕ
 phase_line h = codes "phase " ++ phase_name h.phase
 
+-- the line of the units spent in a cycle
 abbrev pub units_line : HeapState → List ℕ
 units_line h = codes "units " ++ decimal h.units
 
@@ -62,9 +64,11 @@ copies_line c = codes "objects " ++ decimal c.objects ++ codes " parts " ++ deci
 abbrev pub head_lines : HeapState → List (List ℕ)
 head_lines h = phase_line h ∷ units_line h ∷ pages_line h ∷ []
 
+-- the lines behind those of the pages
 abbrev pub tail_lines : HeapState → List (List ℕ)
 tail_lines h = roots_line h ∷ copies_line (copies_in h.store) ∷ []
 
+-- all lines of a report, in their order
 abbrev pub lines_of : HeapState → List (List ℕ)
 lines_of h = head_lines h ++ page_lines 0 h.store.pages ++ tail_lines h
 

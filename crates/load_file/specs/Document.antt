@@ -27,6 +27,7 @@ abbrev pub number_in : Option Data → ℤ
 number_in None = pos 0
 number_in (Some value) = unwrap_or (as_integer value) (pos 0)
 
+-- the gap that a document states
 abbrev pub gap_of : Members → ℤ
 gap_of document = number_in (get_member gap_name document)
 
@@ -51,6 +52,7 @@ abbrev pub gap_fault_in : Option Data → Option DocumentFault
 gap_fault_in None = Some faults.GapMissing
 gap_fault_in (Some value) = number_fault places.Gap (as_integer value)
 
+-- what is wrong with a document's gap
 abbrev pub gap_fault : Members → Option DocumentFault
 gap_fault document = gap_fault_in (get_member gap_name document)
 
@@ -59,6 +61,7 @@ abbrev pub field_fault_in : Place → Option Data → Option DocumentFault
 field_fault_in place None = None
 field_fault_in place (Some value) = number_fault place (as_integer value)
 
+-- what is wrong with a key of a class's table
 abbrev pub field_fault : ℕ → Members → Field → Option DocumentFault
 field_fault size members field = field_fault_in (places.Class size field) (get_member (name_of field) members)
 
@@ -72,9 +75,11 @@ abbrev pub class_fault_in : ℕ → Option Data → Option DocumentFault
 class_fault_in size None = None
 class_fault_in size (Some value) = table_fault size (as_table value)
 
+-- the first fault of a class in a document
 abbrev pub class_fault : Members → ℕ → Option DocumentFault
 class_fault document class = class_fault_in (size_of class) (get_member (size_name class) document)
 
+-- a key of a document isn't known
 abbrev pub unknown_fault : Members → Option DocumentFault
 unknown_fault document = if has_unknown_key document then Some faults.UnknownKey else None
 
@@ -82,6 +87,7 @@ unknown_fault document = if has_unknown_key document then Some faults.UnknownKey
 abbrev pub document_fault : Members → Option DocumentFault
 document_fault document = first_some (unknown_fault document ∷ gap_fault document ∷ map (class_fault document) classes)
 
+-- the first fault of what was read of bytes, which may be no document
 abbrev pub fault_in : Option Members → Option DocumentFault
 fault_in None = Some faults.NotToml
 fault_in (Some document) = document_fault document
@@ -90,6 +96,7 @@ fault_in (Some document) = document_fault document
 abbrev pub bytes_fault : List ℕ → Option DocumentFault
 bytes_fault bytes = if nat_lt 65536 (length bytes) then Some faults.TooLong else fault_in (document_of bytes)
 
+-- what was read of bytes is a document that states the load
 abbrev pub StatesAny : Option Members → Load → Type 0
 StatesAny None load = ⊥
 StatesAny (Some document) load = States document load

@@ -17,6 +17,7 @@ name_of Live = codes "live"
 name_of Rate = codes "rate"
 name_of Burst = codes "burst"
 
+-- the name by which a document gives the gap
 abbrev pub gap_name : List ℕ
 gap_name = codes "gap"
 
@@ -49,5 +50,6 @@ members_in (Some value) = unwrap_or (as_table value) no_members
 abbrev pub is_unknown : List ℕ → Data → Bool
 is_unknown name value = if is_size name then has_unknown_field (members_in (Some value)) else not (bytes_eq gap_name name)
 
+-- some key of a document isn't known
 abbrev pub has_unknown_key : Members → Bool
 has_unknown_key document = any_member is_unknown document

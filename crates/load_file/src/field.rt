@@ -1,5 +1,7 @@
 //! The keys of a class's table.
-ghost use Rattle.std.specs.Prelude.{◌≡◌};
+ghost use Rattle.std.specs.Prelude.{◌≡◌, [], ◌∷◌};
+ghost use Rattle.load_file.specs.declared.field.TheConstants.Field.{ALL};
+ghost use Rattle.load_file.specs.declared.field.Field.TheVariants.{Live, Rate, Burst};
 ghost use Rattle.load_file.specs.Keys.{name_of};
 
 use std::fmt;
@@ -36,3 +38,8 @@ impl fmt::Display for Field {
         f.write_str(self.name())
     }
 }
+
+/// The order in which the keys of a class's table are looked at. It does nothing: its contract is the law.
+pub fn fields_are_in_order()
+    ensures { ALL ≡ Live ∷ Rate ∷ Burst ∷ [] }
+{}

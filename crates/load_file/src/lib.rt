@@ -8,5 +8,5 @@ mod row;
 mod unknown;
 
 pub use fault::{DocumentFault, LoadFault, Place};
-pub use field::Field;
+pub use field::{Field, fields_are_in_order};
 pub use read::read_load;

@@ -12,3 +12,5 @@ pub mod Reached
 pub mod Replying
 pub mod Writing
 pub mod Space
+pub mod Copies
+pub mod Events

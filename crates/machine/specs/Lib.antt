@@ -5,3 +5,4 @@ pub mod Reading
 pub mod Recorded
 pub mod Buffers
 pub mod Space
+pub mod Copies

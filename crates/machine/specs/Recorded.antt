@@ -27,6 +27,7 @@ pub record RecordedHeap : Type 0 where
   pub course : Course
   pub room : ℕ
 
+-- the fields of a heap with its history, as contracts see them
 abbrev pub recorded_of : Inside → RecordedHeap
 recorded_of a = record {
   course = record { heap = a.heap; history = a.history.items; place = a.place };
@@ -43,6 +44,7 @@ abbrev pub begin_done : Result (Unit {0}) Busy → done.Event
 begin_done (Ok begun) = done.Cycle_begun
 begin_done (Err busy) = done.Cycle_on
 
+-- what a call to spend a budget did
 abbrev pub quantum_done : ℕ → Result Spent BudgetOutOfRange → done.Event
 quantum_done budget (Ok spent) = done.Quantum_done budget spent.units spent.phase
 quantum_done budget (Err refused) = done.Quantum_refused budget

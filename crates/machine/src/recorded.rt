@@ -10,7 +10,7 @@ ghost use Rattle.heap_model.specs.Opening.{IsOpening};
 ghost use Rattle.heap_model.specs.Settings.{settings_of, settings_by};
 ghost use Rattle.heap_model.specs.Spent.{cycle_limit};
 ghost use Rattle.machine.specs.Headline.{AlwaysHolds};
-ghost use Rattle.machine.specs.Space.{FindsSpace};
+ghost use Rattle.machine.specs.Space.{FindsSpace, FoundSpace};
 ghost use Rattle.machine.specs.Recorded.{begin_done, quantum_done, RunsFront, commands_in, EachSweepEnds, EndsSoon, HoldsKept};
 
 use crate::collector::{BudgetOutOfRange, Busy, Spent};
@@ -166,10 +166,11 @@ impl Recorded {
         Ok(())
     }
 
-    /// What the type promises of whatever events are done next. It does nothing.
-    fn promise(&self)
+    /// What the type promises, of whatever events led here and of whatever are done next. It does nothing.
+    pub fn promise(&self)
         ensures headline { AlwaysHolds self.now.course }
         ensures space { FindsSpace self.now.course }
+        ensures found { FoundSpace self.now.course }
     {
         let _history = &self.history;
     }

@@ -43,13 +43,6 @@ one_more xs ys n v within before is k l = elim (less_or k n l) [
     less_or : (a b : ℕ) → a < b + 1 → (a < b) ⊎ (a ≡ b)
     less_or a b h = grind arith
 
-max_sum_at : (m a b c x y z n : ℕ) → x ≡ min a m → y ≡ min b m → z ≡ min c m → n ≡ max x (min (y + z) m) → n ≡ min (max a (b + c)) m
-max_sum_at m a b c x y z n e f g h = omega arith
-
-pub max_sum : (held base more new : List ℕ) (a b c : ℕ → ℕ) → AreBlocks held a → AreBlocks base b → AreBlocks more c
-    → ((class : ℕ) → class < CLASSES → slice_index new class ≡ max (slice_index held class) (min (slice_index base class + slice_index more class) MOST)) → AreBlocks new (λ class. max (a class) (b class + c class))
-max_sum held base more new a b c u v w e = λ class l. max_sum_at MOST (a class) (b class) (c class) (slice_index held class) (slice_index base class) (slice_index more class) (slice_index new class) (u class l) (v class l) (w class l) (e class l)
-
 one_below : (xs : List ℕ) (n v limit : ℕ) → n < length xs → ((k : ℕ) → k < n → get_or xs k 0 < limit) → v < limit → (k : ℕ) → k < n + 1 → get_or (set xs n v) k 0 < limit
 one_below xs n v limit within before low k l = elim (less_or k n l) [
   | inl less ↦ subst (λ x. x < limit) (sym (get_or-set_other xs n k v 0 (λ e. omega (arith, e, less)))) (before k less)

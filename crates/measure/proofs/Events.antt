@@ -3,25 +3,13 @@ use Rattle.std.proofs.Common.{◌≡◌, ℕ, ◌<◌, ◌≤◌, ◌↔◌, Lis
 use Rattle.graph_heap.specs.declared.command.Limits.{Limits}
 use Rattle.size_classes.specs.declared.class.TheConstants.{CLASSES}
 use Rattle.heap_model.specs.Event.{Event, Command_done, Cycle_begun, Cycle_on, Quantum_done, Quantum_refused, HaveBudgets}
-use Rattle.space.specs.Demand.{Demand}
-use Rattle.space.specs.Tally.{Tally, opening_tally, after_event, AllKeepTo}
 use Rattle.space.specs.Pace.{Pace, Beat, opening_beat, next_beat, AllKeepPace}
-use Rattle.measure.specs.Meter.{tally_after, beat_after, AreQuanta}
-use Rattle.measure.specs.Measured.{IsDemandWithin, IsPaceWithin, IsLeastDemand, IsLeastPace}
-
-pub tally_append : (t : Tally) (es fs : List Event) → tally_after t (es ++ fs) ≡ tally_after (tally_after t es) fs
-tally_append t [] fs = refl
-tally_append t (e ∷ es) fs = tally_append (after_event t e) es fs
+use Rattle.measure.specs.Meter.{beat_after, AreQuanta}
+use Rattle.measure.specs.Measured.{IsPaceWithin, IsLeastPace}
 
 pub beat_append : (b : Beat) (es fs : List Event) → beat_after b (es ++ fs) ≡ beat_after (beat_after b es) fs
 beat_append b [] fs = refl
 beat_append b (e ∷ es) fs = beat_append (next_beat b e) es fs
-
-pub keeps_append : (d : Demand) (t : Tally) (es fs : List Event) → AllKeepTo d t (es ++ fs) ↔ (AllKeepTo d t es × AllKeepTo d (tally_after t es) fs)
-keeps_append d t [] fs = (λ k. (tt, k), λ k. k.1)
-keeps_append d t (e ∷ es) fs =
-    let r = keeps_append d (after_event t e) es fs in
-    (λ k. (let s = r.0 k.1 in ((k.0, s.0), s.1)), λ k. (k.0.0, r.1 (k.0.1, k.1)))
 
 pub pace_append : (p : Pace) (k : ℕ) (b : Beat) (es fs : List Event) → AllKeepPace p k b (es ++ fs) ↔ (AllKeepPace p k b es × AllKeepPace p k (beat_after b es) fs)
 pace_append p k b [] fs = (λ w. (tt, w), λ w. w.1)
@@ -39,15 +27,6 @@ budgets_append k (Cycle_begun ∷ es) fs = budgets_append k es fs
 budgets_append k (Cycle_on ∷ es) fs = budgets_append k es fs
 budgets_append k (Quantum_refused budget ∷ es) fs = budgets_append k es fs
 
--- the least demand of more events
-pub demand_more : (l : Limits) (es fs : List Event) (d new : Demand) (More : Demand → Type 0) → IsLeastDemand l es d → ((q : Demand) → AllKeepTo q (tally_after (opening_tally l) es) fs ↔ More q)
-    → ((q : Demand) → (IsDemandWithin d q × More q) ↔ IsDemandWithin new q) → IsLeastDemand l (es ++ fs) new
-demand_more l es fs d new More least more both = λ q.
-    let a = keeps_append q (opening_tally l) es fs in (
-      (λ k. (both q).0 ((least q).0 (a.0 k).0, (more q).0 (a.0 k).1)),
-      (λ w. (let v = (both q).1 w in a.1 ((least q).1 v.0, (more q).1 v.1))),
-    )
-
 -- the least pace of more events
 pub pace_more : (l : Limits) (es fs : List Event) (p new : Pace) (More : Pace → Type 0) → IsLeastPace l es p → ((q : Pace) (k : ℕ) → AllKeepPace q k (beat_after (opening_beat l) es) fs ↔ (More q × HaveBudgets k fs))
     → ((q : Pace) → (IsPaceWithin p q × More q) ↔ IsPaceWithin new q) → IsLeastPace l (es ++ fs) new
@@ -64,21 +43,6 @@ Least w most = (class : ℕ) → class < CLASSES → w class ≤ most class
 
 most_two : (a b c : ℕ) → max a b ≤ c ↔ ((a ≤ c) × (b ≤ c))
 most_two a b c = (λ h. (omega (arith, h), omega (arith, h)), λ h. omega (arith, h))
-
-pub demand_live : (d : Demand) (w : ℕ → ℕ) (q : Demand) → (IsDemandWithin d q × Least w q.live) ↔ IsDemandWithin (record { live = λ class. max (d.live class) (w class); allocated = d.allocated }) q
-demand_live d w q = (
-  λ h class l. ((most_two (d.live class) (w class) (q.live class)).1 ((h.0 class l).0, h.1 class l), (h.0 class l).1),
-  λ h. (λ class l. (((most_two (d.live class) (w class) (q.live class)).0 (h class l).0).0, (h class l).1), λ class l. ((most_two (d.live class) (w class) (q.live class)).0 (h class l).0).1),
-)
-
-pub demand_allocated : (d : Demand) (w : ℕ → ℕ) (q : Demand) → (IsDemandWithin d q × Least w q.allocated) ↔ IsDemandWithin (record { live = d.live; allocated = λ class. max (d.allocated class) (w class) }) q
-demand_allocated d w q = (
-  λ h class l. ((h.0 class l).0, (most_two (d.allocated class) (w class) (q.allocated class)).1 ((h.0 class l).1, h.1 class l)),
-  λ h. (λ class l. ((h class l).0, ((most_two (d.allocated class) (w class) (q.allocated class)).0 (h class l).1).0), λ class l. ((most_two (d.allocated class) (w class) (q.allocated class)).0 (h class l).1).1),
-)
-
-pub demand_same : (d q : Demand) → (IsDemandWithin d q × Unit {0}) ↔ IsDemandWithin d q
-demand_same d q = (λ h. h.0, λ h. (h, tt))
 
 pub pace_live : (p : Pace) (w : ℕ → ℕ) (q : Pace) → (IsPaceWithin p q × Least w q.live) ↔ IsPaceWithin (record { live = λ class. max (p.live class) (w class); busy = p.busy; idle = p.idle }) q
 pace_live p w q = (
@@ -101,15 +65,7 @@ pace_idle p w q = (
 pub pace_same : (p q : Pace) → (IsPaceWithin p q × Unit {0}) ↔ IsPaceWithin p q
 pace_same p q = (λ h. h.0, λ h. (h, tt))
 
--- quanta keep to each demand, and to each pace where their budget is great enough
-pub quanta_keep : (d : Demand) (t : Tally) (budget : ℕ) (qs : List Event) → AreQuanta budget qs → AllKeepTo d t qs
-quanta_keep d t budget [] each = tt
-quanta_keep d t budget (Quantum_done b units phase ∷ qs) each = (tt, quanta_keep d (after_event t (Quantum_done b units phase)) budget qs each.1)
-quanta_keep d t budget (Command_done m c reply ∷ qs) each = elim each [ ]
-quanta_keep d t budget (Cycle_begun ∷ qs) each = elim each [ ]
-quanta_keep d t budget (Cycle_on ∷ qs) each = elim each [ ]
-quanta_keep d t budget (Quantum_refused b ∷ qs) each = elim each [ ]
-
+-- quanta keep to each pace where their budget is great enough
 pub quanta_pace : (p : Pace) (k : ℕ) (b : Beat) (budget : ℕ) (qs : List Event) → AreQuanta budget qs → AllKeepPace p k b qs ↔ HaveBudgets k qs
 quanta_pace p k b budget [] each = (λ w. w, λ w. w)
 quanta_pace p k b budget (Quantum_done given units phase ∷ qs) each =

@@ -2,7 +2,12 @@ pub mod Counting
 pub mod Events
 pub mod Living
 pub mod Working
+pub mod Seasons
 pub mod Making
+pub mod Paging
+pub mod Leasts
+pub mod Shifting
+pub mod Asking
 pub mod Metering
 pub mod Summing
 pub mod Playing

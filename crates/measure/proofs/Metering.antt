@@ -16,44 +16,75 @@ use Rattle.heap_model.specs.Event.{Course, Event, Command_done, Cycle_on, Enters
 use Rattle.heap_model.proofs.Left.{change_left}
 use Rattle.heap_model.proofs.Freed.{objects_stay}
 use Rattle.heap_model.proofs.Course.{founded, present_row, enters_step, enters_present}
-use Rattle.space.specs.Demand.{Demand, blocks_of, asked_by, asked_for}
-use Rattle.space.specs.Tally.{Tally, opening_tally, after_event, is_tracing}
+use Rattle.space.specs.Demand.{blocks_of, asked_by, asked_for}
+use Rattle.space.specs.Tally.{is_tracing}
 use Rattle.space.specs.Pace.{Pace, Beat, AllKeepPace, opening_beat, next_beat, in_cycle}
 use Rattle.space.proofs.Pacing.{more_since}
+use Rattle.fragmentation.specs.Season.{Season, opening_season, season_after, made_since}
 use Rattle.measure.specs.declared.meter.Meter.{Meter}
+use Rattle.measure.specs.declared.season.Season.{Season as Counted}
 use Rattle.measure.specs.Counts.{AreBlocks}
+use Rattle.measure.specs.Season.{IsNothing, AsksMost}
 use Rattle.measure.specs.Measured.{IsPaceWithin}
-use Rattle.measure.specs.Meter.{tally_after, beat_after, AllFit, Asks, Allocates, AreOf, Holds, Needs, Measures}
-use Rattle.measure.proofs.Counting.{are_sum, are_max, are_same, max_sum}
-use Rattle.measure.proofs.Events.{tally_append, beat_append, demand_more, pace_more, Least, demand_allocated, demand_same, pace_live, pace_busy, pace_idle, pace_same, budgets_append}
+use Rattle.measure.specs.Meter.{season_at, none_live, beat_after, AllFit, Asks, Allocates, AreOf, Holds, Needs, Shifts, Measures}
+use Rattle.measure.proofs.Counting.{are_sum, are_max, are_same}
+use Rattle.measure.proofs.Events.{beat_append, pace_more, Least, pace_live, pace_busy, pace_idle, pace_same, budgets_append}
+use Rattle.measure.proofs.Seasons.{season_append}
+use Rattle.measure.proofs.Paging.{pages_none}
+use Rattle.measure.proofs.Shifting.{shifts_still}
+use Rattle.measure.proofs.Asking.{shifts_command}
 use Rattle.measure.proofs.Making.{grown, not_grown, fit_after, fit_opening}
 
 -- before the first event
-pub opening_measures : (h : HeapState) (m : Meter) → IsOpening h → m.graph ≡ opening h.limits → m.on ≡ false → m.budget ≡ None → AreBlocks m.since_last (λ class. 0) → AreBlocks m.since_base (λ class. 0) → AreBlocks m.asked (λ class. 0)
-    → AreBlocks m.live (λ class. 0) → AreBlocks m.allocated (λ class. 0) → AreBlocks m.busy (λ class. 0) → AreBlocks m.idle (λ class. 0) → Measures h.limits [] (opened h) m
-opening_measures h m o graph off none last base asked live allocated busy idle = record {
+opening_shifts : (l : Limits) (m : Meter) → AreBlocks m.season.live_last (λ class. 0) → AreBlocks m.season.live_base (λ class. 0) → AreBlocks m.season.before (λ class. 0) → IsNothing m.most → Shifts l [] m
+opening_shifts l m last base before n = record {
+  lives = none_live;
+  before = λ class. 0;
+  lived = record { least = λ live k n class low. omega arith; sooner = λ live k class low. omega arith; exact = λ live a class low. refl };
+  last_held = last;
+  base_held = base;
+  before_held = before;
+  together = λ class. 0;
+  together_least = record { above = λ live q k class low. omega arith; below = λ live q a k. tt };
+  together_held = n.together;
+  gathered = 0;
+  gathered_least = record { above = λ live q k. omega arith; below = λ live q a k. tt };
+  gathered_held = (let e = n.gathered in omega (arith, e));
+  made = 0;
+  made_least = record { above = λ live q k. omega arith; below = λ live q a k. tt };
+  made_held = (let e = n.made in omega (arith, e));
+  live = 0;
+  live_least = λ live pages k most. omega arith;
+  live_most = λ n. pages_none;
+  live_held = (let e = n.live in omega (arith, e));
+}
+
+pub opening_measures : (h : HeapState) (m : Meter) → IsOpening h → m.graph ≡ opening h.limits → m.on ≡ false → m.budget ≡ None → m.season.tracing ≡ false
+    → AreBlocks m.season.live_last (λ class. 0) × AreBlocks m.season.live_base (λ class. 0) × AreBlocks m.season.before (λ class. 0)
+    → AreBlocks m.season.since_last (λ class. 0) × AreBlocks m.season.since_base (λ class. 0) × AreBlocks m.season.since_swept (λ class. 0)
+    → IsNothing m.most → AreBlocks m.asked (λ class. 0) → AreBlocks m.live (λ class. 0) → AreBlocks m.busy (λ class. 0) → AreBlocks m.idle (λ class. 0) → Measures h.limits [] (opened h) m
+opening_measures h m o graph off none still lives since nothing asked live busy idle = record {
   are = record {
     graph = refl;
     same = refl;
     on = sym (ap in_cycle o.phase);
-    rests = λ e. refl;
+    tracing = sym (ap is_tracing o.phase);
     last = omega arith;
     base = omega arith;
+    swept = omega arith;
+    number = omega arith;
     shapes = fit_opening h.limits;
   };
-  holds = record { graph = graph; on = off; since_last = last; since_base = base; asked = asked };
+  holds = record { graph = graph; on = off; tracing = still; last = since.0; base = since.1; swept = since.2; asked = asked };
   needs = record {
-    most = record { live = λ class. 0; allocated = λ class. 0 };
     pace = record { live = λ class. 0; busy = λ class. 0; idle = λ class. 0 };
-    demands = λ q. (λ w class l. (omega arith, omega arith), λ w. tt);
     paces = λ q k. (λ w. (λ class l. (omega arith, omega arith, omega arith), tt), λ w. tt);
     live = live;
-    allocated = allocated;
-    pace_live = live;
     busy = busy;
     idle = idle;
     budget = λ k. subst (λ o. Unit {0} ↔ IfSome o (λ b. k ≤ b)) (sym none) (λ w. tt, λ w. tt);
   };
+  shifts = opening_shifts h.limits m lives.0 lives.1 lives.2 nothing;
 }
 
 pub not_more : (more : Bool) (a b : ℕ) → (a < b → more ≡ true) → more ≡ false → b ≤ a
@@ -70,8 +101,8 @@ module _ (l : Limits) (es : List Event) (r new : Course) (m : ℕ) (c : Command)
   abbrev g : Graph
   g = present_of r
 
-  abbrev t : Tally
-  t = tally_after (opening_tally l) es
+  abbrev t : Season
+  t = season_at none_live (opening_season l) es
 
   abbrev b : Beat
   b = beat_after (opening_beat l) es
@@ -110,14 +141,16 @@ module _ (l : Limits) (es : List Event) (r new : Course) (m : ℕ) (c : Command)
       let x : length (present_of new).objects ≡ length (changed g change).objects = ap (λ (z : Graph). length z.objects) (enters_present r new m c reply w e) in
       omega (arith, o, x)
 
-  are_command : AreOf (after_event t event) (next_beat b event) new
+  are_command : AreOf (season_after none_live t event) (next_beat b event) new
   are_command = record {
     graph = into t.graph v.are.graph;
     same = into b.graph v.are.same;
     on = v.are.on ∙ ap in_cycle (sym phase_stays);
-    rests = λ off. v.are.rests (ap is_tracing (sym phase_stays) ∙ off);
+    tracing = v.are.tracing ∙ ap is_tracing (sym phase_stays);
     last = (let q = v.are.last in let o = longer in omega (arith, q, o));
     base = (let q = v.are.base in let o = longer in omega (arith, q, o));
+    swept = (let q = v.are.swept in let o = longer in omega (arith, q, o));
+    number = v.are.number;
     shapes = subst AllFit (sym (enters_present r new m c reply w e)) (fit_after g change v.are.shapes (founded g (room_for r.heap c) m c (present_row r.heap g (snapshot_of r) w.stands.consistent)));
   }
 
@@ -142,17 +175,11 @@ module _ (l : Limits) (es : List Event) (r new : Course) (m : ℕ) (c : Command)
     asked_beat : AreBlocks asked (asked_for b.graph m c)
     asked_beat = are_same asked (asked_for old.graph m c) (asked_for b.graph m c) (λ class low. ap (λ z. asked_for z m c class) (v.are.same ∙ sym meter_graph)) a
 
-    abbrev wanted : ℕ → ℕ
-    wanted class = blocks_of (drop t.base t.graph.objects) class + asked_for t.graph m c class
-
     abbrev now : ℕ → ℕ
     now class = b.asked class + asked_for b.graph m c class
 
     now_held : AreBlocks mid.asked now
     now_held = are_sum old.asked asked mid.asked b.asked (asked_for b.graph m c) v.holds.asked asked_beat s.sum
-
-    abbrev most_new : Demand
-    most_new = record { live = v.needs.most.live; allocated = λ class. max (v.needs.most.allocated class) (wanted class) }
 
     budgets : (k : ℕ) → HaveBudgets k (es ++ event ∷ []) ↔ IfSome mid.budget (λ budget. k ≤ budget)
     budgets k =
@@ -172,13 +199,9 @@ module _ (l : Limits) (es : List Event) (r new : Course) (m : ℕ) (c : Command)
     needs_with o is busy idle both are_busy are_idle =
         let pace_new : Pace = record { live = v.needs.pace.live; busy = busy; idle = idle } in
         record {
-          most = most_new;
           pace = pace_new;
-          demands = demand_more l es (event ∷ []) v.needs.most most_new (λ q. Least wanted q.allocated) v.needs.demands (λ q. (λ k. k.0, λ k. (k, tt))) (demand_allocated v.needs.most wanted);
           paces = pace_more l es (event ∷ []) v.needs.pace pace_new (λ q. Least now (given o q)) v.needs.paces (keeps_by o is) both;
-          live = subst (λ z. AreBlocks z v.needs.most.live) (sym s.live) v.needs.live;
-          allocated = max_sum old.allocated old.since_base asked mid.allocated v.needs.most.allocated (blocks_of (drop t.base t.graph.objects)) (asked_for t.graph m c) v.needs.allocated v.holds.since_base asked_is s.allocated;
-          pace_live = subst (λ z. AreBlocks z v.needs.pace.live) (sym s.live) v.needs.pace_live;
+          live = subst (λ z. AreBlocks z v.needs.pace.live) (sym s.live) v.needs.live;
           busy = are_busy;
           idle = are_idle;
           budget = budgets;
@@ -218,47 +241,55 @@ module _ (l : Limits) (es : List Event) (r new : Course) (m : ℕ) (c : Command)
 
       needs_step : Needs l (es ++ event ∷ []) step
       needs_step = subst (Needs l (es ++ event ∷ [])) (sym z) (record {
-        most = needs_now.most;
         pace = needs_now.pace;
-        demands = needs_now.demands;
         paces = needs_now.paces;
         live = needs_now.live;
-        allocated = needs_now.allocated;
-        pace_live = needs_now.pace_live;
         busy = needs_now.busy;
         idle = needs_now.idle;
         budget = needs_now.budget;
       })
 
-      measured_by : (fin : Meter) → Holds (after_event t event) (next_beat b event) fin → Needs l (es ++ event ∷ []) fin → Measures l (es ++ event ∷ []) new fin
-      measured_by fin h n = record {
-        are = subst (λ x. AreOf x (beat_after (opening_beat l) (es ++ event ∷ [])) new) (sym (tally_append (opening_tally l) es (event ∷ []))) (subst (λ x. AreOf (after_event t event) x new) (sym (beat_append (opening_beat l) es (event ∷ []))) are_command);
-        holds = subst (λ x. Holds x (beat_after (opening_beat l) (es ++ event ∷ [])) fin) (sym (tally_append (opening_tally l) es (event ∷ []))) (subst (λ x. Holds (after_event t event) x fin) (sym (beat_append (opening_beat l) es (event ∷ []))) h);
+      measured_by : (fin : Meter) → Holds (season_after none_live t event) (next_beat b event) fin → Needs l (es ++ event ∷ []) fin → Shifts l (es ++ event ∷ []) fin → Measures l (es ++ event ∷ []) new fin
+      measured_by fin h n w = record {
+        are = subst (λ x. AreOf x (beat_after (opening_beat l) (es ++ event ∷ [])) new) (sym (season_append none_live (opening_season l) es (event ∷ []))) (subst (λ x. AreOf (season_after none_live t event) x new) (sym (beat_append (opening_beat l) es (event ∷ []))) are_command);
+        holds = subst (λ x. Holds x (beat_after (opening_beat l) (es ++ event ∷ [])) fin) (sym (season_append none_live (opening_season l) es (event ∷ []))) (subst (λ x. Holds (season_after none_live t event) x fin) (sym (beat_append (opening_beat l) es (event ∷ []))) h);
         needs = n;
+        shifts = w;
       }
+
+      -- the counts are those from before
+      season_stays : step.season ≡ old.season
+      season_stays = ap (λ (x : Meter). x.season) z ∙ s.season
+
+      shifts_by : (fin : Meter) → fin.most ≡ step.most → fin.season.live_last ≡ step.season.live_last → fin.season.live_base ≡ step.season.live_base → fin.season.before ≡ step.season.before → Shifts l (es ++ event ∷ []) fin
+      shifts_by fin most last base before =
+          let to : mid.most ≡ fin.most = sym (most ∙ ap (λ (x : Meter). x.most) z) in
+          shifts_command l es m c reply old fin v.shifts v.are.number asked asked_is v.holds.base v.holds.swept (subst (AsksMost old.season asked old.most) to s.most)
+          (last ∙ ap (λ (x : Counted). x.live_last) season_stays) (base ∙ ap (λ (x : Counted). x.live_base) season_stays) (before ∙ ap (λ (x : Counted). x.before) season_stays)
+
+      held_before : (n : ℕ) (list : Counted → List ℕ) → AreBlocks (list old.season) (made_since n t) → AreBlocks (list step.season) (made_since n t)
+      held_before n list h = subst (λ y. AreBlocks (list y) (made_since n t)) (sym season_stays) h
 
       -- an object was allocated
       pub allocated_measures : (fin : Meter) → length mid.graph.objects < length step.graph.objects → Allocates asked step fin → Measures l (es ++ event ∷ []) new fin
       allocated_measures fin more al = measured_by fin (record {
         graph = ap (λ (x : Meter). x.graph) al.same ∙ step_graph;
         on = ap (λ (x : Meter). x.on) (al.same) ∙ ap (λ (x : Meter). x.on) z ∙ s.on ∙ v.holds.on;
-        since_last = counts t.last fin.since_last v.are.last (are_sum step.since_last asked fin.since_last (blocks_of (drop t.last t.graph.objects)) (asked_for t.graph m c) (subst (λ y. AreBlocks y (blocks_of (drop t.last t.graph.objects))) (sym (ap (λ (x : Meter). x.since_last) z ∙ s.since_last)) v.holds.since_last) asked_is al.since_last);
-        since_base = counts t.base fin.since_base v.are.base (are_sum step.since_base asked fin.since_base (blocks_of (drop t.base t.graph.objects)) (asked_for t.graph m c) (subst (λ y. AreBlocks y (blocks_of (drop t.base t.graph.objects))) (sym (ap (λ (x : Meter). x.since_base) z ∙ s.since_base)) v.holds.since_base) asked_is al.since_base);
+        tracing = ap (λ (x : Counted). x.tracing) (al.season.same) ∙ ap (λ (x : Counted). x.tracing) season_stays ∙ v.holds.tracing;
+        last = counts t.last fin.season.since_last v.are.last (are_sum step.season.since_last asked fin.season.since_last (made_since t.last t) (asked_for t.graph m c) (held_before t.last (λ (x : Counted). x.since_last) v.holds.last) asked_is al.season.last);
+        base = counts t.base fin.season.since_base v.are.base (are_sum step.season.since_base asked fin.season.since_base (made_since t.base t) (asked_for t.graph m c) (held_before t.base (λ (x : Counted). x.since_base) v.holds.base) asked_is al.season.base);
+        swept = counts t.swept fin.season.since_swept v.are.swept (are_sum step.season.since_swept asked fin.season.since_swept (made_since t.swept t) (asked_for t.graph m c) (held_before t.swept (λ (x : Counted). x.since_swept) v.holds.swept) asked_is al.season.swept);
         asked = subst (λ y. AreBlocks y now) (sym (ap (λ (x : Meter). x.asked) al.same ∙ ap (λ (x : Meter). x.asked) z)) now_held;
       }) (subst (Needs l (es ++ event ∷ [])) (sym al.same) (record {
-        most = needs_step.most;
         pace = needs_step.pace;
-        demands = needs_step.demands;
         paces = needs_step.paces;
         live = needs_step.live;
-        allocated = needs_step.allocated;
-        pace_live = needs_step.pace_live;
         busy = needs_step.busy;
         idle = needs_step.idle;
         budget = needs_step.budget;
-      }))
+      })) (shifts_by fin (ap (λ (x : Meter). x.most) al.same) (ap (λ (x : Counted). x.live_last) al.season.same) (ap (λ (x : Counted). x.live_base) al.season.same) (ap (λ (x : Counted). x.before) al.season.same))
         where
-          counts : (n : ℕ) (held : List ℕ) → n ≤ length (present_of r).objects → AreBlocks held (λ class. blocks_of (drop n t.graph.objects) class + asked_for t.graph m c class) → AreBlocks held (blocks_of (drop n (after_entry t.graph entry).objects))
+          counts : (n : ℕ) (held : List ℕ) → n ≤ length (present_of r).objects → AreBlocks held (λ class. made_since n t class + asked_for t.graph m c class) → AreBlocks held (blocks_of (drop n (after_entry t.graph entry).objects))
           counts n held low h = are_same held _ _ (λ class small. since n class low ∙ ap (λ x. blocks_of (drop n t.graph.objects) class + x) (grown (room_for r.heap c) g m c class (grows_by more) ∙ sym (asked_same t.graph v.are.graph class))) h
 
       -- none was
@@ -266,12 +297,14 @@ module _ (l : Limits) (es : List Event) (r new : Course) (m : ℕ) (c : Command)
       kept_measures less = measured_by step (record {
         graph = step_graph;
         on = ap (λ (x : Meter). x.on) z ∙ s.on ∙ v.holds.on;
-        since_last = counts t.last step.since_last v.are.last (subst (λ y. AreBlocks y (blocks_of (drop t.last t.graph.objects))) (sym (ap (λ (x : Meter). x.since_last) z ∙ s.since_last)) v.holds.since_last);
-        since_base = counts t.base step.since_base v.are.base (subst (λ y. AreBlocks y (blocks_of (drop t.base t.graph.objects))) (sym (ap (λ (x : Meter). x.since_base) z ∙ s.since_base)) v.holds.since_base);
+        tracing = ap (λ (x : Counted). x.tracing) season_stays ∙ v.holds.tracing;
+        last = counts t.last step.season.since_last v.are.last (held_before t.last (λ (x : Counted). x.since_last) v.holds.last);
+        base = counts t.base step.season.since_base v.are.base (held_before t.base (λ (x : Counted). x.since_base) v.holds.base);
+        swept = counts t.swept step.season.since_swept v.are.swept (held_before t.swept (λ (x : Counted). x.since_swept) v.holds.swept);
         asked = subst (λ y. AreBlocks y now) (sym (ap (λ (x : Meter). x.asked) z)) now_held;
-      }) needs_step
+      }) needs_step (shifts_by step refl refl refl refl)
         where
-          counts : (n : ℕ) (held : List ℕ) → n ≤ length (present_of r).objects → AreBlocks held (blocks_of (drop n t.graph.objects)) → AreBlocks held (blocks_of (drop n (after_entry t.graph entry).objects))
+          counts : (n : ℕ) (held : List ℕ) → n ≤ length (present_of r).objects → AreBlocks held (made_since n t) → AreBlocks held (blocks_of (drop n (after_entry t.graph entry).objects))
           counts n held low h = are_same held _ _ (λ class small. (let x = since n class low in let y = not_grown (room_for r.heap c) g m c class (stays_by less) in omega (arith, x, y))) h
 
 -- where nothing is done
@@ -280,18 +313,17 @@ skip_measures l es r m v = subst (λ x. Measures l x r m) (sym (append-nil es)) 
 
 pub goes_on_measures : (l : Limits) (es : List Event) (r : Course) (m : Meter) → Measures l es r m → Measures l (es ++ Cycle_on ∷ []) r m
 goes_on_measures l es r m v = record {
-  are = subst (λ x. AreOf x (beat_after (opening_beat l) (es ++ Cycle_on ∷ [])) r) (sym (tally_append (opening_tally l) es (Cycle_on ∷ []))) (subst (λ x. AreOf (tally_after (opening_tally l) es) x r) (sym (beat_append (opening_beat l) es (Cycle_on ∷ []))) v.are);
-  holds = subst (λ x. Holds x (beat_after (opening_beat l) (es ++ Cycle_on ∷ [])) m) (sym (tally_append (opening_tally l) es (Cycle_on ∷ []))) (subst (λ x. Holds (tally_after (opening_tally l) es) x m) (sym (beat_append (opening_beat l) es (Cycle_on ∷ []))) v.holds);
+  are = subst (λ x. AreOf x (beat_after (opening_beat l) (es ++ Cycle_on ∷ [])) r) (sym (season_append none_live (opening_season l) es (Cycle_on ∷ [])))
+      (subst (λ x. AreOf (season_at none_live (opening_season l) es) x r) (sym (beat_append (opening_beat l) es (Cycle_on ∷ []))) v.are);
+  holds = subst (λ x. Holds x (beat_after (opening_beat l) (es ++ Cycle_on ∷ [])) m) (sym (season_append none_live (opening_season l) es (Cycle_on ∷ [])))
+      (subst (λ x. Holds (season_at none_live (opening_season l) es) x m) (sym (beat_append (opening_beat l) es (Cycle_on ∷ []))) v.holds);
   needs = record {
-    most = v.needs.most;
     pace = v.needs.pace;
-    demands = demand_more l es (Cycle_on ∷ []) v.needs.most v.needs.most (λ q. Unit {0}) v.needs.demands (λ q. (λ k. tt, λ k. (tt, tt))) (demand_same v.needs.most);
     paces = pace_more l es (Cycle_on ∷ []) v.needs.pace v.needs.pace (λ q. Unit {0}) v.needs.paces (λ q k. (λ h. (tt, tt), λ h. (tt, tt))) (pace_same v.needs.pace);
     live = v.needs.live;
-    allocated = v.needs.allocated;
-    pace_live = v.needs.pace_live;
     busy = v.needs.busy;
     idle = v.needs.idle;
     budget = λ k. (let p = budgets_append k es (Cycle_on ∷ []) in let q = v.needs.budget k in (λ h. q.0 (p.0 h).0, λ h. p.1 (q.1 h, tt)));
   };
+  shifts = shifts_still l es (Cycle_on ∷ []) m m v.shifts (λ Bound live. (tt, tt)) (λ live. refl) refl refl;
 }

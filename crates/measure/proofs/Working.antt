@@ -7,10 +7,10 @@ use Rattle.heap_model.specs.Action.{Action, Scans_root, Ends_roots, Scans_header
 use Rattle.heap_model.specs.Event.{Course, Event, Command_done, Cycle_begun, Cycle_on, Quantum_done, Quantum_refused, Runs, Collects, IsCourse, present_of}
 use Rattle.heap_model.proofs.Stood.{idle_chain}
 use Rattle.heap_model.proofs.Course.{does_course, collects_present}
-use Rattle.space.specs.Tally.{Tally, is_tracing}
+use Rattle.space.specs.Tally.{is_tracing}
 use Rattle.space.specs.Pace.{Beat, next_beat, in_cycle}
 use Rattle.space.proofs.Pacing.{idle_phase}
-use Rattle.measure.specs.Meter.{tally_after, beat_after, AreQuanta}
+use Rattle.measure.specs.Meter.{beat_after, AreQuanta}
 
 -- tracing that is on was on before
 traces_before : (h after : HeapState) (cost : ℕ) → Action h cost after → is_tracing after.phase ≡ true → is_tracing h.phase ≡ true
@@ -29,46 +29,17 @@ traces_before h after cost (Chooses_none class page best chosen at l m ch) t = a
 traces_before h after cost (Moves_block class page block chosen i to j p q new e pg lv n pos at fr w0 pages) t = absurd (let z : false ≡ true = t in cc)
 traces_before h after cost (Ends_moving done) t = absurd (let z : false ≡ true = t in cc)
 
-chain_traces : (h after : HeapState) (spent : ℕ) → Chain h spent after → is_tracing after.phase ≡ true → is_tracing h.phase ≡ true
+pub chain_traces : (h after : HeapState) (spent : ℕ) → Chain h spent after → is_tracing after.phase ≡ true → is_tracing h.phase ≡ true
 chain_traces h after spent Nothing_done t = t
 chain_traces h after spent (Then u cost j k linked chain links action) t = chain_traces h j u chain (traces_before (record j { store = linked }) k cost action t)
 
-runs_trace : (budget : ℕ) (qs : List Event) (r new : Course) → AreQuanta budget qs → Runs r qs new → is_tracing new.heap.phase ≡ true → is_tracing r.heap.phase ≡ true
+pub runs_trace : (budget : ℕ) (qs : List Event) (r new : Course) → AreQuanta budget qs → Runs r qs new → is_tracing new.heap.phase ≡ true → is_tracing r.heap.phase ≡ true
 runs_trace budget [] r new each runs t = ap (λ (x : Course). is_tracing x.heap.phase) (sym runs) ∙ t
 runs_trace budget (Quantum_done b units phase ∷ qs) r new each runs t = chain_traces r.heap runs.0.heap units runs.1.turn.chain (runs_trace budget qs runs.0 new each.1 runs.2 t)
 runs_trace budget (Command_done m c reply ∷ qs) r new each runs t = elim each [ ]
 runs_trace budget (Cycle_begun ∷ qs) r new each runs t = elim each [ ]
 runs_trace budget (Cycle_on ∷ qs) r new each runs t = elim each [ ]
 runs_trace budget (Quantum_refused b ∷ qs) r new each runs t = elim each [ ]
-
--- the tally after them
-abbrev rested : Bool → Tally → Tally
-rested tracing t = if tracing then t else record t { base = t.last }
-
-rested_same : (b : Bool) (t : Tally) → (b ≡ false → t.base ≡ t.last) → t ≡ rested b t
-rested_same true t rest = refl
-rested_same false t rest = ap (λ z. record t { base = z }) (rest refl)
-
-rested_twice : (a b : Bool) (t : Tally) → (b ≡ true → a ≡ true) → rested b (rested a t) ≡ rested b t
-rested_twice true b t back = refl
-rested_twice false true t back = absurd (let z = back refl in cc)
-rested_twice false false t back = refl
-
-rested_rests : (b : Bool) (t : Tally) → b ≡ false → (rested b t).base ≡ (rested b t).last
-rested_rests true t e = absurd (cc)
-rested_rests false t e = refl
-
-pub quanta_tally : (budget : ℕ) (qs : List Event) (t : Tally) (r new : Course) → AreQuanta budget qs → Runs r qs new → (is_tracing r.heap.phase ≡ false → t.base ≡ t.last)
-    → tally_after t qs ≡ (if is_tracing new.heap.phase then t else record t { base = t.last })
-quanta_tally budget [] t r new each runs rest = rested_same (is_tracing r.heap.phase) t rest ∙ ap (λ (x : Course). rested (is_tracing x.heap.phase) t) (sym runs)
-quanta_tally budget (Quantum_done b units phase ∷ qs) t r new each runs rest =
-    let is : runs.0.heap.phase ≡ phase = runs.1.ends in
-    quanta_tally budget qs (rested (is_tracing phase) t) runs.0 new each.1 runs.2 (λ e. rested_rests (is_tracing phase) t (ap is_tracing (sym is) ∙ e))
-    ∙ rested_twice (is_tracing phase) (is_tracing new.heap.phase) t (λ e. ap is_tracing (sym is) ∙ runs_trace budget qs runs.0 new each.1 runs.2 e)
-quanta_tally budget (Command_done m c reply ∷ qs) t r new each runs rest = elim each [ ]
-quanta_tally budget (Cycle_begun ∷ qs) t r new each runs rest = elim each [ ]
-quanta_tally budget (Cycle_on ∷ qs) t r new each runs rest = elim each [ ]
-quanta_tally budget (Quantum_refused b ∷ qs) t r new each runs rest = elim each [ ]
 
 -- the beat after them
 stays_idle : (r new : Course) (budget units : ℕ) (phase : Phase) → Collects r budget units phase new → in_cycle r.heap.phase ≡ false → in_cycle new.heap.phase ≡ false

@@ -6,7 +6,12 @@ mod blocks;
 mod measured;
 mod measuring;
 mod meter;
+mod most;
+mod needed;
+mod page_counts;
 mod run;
+mod season;
 
 pub use measured::Measured;
 pub use measuring::measure;
+pub use needed::Needed;

@@ -3,15 +3,15 @@ ghost use Rattle.std.specs.Prelude.{◌≤◌, IfSome};
 ghost use Rattle.std.proofs.Props.{props};
 ghost use Rattle.size_classes.specs.declared.config.TheConstants.{LEAST_BUDGET};
 
+use crate::needed::Needed;
 use size_classes::Config;
-use space::{Demand, Pace};
+use space::Pace;
 
-/// What a run needed: the least demand and the least pace to which it keeps, and the least budget of a
-/// quantum.
+/// What a run needed: in blocks and pages, the least pace to which it keeps, and the least budget of a quantum.
 #[derive(Clone, Copy, Debug, PartialEq, Eq)]
 pub struct Measured {
-    /// None where some class needed more blocks than a demand can state.
-    pub demand: Option<Demand>,
+    /// None where some number is more than can be stated.
+    pub needed: Option<Needed>,
     /// None where some class needed more blocks than a pace can state.
     pub pace: Option<Pace>,
     /// In units. None where no quantum was done.

@@ -9,7 +9,6 @@ ghost use Rattle.heap_model.specs.Event.{Course, Event, Command_done, Cycle_begu
 ghost use Rattle.heap_model.specs.Led.{opened};
 ghost use Rattle.heap_model.specs.Opening.{IsOpening};
 ghost use Rattle.heap_model.specs.State.{HeapState};
-ghost use Rattle.space.specs.Tally as tally;
 ghost use Rattle.space.specs.Pace as pace;
 ghost use Rattle.space.specs.Demand.{asked_for, blocks_by};
 ghost use Rattle.measure.specs.Counts.{AreBlocks, IsTable, HasOver};
@@ -18,9 +17,11 @@ ghost use Rattle.measure.specs.Measured.{IsMeasured};
 
 use crate::blocks::{Blocks, add, needed_by, none, raise, small_table, table};
 use crate::measured::Measured;
+use crate::most::Most;
+use crate::season::Season;
 use graph_heap::{Entry, Limits, NoMemory, Reference};
 use heap_model::phase::Phase;
-use space::{Demand, Pace};
+use space::Pace;
 use std::alloc::Global;
 
 /// The graph heap to which events lead, what their objects need, and what the events needed at most so far.
@@ -29,28 +30,15 @@ pub struct Meter {
     graph: Reference,
     /// Whether a cycle is on.
     on: bool,
-    /// What the objects need that were allocated since the last cycle began.
-    since_last: Blocks,
-    /// What the objects need that were allocated since that cycle began whose sweep ended last.
-    since_base: Blocks,
+    season: Season,
     /// What was asked for since the last beginning, or quantum of a cycle.
     asked: Blocks,
     live: Blocks,
-    allocated: Blocks,
     busy: Blocks,
     idle: Blocks,
+    most: Most,
     /// The least budget of a quantum, in units.
     budget: Option<u32>,
-}
-
-/// Whether a cycle is on, and its sweep hasn't ended.
-fn is_tracing(phase: Phase) -> bool
-    ensures { result ≡ tally.is_tracing phase }
-{
-    matches!(
-        phase,
-        Phase::Roots { .. } | Phase::Marking { .. } | Phase::Sweeping { .. }
-    )
 }
 
 /// Whether a cycle is on.
@@ -79,13 +67,12 @@ impl Meter {
         Ok(Meter {
             graph: Reference::new(alloc, limits)?,
             on: false,
-            since_last: nothing,
-            since_base: nothing,
+            season: Season::new(),
             asked: nothing,
             live: nothing,
-            allocated: nothing,
             busy: nothing,
             idle: nothing,
+            most: Most::new(),
             budget: None,
         })
     }
@@ -111,9 +98,7 @@ impl Meter {
     fn ask(&mut self, asked: &Blocks)
         ensures { Asks asked.now self.old self.new }
     {
-        let mut allocated = self.since_base;
-        add(&mut allocated, asked);
-        raise(&mut self.allocated, &allocated);
+        self.most.ask(&self.season, asked);
         add(&mut self.asked, asked);
         if self.on {
             raise(&mut self.busy, &self.asked);
@@ -126,8 +111,7 @@ impl Meter {
     fn allocate(&mut self, blocks: &Blocks)
         ensures { Allocates blocks.now self.old self.new }
     {
-        add(&mut self.since_base, blocks);
-        add(&mut self.since_last, blocks);
+        self.season.allocate(blocks);
     }
 
     /// Does an entry on the graph heap. Answers whether an object was allocated.
@@ -171,24 +155,14 @@ impl Meter {
     {
         let live = self.reached()?;
         raise(&mut self.live, &live);
-        self.since_last = none();
+        self.most.begin(&live);
+        self.season.begin(&live);
         self.asked = none();
         self.on = true;
         Ok(())
     }
 
-    /// Quanta are done, which end in this phase: where it isn't tracing, the sweep of the last cycle has ended.
-    fn rest(&mut self, phase: Phase)
-        ensures same { self.new ≡ record self.old { since_base = self.new.since_base } }
-        ensures tracing { tally.is_tracing phase ≡ true → self.new.since_base ≡ self.old.since_base }
-        ensures over { tally.is_tracing phase ≡ false → self.new.since_base ≡ self.old.since_last }
-    {
-        if !is_tracing(phase) {
-            self.since_base = self.since_last;
-        }
-    }
-
-    /// The same of what was asked for: it is counted anew while a cycle is on.
+    /// Quanta are done, which end in this phase: what was asked for is counted anew while a cycle is on.
     fn beat(&mut self, phase: Phase)
         ensures same { self.new ≡ record self.old { on = self.new.on; asked = self.new.asked } }
         ensures on { self.old.on ≡ true → (self.new.on ≡ pace.in_cycle phase) × AreBlocks self.new.asked (λ class. 0) }
@@ -204,20 +178,9 @@ impl Meter {
     pub fn quanta(&mut self, budget: u32, phase: Phase)
         ensures { (l : Bounds) (es quanta : List Event) (r new : Course) → Measures l es r self.old → IsCourse r → Works budget quanta r new → new.heap.phase ≡ phase → Measures l (es ++ quanta) new self.new }
     {
-        self.rest(phase);
+        self.season.rest(phase);
         self.beat(phase);
         self.budget = Some(least_of(self.budget, budget));
-    }
-
-    /// The demand of the greatest numbers, if it can be stated.
-    fn demand(&self) -> Option<Demand>
-        ensures some { IfSome result (λ d. IsTable (2 ^ 64) d.live self.now.live × IsTable (2 ^ 64) d.allocated self.now.allocated) }
-        ensures none { IsNone result → HasOver (2 ^ 64) self.now.live ⊎ HasOver (2 ^ 64) self.now.allocated }
-    {
-        Some(Demand {
-            live: table(&self.live)?,
-            allocated: table(&self.allocated)?,
-        })
     }
 
     /// The pace of the greatest numbers, if it can be stated.
@@ -238,7 +201,7 @@ impl Meter {
         ensures { (l : Bounds) (es : List Event) (r : Course) → Measures l es r self.now → IsMeasured l es result }
     {
         Measured {
-            demand: self.demand(),
+            needed: self.most.needed(),
             pace: self.pace(),
             budget: self.budget,
         }

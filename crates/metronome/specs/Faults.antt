@@ -8,14 +8,17 @@ use Rattle.trace.specs.declared.fault.TextFault.TheVariants as texts
 use Rattle.metronome.specs.declared.fault.RunFault.{RunFault}
 use Rattle.metronome.specs.declared.fault.RunFault.TheVariants.{Config, Load, Line, Read, Write, NoMemory}
 
+-- the fault of a run whose settings can't be read
 abbrev pub of_settings : ReadFault → RunFault
 of_settings (settings.Refused why) = Config why
 of_settings settings.NoMemory = NoMemory
 
+-- the fault of a run whose load can't be read
 abbrev pub of_load : LoadFault → RunFault
 of_load (loads.Refused why) = Load why
 of_load loads.NoMemory = NoMemory
 
+-- the fault of a run whose text can't be read or written
 abbrev pub of_text : TextFault → RunFault
 of_text (texts.Line number why) = Line number why
 of_text texts.Read = Read

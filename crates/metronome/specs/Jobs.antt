@@ -67,6 +67,7 @@ abbrev pub told_of : Checked → List ℕ
 told_of (Good entries) = codes "ok " ++ decimal entries ++ 10 ∷ []
 told_of (Wrong line) = codes "wrong at line " ++ decimal line ++ 10 ∷ []
 
+-- how a run ends that checked a history
 abbrev pub verdict : Checked → Ending
 verdict (Good entries) = Done
 verdict (Wrong line) = WrongReply

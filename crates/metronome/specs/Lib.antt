@@ -6,4 +6,5 @@ pub mod Drawn
 pub mod Told
 pub mod OverTime
 pub mod Progress
+pub mod Logged
 pub mod Done

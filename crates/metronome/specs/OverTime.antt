@@ -14,10 +14,11 @@ use Rattle.metronome.specs.declared.fault.RunFault.{RunFault}
 use Rattle.metronome.specs.declared.fault.RunFault.TheVariants.{Write}
 use Rattle.metronome.specs.Told.{NothingTold}
 
--- the whole height stands for all pages, and for the most objects of any sample
+-- the whole width stands for all lines, and the height for all pages, and for the most objects of any sample
 abbrev pub scale_of : Config → Samples → Scale
-scale_of config s = record { pages = config.pages; objects = greatest_objects s.items.items }
+scale_of config s = record { lines = s.lines; pages = config.pages; objects = greatest_objects s.items.items }
 
+-- the picture of samples over time
 abbrev pub samples_picture : Config → Samples → List ℕ
 samples_picture config s = time_picture (scale_of config s) s.items.items
 

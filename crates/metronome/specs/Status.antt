@@ -21,6 +21,7 @@ fault_status faults.Write = 5
 fault_status faults.NoMemory = 6
 fault_status faults.NotComplete = 8
 
+-- the exit status of a run
 abbrev pub status_of : Result Ending RunFault → ℕ
 status_of (Ok ending) = ending_status ending
 status_of (Err fault) = fault_status fault

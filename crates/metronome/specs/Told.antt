@@ -9,7 +9,7 @@ use Rattle.space.specs.Room.{AllHaveRoom}
 use Rattle.measure.specs.Measured.{least_units, HasUnits}
 use Rattle.measure.specs.Measuring.{TraceMeasured}
 use Rattle.space_report.specs.declared.lines.Scope.TheVariants.{Pace as By_pace}
-use Rattle.space_report.specs.Report.{demand_told, IsPaceReport}
+use Rattle.space_report.specs.Report.{needed_told, IsPaceReport}
 use Rattle.arrivals.specs.declared.load.Load.{Load as LoadTable}
 use Rattle.arrivals.specs.declared.keeping.Kept.{Kept}
 use Rattle.arrivals.specs.Load.{Load}
@@ -23,10 +23,10 @@ use Rattle.metronome.specs.declared.fault.RunFault.{RunFault}
 use Rattle.metronome.specs.declared.fault.RunFault.TheVariants.{Write, NoMemory}
 use Rattle.metronome.specs.Faults.{IsUnread, of_text}
 
--- the lines of what a trace needed: of its demand, or of its pace, with quanta of the least units that any had, or has by
+-- the lines of what a trace needed: in blocks and pages, or at its pace, with quanta of the least units that any had, or has by
 -- the schedule
 abbrev pub TellsPages : Bool → Config → Measured → List ℕ → Type 0
-TellsPages false config m text = text ≡ demand_told config m.demand
+TellsPages false config m text = text ≡ needed_told config m.needed
 TellsPages true config m text = (slow : Config) × HasUnits config (least_units config m.budget) slow × IsPaceReport By_pace slow m.pace text
 
 -- what is written of a report: it, or a part of it where a write failed, or nothing for want of memory
@@ -46,7 +46,8 @@ MeasureTold pace config (Ok m) taken result = ReportTold (TellsPages pace config
 MeasureTold pace config (Err why) taken result = NothingTold why taken result
 
 -- A trace was measured on a new heap, and the pages that it needs were told: where they suffice, `TraceMeasured` promises
--- room to this run, and to those of which the verdict speaks.
+-- room to this run, and to those of which the verdict speaks; and on as many as are told for a way, to those that the line
+-- names.
 abbrev pub PagesTold : Bool → Config → Given → Taken → Result Ending RunFault → Type 0
 PagesTold pace config given taken result = (how : Result Measured TextFault) × TraceMeasured config given how × MeasureTold pace config how taken result
 

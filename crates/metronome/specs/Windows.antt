@@ -21,6 +21,7 @@ no_window window = codes "window " ++ (decimal window ++ codes " none\n")
 abbrev pub window_with : ℕ → ℕ → ℕ → ℕ → List ℕ
 window_with window least bound permille = codes "window " ++ (decimal window ++ (codes " least " ++ (decimal least ++ (codes " bound " ++ (decimal bound ++ (codes " permille " ++ (decimal permille ++ codes "\n")))))))
 
+-- the line of a window: what its mutators have at least and what is promised, or that there is no such window
 abbrev pub IsWindowLine : Config → Timetable → ℕ → List ℕ → Type 0
 IsWindowLine config t window line =
     (((window ≡ 0) ⊎ (span_of t < window)) × (line ≡ no_window window))

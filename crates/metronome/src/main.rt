@@ -1,6 +1,7 @@
 //! The program: plays, checks, runs and inspects heaps, as its words ask.
 #![tactic(auto)]
 
+mod cycles_job;
 mod drawing_job;
 mod fault;
 mod files;

@@ -6,11 +6,11 @@ ghost use Rattle.metronome.specs.Told.{TellsPages, PagesTold};
 use crate::fault::{Ending, RunFault};
 use measure::{Measured, measure};
 use size_classes::Config;
-use space_report::{Scope, demand_report, pace_report};
+use space_report::{Scope, needed_report, pace_report};
 use std::alloc::{AllocError, Global};
 use trace::{Sink, Source, write_all};
 
-/// The lines of what a trace needed: of its demand, or of its pace.
+/// The lines of what a trace needed, or of its pace.
 fn told(
     alloc: Global,
     config: &Config,
@@ -27,12 +27,12 @@ fn told(
             Scope::Pace,
         )
     } else {
-        demand_report(alloc, config, &measured.demand)
+        needed_report(alloc, config, &measured.needed)
     }
 }
 
-/// Plays a trace on a new heap, and writes what it needs of each size class and how many pages suffice. Where those of the
-/// configuration do, no reply of this run was the refusal for want of space, nor is one of any run that needs no more.
+/// Plays a trace on a new heap, and writes what it needs of each size class and how many pages suffice, in each way. Where those of
+/// the configuration do, no reply of this run was the refusal for want of space, nor is one of any run that needs no more.
 pub fn pages_job<S: Source, K: Sink>(
     alloc: Global,
     config: &Config,

@@ -6,6 +6,7 @@ ghost use Rattle.trace.specs.Streams.{given_by, taken_by};
 ghost use Rattle.metronome.specs.Done.{JobDone};
 ghost use Rattle.metronome.specs.Status.{status_of};
 
+use crate::cycles_job::cycles_job;
 use crate::drawing_job::draw_job;
 use crate::fault::{Ending, RunFault};
 use crate::files::{Opener, open_file, read_document};
@@ -15,6 +16,7 @@ use crate::pages_job::pages_job;
 use crate::progress::ToldSource;
 use crate::time_job::time_job;
 use command_line::{Job, Request, Sizing, WordsFault, read_config, read_words};
+use cycles::Layout;
 use player::Style;
 use size_classes::Config;
 use std::alloc::Global;
@@ -131,6 +133,7 @@ fn files_of<'a>(job: &Job<'a>) -> (&'a str, &'a str) {
             ..
         } => (config, scripts),
         Job::Inspect { config, trace, .. } => (config, trace),
+        Job::Cycles { config, trace, .. } => (config, trace),
         Job::Mmu { config, trace, .. } => (config, trace),
         Job::Draw { config, trace, .. } => (config, trace),
         Job::DrawTime { config, trace } => (config, trace),
@@ -179,6 +182,10 @@ fn work<S: Source, K: Sink, O: Opener, T: Threads + Wait + Sync>(
             threads_job(host.rt, alloc, config, source, sink, *turns, *budget)
         }
         Job::Inspect { after, .. } => inspect_job(alloc, config, source, sink, *after),
+        Job::Cycles { csv: false, .. } => {
+            cycles_job(alloc, config, source, sink, Layout::Columns)
+        }
+        Job::Cycles { csv: true, .. } => cycles_job(alloc, config, source, sink, Layout::Commas),
         Job::Mmu { windows, .. } => mmu_job(alloc, config, source, sink, windows.as_slice()),
         Job::Draw { picture, after, .. } => {
             draw_job(alloc, config, source, sink, *picture, *after)

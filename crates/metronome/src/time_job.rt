@@ -15,13 +15,14 @@ fn scale(config: &Config, samples: &Samples) -> Scale
     ensures { result ≡ scale_of config.now samples.now }
 {
     Scale {
+        lines: samples.lines,
         pages: u64::from(config.pages),
         objects: samples.most_objects(),
     }
 }
 
-/// Plays a trace on a new heap, and draws the samples of the run. The height of the picture stands for all pages of the
-/// heap, and for the most objects of any sample.
+/// Plays a trace on a new heap, and draws the samples of the run. Its width stands for all lines of the trace, and
+/// its height for all pages of the heap, and for the most objects of any sample.
 pub fn time_job<S: Source, K: Sink>(
     alloc: Global,
     config: &Config,

@@ -1,6 +1,9 @@
 pub mod Asking
+pub mod Holding
 pub mod Stepping
 pub mod Telling
 pub mod Values
 pub mod Making
 pub mod Beginning
+pub mod Calling
+pub mod Limits

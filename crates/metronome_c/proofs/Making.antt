@@ -1,6 +1,6 @@
--- Heaps are made, or not.
-use Rattle.std.proofs.Common.{◌≡◌, ℕ, false, true, Bool, refl, sym, subst}
-use Rattle.std.specs.Prelude.{Option, Some, None}
+-- Heaps are made, or not, and given back.
+use Rattle.std.proofs.Common.{◌≡◌, ◌==◌, ◌∙◌, ℕ, false, true, Bool, refl, sym, ap, subst}
+use Rattle.std.specs.Prelude.{Option, Some, None, Result, Ok, Err}
 use Rattle.std.specs.Option.{is_some}
 use Rattle.size_classes.specs.declared.settings.Settings.{Settings}
 use Rattle.size_classes.specs.declared.config.Config.{Config}
@@ -9,26 +9,53 @@ use Rattle.size_classes.specs.Config.{fault_of, IsOf}
 use Rattle.heap_model.specs.State.{HeapState}
 use Rattle.heap_model.specs.Opening.{IsOpening}
 use Rattle.heap_model.specs.Settings.{settings_of, settings_by}
-use Rattle.metronome_c.specs.declared.status.Status.TheVariants.{Done}
+use Rattle.metronome_c.specs.declared.status.Status.{Status}
+use Rattle.metronome_c.specs.declared.status.Status.TheVariants.{Done, NoMemory, Open, Closed, BadHandle}
 use Rattle.metronome_c.specs.Status.{status_number, fault_status}
-use Rattle.metronome_c.specs.Lifetime.{IsMade, MakesUnless, Creates}
+use Rattle.metronome_c.specs.Held.{absence, held_by}
+use Rattle.metronome_c.specs.Lifetime.{IsMade, MakesUnless, Creates, Destroys}
+use Rattle.metronome_c.proofs.Holding.{IsTruth, held_none}
 
-abbrev IsTruth : Bool → Type 0
-IsTruth true = Unit {0}
-IsTruth false = ⊥
+-- where the handle is closed, what is made unless there is a fault is what is created
+creates : (check : ℕ) (old : Option HeapState) (new : Result HeapState Status) (s : Settings) (fault : Option ConfigFault) (n : ℕ)
+    → is_some old ≡ false → (check == 0) ≡ true → fault ≡ fault_of s → MakesUnless fault s new n → Creates (held_by check old) s new n
+creates check old new s fault n none zero is m =
+    subst (λ (x : Result HeapState Status). Creates x s new n) (sym (held_none check old true none zero))
+    (subst (λ (f : Option ConfigFault). MakesUnless f s new n) is m)
 
--- where there is no heap, what is made unless there is a fault is what is created
-creates : (old new : Option HeapState) (s : Settings) (fault : Option ConfigFault) (n : ℕ) → is_some old ≡ false → fault ≡ fault_of s → MakesUnless fault s new n → Creates old s new n
-creates None new s fault n e is m = subst (λ (f : Option ConfigFault). MakesUnless f s new n) is m
-creates (Some h) new s fault n e is m = absurd (subst IsTruth e tt)
+pub creates_none : (check : ℕ) (old : Option HeapState) (s : Settings) (fault : ConfigFault) (n : ℕ)
+    → is_some old ≡ false → (check == 0) ≡ true → Some fault ≡ fault_of s → n ≡ status_number (fault_status fault) → Creates (held_by check old) s (held_by check old) n
+creates_none check old s fault n none zero is m = creates check old (held_by check old) s (Some fault) n none zero is (held_none check old true none zero, m)
 
-none_of : (old : Option HeapState) → is_some old ≡ false → old ≡ None
-none_of None e = refl
-none_of (Some h) e = absurd (subst IsTruth e tt)
+-- memory was refused
+pub creates_unmade : (check : ℕ) (old : Option HeapState) (s : Settings) (n : ℕ)
+    → is_some old ≡ false → (check == 0) ≡ true → None ≡ fault_of s → n ≡ status_number NoMemory → Creates (held_by check old) s (held_by check old) n
+creates_unmade check old s n none zero is m =
+    creates check old (held_by check old) s None n none zero is (subst (λ (x : Result HeapState Status). IsMade s x n) (sym (held_none check old true none zero)) (refl, m))
 
-pub creates_none : (old : Option HeapState) (s : Settings) (fault : ConfigFault) (n : ℕ) → is_some old ≡ false → Some fault ≡ fault_of s → n ≡ status_number (fault_status fault) → Creates old s old n
-creates_none old s fault n e is m = creates old old s (Some fault) n e is (none_of old e, m)
+pub creates_one : (check after : ℕ) (old new : Option HeapState) (h : HeapState) (s : Settings) (c : Config) (n : ℕ)
+    → is_some old ≡ false → (check == 0) ≡ true → None ≡ fault_of s → new ≡ Some h → n ≡ status_number Done
+    → IsOpening h → IsOf s c → settings_of h ≡ settings_by c → Creates (held_by check old) s (held_by after new) n
+creates_one check after old new h s c n none zero e made m opening is by =
+    creates check old (held_by after new) s None n none zero e
+    (subst (λ (x : Result HeapState Status). IsMade s x n) (sym (ap (held_by after) made)) (m, (c, opening, is, by)))
 
-pub creates_one : (old new : Option HeapState) (h : HeapState) (s : Settings) (c : Config) (n : ℕ) → is_some old ≡ false → None ≡ fault_of s → new ≡ Some h → n ≡ status_number Done
-    → IsOpening h → IsOf s c → settings_of h ≡ settings_by c → Creates old s new n
-creates_one old new h s c n e is made m opening of by = creates old new s None n e is (subst (λ (x : Option HeapState). IsMade s x n) (sym made) (m, opening, (c, of, by)))
+-- where the handle isn't closed nothing is made
+pub creates_open : (check : ℕ) (old : Option HeapState) (s : Settings) (n : ℕ) → is_some old ≡ true → n ≡ status_number Open → Creates (held_by check old) s (held_by check old) n
+creates_open check None s n some m = absurd (subst IsTruth (sym some) tt)
+creates_open check (Some h) s n some m = (refl, m)
+
+pub creates_bad : (check : ℕ) (old : Option HeapState) (s : Settings) (n : ℕ)
+    → is_some old ≡ false → (check == 0) ≡ false → n ≡ status_number BadHandle → Creates (held_by check old) s (held_by check old) n
+creates_bad check old s n none bad m =
+    subst (λ (x : Result HeapState Status). Creates x s x n) (sym (held_none check old false none bad)) (refl, m)
+
+-- a heap is given back
+pub destroys_one : (check after : ℕ) (old new : Option HeapState) → is_some old ≡ true → new ≡ None → after ≡ 0 → Destroys (held_by check old) (held_by after new)
+destroys_one check after None new some left zero = absurd (subst IsTruth (sym some) tt)
+destroys_one check after (Some h) new some left zero =
+    ap (held_by after) left ∙ ap (λ (n : ℕ). Err (absence (n == 0))) zero
+
+pub destroys_none : (check : ℕ) (old : Option HeapState) → is_some old ≡ false → Destroys (held_by check old) (held_by check old)
+destroys_none check None none = refl
+destroys_none check (Some h) none = absurd (subst IsTruth none tt)

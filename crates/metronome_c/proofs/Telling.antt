@@ -1,7 +1,8 @@
 -- What is told of the heap that C holds.
 use Rattle.std.proofs.Common.{◌≡◌, ◌∙◌, ℕ, ap, subst}
-use Rattle.std.specs.Prelude.{Option, Some, None, IfSome}
+use Rattle.std.specs.Prelude.{Result, Ok, Err, IfOk}
 use Rattle.heap_model.specs.State.{HeapState}
+use Rattle.metronome_c.specs.declared.status.Status.{Status}
 use Rattle.metronome_c.specs.Asking.{Asks}
 use Rattle.metronome_c.specs.Figures.{IsTold, Tells}
 
@@ -9,14 +10,14 @@ use Rattle.metronome_c.specs.Figures.{IsTold, Tells}
 abbrev pub Finds : {A : Type 0} → (HeapState → A) → HeapState → A → HeapState → Type 0
 Finds tell h a k = (k ≡ h) × (a ≡ tell h)
 
-pub tells : {A : Type 0} (tell : HeapState → A) (old : Option HeapState) (found : Option A) (new : Option HeapState) (before after : A) (status : ℕ)
+pub tells : {A : Type 0} (tell : HeapState → A) (old : Result HeapState Status) (found : Result A Status) (new : Result HeapState Status) (before after : A) (status : ℕ)
     → Asks (Finds tell) old found new → IsTold found before after status → Tells tell old new before after status
-tells tell None found new before after status asks told =
+tells tell (Err why) found new before after status asks told =
     let told' = subst (λ f. IsTold f before after status) asks.0 told in (asks.1, told'.0, told'.1)
-tells tell (Some h) found new before after status asks told =
-    let told' = subst (λ f. IsTold f before after status) asks.2 told in (asks.3 ∙ ap Some asks.4.0, told'.0 ∙ asks.4.1, told'.1)
+tells tell (Ok h) found new before after status asks told =
+    let told' = subst (λ f. IsTold f before after status) asks.2 told in (asks.3 ∙ ap Ok asks.4.0, told'.0 ∙ asks.4.1, told'.1)
 
 -- what each call shows of the heap that is asked
-pub shows : {A : Type 0} (P : HeapState → Type 0) (old : Option HeapState) (found : Option A) (new : Option HeapState) → Asks (λ h a k. P h) old found new → IfSome old P
-shows P None found new asks = tt
-shows P (Some h) found new asks = asks.4
+pub shows : {A : Type 0} (P : HeapState → Type 0) (old : Result HeapState Status) (found : Result A Status) (new : Result HeapState Status) → Asks (λ h a k. P h) old found new → IfOk old P
+shows P (Err why) found new asks = tt
+shows P (Ok h) found new asks = asks.4

@@ -1,5 +1,5 @@
 -- What the collector does to what C holds, and what C is told.
-use Rattle.std.specs.Prelude.{◌≡◌, ◌⊎◌, ◌+◌, ◌<◌, ℕ, Option, Some, None, Result, Ok, Err}
+use Rattle.std.specs.Prelude.{◌≡◌, ◌⊎◌, ◌+◌, ◌<◌, ℕ, Result, Ok, Err}
 use Rattle.graph_heap.specs.Graph.{Graph}
 use Rattle.heap_model.specs.declared.phase.Phase.{Phase}
 use Rattle.heap_model.specs.declared.phase.Phase.TheVariants as phases
@@ -10,9 +10,11 @@ use Rattle.machine.specs.declared.collector.BudgetOutOfRange.{BudgetOutOfRange a
 use Rattle.machine.specs.declared.collector.Spent.{Spent}
 use Rattle.machine.specs.Collecting.{Begins, Spends}
 use Rattle.metronome_c.specs.declared.collector.QuantumSpent.{QuantumSpent}
-use Rattle.metronome_c.specs.declared.status.Status.TheVariants.{Done, Busy, BudgetOutOfRange, Closed}
+use Rattle.metronome_c.specs.declared.status.Status.{Status}
+use Rattle.metronome_c.specs.declared.status.Status.TheVariants.{Done, Busy, BudgetOutOfRange}
 use Rattle.metronome_c.specs.Status.{status_number}
 
+-- the number of a phase
 abbrev pub phase_number : Phase → ℕ
 phase_number phases.Idle = 0
 phase_number (phases.Roots next) = 1
@@ -24,15 +26,18 @@ phase_number (phases.Moving place) = 4
 abbrev pub KeepsAgreeing : HeapState → HeapState → Type 0
 KeepsAgreeing h k = (g : Graph) → Agrees h g → Agrees k g
 
+-- the status of a call to begin a cycle
 abbrev pub begin_status : Result (Unit {0}) CycleOn → ℕ
 begin_status (Ok done) = status_number Done
 begin_status (Err busy) = status_number Busy
 
 -- a cycle begins, or one is on
-abbrev pub BeginsOpen : Option HeapState → Option HeapState → ℕ → Type 0
-BeginsOpen None new status = (new ≡ None) × (status ≡ status_number Closed)
-BeginsOpen (Some h) new status = (k : HeapState) × (new ≡ Some k) × KeepsAgreeing h k × ((answer : Result (Unit {0}) CycleOn) × Begins h k answer × (status ≡ begin_status answer))
+abbrev pub BeginsOpen : Result HeapState Status → Result HeapState Status → ℕ → Type 0
+BeginsOpen (Err why) new status = (new ≡ Err why) × (status ≡ status_number why)
+BeginsOpen (Ok h) new status = (k : HeapState) × (answer : Result (Unit {0}) CycleOn)
+    × (new ≡ Ok k) × KeepsAgreeing h k × Begins h k answer × (status ≡ begin_status answer)
 
+-- the status of a call to spend a budget
 abbrev pub quantum_status : Result Spent Refused → ℕ
 quantum_status (Ok spent) = status_number Done
 quantum_status (Err refused) = status_number BudgetOutOfRange
@@ -48,7 +53,8 @@ EndsOrSpends budget (Ok spent) = (spent.phase ≡ phases.Idle) ⊎ (budget < spe
 EndsOrSpends budget (Err refused) = Unit {0}
 
 -- a quantum spends units of its budget in one turn, or the budget is refused
-abbrev pub SpendsOpen : Option HeapState → ℕ → Option HeapState → QuantumSpent → QuantumSpent → ℕ → Type 0
-SpendsOpen None budget new before after status = (new ≡ None) × (after ≡ before) × (status ≡ status_number Closed)
-SpendsOpen (Some h) budget new before after status = (k : HeapState) × (new ≡ Some k) × KeepsAgreeing h k
-    × ((answer : Result Spent Refused) × Spends h budget k answer × EndsOrSpends budget answer × (after ≡ spent_of before answer) × (status ≡ quantum_status answer))
+abbrev pub SpendsOpen : Result HeapState Status → ℕ → Result HeapState Status → QuantumSpent → QuantumSpent → ℕ → Type 0
+SpendsOpen (Err why) budget new before after status = (new ≡ Err why) × (after ≡ before) × (status ≡ status_number why)
+SpendsOpen (Ok h) budget new before after status = (k : HeapState) × (answer : Result Spent Refused)
+    × (new ≡ Ok k) × KeepsAgreeing h k × Spends h budget k answer × EndsOrSpends budget answer
+    × (after ≡ spent_of before answer) × (status ≡ quantum_status answer)

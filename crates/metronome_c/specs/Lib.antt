@@ -1,9 +1,12 @@
 pub mod Answer
 pub mod Asking
+pub mod Calls
 pub mod Collecting
 pub mod Figures
+pub mod Held
 pub mod Kept
 pub mod Lifetime
+pub mod Limit
 pub mod Status
 pub mod Steps
 pub mod Text

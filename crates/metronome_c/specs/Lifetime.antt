@@ -1,5 +1,5 @@
 -- Heaps are made.
-use Rattle.std.specs.Prelude.{◌≡◌, ℕ, Option, Some, None}
+use Rattle.std.specs.Prelude.{◌≡◌, ℕ, Option, Some, None, Result, Ok, Err}
 use Rattle.size_classes.specs.declared.settings.Settings.{Settings}
 use Rattle.size_classes.specs.declared.config.Config.{Config}
 use Rattle.size_classes.specs.declared.fault.ConfigFault.{ConfigFault}
@@ -8,7 +8,8 @@ use Rattle.heap_model.specs.State.{HeapState}
 use Rattle.heap_model.specs.Opening.{IsOpening}
 use Rattle.heap_model.specs.Settings.{settings_of, settings_by}
 use Rattle.metronome_c.specs.declared.settings.MetronomeSettings.{MetronomeSettings}
-use Rattle.metronome_c.specs.declared.status.Status.TheVariants.{Done, NoMemory, Open}
+use Rattle.metronome_c.specs.declared.status.Status.{Status}
+use Rattle.metronome_c.specs.declared.status.Status.TheVariants.{Done, NoMemory, Open, Closed}
 use Rattle.metronome_c.specs.Status.{status_number, fault_status}
 
 -- the settings that C gives, as the checked configuration takes them
@@ -27,17 +28,27 @@ settings_from s = record {
   live = s.live;
 }
 
--- a heap from which histories start, with these settings; or there was no memory for it
-abbrev pub IsMade : Settings → Option HeapState → ℕ → Type 0
-IsMade s (Some h) status = (status ≡ status_number Done) × IsOpening h × ((c : Config) × IsOf s c × (settings_of h ≡ settings_by c))
-IsMade s None status = status ≡ status_number NoMemory
+-- a heap from which histories start, with the numbers of these settings
+abbrev pub IsMadeOf : Settings → HeapState → Type 0
+IsMadeOf s h = (c : Config) × IsOpening h × IsOf s c × (settings_of h ≡ settings_by c)
+
+-- such a heap is made; or there was no memory for it, and the handle is closed
+abbrev pub IsMade : Settings → Result HeapState Status → ℕ → Type 0
+IsMade s (Ok h) status = (status ≡ status_number Done) × IsMadeOf s h
+IsMade s (Err why) status = (why ≡ Closed) × (status ≡ status_number NoMemory)
 
 -- a heap is made where the settings have no fault
-abbrev pub MakesUnless : Option ConfigFault → Settings → Option HeapState → ℕ → Type 0
-MakesUnless (Some fault) s new status = (new ≡ None) × (status ≡ status_number (fault_status fault))
+abbrev pub MakesUnless : Option ConfigFault → Settings → Result HeapState Status → ℕ → Type 0
+MakesUnless (Some fault) s new status = (new ≡ Err Closed) × (status ≡ status_number (fault_status fault))
 MakesUnless None s new status = IsMade s new status
 
--- and where the handle holds none
-abbrev pub Creates : Option HeapState → Settings → Option HeapState → ℕ → Type 0
-Creates None s new status = MakesUnless (fault_of s) s new status
-Creates (Some h) s new status = (new ≡ Some h) × (status ≡ status_number Open)
+-- and where the handle is closed: else it stays as it is
+abbrev pub Creates : Result HeapState Status → Settings → Result HeapState Status → ℕ → Type 0
+Creates (Ok h) s new status = (new ≡ Ok h) × (status ≡ status_number Open)
+Creates (Err Closed) s new status = MakesUnless (fault_of s) s new status
+Creates (Err why) s new status = (new ≡ Err why) × (status ≡ status_number why)
+
+-- a handle that holds a heap is closed, and another stays as it is
+abbrev pub Destroys : Result HeapState Status → Result HeapState Status → Type 0
+Destroys (Ok h) new = new ≡ Err Closed
+Destroys (Err why) new = new ≡ Err why

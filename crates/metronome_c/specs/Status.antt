@@ -35,7 +35,9 @@ status_number statuses.BudgetOutOfRange = 12
 status_number statuses.Closed = 16
 status_number statuses.Open = 17
 status_number statuses.ScheduleOutOfRange = 18
+status_number statuses.BadHandle = 19
 status_number (statuses.SettingOutOfRange key) = 20 + key_number key
+status_number statuses.OtherVersion = 40
 
 -- the first of some statuses with a number
 abbrev pub status_numbered : ℕ → List Status → Option Status
@@ -50,6 +52,7 @@ fault_status _ = statuses.ScheduleOutOfRange
 abbrev pub setting_text : Key → List ℕ
 setting_text key = name_of key ++ codes " is out of range"
 
+-- the text of a status
 abbrev pub status_text : Status → List ℕ
 status_text statuses.Done = codes "done"
 status_text (statuses.Refused BadSlot) = codes "no such mutator or slot"
@@ -68,12 +71,15 @@ status_text statuses.BudgetOutOfRange = codes "the budget is out of range"
 status_text statuses.Closed = codes "the heap is closed"
 status_text statuses.Open = codes "the heap is open already"
 status_text statuses.ScheduleOutOfRange = codes "collector_ticks times rate is out of range"
+status_text statuses.BadHandle = codes "this is no handle"
 status_text (statuses.SettingOutOfRange key) = setting_text key
+status_text statuses.OtherVersion = codes "the program was built for another version"
 
 -- the text of a number, which may be that of no status
 abbrev pub text_or_none : Option Status → List ℕ
 text_or_none (Some status) = status_text status
 text_or_none None = codes "no such status"
 
+-- the text of a number, none where it is no status's
 abbrev pub text_of : ℕ → List ℕ
 text_of number = text_or_none (status_numbered number ALL)

@@ -1,5 +1,5 @@
 -- What a command does to what C holds.
-use Rattle.std.specs.Prelude.{◌≡◌, ℕ, Option, Some, None}
+use Rattle.std.specs.Prelude.{◌≡◌, ℕ, Result, Ok, Err}
 use Rattle.graph_heap.specs.Graph.{Graph}
 use Rattle.graph_heap.specs.declared.command.Command.{Command}
 use Rattle.graph_heap.specs.declared.command.Reply.{Reply}
@@ -10,7 +10,8 @@ use Rattle.heap_model.specs.Change.{DoesChange}
 use Rattle.heap_model.specs.Event.{change_by, room_for}
 use Rattle.metronome_c.specs.declared.answer.Answer.{Answer}
 use Rattle.metronome_c.specs.declared.answer.MetronomeShape.{MetronomeShape}
-use Rattle.metronome_c.specs.Answer.{answer_of, shape_in, closed}
+use Rattle.metronome_c.specs.declared.status.Status.{Status}
+use Rattle.metronome_c.specs.Answer.{answer_of, shape_in, refused}
 
 -- the graph heap's reply to a command, with the room that there is
 abbrev pub reply_to : HeapState → Graph → ℕ → Command → Reply
@@ -25,12 +26,12 @@ Does m c h r k = (g : Graph) → Agrees h g → (r ≡ reply_to h g m c) × Agre
 abbrev pub IsStepOf : Graph → HeapState → ℕ → Command → HeapState → Answer → Type 0
 IsStepOf g h m c k a = (a ≡ answer_of (reply_to h g m c)) × Agrees k (next_of (room_for h c) g m c) × DoesChange h g (change_by (room_for h c) g m c) k
 
--- The step of each. Without a heap there is none, and the answer says so.
-abbrev pub Steps : Option HeapState → ℕ → Command → Option HeapState → Answer → Type 0
-Steps None m c new a = (new ≡ None) × (a ≡ closed)
-Steps (Some h) m c new a = (k : HeapState) × (new ≡ Some k) × ((g : Graph) → Agrees h g → IsStepOf g h m c k a)
+-- The step of each. Without a heap there is none, and the answer says why.
+abbrev pub Steps : Result HeapState Status → ℕ → Command → Result HeapState Status → Answer → Type 0
+Steps (Err why) m c new a = (new ≡ Err why) × (a ≡ refused why)
+Steps (Ok h) m c new a = (k : HeapState) × (new ≡ Ok k) × ((g : Graph) → Agrees h g → IsStepOf g h m c k a)
 
 -- the shape that Describe tells, or the one from before where it is refused
-abbrev pub TellsShape : Option HeapState → ℕ → Command → MetronomeShape → MetronomeShape → Type 0
-TellsShape None m c before after = after ≡ before
-TellsShape (Some h) m c before after = (g : Graph) → Agrees h g → after ≡ shape_in before (reply_to h g m c)
+abbrev pub TellsShape : Result HeapState Status → ℕ → Command → MetronomeShape → MetronomeShape → Type 0
+TellsShape (Err why) m c before after = after ≡ before
+TellsShape (Ok h) m c before after = (g : Graph) → Agrees h g → after ≡ shape_in before (reply_to h g m c)

@@ -1,6 +1,6 @@
 //! Replies as C sees them.
 ghost use Rattle.std.specs.Prelude.{◌≡◌};
-ghost use Rattle.metronome_c.specs.Answer.{answer_of, answered, closed, shape_of, shape_told};
+ghost use Rattle.metronome_c.specs.Answer.{answer_of, answered, refused, shape_of, shape_told};
 
 use crate::status::Status;
 use graph_heap::{Reply, Shape};
@@ -42,23 +42,23 @@ impl Answer {
         Answer { kind, number }
     }
 
-    /// The answer that tells a reply, or that the handle holds no heap.
-    pub(crate) fn told(reply: Option<Reply>) -> Answer
+    /// The answer that tells a reply, or why the handle holds no heap.
+    pub(crate) fn told(reply: Result<Reply, Status>) -> Answer
         ensures { result ≡ answered reply }
     {
         match reply {
-            Some(reply) => Answer::of(reply),
-            None => Answer::closed(),
+            Ok(reply) => Answer::of(reply),
+            Err(why) => Answer::refused(why),
         }
     }
 
     /// The answer of a handle that holds no heap.
-    fn closed() -> Answer
-        ensures { result ≡ closed }
+    fn refused(why: Status) -> Answer
+        ensures { result ≡ refused why }
     {
         Answer {
             kind: 0,
-            number: u64::from(Status::Closed.number()),
+            number: u64::from(why.number()),
         }
     }
 }
@@ -77,11 +77,11 @@ impl MetronomeShape {
     }
 
     /// The shape that a reply tells, or this one where there is none, or none that tells one.
-    pub(crate) fn told_by(self, reply: Option<Reply>) -> MetronomeShape
+    pub(crate) fn told_by(self, reply: Result<Reply, Status>) -> MetronomeShape
         ensures { result ≡ shape_told self reply }
     {
         match reply {
-            Some(Reply::Described(_, shape)) => MetronomeShape::of(shape),
+            Ok(Reply::Described(_, shape)) => MetronomeShape::of(shape),
             _ => self,
         }
     }

@@ -1,5 +1,6 @@
 //! Commands on the cells of an object.
 ghost use Rattle.graph_heap.specs.declared.command.Command.TheVariants as commands;
+ghost use Rattle.metronome_c.specs.Held.{held};
 ghost use Rattle.metronome_c.specs.Steps.{Steps};
 
 use crate::answer::Answer;
@@ -14,7 +15,7 @@ pub extern "C" fn metronome_load(
     obj: u32,
     i: u32,
 ) -> Answer
-    ensures { Steps heap.old.handle.value mutator (commands.Load dst obj i) heap.new.handle.value result }
+    ensures { Steps (held heap.old) mutator (commands.Load dst obj i) (held heap.new) result }
 {
     heap.told(|inner| inner.load(mutator, dst, obj, i))
 }
@@ -28,7 +29,7 @@ pub extern "C" fn metronome_store(
     i: u32,
     src: u32,
 ) -> Answer
-    ensures { Steps heap.old.handle.value mutator (commands.Store obj i src) heap.new.handle.value result }
+    ensures { Steps (held heap.old) mutator (commands.Store obj i src) (held heap.new) result }
 {
     heap.told(|inner| inner.store(mutator, obj, i, src))
 }
@@ -43,7 +44,7 @@ pub extern "C" fn metronome_compare_store(
     expect: u32,
     new: u32,
 ) -> Answer
-    ensures { Steps heap.old.handle.value mutator (commands.CompareStore obj i expect new) heap.new.handle.value result }
+    ensures { Steps (held heap.old) mutator (commands.CompareStore obj i expect new) (held heap.new) result }
 {
     heap.told(|inner| inner.compare_store(mutator, obj, i, expect, new))
 }
@@ -51,7 +52,7 @@ pub extern "C" fn metronome_compare_store(
 /// Reads a word cell.
 #[unsafe(no_mangle)]
 pub extern "C" fn metronome_get(heap: &mut Metronome, mutator: u32, obj: u32, i: u32) -> Answer
-    ensures { Steps heap.old.handle.value mutator (commands.Get obj i) heap.new.handle.value result }
+    ensures { Steps (held heap.old) mutator (commands.Get obj i) (held heap.new) result }
 {
     heap.told(|inner| inner.get(mutator, obj, i))
 }
@@ -65,7 +66,7 @@ pub extern "C" fn metronome_put(
     i: u32,
     word: u64,
 ) -> Answer
-    ensures { Steps heap.old.handle.value mutator (commands.Put obj i word) heap.new.handle.value result }
+    ensures { Steps (held heap.old) mutator (commands.Put obj i word) (held heap.new) result }
 {
     heap.told(|inner| inner.put(mutator, obj, i, word))
 }
@@ -80,7 +81,7 @@ pub extern "C" fn metronome_compare_put(
     old: u64,
     new: u64,
 ) -> Answer
-    ensures { Steps heap.old.handle.value mutator (commands.ComparePut obj i old new) heap.new.handle.value result }
+    ensures { Steps (held heap.old) mutator (commands.ComparePut obj i old new) (held heap.new) result }
 {
     heap.told(|inner| inner.compare_put(mutator, obj, i, old, new))
 }

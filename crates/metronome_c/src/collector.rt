@@ -1,4 +1,5 @@
 //! The collector: a cycle is begun, and goes on by quanta.
+ghost use Rattle.metronome_c.specs.Held.{held};
 ghost use Rattle.metronome_c.specs.Collecting.{BeginsOpen, SpendsOpen};
 
 use crate::metronome::Metronome;
@@ -16,12 +17,12 @@ pub struct QuantumSpent {
 /// Begins a cycle.
 #[unsafe(no_mangle)]
 pub extern "C" fn metronome_begin(heap: &mut Metronome) -> u32
-    ensures { BeginsOpen heap.old.handle.value heap.new.handle.value result }
+    ensures { BeginsOpen (held heap.old) (held heap.new) result }
 {
     let status = match heap.ask(|inner| inner.begin()) {
-        Some(Ok(())) => Status::Done,
-        Some(Err(_)) => Status::Busy,
-        None => Status::Closed,
+        Ok(Ok(())) => Status::Done,
+        Ok(Err(_)) => Status::Busy,
+        Err(why) => why,
     };
     status.number()
 }
@@ -33,18 +34,18 @@ pub extern "C" fn metronome_quantum(
     budget: u32,
     spent: &mut QuantumSpent,
 ) -> u32
-    ensures { SpendsOpen heap.old.handle.value budget heap.new.handle.value spent.old spent.new result }
+    ensures { SpendsOpen (held heap.old) budget (held heap.new) spent.old spent.new result }
 {
     let status = match heap.ask(|inner| inner.quantum(budget)) {
-        Some(Ok(did)) => {
+        Ok(Ok(did)) => {
             *spent = QuantumSpent {
                 units: did.units,
                 phase: phase_number(did.phase),
             };
             Status::Done
         }
-        Some(Err(_)) => Status::BudgetOutOfRange,
-        None => Status::Closed,
+        Ok(Err(_)) => Status::BudgetOutOfRange,
+        Err(why) => why,
     };
     status.number()
 }

@@ -1,8 +1,9 @@
 //! What is told of a heap as a whole.
-ghost use Rattle.std.specs.Prelude.{◌≡◌, ◌≤◌, IfSome};
+ghost use Rattle.std.specs.Prelude.{◌≡◌, ◌≤◌, IfOk};
 ghost use Rattle.heap_model.specs.Pages as pages;
 ghost use Rattle.metronome_c.specs.Collecting as collecting;
 ghost use Rattle.heap_model.specs.Spent.{cycle_limit};
+ghost use Rattle.metronome_c.specs.Held.{held};
 ghost use Rattle.metronome_c.specs.Figures.{IsTold, Tells, StandsForSome, counts_of};
 
 use crate::metronome::Metronome;
@@ -44,24 +45,25 @@ impl Counts {
     }
 }
 
-/// Tells what was found of a heap, or that there is none.
-fn tell<T: Copy>(told: &mut T, found: Option<T>) -> u32
+/// Tells what was found of a heap, or why there is none.
+pub(crate) fn tell<T: Copy>(told: &mut T, found: Result<T, Status>) -> u32
     ensures { IsTold found told.old told.new result }
 {
     match found {
-        Some(value) => {
+        Ok(value) => {
             *told = value;
             Status::Done.number()
         }
-        None => Status::Closed.number(),
+        Err(why) => why.number(),
     }
 }
 
 /// Tells the phase. A heap always stands for some graph heap at present, and for one when the last cycle began.
 #[unsafe(no_mangle)]
 pub extern "C" fn metronome_phase(heap: &mut Metronome, phase: &mut u32) -> u32
-    ensures phase { Tells (λ h. collecting.phase_number h.phase) heap.old.handle.value heap.new.handle.value phase.old phase.new result }
-    ensures stands { IfSome heap.old.handle.value StandsForSome }
+    ensures phase { Tells (λ h. collecting.phase_number h.phase) (held heap.old) (held heap.new) phase.old phase.new
+        result }
+    ensures stands { IfOk (held heap.old) StandsForSome }
 {
     tell(phase, heap.ask(|inner| phase_number(inner.phase())))
 }
@@ -69,8 +71,8 @@ pub extern "C" fn metronome_phase(heap: &mut Metronome, phase: &mut u32) -> u32
 /// Tells the units that were spent since the last cycle began: no more than a cycle may spend.
 #[unsafe(no_mangle)]
 pub extern "C" fn metronome_units(heap: &mut Metronome, units: &mut u64) -> u32
-    ensures units { Tells (λ h. h.units) heap.old.handle.value heap.new.handle.value units.old units.new result }
-    ensures within { IfSome heap.old.handle.value (λ h. h.units ≤ cycle_limit h) }
+    ensures units { Tells (λ h. h.units) (held heap.old) (held heap.new) units.old units.new result }
+    ensures within { IfOk (held heap.old) (λ h. h.units ≤ cycle_limit h) }
 {
     tell(units, heap.ask(|inner| inner.units()))
 }
@@ -78,7 +80,8 @@ pub extern "C" fn metronome_units(heap: &mut Metronome, units: &mut u64) -> u32
 /// Tells how many pages are free.
 #[unsafe(no_mangle)]
 pub extern "C" fn metronome_free_pages(heap: &mut Metronome, free_pages: &mut u64) -> u32
-    ensures { Tells (λ h. pages.free_pages h.store.pages) heap.old.handle.value heap.new.handle.value free_pages.old free_pages.new result }
+    ensures { Tells (λ h. pages.free_pages h.store.pages) (held heap.old) (held heap.new) free_pages.old free_pages.new
+        result }
 {
     tell(free_pages, heap.ask(|inner| inner.free_pages() as u64))
 }
@@ -86,7 +89,7 @@ pub extern "C" fn metronome_free_pages(heap: &mut Metronome, free_pages: &mut u6
 /// Tells the counts. It looks at each block.
 #[unsafe(no_mangle)]
 pub extern "C" fn metronome_count(heap: &mut Metronome, counts: &mut Counts) -> u32
-    ensures { Tells counts_of heap.old.handle.value heap.new.handle.value counts.old counts.new result }
+    ensures { Tells counts_of (held heap.old) (held heap.new) counts.old counts.new result }
 {
     tell(counts, heap.ask(|inner| Counts::of(inner)))
 }

@@ -1,20 +1,43 @@
 //! Heaps are made and given back.
-ghost use Rattle.std.specs.Prelude.{◌≡◌, None, false};
-ghost use Rattle.metronome_c.specs.Lifetime.{settings_from, Creates};
+ghost use Rattle.std.specs.Prelude.{◌≡◌, ◌≢◌};
+ghost use Rattle.metronome_c.specs.declared.status.Status.TheVariants.{OtherVersion};
+ghost use Rattle.metronome_c.specs.Held.{held};
+ghost use Rattle.metronome_c.specs.Lifetime.{settings_from, Creates, Destroys};
+ghost use Rattle.metronome_c.specs.Status.{status_number};
 
 use crate::metronome::Metronome;
 use crate::settings::MetronomeSettings;
 use crate::status::Status;
+use crate::text::VERSION;
 use machine::Heap;
 use size_classes::Config;
 
-/// Makes a heap of these settings, where the handle holds none.
+/// Makes a heap of these settings, where the handle is closed and the program was built for this version. Of a program
+/// for another one nothing is read but that version.
 #[unsafe(no_mangle)]
-pub extern "C" fn metronome_create(heap: &mut Metronome, settings: &MetronomeSettings) -> u32
-    ensures { Creates heap.old.handle.value (settings_from settings.now) heap.new.handle.value result }
+pub extern "C" fn metronome_create_for(
+    heap: &mut Metronome,
+    settings: &MetronomeSettings,
+    version: u32,
+) -> u32
+    ensures same { version ≡ 2 → Creates (held heap.old) (settings_from settings.now) (held heap.new) result }
+    ensures other { version ≢ 2 → (held heap.new ≡ held heap.old) × (result ≡ status_number OtherVersion) }
 {
-    if heap.is_open {
+    if version != VERSION {
+        return Status::OtherVersion.number();
+    }
+    create(heap, settings)
+}
+
+/// Makes a heap of these settings, where the handle is closed.
+fn create(heap: &mut Metronome, settings: &MetronomeSettings) -> u32
+    ensures { Creates (held heap.old) (settings_from settings.now) (held heap.new) result }
+{
+    if heap.is_open() {
         return Status::Open.number();
+    }
+    if !heap.is_closed() {
+        return Status::BadHandle.number();
     }
     let config = match Config::check(&settings.settings()) {
         Ok(config) => config,
@@ -31,13 +54,12 @@ pub extern "C" fn metronome_create(heap: &mut Metronome, settings: &MetronomeSet
     Status::Done.number()
 }
 
-/// Gives the memory of a heap back. Of a closed handle nothing is done.
+/// Gives the memory of a heap back. Where the handle holds none nothing is done.
 #[unsafe(no_mangle)]
 pub extern "C" fn metronome_destroy(heap: &mut Metronome)
-    ensures value { heap.new.handle.value ≡ None }
-    ensures open { heap.new.is_open ≡ false }
+    ensures { Destroys (held heap.old) (held heap.new) }
 {
-    if heap.is_open {
+    if heap.is_open() {
         drop(heap.take());
     }
 }

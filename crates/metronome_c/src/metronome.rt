@@ -1,59 +1,91 @@
 //! What C holds: a heap, or none.
-ghost use Rattle.std.specs.Prelude.{◌≡◌, Some, None, IsTrue, true, false};
+ghost use Rattle.std.specs.Prelude.{◌≡◌, ◌==◌, Some, None, IsSome};
 ghost use Rattle.std.specs.Option.{is_some};
 ghost use Rattle.std.specs.Fn.{FnOnceReturnsAtMut};
+ghost use Rattle.metronome_c.specs.declared.metronome.TheConstants.{CHECK_WORD};
 ghost use Rattle.metronome_c.specs.Asking.{Asks, AsksTold, AsksToldWithShape};
 
 use crate::answer::{Answer, MetronomeShape};
 use crate::handle::{Handle, Loose};
+use crate::status::Status;
 use graph_heap::Reply;
 use machine::Heap;
 use std::alloc::Global;
 use std::mem::replace;
 
-/// A heap that C holds, if it is open. All zeros are a closed one.
+/// The check word of a handle that holds a heap. That of a closed one is 0, and a struct with another one is no handle.
+const CHECK_WORD: u64 = 5_567_949_226_808_069_965;
+
+/// What C holds: a heap, or none. All zeros hold none.
 #[repr(C)]
 #[derive(Drop)]
 pub struct Metronome {
     pub handle: Handle,
     pub(crate) alloc: Global,
-    pub is_open: bool,
-    ghost tied: { is_open ≡ is_some handle.value },
+    pub check: u64,
+    ghost tied: { (check == CHECK_WORD) ≡ is_some handle.value },
 }
 
 impl Metronome {
+    ghost use Rattle.metronome_c.specs.Held.{absence, held};
+
     /// No heap.
     pub(crate) fn closed(alloc: Global) -> Metronome
         ensures value { result.handle.value ≡ None }
-        ensures open { result.is_open ≡ false }
+        ensures check { result.check ≡ 0 }
     {
         Metronome {
             handle: Handle::empty(alloc),
             alloc,
-            is_open: false,
+            check: 0,
+        }
+    }
+
+    /// Whether it holds a heap.
+    #[inline(always)]
+    pub(crate) fn is_open(&self) -> bool
+        ensures { result ≡ is_some self.now.handle.value }
+    {
+        self.check == CHECK_WORD
+    }
+
+    /// Whether its check word is that of a closed handle.
+    pub(crate) fn is_closed(&self) -> bool
+        ensures { result ≡ (self.now.check == 0) }
+    {
+        self.check == 0
+    }
+
+    /// Why it holds no heap, where it holds none.
+    fn why_empty(&self) -> Status
+        ensures { result ≡ absence (self.now.check == 0) }
+    {
+        if self.check == 0 {
+            Status::Closed
+        } else {
+            Status::BadHandle
         }
     }
 
     /// Holds this heap.
     #[inline(always)]
     pub(crate) fn put(&mut self, heap: Box<Heap>)
-        ensures value { self.new.handle.value ≡ Some heap.value }
-        ensures open { self.new.is_open ≡ true }
+        ensures { self.new.handle.value ≡ Some heap.value }
     {
         *self = Metronome {
             handle: Handle::shut(Loose::of(heap)),
             alloc: self.alloc,
-            is_open: true,
+            check: CHECK_WORD,
         };
     }
 
     /// The heap. None is left.
     #[inline(always)]
     pub(crate) fn take(&mut self) -> Box<Heap>
-        requires { IsTrue self.old.is_open }
+        requires { IsSome self.old.handle.value }
         ensures value { self.old.handle.value ≡ Some result.value }
         ensures left { self.new.handle.value ≡ None }
-        ensures open { self.new.is_open ≡ false }
+        ensures check { self.new.check ≡ 0 }
     {
         let closed = Metronome::closed(self.alloc);
         let Metronome { handle, .. } = replace(self, closed);
@@ -62,24 +94,24 @@ impl Metronome {
 
     /// Asks the heap, if there is one, and holds it again.
     #[inline(always)]
-    pub(crate) fn ask<T, F: FnOnce(&mut Heap) -> T + Drop>(&mut self, call: F) -> Option<T>
+    pub(crate) fn ask<T, F: FnOnce(&mut Heap) -> T + Drop>(&mut self, call: F) -> Result<T, Status>
         requires { F.IsAlwaysCallable call }
-        ensures { Asks (FnOnceReturnsAtMut F.FnOnce call) self.old.handle.value result self.new.handle.value }
+        ensures { Asks (FnOnceReturnsAtMut F.FnOnce call) (held self.old) result (held self.new) }
     {
-        if !self.is_open {
-            return None;
+        if !self.is_open() {
+            return Err(self.why_empty());
         }
         let mut heap = self.take();
         let answer = call(&mut heap);
         self.put(heap);
-        Some(answer)
+        Ok(answer)
     }
 
     /// Asks the heap for a reply, if there is one, and tells it.
     #[inline(always)]
     pub(crate) fn told<F: FnOnce(&mut Heap) -> Reply + Drop>(&mut self, call: F) -> Answer
         requires { F.IsAlwaysCallable call }
-        ensures { AsksTold (FnOnceReturnsAtMut F.FnOnce call) self.old.handle.value self.new.handle.value result }
+        ensures { AsksTold (FnOnceReturnsAtMut F.FnOnce call) (held self.old) (held self.new) result }
     {
         Answer::told(self.ask(call))
     }
@@ -91,7 +123,8 @@ impl Metronome {
         call: F,
     ) -> Answer
         requires { F.IsAlwaysCallable call }
-        ensures { AsksToldWithShape (FnOnceReturnsAtMut F.FnOnce call) self.old.handle.value self.new.handle.value result shape.old shape.new }
+        ensures { AsksToldWithShape (FnOnceReturnsAtMut F.FnOnce call) (held self.old) (held self.new) result shape.old
+            shape.new }
     {
         let reply = self.ask(call);
         *shape = shape.told_by(reply);

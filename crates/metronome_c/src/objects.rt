@@ -1,6 +1,7 @@
 //! Commands on whole objects.
 ghost use Rattle.graph_heap.specs.declared.command.Command.TheVariants as commands;
 ghost use Rattle.graph_heap.specs.declared.command.Shape.TheVariants as shapes;
+ghost use Rattle.metronome_c.specs.Held.{held};
 ghost use Rattle.metronome_c.specs.Steps.{Steps, TellsShape};
 
 use crate::answer::{Answer, MetronomeShape};
@@ -16,7 +17,7 @@ pub extern "C" fn metronome_new_plain(
     refs: u32,
     words: u32,
 ) -> Answer
-    ensures { Steps heap.old.handle.value mutator (commands.New dst (shapes.Plain refs words)) heap.new.handle.value result }
+    ensures { Steps (held heap.old) mutator (commands.New dst (shapes.Plain refs words)) (held heap.new) result }
 {
     let shape = Shape::Plain { refs, words };
     heap.told(|inner| inner.make(mutator, dst, shape))
@@ -30,7 +31,7 @@ pub extern "C" fn metronome_new_refs(
     dst: u32,
     refs: u32,
 ) -> Answer
-    ensures { Steps heap.old.handle.value mutator (commands.New dst (shapes.RefArray refs)) heap.new.handle.value result }
+    ensures { Steps (held heap.old) mutator (commands.New dst (shapes.RefArray refs)) (held heap.new) result }
 {
     let shape = Shape::RefArray(refs);
     heap.told(|inner| inner.make(mutator, dst, shape))
@@ -44,7 +45,7 @@ pub extern "C" fn metronome_new_words(
     dst: u32,
     words: u32,
 ) -> Answer
-    ensures { Steps heap.old.handle.value mutator (commands.New dst (shapes.WordArray words)) heap.new.handle.value result }
+    ensures { Steps (held heap.old) mutator (commands.New dst (shapes.WordArray words)) (held heap.new) result }
 {
     let shape = Shape::WordArray(words);
     heap.told(|inner| inner.make(mutator, dst, shape))
@@ -53,7 +54,7 @@ pub extern "C" fn metronome_new_words(
 /// Whether slots a and b hold the same object, or both null.
 #[unsafe(no_mangle)]
 pub extern "C" fn metronome_same(heap: &mut Metronome, mutator: u32, a: u32, b: u32) -> Answer
-    ensures { Steps heap.old.handle.value mutator (commands.Same a b) heap.new.handle.value result }
+    ensures { Steps (held heap.old) mutator (commands.Same a b) (held heap.new) result }
 {
     heap.told(|inner| inner.same(mutator, a, b))
 }
@@ -66,8 +67,8 @@ pub extern "C" fn metronome_describe(
     a: u32,
     shape: &mut MetronomeShape,
 ) -> Answer
-    ensures steps { Steps heap.old.handle.value mutator (commands.Describe a) heap.new.handle.value result }
-    ensures shape { TellsShape heap.old.handle.value mutator (commands.Describe a) shape.old shape.new }
+    ensures steps { Steps (held heap.old) mutator (commands.Describe a) (held heap.new) result }
+    ensures shape { TellsShape (held heap.old) mutator (commands.Describe a) shape.old shape.new }
 {
     heap.told_with_shape(shape, |inner| inner.describe(mutator, a))
 }

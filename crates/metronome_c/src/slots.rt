@@ -1,5 +1,6 @@
 //! Commands on slots and statics, and on which mutators are live.
 ghost use Rattle.graph_heap.specs.declared.command.Command.TheVariants as commands;
+ghost use Rattle.metronome_c.specs.Held.{held};
 ghost use Rattle.metronome_c.specs.Steps.{Steps};
 
 use crate::answer::Answer;
@@ -8,7 +9,7 @@ use crate::metronome::Metronome;
 /// What slot src holds into slot dst.
 #[unsafe(no_mangle)]
 pub extern "C" fn metronome_copy(heap: &mut Metronome, mutator: u32, dst: u32, src: u32) -> Answer
-    ensures { Steps heap.old.handle.value mutator (commands.Copy dst src) heap.new.handle.value result }
+    ensures { Steps (held heap.old) mutator (commands.Copy dst src) (held heap.new) result }
 {
     heap.told(|inner| inner.copy(mutator, dst, src))
 }
@@ -16,7 +17,7 @@ pub extern "C" fn metronome_copy(heap: &mut Metronome, mutator: u32, dst: u32, s
 /// Null into slot dst.
 #[unsafe(no_mangle)]
 pub extern "C" fn metronome_clear(heap: &mut Metronome, mutator: u32, dst: u32) -> Answer
-    ensures { Steps heap.old.handle.value mutator (commands.Clear dst) heap.new.handle.value result }
+    ensures { Steps (held heap.old) mutator (commands.Clear dst) (held heap.new) result }
 {
     heap.told(|inner| inner.clear(mutator, dst))
 }
@@ -29,7 +30,7 @@ pub extern "C" fn metronome_load_static(
     dst: u32,
     k: u32,
 ) -> Answer
-    ensures { Steps heap.old.handle.value mutator (commands.LoadStatic dst k) heap.new.handle.value result }
+    ensures { Steps (held heap.old) mutator (commands.LoadStatic dst k) (held heap.new) result }
 {
     heap.told(|inner| inner.load_static(mutator, dst, k))
 }
@@ -42,7 +43,7 @@ pub extern "C" fn metronome_store_static(
     k: u32,
     src: u32,
 ) -> Answer
-    ensures { Steps heap.old.handle.value mutator (commands.StoreStatic k src) heap.new.handle.value result }
+    ensures { Steps (held heap.old) mutator (commands.StoreStatic k src) (held heap.new) result }
 {
     heap.told(|inner| inner.store_static(mutator, k, src))
 }
@@ -56,7 +57,7 @@ pub extern "C" fn metronome_compare_static(
     expect: u32,
     new: u32,
 ) -> Answer
-    ensures { Steps heap.old.handle.value mutator (commands.CompareStatic k expect new) heap.new.handle.value result }
+    ensures { Steps (held heap.old) mutator (commands.CompareStatic k expect new) (held heap.new) result }
 {
     heap.told(|inner| inner.compare_static(mutator, k, expect, new))
 }
@@ -64,7 +65,7 @@ pub extern "C" fn metronome_compare_static(
 /// The mutator comes to be live.
 #[unsafe(no_mangle)]
 pub extern "C" fn metronome_join(heap: &mut Metronome, mutator: u32) -> Answer
-    ensures { Steps heap.old.handle.value mutator commands.Join heap.new.handle.value result }
+    ensures { Steps (held heap.old) mutator commands.Join (held heap.new) result }
 {
     heap.told(|inner| inner.join(mutator))
 }
@@ -72,7 +73,7 @@ pub extern "C" fn metronome_join(heap: &mut Metronome, mutator: u32) -> Answer
 /// Null into each slot of the mutator, which is live no more.
 #[unsafe(no_mangle)]
 pub extern "C" fn metronome_leave(heap: &mut Metronome, mutator: u32) -> Answer
-    ensures { Steps heap.old.handle.value mutator commands.Leave heap.new.handle.value result }
+    ensures { Steps (held heap.old) mutator commands.Leave (held heap.new) result }
 {
     heap.told(|inner| inner.leave(mutator))
 }

@@ -23,7 +23,11 @@ pub enum Status {
     Open,
     /// `collector_ticks` times `rate` isn't 256 to 1000000.
     ScheduleOutOfRange,
+    /// What was given as a handle is none: nothing ever closed it.
+    BadHandle,
     SettingOutOfRange(Key),
+    /// The program was built for another version of this interface.
+    OtherVersion,
 }
 
 /// The place of a key among the settings, from 0.
@@ -34,8 +38,8 @@ fn key_number(key: Key) -> u32
 }
 
 impl Status {
-    /// All of them.
-    pub const ALL: [Status; 28] = [
+    /// All of them, in the order of their numbers.
+    pub const ALL: [Status; 30] = [
         Status::Done,
         Status::Refused(Refusal::BadSlot),
         Status::Refused(Refusal::NullSlot),
@@ -53,6 +57,7 @@ impl Status {
         Status::Closed,
         Status::Open,
         Status::ScheduleOutOfRange,
+        Status::BadHandle,
         Status::SettingOutOfRange(Key::Pages),
         Status::SettingOutOfRange(Key::Mutators),
         Status::SettingOutOfRange(Key::Slots),
@@ -64,6 +69,7 @@ impl Status {
         Status::SettingOutOfRange(Key::MutatorTicks),
         Status::SettingOutOfRange(Key::Rate),
         Status::SettingOutOfRange(Key::Live),
+        Status::OtherVersion,
     ];
 
     /// The number by which C is told.
@@ -79,7 +85,9 @@ impl Status {
             Status::Closed => 16,
             Status::Open => 17,
             Status::ScheduleOutOfRange => 18,
+            Status::BadHandle => 19,
             Status::SettingOutOfRange(key) => 20 + key_number(key),
+            Status::OtherVersion => 40,
         }
     }
 
@@ -122,7 +130,9 @@ impl Status {
             Status::Closed => "the heap is closed",
             Status::Open => "the heap is open already",
             Status::ScheduleOutOfRange => "collector_ticks times rate is out of range",
+            Status::BadHandle => "this is no handle",
             Status::SettingOutOfRange(key) => setting_text(key),
+            Status::OtherVersion => "the program was built for another version",
         }
     }
 }

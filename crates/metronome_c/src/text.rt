@@ -6,7 +6,7 @@ ghost use Rattle.metronome_c.specs.Text.{with_text};
 use crate::status::Status;
 
 /// The version of this interface. Another number means that programs have to be compiled anew.
-const VERSION: u32 = 1;
+pub(crate) const VERSION: u32 = 2;
 
 /// The text of a number.
 fn text_of_number(number: u32) -> &'static str
@@ -33,7 +33,7 @@ fn write_text(bytes: &[u8], room: &mut [u8])
 /// Writes the text of a status, as much of it as there is room for, and 0 after it. Tells how many bytes
 /// the whole text has.
 #[unsafe(no_mangle)]
-pub extern "C" fn metronome_text(status: u32, text: &mut [u8]) -> usize
+pub extern "C" fn metronome_text_into(status: u32, text: &mut [u8]) -> usize
     ensures whole { result ≡ length (text_of status) }
     ensures text { text.new ≡ with_text text.old (text_of status) }
 {
@@ -45,7 +45,7 @@ pub extern "C" fn metronome_text(status: u32, text: &mut [u8]) -> usize
 /// The version of this interface.
 #[unsafe(no_mangle)]
 pub extern "C" fn metronome_version() -> u32
-    ensures { result ≡ 1 }
+    ensures { result ≡ 2 }
 {
     VERSION
 }

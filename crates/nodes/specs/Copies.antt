@@ -13,6 +13,7 @@ count_below passes (suc n) = count_below passes n + (if passes n then 1 else 0)
 unfoldable pub is_main : Store → ℕ → Bool
 is_main s b = is_held s b && ((node_of s b).forward == b)
 
+-- a held block that forwards to another block
 unfoldable pub is_old : Store → ℕ → Bool
 is_old s b = is_held s b && not ((node_of s b).forward == b)
 

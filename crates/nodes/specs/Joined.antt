@@ -5,6 +5,7 @@ use Rattle.heap_model.specs.Store.{Store, IsStore, is_held}
 use Rattle.pages.specs.declared.page.PageRecord.{PageRecord}
 use Rattle.pages.specs.Together.{pages_in, Together}
 
+-- the table's records and the arena's words, as a store
 abbrev pub joined : List (Option PageRecord) → List ℕ → Store
 joined rows words = record { pages = pages_in rows words; words = words }
 

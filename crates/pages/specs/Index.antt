@@ -7,6 +7,7 @@ use Rattle.pages.specs.declared.bits.BitRow.{BitRow}
 use Rattle.pages.specs.declared.page.PageRecord.{PageRecord}
 use Rattle.pages.specs.BitRow.{has_bit}
 
+-- the record of page k, none where there is no such page
 abbrev pub row_at : List (Option PageRecord) → ℕ → Option PageRecord
 row_at rows k = slice_index_or rows k None
 
@@ -20,6 +21,7 @@ abbrev pub row_usable : ℕ → Option PageRecord → Bool
 row_usable class None = false
 row_usable class (Some r) = (r.class == class) && (not r.leaving && nat_lt r.held (blocks_in r.class))
 
+-- whether a page is free
 abbrev pub row_free : Option PageRecord → Bool
 row_free None = true
 row_free (Some r) = false
@@ -38,6 +40,7 @@ row_choosable class (Some r) = (r.class == class) && (not r.leaving && not r.rec
 abbrev pub HasFree : ℕ → Option PageRecord → Type 0
 HasFree class o = IsSomeAnd o (λ r. (r.class ≡ class) × (r.leaving ≡ false) × (r.held < blocks_in r.class))
 
+-- a truth value as a bit
 abbrev pub bit : Bool → ℕ
 bit b = if b then 1 else 0
 

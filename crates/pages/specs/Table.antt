@@ -4,8 +4,10 @@ use Rattle.pages.specs.declared.table.PageTable.TheInside.{Inside}
 use Rattle.pages.specs.declared.page.PageRecord.{PageRecord}
 use Rattle.pages.specs.Index.{IsIndex}
 
+-- the records of a table, page by page
 abbrev pub rows_in : Inside → List (Option PageRecord)
 rows_in t = t.rows.items
 
+-- what a table keeps: its rows of bits and its counts are those of its records
 abbrev pub IsKept : Inside → Type 0
 IsKept t = IsIndex t.rows.items t.usable.items t.free t.free_blocks.items t.free_pages

@@ -12,6 +12,7 @@ use Rattle.pages.specs.Index.{row_at}
 abbrev pub page_by : List ℕ → ℕ → Option PageRecord → Option Page
 page_by words at = option_map (λ r. record { class = r.class; leaving = r.leaving; receiving = r.receiving; held = flags_of words at r.class })
 
+-- the pages, by their records and the words
 unfoldable pub pages_in : List (Option PageRecord) → List ℕ → List (Option Page)
 pages_in rows words = map (λ p. page_by words (PAGE_WORDS * p.0) p.1) (enumerate_from 0 rows)
 

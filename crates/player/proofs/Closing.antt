@@ -9,13 +9,13 @@ use Rattle.trace.specs.declared.fault.LineFault.TheVariants.{TooLong, NotEnded, 
 use Rattle.trace.specs.declared.fault.TextFault.{TextFault}
 use Rattle.trace.specs.declared.fault.TextFault.TheVariants.{Line as At_line, Read, Write, NoMemory}
 use Rattle.trace.specs.declared.version.Version.{Version}
-use Rattle.trace.specs.GoneOver.{LinesDone, NextLine, Ends, reads_failed, writes_failed}
+use Rattle.trace.specs.GoneOver.{LinesDone, GoneOver, NextLine, Ends, writes_failed}
 use Rattle.trace.specs.LineReader.{Lines}
 use Rattle.trace.specs.Streams.{Given, GrowsByPart}
 use Rattle.trace.proofs.GoingOver.{SoFar}
 use Rattle.player.specs.declared.style.Style.{Style}
 use Rattle.player.specs.Player.{PlayerState, entries_in}
-use Rattle.player.specs.Playing.{Stage, stage, TellsVersionOf, PlaysText, Stops, StopsText, CutShort, Played, PlayedFirst, PlayedUpTo, text_written}
+use Rattle.player.specs.Playing.{Stage, stage, TellsVersionOf, PlaysText, Stops, StopsText, IsWrittenUpTo, Played, PlayedUpTo, text_written}
 use Rattle.player.specs.Closing.{Closes}
 use Rattle.player.proofs.Lines.{played, lines_written}
 
@@ -33,6 +33,10 @@ part_of old text taken taken' waiting e low g =
 -- nothing is no part of nothing
 pub no_part : (old new waiting : List ℕ) → waiting ≡ [] → GrowsByPart old new waiting → ⊥
 no_part old new waiting e g = let none : length waiting ≡ 0 = ap length e in let low = g.1 in omega (arith, none, low)
+
+-- what grows by a part is no shorter
+pub grows_longer : (old new bytes : List ℕ) → GrowsByPart old new bytes → length old ≤ length new
+grows_longer old new bytes g = omega (arith, ap length g.2, length-append old (take g.0 bytes))
 
 -- either a write failed or it didn't
 pub either : {P : Type 0} (fault : TextFault) → (writes_failed {A = Bool} (Err fault) ≡ 0 → P) → (fault ≡ Write → P) → P
@@ -65,8 +69,13 @@ left style NoMemory lines.Begin number mid new s = elim s [ ]
 left style NoMemory (lines.Quantum b) number mid new s = elim s [ ]
 left style NoMemory (lines.Tick n) number mid new s = (s.1, inr (s.0, refl))
 
+-- and of its text
+pub stops_taken : (style : Style) (version : Version) (fault : TextFault) (text : List ℕ) (number : ℕ) (mid new : Stage) → StopsText style version fault text number mid new → new.taken ≡ mid.taken
+stops_taken style version fault text number mid new (inl none) = ap (λ (s : Stage). s.taken) none.1
+stops_taken style version fault text number mid new (inr (line, spells, stops)) = (left style fault line number mid new stops).0
+
 -- the same of an end
-abbrev LeftBehind : Style → Version → ℕ → Stage → List ℕ → Stage → Type 0
+abbrev pub LeftBehind : Style → Version → ℕ → Stage → List ℕ → Stage → Type 0
 LeftBehind style version count mid rest new =
     (new.taken ≡ mid.taken) × ((new.player ≡ mid.player) ⊎ NextLine (λ line. StopsText style version NoMemory line (count + 1) mid (stage new.player mid.taken)) rest)
 
@@ -78,66 +87,41 @@ at_line : (style : Style) (version : Version) (count : ℕ) (mid : Stage) (rest 
 at_line style version count mid rest text more line new all next (e, inl same) = (e, inl same)
 at_line style version count mid rest text more line new all next (e, inr stops) = (e, inr (next stops))
 
-left_behind : (style : Style) (version : Version) (count : ℕ) (mid : Stage) (rest : List ℕ) (ended : Bool) (new : Stage) (result : Result (Unit {0}) TextFault) → Ends (StopsText style version) count mid rest ended new result → LeftBehind style version count mid rest new
+pub left_behind : (style : Style) (version : Version) (count : ℕ) (mid : Stage) (rest : List ℕ) (ended : Bool) (new : Stage) (result : Result (Unit {0}) TextFault) → Ends (StopsText style version) count mid rest ended new result → LeftBehind style version count mid rest new
 left_behind style version count mid rest ended new (Ok all) e = same_left style version count mid rest new e.2
 left_behind style version count mid rest ended new (Err fault) (inl e) = same_left style version count mid rest new e.1
 left_behind style version count mid rest ended new (Err fault) (inr (text, more, whole, is, inl none)) = same_left style version count mid rest new none.1
 left_behind style version count mid rest ended new (Err fault) (inr (text, more, whole, is, inr (line, spells, stops))) =
     at_line style version count mid rest text more line new (λ next. ((left style fault line (count + 1) mid new stops).0, inr next)) (λ s. (text, more, whole, is, inr (line, spells, s))) (left style fault line (count + 1) mid new stops)
 
-module _ (style : Style) (given : Given) (old : Stage) (player : PlayerState) (taken taken' waiting : List ℕ) (low : length old.taken ≤ length taken) where
-  -- a write of what waits failed after the end
-  pub cuts : (version : Version) (count : ℕ) (events : List Event) (mid : Stage) (rest : List ℕ) (ended : Result (Unit {0}) TextFault) → mid.taken ≡ old.taken ++ text_written style version (entries_in events) → (ended ≡ Err Write → waiting ≡ []) → GrowsByPart taken taken' waiting
-      → Ends (StopsText style version) count mid rest given.ended (stage player (taken ++ waiting)) ended ⊎ ((ended ≡ Err Write) × CutShort style version count events mid rest old (stage player (taken ++ waiting))) → CutShort style version count events mid rest old (stage player taken')
-  cuts version count events mid rest ended written none g (inl e) =
-      let l = left_behind style version count mid rest given.ended (stage player (taken ++ waiting)) ended e in
-      (part_of old.taken (text_written style version (entries_in events)) taken taken' waiting (l.0 ∙ written) low g, l.1)
-  cuts version count events mid rest ended written none g (inr e) = absurd (no_part taken taken' waiting (none e.0) g)
+-- a write of what waits failed after the end
+module _ (style : Style) (given : Given) (old : Stage) (player : PlayerState) (taken taken' waiting : List ℕ) (ended : Result (Unit {0}) TextFault) (low : length old.taken ≤ length taken) (grows : GrowsByPart taken taken' waiting) where
+  abbrev pub cut : (over : GoneOver (TellsVersionOf style) (PlaysText style) given old (λ version count events mid rest. Ends (StopsText style version) count mid rest given.ended (stage player (taken ++ waiting)) ended)) → IsWrittenUpTo style old over.lines over.events over.rest taken'
+      → Played style given old (stage player taken') (Err Write)
+  cut over behind =
+      let l = left_behind style over.version (length over.lines) over.mid over.rest given.ended (stage player (taken ++ waiting)) ended over.ends in
+      let text = lines_written style old over.mid over.lines over.version over.events over.done in
+      played style given old (stage player taken') (Err Write) (record {
+        lines = over.lines;
+        version = over.version;
+        events = over.events;
+        mid = over.mid;
+        rest = over.rest;
+        read = over.read;
+        done = over.done;
+        ends = inr (refl, (part_of old.taken (text_written style over.version (entries_in over.events)) taken taken' waiting (l.0 ∙ text) low grows, l.1));
+      }) (λ _. behind)
 
-  abbrev pub cut_short : (ended : Result (Unit {0}) TextFault) → (ended ≡ Err Write → waiting ≡ []) → GrowsByPart taken taken' waiting → Played style given old (stage player (taken ++ waiting)) ended → Played style given old (stage player taken') (Err Write)
-  cut_short ended none g p = record {
-    over = record {
-      lines = p.over.lines;
-      version = p.over.version;
-      events = p.over.events;
-      mid = p.over.mid;
-      rest = p.over.rest;
-      read = p.over.read;
-      done = p.over.done;
-      ends = inr (refl, cuts p.over.version (length p.over.lines) p.over.events p.over.mid p.over.rest ended p.written none g p.over.ends);
-    };
-    runs = p.runs;
-    grows = p.grows;
-    written = p.written;
-  }
-
-  closed : (ended result : Result (Unit {0}) TextFault) → (ended ≡ Err Write → waiting ≡ []) → Closes taken taken' waiting ended result → Played style given old (stage player (taken ++ waiting)) ended → Played style given old (stage player taken') result
-  closed ended result none (inl (e, same)) p = rw (e, same) p
-  closed ended result none (inr (g, is)) p = rw is (cut_short ended none g p)
-
-module _ (style : Style) (given : Given) (old : Stage) (n : ℕ) (player : PlayerState) (taken taken' waiting : List ℕ) (low : length old.taken ≤ length taken) where
-  first_cut : (ended : Result (Unit {0}) TextFault) → (ended ≡ Err Write → waiting ≡ []) → GrowsByPart taken taken' waiting → PlayedFirst n style given old (stage player (taken ++ waiting)) ended → PlayedFirst n style given old (stage player taken') (Err Write)
-  first_cut ended none g (inl (all, few)) = inl (cut_short style given old player taken taken' waiting low ended none g all, few)
-  first_cut ended none g (inr (seen, more, first, whole, small, rest, count, end, how)) =
-      inr (seen, more, cut_short style (record given { after = seen; ended = true }) old player taken taken' waiting low ended none g first, whole, small, rest, count, end, inr refl)
-
-  closed_first : (ended result : Result (Unit {0}) TextFault) → (ended ≡ Err Write → waiting ≡ []) → Closes taken taken' waiting ended result → PlayedFirst n style given old (stage player (taken ++ waiting)) ended → PlayedFirst n style given old (stage player taken') result
-  closed_first ended result none (inl (e, same)) p = rw (e, same) p
-  closed_first ended result none (inr (g, is)) p = rw is (first_cut ended none g p)
-
-pub closed_up_to : (most : Option ℕ) (style : Style) (given : Given) (old : Stage) (player : PlayerState) (taken taken' waiting : List ℕ) → length old.taken ≤ length taken → (ended result : Result (Unit {0}) TextFault) → (ended ≡ Err Write → waiting ≡ [])
-    → Closes taken taken' waiting ended result → PlayedUpTo most style given old (stage player (taken ++ waiting)) ended → PlayedUpTo most style given old (stage player taken') result
-closed_up_to None style given old player taken taken' waiting low = closed style given old player taken taken' waiting low
-closed_up_to (Some n) style given old player taken taken' waiting low = closed_first style given old n player taken taken' waiting low
-
--- where a write failed
-pub write_counts : (r : Result (Unit {0}) TextFault) → r ≡ Err Write → 0 < reads_failed r + writes_failed r
-write_counts r e = rw e (omega arith)
+-- all is written at the end, or a write failed
+pub closed_up_to : (most : Option ℕ) (style : Style) (given : Given) (old : Stage) (player : PlayerState) (taken taken' waiting : List ℕ) (ended result : Result (Unit {0}) TextFault) → Closes taken taken' waiting ended result → PlayedUpTo most style given old (stage player (taken ++ waiting)) ended
+    → (GrowsByPart taken taken' waiting → PlayedUpTo most style given old (stage player taken') (Err Write)) → PlayedUpTo most style given old (stage player taken') result
+closed_up_to most style given old player taken taken' waiting ended result (inl (e, same)) p short = rw (e, same) p
+closed_up_to most style given old player taken taken' waiting ended result (inr (grows, is)) p short = rw is (short grows)
 
 -- the lines so far, of whose text a part is written
 abbrev pub cut_after : (style : Style) (given : Given) (old : Stage) (player : PlayerState) (taken waiting : List ℕ) (reader : Lines) (version : Version) (so : SoFar (TellsVersionOf style) (PlaysText style) given old (stage player (taken ++ waiting)) reader version) (taken' : List ℕ) → length old.taken ≤ length taken
-    → GrowsByPart taken taken' waiting → Played style given old (stage player taken') (Err Write)
-cut_after style given old player taken waiting reader version so taken' low g =
+    → GrowsByPart taken taken' waiting → IsWrittenUpTo style old so.lines so.events reader.kept taken' → Played style given old (stage player taken') (Err Write)
+cut_after style given old player taken waiting reader version so taken' low g behind =
     let mid = stage player (taken ++ waiting) in
     played style given old (stage player taken') (Err Write) (record {
       lines = so.lines;
@@ -148,7 +132,7 @@ cut_after style given old player taken waiting reader version so taken' low g =
       read = so.read;
       done = so.done;
       ends = inr (refl, (part_of old.taken (text_written style version (entries_in so.events)) taken taken' waiting (lines_written style old mid so.lines version so.events so.done) low g, inl refl));
-    })
+    }) (λ _. behind)
 
 -- the lines so far, where the same text is written or waits
 abbrev pub moved : (style : Style) {given : Given} {old : Stage} {player : PlayerState} {reader : Lines} {version : Version} (taken taken' : List ℕ) (so : SoFar (TellsVersionOf style) (PlaysText style) given old (stage player taken) reader version) → taken' ≡ taken

@@ -1,5 +1,5 @@
 -- Playing up to the line of the nth event.
-use Rattle.std.proofs.Common.{◌≡◌, ◌≢◌, ℕ, zero, suc, ◌+◌, ◌-◌, ◌<◌, ◌≤◌, Bool, true, false, not, ◌&&◌, cond, List, [], ◌∷◌, ◌++◌, inl, inr, append_assoc, append-nil, ap, ◌∙◌, sym, refl, subst, arith, Ok}
+use Rattle.std.proofs.Common.{◌≡◌, ◌≢◌, ℕ, zero, suc, ◌+◌, ◌-◌, ◌<◌, ◌≤◌, Bool, true, false, not, ◌&&◌, cond, List, [], ◌∷◌, ◌++◌, inl, inr, append_assoc, append-nil, ap, ◌∙◌, sym, refl, subst, arith, length, Ok, Err}
 use Rattle.std.specs.Prelude.{Option, None, Some, Result, IsTrue, option_map}
 use Rattle.std.specs.List.{count_by}
 use Rattle.std.specs.Str.{bytes_eq}
@@ -13,14 +13,16 @@ use Rattle.graph_heap.specs.declared.command.Command.{Command}
 use Rattle.machine.specs.declared.recorded.Receipt.{Receipt}
 use Rattle.trace.specs.Numbered.{LineRead}
 use Rattle.trace.specs.Spelling.{version_line, TellsVersion, Spells, is_skipped}
-use Rattle.trace.specs.Streams.{Given, text_of}
+use Rattle.trace.specs.Streams.{Given, GrowsByPart, text_of}
 use Rattle.trace.specs.declared.fault.TextFault.{TextFault}
+use Rattle.trace.specs.declared.fault.TextFault.TheVariants.{Write}
 use Rattle.trace.proofs.Exact.{same_Some}
 use Rattle.trace.proofs.ReadLines.{unread}
 use Rattle.trace.proofs.GoingOver.{SoFar}
 use Rattle.player.specs.declared.style.Style.{Style}
 use Rattle.player.specs.Player.{PlayerState}
-use Rattle.player.specs.Playing.{Stage, stage, TellsVersionOf, PlaysText, Played, PlayedFirst, PlayedUpTo, is_event, says_event, EndAtEvent, entry_of, LineDone, LinePlayed, written_of}
+use Rattle.player.specs.Playing.{Stage, stage, TellsVersionOf, PlaysText, Played, PlayedFirst, PlayedUpTo, is_event, says_event, EndAtEvent, entry_of, LineDone, LinePlayed, written_of, IsWrittenUpTo}
+use Rattle.player.proofs.Closing.{cut}
 use Rattle.player.proofs.Lines.{enters_nothing, played}
 
 -- a line that is read as another than a skipped one is neither skipped nor tells the version
@@ -83,7 +85,8 @@ first_done {style} {given} {old} {new} {reader} {version} so n count end = inr (
     read = record { text = text_of so.lines; came = refl; splits = record { whole = sym (append-nil (text_of so.lines)); each = so.read.splits.each }; small = omega arith };
     done = so.done;
     ends = inl (refl, refl, refl);
-  }),
+  })
+      (λ is. absurd (cc)),
   so.read.came ∙ ap (λ t. given.before ++ t) so.read.splits.whole ∙ sym (append_assoc given.before (text_of so.lines) reader.kept),
   so.read.small,
   refl,
@@ -134,3 +137,34 @@ pub none_left : (style : Style) {given : Given} {old new : Stage} {reader : Line
     → PlayedUpTo most style given old new (Ok tt)
 none_left style so None left are none end = absurd (cc)
 none_left style so (Some n) left are none end = first_done so n (let sum = are.2 in omega (arith, sum, same_Some are.0 0 (sym are.1 ∙ none))) end
+
+-- the same where a write of what waits then fails
+pub first_cut : {style : Style} {given : Given} {old : Stage} {player : PlayerState} {reader : Lines} {version : Version} (taken taken' waiting : List ℕ) (so : SoFar (TellsVersionOf style) (PlaysText style) given old (stage player (taken ++ waiting)) reader version) (n : ℕ) → count_by is_event so.lines ≡ n → EndAtEvent so.lines
+    → length old.taken ≤ length taken → GrowsByPart taken taken' waiting → IsWrittenUpTo style old so.lines so.events [] taken' → PlayedFirst n style given old (stage player taken') (Err Write)
+first_cut {style} {given} {old} {player} {reader} {version} taken taken' waiting so n count end low grows behind = inr (
+  given.before ++ text_of so.lines,
+  reader.kept,
+  cut style (record given { after = given.before ++ text_of so.lines; ended = true }) old player taken taken' waiting (Ok tt) low grows
+      (record {
+        lines = so.lines;
+        version = version;
+        events = so.events;
+        mid = stage player (taken ++ waiting);
+        rest = [];
+        read = record { text = text_of so.lines; came = refl; splits = record { whole = sym (append-nil (text_of so.lines)); each = so.read.splits.each }; small = omega arith };
+        done = so.done;
+        ends = (refl, refl, refl);
+      })
+      behind,
+  so.read.came ∙ ap (λ t. given.before ++ t) so.read.splits.whole ∙ sym (append_assoc given.before (text_of so.lines) reader.kept),
+  so.read.small,
+  refl,
+  count,
+  end,
+  inr refl,
+)
+
+pub none_cut : {style : Style} {given : Given} {old : Stage} {player : PlayerState} {reader : Lines} {version : Version} (taken taken' waiting : List ℕ) (so : SoFar (TellsVersionOf style) (PlaysText style) given old (stage player (taken ++ waiting)) reader version) (most left : Option ℕ) → AreLeft most (count_by is_event so.lines) left → left ≡ Some 0 → EndAtEvent so.lines
+    → length old.taken ≤ length taken → GrowsByPart taken taken' waiting → IsWrittenUpTo style old so.lines so.events [] taken' → PlayedUpTo most style given old (stage player taken') (Err Write)
+none_cut taken taken' waiting so None left are none end low grows behind = absurd (cc)
+none_cut taken taken' waiting so (Some n) left are none end low grows behind = first_cut taken taken' waiting so n (let sum = are.2 in omega (arith, sum, same_Some are.0 0 (sym are.1 ∙ none))) end low grows behind

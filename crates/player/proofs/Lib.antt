@@ -3,3 +3,5 @@ pub mod First
 pub mod Lines
 pub mod Ticking
 pub mod Closing
+pub mod Behind
+pub mod Promised

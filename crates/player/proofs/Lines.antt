@@ -1,6 +1,6 @@
 -- What lines do, one after the other.
-use Rattle.std.proofs.Common.{◌≡◌, ◌≢◌, ℕ, ◌+◌, inl, inr, List, [], ◌∷◌, ◌++◌, length, length-append, arith, append_assoc, append-nil, ap, ◌∙◌, sym, subst, refl}
-use Rattle.std.specs.Prelude.{◌⊎◌, Result, Err}
+use Rattle.std.proofs.Common.{◌≡◌, ◌≢◌, ℕ, ◌+◌, Bool, inl, inr, List, [], ◌∷◌, ◌++◌, length, length-append, arith, append_assoc, append-nil, ap, ◌∙◌, sym, subst, refl}
+use Rattle.std.specs.Prelude.{◌⊎◌, Result, Ok, Err}
 use Rattle.std.proofs.lemmas.Grind.{flat_map-append}
 use Rattle.graph_heap.specs.declared.command.Command.{Command}
 use Rattle.graph_heap.specs.declared.command.Entry.{Entry}
@@ -9,7 +9,7 @@ use Rattle.machine.proofs.Courses.{runs_then}
 use Rattle.trace.specs.declared.line.Line.{Line}
 use Rattle.trace.specs.declared.line.Line.TheVariants as lines
 use Rattle.trace.specs.declared.fault.TextFault.{TextFault}
-use Rattle.trace.specs.declared.fault.TextFault.TheVariants.{Write}
+use Rattle.trace.specs.declared.fault.TextFault.TheVariants.{Line as At_line, Read, Write, NoMemory}
 use Rattle.trace.specs.declared.version.Version.{Version}
 use Rattle.trace.specs.declared.version.Version.TheVariants.{Second}
 use Rattle.trace.specs.GoneOver.{LinesDone, No_lines, One_line_more, GoneOver, Ends}
@@ -17,7 +17,7 @@ use Rattle.trace.specs.Streams.{Given}
 use Rattle.player.specs.Player.{PlayerState, QuantaDue, None_yet, One_more, DoesLine, Skips, Commands, Begins, Goes_on, Spends, Ticks, entries_in}
 use Rattle.player.specs.declared.style.Style.{Style}
 use Rattle.player.specs.declared.style.Style.TheVariants.{Nothing}
-use Rattle.player.specs.Playing.{Stage, TellsVersionOf, PlaysText, StopsText, CutShort, Played, written_line, written_of, written_version, text_written}
+use Rattle.player.specs.Playing.{Stage, TellsVersionOf, PlaysText, StopsText, CutShort, IsWrittenUpTo, Played, written_line, written_of, written_version, text_written}
 
 -- the entries of more events, and what is written of them
 pub entries_more : (es fs : List Event) → entries_in (es ++ fs) ≡ entries_in es ++ entries_in fs
@@ -37,7 +37,7 @@ due_entries until p es q None_yet = refl
 due_entries until p es q (One_more fs r due units phase course w is below d) = entries_more fs (Quantum_done r.budget units phase ∷ []) ∙ ap (λ l. l ++ []) (due_entries until p fs r w)
 
 -- the events of a line are done, one after the other
-due_runs : (until : ℕ) (p : PlayerState) (es : List Event) (q : PlayerState) → QuantaDue until p es q → Runs p.course es q.course
+pub due_runs : (until : ℕ) (p : PlayerState) (es : List Event) (q : PlayerState) → QuantaDue until p es q → Runs p.course es q.course
 due_runs until p es q None_yet = refl
 due_runs until p es q (One_more fs r due units phase course w is below d) = runs_then fs (Quantum_done r.budget units phase ∷ []) p.course r.course course (due_runs until p fs r w) (course, d, refl)
 
@@ -95,11 +95,22 @@ lines_written style old new ls version es (One_line_more ls' before version' es'
     subst (λ v. new'.taken ≡ old.taken ++ text_written style v (entries_in (es' ++ more))) (sym does.0)
     (written_more style before old.taken mid.taken new'.taken es' more (lines_written style old mid ls' before es' d) does.1.2.1)
 
-abbrev pub played : (style : Style) (given : Given) (old new : Stage) (result : Result (Unit {0}) TextFault) → GoneOver (TellsVersionOf style) (PlaysText style) given old (λ version count events mid rest. Ends (StopsText style version) count mid rest given.ended new result ⊎ ((result ≡ Err Write) × CutShort style version count events mid rest old new))
-    → Played style given old new result
-played style given old new result over =
+-- what is played
+abbrev pub played : (style : Style) (given : Given) (old new : Stage) (result : Result (Unit {0}) TextFault) (over : GoneOver (TellsVersionOf style) (PlaysText style) given old (λ version count events mid rest. Ends (StopsText style version) count mid rest given.ended new result ⊎ ((result ≡ Err Write) × CutShort style version count events mid rest old new)))
+    → (result ≡ Err Write → IsWrittenUpTo style old over.lines over.events over.rest new.taken) → Played style given old new result
+played style given old new result over behind =
     let runs = lines_run style old over.mid over.lines over.version over.events over.done in
-    record { over = over; runs = runs; grows = history_grows over.events old.player.course over.mid.player.course runs; written = lines_written style old over.mid over.lines over.version over.events over.done }
+    record { over = over; runs = runs; grows = history_grows over.events old.player.course over.mid.player.course runs; written = lines_written style old over.mid over.lines over.version over.events over.done; behind = behind }
+
+-- no line ends in a failed write
+pub ends_otherwise : (style : Style) (version : Version) (count : ℕ) (mid : Stage) (rest : List ℕ) (ended : Bool) (new : Stage) (result : Result (Unit {0}) TextFault) → Ends (StopsText style version) count mid rest ended new result → result ≡ Err Write → ⊥
+ends_otherwise style version count mid rest ended new (Ok all) e is = cc
+ends_otherwise style version count mid rest ended new (Err (At_line k f)) e is = cc
+ends_otherwise style version count mid rest ended new (Err Read) e is = cc
+ends_otherwise style version count mid rest ended new (Err NoMemory) e is = cc
+ends_otherwise style version count mid rest ended new (Err Write) (inl e) is = e.0
+ends_otherwise style version count mid rest ended new (Err Write) (inr (text, more, whole, line, inl none)) is = let z = none.0.0 in cc
+ends_otherwise style version count mid rest ended new (Err Write) (inr (text, more, whole, line, inr (l, spells, stops))) is = stops
 
 -- only commands make entries
 pub enters_nothing : (p : PlayerState) (line : Line) (es : List Event) (q : PlayerState) → DoesLine p line es q → ((m : ℕ) (c : Command) → line ≢ lines.Command m c) → entries_in es ≡ []
@@ -121,6 +132,7 @@ ticks_enter_nothing p q n es d = enters_nothing p (lines.Tick n) es q d (λ m c 
 abbrev pub ends_so : {style : Style} {given : Given} {old new : Stage} {result : Result (Unit {0}) TextFault} → GoneOver (TellsVersionOf style) (PlaysText style) given old (λ version count events mid rest. Ends (StopsText style version) count mid rest given.ended new result) → Played style given old new result
 ends_so {style} {given} {old} {new} {result} over =
     played style given old new result (record { lines = over.lines; version = over.version; events = over.events; mid = over.mid; rest = over.rest; read = over.read; done = over.done; ends = inl over.ends })
+    (λ is. absurd (ends_otherwise style over.version (length over.lines) over.mid over.rest given.ended new result over.ends is))
 
 -- nothing is written of entries
 pub nothing_written : (entries : List Entry) → written_of Nothing entries ≡ []

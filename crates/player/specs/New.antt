@@ -1,8 +1,10 @@
 -- A player before its first line.
-use Rattle.std.specs.Prelude.{◌≡◌, ◌*◌, []}
+use Rattle.std.specs.Prelude.{◌≡◌, ◌*◌, List, []}
 use Rattle.size_classes.specs.declared.config.Config.{Config}
+use Rattle.heap_model.specs.Event.{Course, Event, Runs}
 use Rattle.heap_model.specs.Opening.{IsOpening}
 use Rattle.heap_model.specs.Settings.{settings_of, settings_by}
+use Rattle.machine.specs.Space.{SpaceSuffices}
 use Rattle.quanta.specs.Timetable as timetables
 use Rattle.player.specs.Player.{PlayerState}
 
@@ -14,3 +16,7 @@ pub record IsNew (config : Config) (p : PlayerState) : Type 0 where
   pub place : p.course.place ≡ 0
   pub timetable : p.timetable ≡ timetables.opening config.collector_ticks config.mutator_ticks
   pub budget : p.budget ≡ config.collector_ticks * config.rate
+
+-- whatever events are done, space suffices for them, where the player is a new one of a configuration
+abbrev pub StartsWithSpace : PlayerState → Type 0
+StartsWithSpace p = (config : Config) (es : List Event) (new : Course) → IsNew config p → Runs p.course es new → SpaceSuffices config es

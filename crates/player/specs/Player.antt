@@ -19,6 +19,7 @@ pub record PlayerState : Type 0 where
   pub timetable : Timetable
   pub budget : ℕ
 
+-- the fields of a player, as contracts see them
 abbrev pub player_of : Inside → PlayerState
 player_of a = record { course = a.recorded.course; timetable = with_reserved a.schedule 0; budget = a.budget }
 

@@ -10,10 +10,10 @@ use Rattle.trace.specs.declared.fault.TextFault.{TextFault}
 use Rattle.trace.specs.declared.fault.TextFault.TheVariants.{Line as At_line, Write, NoMemory}
 use Rattle.trace.specs.declared.version.Version.{Version}
 use Rattle.trace.specs.declared.version.Version.TheVariants.{Second}
-use Rattle.trace.specs.GoneOver.{Goes, GoneOver, NextLine, Ends}
+use Rattle.trace.specs.GoneOver.{Goes, LinesDone, GoneOver, NextLine, Ends}
 use Rattle.trace.specs.Numbered.{IsNoEvent}
 use Rattle.trace.specs.Spelling.{version_line, Spells, is_skipped, reply_text, entry_line}
-use Rattle.trace.specs.Streams.{Given, GrowsByPart}
+use Rattle.trace.specs.Streams.{Given, GrowsByPart, text_of}
 use Rattle.heap_model.specs.Event.{Event, Runs}
 use Rattle.quanta.specs.declared.schedule.TheConstants.{CLOCK_LIMIT}
 use Rattle.machine.specs.declared.recorded.Receipt.{Receipt}
@@ -26,6 +26,7 @@ pub record Stage : Type 0 where
   pub player : PlayerState
   pub taken : List ℕ
 
+-- a player with the text that its sink has taken
 abbrev pub stage : PlayerState → List ℕ → Stage
 stage player taken = record { player = player; taken = taken }
 
@@ -36,6 +37,7 @@ written_line Replies e = reply_text e.reply ++ 10 ∷ []
 written_line Entries e = entry_line e ++ 10 ∷ []
 written_line Nothing e = []
 
+-- what is written of entries, one after the other
 abbrev pub written_of : Style → List Entry → List ℕ
 written_of style entries = flat_map (written_line style) entries
 
@@ -56,6 +58,7 @@ TellsVersionOf style old new = (new.player ≡ old.player) × (new.taken ≡ old
 abbrev pub Plays : Style → Line → Stage → List Event → Stage → Type 0
 Plays style line old events new = DoesLine old.player line events new.player × (new.taken ≡ old.taken ++ written_of style (entries_in events))
 
+-- the text of a line spells a line that does so
 abbrev pub PlaysText : Style → Version → List ℕ → Stage → List Event → Stage → Type 0
 PlaysText style version text old events new = (line : Line) × Spells version text line × Plays style line old events new
 
@@ -83,13 +86,30 @@ CutShort style version count events mid rest old new =
     GrowsByPart old.taken new.taken (text_written style version (entries_in events))
     × ((new.player ≡ mid.player) ⊎ NextLine (λ line. StopsText style version NoMemory line (count + 1) mid (stage new.player mid.taken)) rest)
 
+-- All that the first of these lines wrote is within the text that was taken. The lines behind these, with the rest, are at
+-- most a buffer of the input: none but those that waited there were done.
+pub record IsWrittenUpTo (style : Style) (old : Stage) (lines : List (List ℕ)) (events : List Event) (rest taken : List ℕ) : Type 0 where
+  pub before : List (List ℕ)
+  pub behind : List (List ℕ)
+  pub version : Version
+  pub first : List Event
+  pub more : List Event
+  pub mid : Stage
+  pub lines_are : lines ≡ before ++ behind
+  pub events_are : events ≡ first ++ more
+  pub done : LinesDone (TellsVersionOf style) (PlaysText style) old before version first mid
+  pub written : length mid.taken ≤ length taken
+  pub few : length (text_of behind) + length rest ≤ 65536
+
 -- What was played of an input: the lines that were done did these events, one after the other, what is
--- written of their entries is written, and it ended so. Where a write failed, mid has all of that text.
+-- written of their entries is written, and it ended so. Where a write failed, mid has all of that text, and the lines of
+-- which not all was written waited in a buffer of the input.
 pub record Played (style : Style) (given : Given) (old new : Stage) (result : Result (Unit {0}) TextFault) : Type 0 where
   pub over : GoneOver (TellsVersionOf style) (PlaysText style) given old (λ version count events mid rest. Ends (StopsText style version) count mid rest given.ended new result ⊎ ((result ≡ Err Write) × CutShort style version count events mid rest old new))
   pub runs : Runs old.player.course over.events over.mid.player.course
   pub grows : over.mid.player.course.history ≡ old.player.course.history ++ entries_in over.events
   pub written : over.mid.taken ≡ old.taken ++ text_written style over.version (entries_in over.events)
+  pub behind : result ≡ Err Write → IsWrittenUpTo style old over.lines over.events over.rest new.taken
 
 -- the line of an event: it isn't skipped, and doesn't tell the version
 abbrev pub is_event : List ℕ → Bool

@@ -2,11 +2,13 @@
 //! quanta are spent, and ticks pass, in which quanta are due.
 #![tactic(auto)]
 
+mod laws;
 mod line;
 mod player;
 mod playing;
 mod style;
 
+pub use laws::plays_are_promised;
 pub use line::{do_line, is_event};
 pub use player::{Player, TickFault};
 pub use playing::{play, play_first};

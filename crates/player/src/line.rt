@@ -3,6 +3,7 @@ ghost use Rattle.std.specs.Prelude.{◌≡◌, ℕ, ◌+◌, ◌≤◌, ◌++◌
 ghost use Rattle.trace.specs.GoneOver.{reads_failed, writes_failed};
 ghost use Rattle.trace.specs.declared.version.Version.TheVariants as versions;
 ghost use Rattle.player.specs.Player.{HasBudget};
+ghost use Rattle.player.specs.declared.style.Style.TheVariants as styles;
 ghost use Rattle.player.specs.Playing.{stage, written_line, written_version, says_event, LineDone, LinePlayed};
 
 use crate::player::Player;
@@ -11,19 +12,27 @@ use graph_heap::Entry;
 use machine::Receipt;
 use trace::{Line, TextFault, Version, WriteBuffer, read_numbered, version_line, write_entry};
 
+/// Adds the line of an entry to what waits. It stands apart so that its 256 bytes aren't cleared for each reply.
+#[inline(never)]
+fn add_entry(waiting: &mut WriteBuffer, entry: Entry)
+    requires { length waiting.old + 256 ≤ 65536 }
+    ensures { waiting.new ≡ waiting.old ++ written_line styles.Entries entry }
+{
+    let mut out = [0; 256];
+    let end = write_entry(&entry, &mut out);
+    out[end] = b'\n';
+    waiting.add(&out[..end + 1]);
+}
+
 /// Adds the line of an entry, in a style, to what waits.
+#[inline(always)]
 fn add_line(waiting: &mut WriteBuffer, style: Style, entry: &Entry)
     requires { length waiting.old + 256 ≤ 65536 }
     ensures { waiting.new ≡ waiting.old ++ written_line style entry.now }
 {
     match style {
         Style::Replies => waiting.add_reply(&entry.reply),
-        Style::Entries => {
-            let mut out = [0; 256];
-            let end = write_entry(entry, &mut out);
-            out[end] = b'\n';
-            waiting.add(&out[..end + 1]);
-        }
+        Style::Entries => add_entry(waiting, *entry),
         Style::Nothing => {}
     }
 }
@@ -43,6 +52,7 @@ fn add_version(waiting: &mut WriteBuffer, style: Style)
 }
 
 /// Does what a line of this number says. Answers the receipt of a command.
+#[inline(always)]
 pub fn do_line(line: Line, number: u64, player: &mut Player) -> Result<Option<Receipt>, TextFault>
     requires { HasBudget line }
     ensures done { LineDone line number player.old player.new result }
@@ -68,6 +78,7 @@ pub fn do_line(line: Line, number: u64, player: &mut Player) -> Result<Option<Re
 }
 
 /// Whether a line says an event: all do but those that are skipped.
+#[inline(always)]
 pub fn is_event(line: Line) -> bool
     ensures { result ≡ says_event line }
 {
@@ -76,6 +87,7 @@ pub fn is_event(line: Line) -> bool
 
 /// Does a line, and adds what is written of it to what waits, where there must be room for a line.
 /// Answers whether it is that of an event. Keeps the version of the next.
+#[inline(never)]
 pub fn play_line(
     bytes: &[u8],
     number: u64,

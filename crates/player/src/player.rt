@@ -116,6 +116,7 @@ impl Player {
     }
 
     /// Does a command of a mutator. Where memory is refused for its entry, nothing has changed.
+    #[inline(always)]
     pub fn call(&mut self, mutator: u32, command: Command) -> Result<Receipt, NoMemory>
         ensures entry { IfOk result (λ r. (r.entry.mutator ≡ mutator) × (r.entry.command ≡ command)) }
         ensures does { IfOk result (λ r. DoesLine self.old (Line.Command mutator command) (Command_done mutator command r.entry.reply ∷ []) self.new) }
@@ -145,7 +146,7 @@ impl Player {
     }
 
     /// Does the quantum that is due below a time, with its interval. Answers whether there was one.
-    fn due_quantum(&mut self, until: u64) -> Result<bool, NoMemory>
+    pub fn due_quantum(&mut self, until: u64) -> Result<bool, NoMemory>
         requires { until ≤ CLOCK_LIMIT }
         ensures done { DueDone until self.old self.new result }
         ensures ticks { 1 ≤ self.old.timetable.collector_ticks }

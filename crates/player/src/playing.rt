@@ -1,7 +1,9 @@
 //! Playing a trace.
-ghost use Rattle.std.specs.Prelude.{◌≡◌, ◌≢◌, ◌+◌, ◌-◌, ◌<◌, ◌≤◌, ◌++◌, [], length, false, Some, IsTrue, option_map, if◌then◌else◌};
+ghost use Rattle.std.specs.Prelude.{◌≡◌, ◌≢◌, ℕ, ◌+◌, ◌-◌, ◌<◌, ◌≤◌, ◌++◌, List, [], length, false, Some, Err, IsTrue, option_map, if◌then◌else◌};
 ghost use Rattle.trace.specs.GoneOver.{reads_failed, writes_failed};
-ghost use Rattle.trace.specs.Streams.{Stays, given_by};
+ghost use Rattle.trace.specs.Streams.{Stays, GrowsByPart, given_by};
+ghost use Rattle.machine.specs.Headline.{Holds, Follows};
+ghost use Rattle.player.specs.New.{StartsWithSpace};
 ghost use Rattle.player.specs.Playing.{stage, Played, PlayedFirst, PlayedUpTo};
 ghost use Rattle.player.specs.Closing.{Closes};
 
@@ -58,8 +60,9 @@ fn play_lines<S: Source, K: Sink>(
 ) -> Result<(), TextFault>
     requires { waiting.old ≡ [] }
     ensures played { PlayedUpTo n style (given_by S.given S.ended source.old source.new) (stage player.old (K.taken sink.old)) (stage player.new (K.taken sink.new ++ waiting.new)) result }
+    // The same where a write of what waits then fails.
+    ensures cut { (taken : List ℕ) → GrowsByPart (K.taken sink.new) taken waiting.new → PlayedUpTo n style (given_by S.given S.ended source.old source.new) (stage player.old (K.taken sink.old)) (stage player.new taken) (Err TextFault.Write) }
     ensures none { n ≡ Some 0 → source.new ≡ source.old }
-    ensures grows { length (K.taken sink.old) ≤ length (K.taken sink.new) }
     ensures nothing { 0 < reads_failed result + writes_failed result → waiting.new ≡ [] }
     ensures reads { S.failures source.new ≡ S.failures source.old + reads_failed result }
     ensures writes { K.failures sink.new ≡ K.failures sink.old + writes_failed result }
@@ -104,8 +107,8 @@ fn play_up_to<S: Source, K: Sink>(
 /// Plays the lines of a source, and writes to a sink what the style says of each command: each line is
 /// done, one after the other, and what was done and written before a fault stands. What is written waits
 /// in a buffer of 65536 bytes, until that has no room for a line, until the source is asked for more, or until the end.
-/// The history stays legal, the heap in agreement with it, and the intervals spaced, as the types of the heap and of the
-/// schedule say.
+/// What is left is promised all that is promised of a heap with its history, and space suffices for what is done from a new
+/// player.
 pub fn play<S: Source, K: Sink>(
     source: &mut S,
     sink: &mut K,
@@ -116,7 +119,10 @@ pub fn play<S: Source, K: Sink>(
     ensures reads { S.failures source.new ≡ S.failures source.old + reads_failed result }
     ensures writes { K.failures sink.new ≡ K.failures sink.old + writes_failed result }
     ensures input { reads_failed result ≡ 0 → Stays (S.input source.old) (S.input source.new) }
+    ensures headline { Holds player.new.course × Follows player.old.course player.new.course }
+    ensures space { StartsWithSpace player.old }
 {
+    player.recorded().promise();
     play_up_to(None, source, sink, player, style)
 }
 
@@ -135,6 +141,9 @@ pub fn play_first<S: Source, K: Sink>(
     ensures reads { S.failures source.new ≡ S.failures source.old + reads_failed result }
     ensures writes { K.failures sink.new ≡ K.failures sink.old + writes_failed result }
     ensures input { reads_failed result ≡ 0 → Stays (S.input source.old) (S.input source.new) }
+    ensures headline { Holds player.new.course × Follows player.old.course player.new.course }
+    ensures space { StartsWithSpace player.old }
 {
+    player.recorded().promise();
     play_up_to(Some(n), source, sink, player, style)
 }

@@ -3,6 +3,7 @@ use Rattle.std.specs.Prelude.{◌-◌, length, vec_capacity}
 use Rattle.quanta.specs.declared.schedule.Schedule.TheInside.{Inside}
 use Rattle.quanta.specs.Timetable.{Timetable}
 
+-- the fields of a schedule, as a timetable
 abbrev pub timetable_of : Inside → Timetable
 timetable_of a = record {
   collector_ticks = a.collector_ticks;

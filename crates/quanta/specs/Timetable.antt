@@ -40,6 +40,7 @@ due_below until (Some due) = if nat_lt due until then Some due else None
 abbrev pub last_end : List Interval → ℕ
 last_end intervals = start_after 0 (last_or None intervals)
 
+-- a timetable with memory for so many more intervals
 abbrev pub with_reserved : Timetable → ℕ → Timetable
 with_reserved t n = record t { reserved = n }
 

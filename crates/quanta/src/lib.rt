@@ -4,6 +4,7 @@
 
 pub mod clock_spent;
 pub mod interval;
+pub mod laws;
 pub mod schedule;
 
 pub use clock_spent::ClockSpent;

@@ -9,6 +9,7 @@ use Rattle.heap_model.specs.Written.{records}
 use Rattle.raw_heap.specs.declared.heap.RawHeap.{RawHeap}
 use Rattle.raw_heap.specs.Grey.{grey_in}
 
+-- the fields of a heap, as the heap in words
 abbrev pub state_of : RawHeap → HeapState
 state_of a = record {
   limits = a.roots.limits;

@@ -5,5 +5,6 @@ use Rattle.heap_model.specs.Store.{is_held}
 use Rattle.raw_heap.specs.Grey.{grey_in}
 use Rattle.raw_heap.specs.declared.heap.RawHeap.{RawHeap}
 
+-- each grey part is a block that is held
 abbrev pub AreHeld : RawHeap → Type 0
 AreHeld a = (x : ℕ) → x ≢ 0 → contains (grey_in a.nodes a.grey) x ≡ true → is_held a.nodes (x - 1) ≡ true

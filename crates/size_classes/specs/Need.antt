@@ -4,6 +4,7 @@ use Rattle.graph_heap.specs.declared.command.Shape.{Shape}
 use Rattle.size_classes.specs.Sizes.{class_for}
 use Rattle.size_classes.specs.Parts.{cells_of, parts_in, part_words}
 
+-- a class that was looked for and found is this one
 abbrev pub is_class : ℕ → Option ℕ → Bool
 is_class class None = false
 is_class class (Some c) = c == class

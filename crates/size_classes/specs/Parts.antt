@@ -61,6 +61,7 @@ part_words n part = part_cells n part + 4
 unfoldable pub part_in : ℕ → ℕ → ℕ
 part_in n i = spines_of n + i / PART_CELLS
 
+-- at which place among its part's cell i of an object stands
 unfoldable pub column_in : ℕ → ℕ
 column_in i = i % PART_CELLS
 
@@ -68,11 +69,14 @@ column_in i = i % PART_CELLS
 abbrev pub holder_by : ℕ → ℕ → ℕ → ℕ
 holder_by k s part = if nat_le part (heads_by k s) then 0 else (part - s) / PART_CELLS + 1
 
+-- in which cell of that spine, of an object of so many pieces and spines
 abbrev pub seat_by : ℕ → ℕ → ℕ → ℕ
 seat_by k s part = if nat_le part (heads_by k s) then part - 1 else (part - s) % PART_CELLS
 
+-- which spine refers to a part, of an object of so many cells
 abbrev pub holder_of : ℕ → ℕ → ℕ
 holder_of n part = holder_by (pieces_of n) (spines_of n) part
 
+-- in which cell of that spine
 abbrev pub seat_of : ℕ → ℕ → ℕ
 seat_of n part = seat_by (pieces_of n) (spines_of n) part

@@ -1,7 +1,13 @@
-//! The laws of how objects are cut. Each function does nothing: its contract is the law.
-ghost use Rattle.std.specs.Prelude.{◌≡◌, ℕ, ◌+◌, ◌<◌, ◌≤◌, ◌⊎◌};
+//! The laws of how objects are cut, and the constants of a heap. Each function does nothing: its
+//! contract is the law.
+ghost use Rattle.std.specs.Prelude.{◌≡◌, ℕ, ◌+◌, ◌<◌, ◌≤◌, ◌⊎◌, [], ◌∷◌};
 ghost use Rattle.graph_heap.specs.declared.command.TheConstants.{ARRAY_CELLS};
 ghost use Rattle.size_classes.specs.Parts.{parts_in, spines_of, run_of, part_in, column_in, holder_of, seat_of};
+ghost use Rattle.size_classes.specs.declared.class.TheConstants.{CLASSES, PAGE_WORDS};
+ghost use Rattle.size_classes.specs.declared.config.TheConstants.{LEAST_BUDGET, MOST_BUDGET, MOST_PAGES};
+ghost use Rattle.size_classes.specs.declared.key.Key.{Key};
+ghost use Rattle.size_classes.specs.declared.key.Key.TheVariants.{Pages, Mutators, Slots, Statics, Identities, DefragBelow, DefragPages, CollectorTicks, MutatorTicks, Rate, Live};
+ghost use Rattle.size_classes.specs.declared.key.TheConstants.Key.{ALL};
 ghost use Rattle.size_classes.specs.declared.parts.TheConstants.{PART_CELLS};
 
 /// No part has more than 252 cells, and there are at most 15938 parts.
@@ -22,4 +28,23 @@ pub fn spines_refer()
 pub fn cells_stand()
     ensures to { (n i : ℕ) → i < n → (part_in n i < parts_in n) × (spines_of n ≤ part_in n i) × (column_in i < (run_of n (part_in n i)).count) × ((run_of n (part_in n i)).first + column_in i ≡ i) }
     ensures from { (n p c : ℕ) → spines_of n ≤ p → p < parts_in n → c < (run_of n p).count → ((run_of n p).first + c < n) × (part_in n ((run_of n p).first + c) ≡ p) × (column_in ((run_of n p).first + c) ≡ c) }
+{}
+
+/// The words of a page, the size classes, and the cells of a piece of an array.
+pub fn sizes_are_fixed()
+    ensures page { PAGE_WORDS ≡ 2048 }
+    ensures classes { CLASSES ≡ 38 }
+    ensures piece { PART_CELLS ≡ 252 }
+{}
+
+/// The most pages of a heap, and the least and the most units of a quantum.
+pub fn settings_are_bounded()
+    ensures pages { MOST_PAGES ≡ 4096 }
+    ensures least { LEAST_BUDGET ≡ 256 }
+    ensures most { MOST_BUDGET ≡ 1000000 }
+{}
+
+/// The order in which the keys of a configuration are looked at.
+pub fn keys_are_in_order()
+    ensures { ALL ≡ Pages ∷ Mutators ∷ Slots ∷ Statics ∷ Identities ∷ DefragBelow ∷ DefragPages ∷ CollectorTicks ∷ MutatorTicks ∷ Rate ∷ Live ∷ [] }
 {}

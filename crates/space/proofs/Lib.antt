@@ -6,4 +6,9 @@ pub mod Census
 pub mod Roomless
 pub mod Running
 pub mod Pacing
+pub mod Spending
+pub mod Unmoved
+pub mod Shifted
+pub mod Moved
+pub mod Needed
 pub mod Configured

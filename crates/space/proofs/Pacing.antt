@@ -1,9 +1,8 @@
 -- What keeps to a pace keeps to a demand.
-use Rattle.std.proofs.Common.{◌≡◌, ◌≢◌, ℕ, zero, suc, ◌+◌, ◌-◌, ◌*◌, ◌/◌, ◌<◌, ◌≤◌, ◌⊎◌, inl, inr, Bool, true, false, ◌==◌, if◌then◌else◌, List, [], ◌∷◌, ◌++◌, Result, Ok, Err, length, get_or, drop, ap, ◌∙◌, sym, subst, arith, refl}
+use Rattle.std.proofs.Common.{◌≡◌, ℕ, zero, suc, ◌+◌, ◌-◌, ◌*◌, ◌<◌, ◌≤◌, ◌⊎◌, inl, inr, Bool, true, false, ◌==◌, if◌then◌else◌, List, [], ◌∷◌, ◌++◌, Result, Ok, Err, length, get_or, drop, ap, ◌∙◌, sym, subst, arith, refl}
 use Rattle.std.proofs.lemmas.List.{drop-append-le, get_or_past}
 use Rattle.std.proofs.lemmas.Bool.{cases_lt}
 use Rattle.std.proofs.lemmas.List.Sums.{sum_by-cons, sum_by-append}
-use Rattle.std.proofs.lemmas.Nat.{le-div}
 use Rattle.std.proofs.Math.Nat.{mul-le-mul_right}
 use Rattle.std.proofs.Math.Seq.{drop-length}
 use Rattle.size_classes.specs.declared.class.TheConstants.{CLASSES}
@@ -21,20 +20,14 @@ use Rattle.heap_model.specs.declared.phase.Phase.{Phase}
 use Rattle.heap_model.specs.declared.phase.Phase.TheVariants as phases
 use Rattle.heap_model.specs.State.{HeapState}
 use Rattle.heap_model.specs.Opening.{IsOpening}
-use Rattle.heap_model.specs.Spent.{cycle_limit}
-use Rattle.heap_model.specs.Bound.{most_quanta}
-use Rattle.heap_model.specs.Event.{Course, Event, Command_done, Cycle_begun, Cycle_on, Quantum_done, Quantum_refused, Enters, Begins, Collects, Does, Runs, IsCourse, present_of, snapshot_of, room_for, change_by}
+use Rattle.heap_model.specs.Event.{Course, Event, Command_done, Cycle_begun, Cycle_on, Quantum_done, Quantum_refused, Enters, Begins, Collects, Does, Runs, IsCourse, present_of, room_for, change_by}
 use Rattle.heap_model.specs.Led.{opened}
 use Rattle.heap_model.specs.Left.{LeavesCycle}
-use Rattle.heap_model.specs.Standing.{Stands}
-use Rattle.heap_model.proofs.Stood.{stands_chain, stands_limit, idle_chain}
-use Rattle.heap_model.proofs.Turns.{chain_units}
-use Rattle.heap_model.proofs.Costs.{turn_left}
-use Rattle.heap_model.proofs.Bound.{chain_limit, at_least, spent_more}
+use Rattle.heap_model.proofs.Stood.{idle_chain}
 use Rattle.heap_model.proofs.Left.{change_left}
 use Rattle.heap_model.proofs.Changes.{length-put}
 use Rattle.heap_model.proofs.Freed.{objects_stay}
-use Rattle.heap_model.proofs.Course.{enters_graph, enters_present, begins_present, collects_present, does_course, opening_course}
+use Rattle.heap_model.proofs.Course.{enters_graph, enters_present, begins_present, collects_present, does_course}
 use Rattle.space.specs.Demand.{LiveWithin, blocks_of, asked_for, asked_by}
 use Rattle.space.specs.Tally.{Tally, opening_tally, after_event, is_tracing, KeepsTo, AllKeepTo}
 use Rattle.space.specs.Placement.{KeepsShapes}
@@ -112,18 +105,24 @@ pub command_less : (h : HeapState) (g : Graph) (m : ℕ) (c : Command) (k : ℕ)
 command_less h g m (commands.New dst shape) k = new_less (admitted g m (commands.New dst shape)) (slot_at g.limits m dst) (fitting shape) (next_identity g) shape (room_for h (commands.New dst shape)) k
 command_less h g m _ k = omega arith
 
--- what is kept
-record IsPaced (r : Course) (t : Tally) (b : Beat) (p : Pace) (k limit n : ℕ) : Type 0 where
-  graph : t.graph ≡ present_of r
-  same : b.graph ≡ present_of r
-  on : b.on ≡ in_cycle r.heap.phase
-  bound : cycle_limit r.heap ≡ limit
-  last : t.last ≤ length t.graph.objects
-  base : t.base ≤ length t.graph.objects
-  units : b.on ≡ true → n * (k - 255) ≤ r.heap.units
-  asked : (class : ℕ) → class < CLASSES → b.asked class ≤ (if b.on then p.busy class else p.idle class)
-  since_last : (class : ℕ) → class < CLASSES → blocks_of (drop t.last t.graph.objects) class ≤ (if b.on then n * p.busy class else (limit / (k - 255) + 1) * p.busy class) + b.asked class
-  since_base : (class : ℕ) → class < CLASSES → blocks_of (drop t.base t.graph.objects) class ≤ (if b.on then (limit / (k - 255) + 1) * p.busy class + p.idle class + n * p.busy class else (limit / (k - 255) + 1) * p.busy class) + b.asked class
+-- how many quanta of the cycle that began last were done, after one more event
+abbrev pub quanta_after : Course → Event → ℕ → ℕ
+quanta_after r (Command_done m c reply) n = n
+quanta_after r Cycle_begun n = 0
+quanta_after r Cycle_on n = n
+quanta_after r (Quantum_done budget units phase) n = if in_cycle r.heap.phase then n + 1 else n
+quanta_after r (Quantum_refused budget) n = n
+
+-- What is kept, where n quanta of the cycle were done, and no cycle takes more than so many.
+pub record IsPaced (r : Course) (t : Tally) (b : Beat) (p : Pace) (most n : ℕ) : Type 0 where
+  pub graph : t.graph ≡ present_of r
+  pub same : b.graph ≡ present_of r
+  pub on : b.on ≡ in_cycle r.heap.phase
+  pub last : t.last ≤ length t.graph.objects
+  pub base : t.base ≤ length t.graph.objects
+  pub asked : (class : ℕ) → class < CLASSES → b.asked class ≤ (if b.on then p.busy class else p.idle class)
+  pub since_last : (class : ℕ) → class < CLASSES → blocks_of (drop t.last t.graph.objects) class ≤ (if b.on then n * p.busy class else most * p.busy class) + b.asked class
+  pub since_base : (class : ℕ) → class < CLASSES → blocks_of (drop t.base t.graph.objects) class ≤ (if b.on then most * p.busy class + p.idle class + n * p.busy class else most * p.busy class) + b.asked class
 
 -- no cycle is on in idle alone
 pub idle_phase : (f : Phase) → in_cycle f ≡ false → f ≡ phases.Idle
@@ -133,49 +132,33 @@ idle_phase (phases.Marking part cell) e = absurd (cc)
 idle_phase (phases.Sweeping page block) e = absurd (cc)
 idle_phase (phases.Moving m) e = absurd (cc)
 
-module _ (p : Pace) (k limit : ℕ) (great : 256 ≤ k) where
-  most : ℕ
-  most = limit / (k - 255) + 1
-
-  -- while a cycle is on, a quantum more fits
-  one_more : (r : Course) (t : Tally) (b : Beat) (n : ℕ) → IsCourse r → IsPaced r t b p k limit n → b.on ≡ true → n + 1 ≤ most
-  unfolding most
-  one_more r t b n w i on =
-      let u = i.units on in
-      let l = stands_limit r.heap (present_of r) (snapshot_of r) w.stands in
-      let s = i.bound in
-      let d = le-div n limit (k - 255) (omega arith) (omega (arith, u, l, s)) in
-      omega (arith, d)
-
+module _ (p : Pace) (k most : ℕ) where
   times : (class : ℕ) (n : ℕ) → n + 1 ≤ most → n * p.busy class + p.busy class ≤ most * p.busy class
   times class n l = let m = mul-le-mul_right (p.busy class) l in let e : (n + 1) * p.busy class ≡ n * p.busy class + p.busy class = next_times n (p.busy class) in omega (arith, m, e)
     where
       next_times : (n b : ℕ) → (n + 1) * b ≡ n * b + b
       next_times n b = grind arith
 
-  paced_keeps : (r : Course) (t : Tally) (b : Beat) (n m : ℕ) (c : Command) (reply : Reply) → IsCourse r → IsPaced r t b p k limit n → KeepsPace p k b (Command_done m c reply) → KeepsTo (demand_of p most) t (Command_done m c reply)
-  unfolding most
-  paced_keeps r t b n m c reply w i keeps class small = by_on b.on refl (keeps class small) (i.since_base class small)
+  paced_keeps : (r : Course) (t : Tally) (b : Beat) (n m : ℕ) (c : Command) (reply : Reply) → IsPaced r t b p most n → (b.on ≡ true → n + 1 ≤ most) → KeepsPace p k b (Command_done m c reply) → KeepsTo (demand_of p most) t (Command_done m c reply)
+  paced_keeps r t b n m c reply i few keeps class small = by_on b.on refl (keeps class small) (i.since_base class small)
     where
       asked : asked_for t.graph m c class ≡ asked_for b.graph m c class
       asked = ap (λ z. asked_for z m c class) (i.graph ∙ sym i.same)
 
       by_on : (o : Bool) → b.on ≡ o → b.asked class + asked_for b.graph m c class ≤ (if o then p.busy class else p.idle class)
-          → blocks_of (drop t.base t.graph.objects) class ≤ (if o then (limit / (k - 255) + 1) * p.busy class + p.idle class + n * p.busy class else (limit / (k - 255) + 1) * p.busy class) + b.asked class
-          → blocks_of (drop t.base t.graph.objects) class + asked_for t.graph m c class ≤ 2 * ((limit / (k - 255) + 1) * p.busy class) + p.idle class
-      by_on true e a l = let x = times class n (one_more r t b n w i e) in omega (arith, asked, a, l, x)
+          → blocks_of (drop t.base t.graph.objects) class ≤ (if o then most * p.busy class + p.idle class + n * p.busy class else most * p.busy class) + b.asked class
+          → blocks_of (drop t.base t.graph.objects) class + asked_for t.graph m c class ≤ 2 * (most * p.busy class) + p.idle class
+      by_on true e a l = let x = times class n (few e) in omega (arith, asked, a, l, x)
       by_on false e a l = omega (arith, asked, a, l)
 
-  paced_command : (r new : Course) (t : Tally) (b : Beat) (n m : ℕ) (c : Command) (reply : Reply) → IsCourse r → IsPaced r t b p k limit n → KeepsPace p k b (Command_done m c reply) → Enters r m c reply new
-      → IsPaced new (after_event t (Command_done m c reply)) (next_beat b (Command_done m c reply)) p k limit n
+  paced_command : (r new : Course) (t : Tally) (b : Beat) (n m : ℕ) (c : Command) (reply : Reply) → IsCourse r → IsPaced r t b p most n → KeepsPace p k b (Command_done m c reply) → Enters r m c reply new
+      → IsPaced new (after_event t (Command_done m c reply)) (next_beat b (Command_done m c reply)) p most n
   paced_command r new t b n m c reply w i keeps e = record {
     graph = enters_graph r new m c reply w e t.graph i.graph;
     same = enters_graph r new m c reply w e b.graph i.same;
     on = i.on ∙ ap in_cycle (sym left.phase);
-    bound = left.limit ∙ i.bound;
     last = (let l = i.last in let q = longer in omega (arith, l, q));
     base = (let l = i.base in let q = longer in omega (arith, l, q));
-    units = λ on. (let u = i.units on in let q = left.units in omega (arith, u, q));
     asked = keeps;
     since_last = λ class small. (let l = i.since_last class small in let q = more t.last i.last class in omega (arith, l, q));
     since_base = λ class small. (let l = i.since_base class small in let q = more t.base i.base class in omega (arith, l, q));
@@ -209,15 +192,13 @@ module _ (p : Pace) (k limit : ℕ) (great : 256 ≤ k) where
           let u : asked_for b.graph m c class ≡ asked_for g m c class = ap (λ z. asked_for z m c class) i.same in
           omega (arith, a, d, x, v, u)
 
-  paced_begins : (r new : Course) (t : Tally) (b : Beat) (n : ℕ) → IsPaced r t b p k limit n → Begins r new → IsPaced new (after_event t Cycle_begun) (next_beat b Cycle_begun) p k limit 0
+  paced_begins : (r new : Course) (t : Tally) (b : Beat) (n : ℕ) → IsPaced r t b p most n → Begins r new → IsPaced new (after_event t Cycle_begun) (next_beat b Cycle_begun) p most 0
   paced_begins r new t b n i e = record {
     graph = i.graph ∙ sym (begins_present r new e);
     same = i.same ∙ sym (begins_present r new e);
     on = sym (ap (λ (z : HeapState). in_cycle z.phase) e.heap);
-    bound = ap cycle_limit e.heap ∙ i.bound;
     last = omega arith;
     base = i.base;
-    units = λ on. omega arith;
     asked = λ class small. omega arith;
     since_last = λ class small. (let z : blocks_of (drop (length t.graph.objects) t.graph.objects) class ≡ 0 = ap (λ (y : List Object). blocks_of y class) (drop-length t.graph.objects) in omega (arith, z));
     since_base = λ class small. by_off b.on off (i.asked class small) (i.since_base class small);
@@ -227,135 +208,131 @@ module _ (p : Pace) (k limit : ℕ) (great : 256 ≤ k) where
       off = i.on ∙ ap in_cycle e.idle
 
       by_off : {class : ℕ} (o : Bool) → o ≡ false → b.asked class ≤ (if o then p.busy class else p.idle class)
-          → blocks_of (drop t.base t.graph.objects) class ≤ (if o then (limit / (k - 255) + 1) * p.busy class + p.idle class + n * p.busy class else (limit / (k - 255) + 1) * p.busy class) + b.asked class
-          → blocks_of (drop t.base t.graph.objects) class ≤ (limit / (k - 255) + 1) * p.busy class + p.idle class + 0 * p.busy class + 0
+          → blocks_of (drop t.base t.graph.objects) class ≤ (if o then most * p.busy class + p.idle class + n * p.busy class else most * p.busy class) + b.asked class
+          → blocks_of (drop t.base t.graph.objects) class ≤ most * p.busy class + p.idle class + 0 * p.busy class + 0
       by_off true z a l = absurd (cc)
       by_off false z a l = omega (arith, a, l)
 
-  paced_quantum : (r new : Course) (budget units : ℕ) (phase : Phase) (t : Tally) (b : Beat) (n : ℕ) → IsCourse r → IsPaced r t b p k limit n → k ≤ budget → Collects r budget units phase new
-      → (l : ℕ) × IsPaced new (after_event t (Quantum_done budget units phase)) (next_beat b (Quantum_done budget units phase)) p k limit l
-  unfolding most
-  paced_quantum r new budget units phase t b n w i enough q = by_on b.on refl
+  paced_quantum : (r new : Course) (budget units : ℕ) (phase : Phase) (t : Tally) (b : Beat) (n : ℕ) → IsCourse r → IsPaced r t b p most n → (b.on ≡ true → n + 1 ≤ most) → Collects r budget units phase new
+      → IsPaced new (after_event t (Quantum_done budget units phase)) (next_beat b (Quantum_done budget units phase)) p most (if in_cycle r.heap.phase then n + 1 else n)
+  paced_quantum r new budget units phase t b n w i few q = subst
+      (λ z. IsPaced new (after_event t (Quantum_done budget units phase)) (next_beat b (Quantum_done budget units phase)) p most (if z then n + 1 else n)) i.on (by_on b.on refl)
     where
       present : present_of new ≡ present_of r
       present = collects_present r new budget units phase w q
 
-      bound : cycle_limit new.heap ≡ limit
-      bound = chain_limit r.heap new.heap units q.turn.chain ∙ i.bound
-
-      stands : Stands new.heap (present_of r) (snapshot_of r)
-      stands = stands_chain r.heap new.heap units (present_of r) (snapshot_of r) w.stands q.turn.chain
-
       -- with no cycle on
-      at_rest : b.on ≡ false → IsPaced new (if is_tracing phase then t else record t { base = t.last }) b p k limit n
+      at_rest : b.on ≡ false → IsPaced new (if is_tracing phase then t else record t { base = t.last }) b p most n
       at_rest off =
           let still = idle_chain r.heap new.heap units q.turn.chain (idle_phase r.heap.phase (sym i.on ∙ off)) in
           let ends : phase ≡ phases.Idle = sym q.ends ∙ ap (λ (z : HeapState). z.phase) still.0 ∙ idle_phase r.heap.phase (sym i.on ∙ off) in
-          subst (λ z. IsPaced new (if is_tracing z then t else record t { base = t.last }) b p k limit n) (sym ends) (record {
+          subst (λ z. IsPaced new (if is_tracing z then t else record t { base = t.last }) b p most n) (sym ends) (record {
             graph = i.graph ∙ sym present;
             same = i.same ∙ sym present;
             on = i.on ∙ ap (λ (z : HeapState). in_cycle z.phase) (sym still.0);
-            bound = bound;
             last = i.last;
             base = i.last;
-            units = λ on. absurd (let z : true ≡ false = sym on ∙ off in cc);
             asked = i.asked;
             since_last = i.since_last;
             since_base = λ class small. by_off class b.on off (i.since_last class small);
           })
         where
-          by_off : (class : ℕ) (o : Bool) → o ≡ false → blocks_of (drop t.last t.graph.objects) class ≤ (if o then n * p.busy class else (limit / (k - 255) + 1) * p.busy class) + b.asked class
-              → blocks_of (drop t.last t.graph.objects) class ≤ (if o then (limit / (k - 255) + 1) * p.busy class + p.idle class + n * p.busy class else (limit / (k - 255) + 1) * p.busy class) + b.asked class
+          by_off : (class : ℕ) (o : Bool) → o ≡ false → blocks_of (drop t.last t.graph.objects) class ≤ (if o then n * p.busy class else most * p.busy class) + b.asked class
+              → blocks_of (drop t.last t.graph.objects) class ≤ (if o then most * p.busy class + p.idle class + n * p.busy class else most * p.busy class) + b.asked class
           by_off class true z l = absurd (cc)
           by_off class false z l = l
 
       -- with a cycle on
-      at_work : b.on ≡ true → IsPaced new (if is_tracing phase then t else record t { base = t.last }) (record b { on = in_cycle phase; asked = λ class. 0 }) p k limit (n + 1)
+      at_work : b.on ≡ true → IsPaced new (if is_tracing phase then t else record t { base = t.last }) (record b { on = in_cycle phase; asked = λ class. 0 }) p most (n + 1)
       at_work on = by_phase phase q.ends
         where
-          low : n + 1 ≤ limit / (k - 255) + 1
-          low = one_more r t b n w i on
-
-          spent : new.heap.phase ≢ phases.Idle → (n + 1) * (k - 255) ≤ new.heap.units
-          spent away = elim (turn_left r.heap new.heap budget units stands.pages q.turn) [
-            | inl z ↦ absurd (away z)
-            | inr z ↦ spent_more n (k - 255) r.heap.units new.heap.units units (i.units on) (chain_units r.heap new.heap units q.turn.chain) (at_least k budget units enough z)
-          ]
-
-          since_last : (class : ℕ) → class < CLASSES → (blocks_of (drop t.last t.graph.objects) class ≤ (n + 1) * p.busy class) × (blocks_of (drop t.last t.graph.objects) class ≤ (limit / (k - 255) + 1) * p.busy class)
+          since_last : (class : ℕ) → class < CLASSES → (blocks_of (drop t.last t.graph.objects) class ≤ (n + 1) * p.busy class) × (blocks_of (drop t.last t.graph.objects) class ≤ most * p.busy class)
           since_last class small = by_true b.on on (i.asked class small) (i.since_last class small)
             where
-              by_true : (o : Bool) → o ≡ true → b.asked class ≤ (if o then p.busy class else p.idle class) → blocks_of (drop t.last t.graph.objects) class ≤ (if o then n * p.busy class else (limit / (k - 255) + 1) * p.busy class) + b.asked class
-                  → (blocks_of (drop t.last t.graph.objects) class ≤ (n + 1) * p.busy class) × (blocks_of (drop t.last t.graph.objects) class ≤ (limit / (k - 255) + 1) * p.busy class)
+              by_true : (o : Bool) → o ≡ true → b.asked class ≤ (if o then p.busy class else p.idle class) → blocks_of (drop t.last t.graph.objects) class ≤ (if o then n * p.busy class else most * p.busy class) + b.asked class
+                  → (blocks_of (drop t.last t.graph.objects) class ≤ (n + 1) * p.busy class) × (blocks_of (drop t.last t.graph.objects) class ≤ most * p.busy class)
               by_true false z a l = absurd (cc)
-              by_true true z a l = let x = times class n low in let s = step_times n (p.busy class) in (omega (arith, a, l, s), omega (arith, a, l, x))
+              by_true true z a l = let x = times class n (few on) in let s = step_times n (p.busy class) in (omega (arith, a, l, s), omega (arith, a, l, x))
 
-          since_base : (class : ℕ) → class < CLASSES → blocks_of (drop t.base t.graph.objects) class ≤ (limit / (k - 255) + 1) * p.busy class + p.idle class + (n + 1) * p.busy class
+          since_base : (class : ℕ) → class < CLASSES → blocks_of (drop t.base t.graph.objects) class ≤ most * p.busy class + p.idle class + (n + 1) * p.busy class
           since_base class small = by_true b.on on (i.asked class small) (i.since_base class small)
             where
               by_true : (o : Bool) → o ≡ true → b.asked class ≤ (if o then p.busy class else p.idle class)
-                  → blocks_of (drop t.base t.graph.objects) class ≤ (if o then (limit / (k - 255) + 1) * p.busy class + p.idle class + n * p.busy class else (limit / (k - 255) + 1) * p.busy class) + b.asked class
-                  → blocks_of (drop t.base t.graph.objects) class ≤ (limit / (k - 255) + 1) * p.busy class + p.idle class + (n + 1) * p.busy class
+                  → blocks_of (drop t.base t.graph.objects) class ≤ (if o then most * p.busy class + p.idle class + n * p.busy class else most * p.busy class) + b.asked class
+                  → blocks_of (drop t.base t.graph.objects) class ≤ most * p.busy class + p.idle class + (n + 1) * p.busy class
               by_true false z a l = absurd (cc)
               by_true true z a l = let s = step_times n (p.busy class) in omega (arith, a, l, s)
 
           -- where the quantum ends, with the objects that are counted from then on
           ended : (f : Phase) (o : Bool) (start : ℕ) → new.heap.phase ≡ f → in_cycle f ≡ o → start ≤ length t.graph.objects
-              → ((class : ℕ) → class < CLASSES → blocks_of (drop t.last t.graph.objects) class ≤ (if o then (n + 1) * p.busy class else (limit / (k - 255) + 1) * p.busy class))
-              → ((class : ℕ) → class < CLASSES → blocks_of (drop start t.graph.objects) class ≤ (if o then (limit / (k - 255) + 1) * p.busy class + p.idle class + (n + 1) * p.busy class else (limit / (k - 255) + 1) * p.busy class))
-              → IsPaced new (record t { base = start }) (record b { on = o; asked = λ class. 0 }) p k limit (n + 1)
+              → ((class : ℕ) → class < CLASSES → blocks_of (drop t.last t.graph.objects) class ≤ (if o then (n + 1) * p.busy class else most * p.busy class))
+              → ((class : ℕ) → class < CLASSES → blocks_of (drop start t.graph.objects) class ≤ (if o then most * p.busy class + p.idle class + (n + 1) * p.busy class else most * p.busy class))
+              → IsPaced new (record t { base = start }) (record b { on = o; asked = λ class. 0 }) p most (n + 1)
           ended f o start e is low last base = record {
             graph = i.graph ∙ sym present;
             same = i.same ∙ sym present;
             on = sym (ap in_cycle e ∙ is);
-            bound = bound;
             last = i.last;
             base = low;
-            units = λ on. spent (λ idle. (let y : false ≡ true = sym (ap in_cycle idle) ∙ ap in_cycle e ∙ is ∙ on in cc));
             asked = λ class small. omega arith;
             since_last = λ class small. (let l = last class small in omega (arith, l));
             since_base = λ class small. (let l = base class small in omega (arith, l));
           }
 
-          tracing : (f : Phase) → new.heap.phase ≡ f → in_cycle f ≡ true → IsPaced new t (record b { on = true; asked = λ class. 0 }) p k limit (n + 1)
+          tracing : (f : Phase) → new.heap.phase ≡ f → in_cycle f ≡ true → IsPaced new t (record b { on = true; asked = λ class. 0 }) p most (n + 1)
           tracing f e o = ended f true t.base e o i.base (λ class small. (since_last class small).0) since_base
 
-          by_phase : (f : Phase) → new.heap.phase ≡ f → IsPaced new (if is_tracing f then t else record t { base = t.last }) (record b { on = in_cycle f; asked = λ class. 0 }) p k limit (n + 1)
+          by_phase : (f : Phase) → new.heap.phase ≡ f → IsPaced new (if is_tracing f then t else record t { base = t.last }) (record b { on = in_cycle f; asked = λ class. 0 }) p most (n + 1)
           by_phase (phases.Roots next) e = tracing (phases.Roots next) e refl
           by_phase (phases.Marking part cell) e = tracing (phases.Marking part cell) e refl
           by_phase (phases.Sweeping page block) e = tracing (phases.Sweeping page block) e refl
           by_phase (phases.Moving m) e = ended (phases.Moving m) true t.last e refl i.last (λ class small. (since_last class small).0) (λ class small. (let l = (since_last class small).0 in omega (arith, l)))
           by_phase phases.Idle e = ended phases.Idle false t.last e refl i.last (λ class small. (since_last class small).1) (λ class small. (since_last class small).1)
 
-      by_on : (o : Bool) → b.on ≡ o → (l : ℕ) × IsPaced new (if is_tracing phase then t else record t { base = t.last }) (if b.on then record b { on = in_cycle phase; asked = λ class. 0 } else b) p k limit l
-      by_on true e = (n + 1, subst (λ z. IsPaced new (if is_tracing phase then t else record t { base = t.last }) (if z then record b { on = in_cycle phase; asked = λ class. 0 } else b) p k limit (n + 1)) (sym e) (at_work e))
-      by_on false e = (n, subst (λ z. IsPaced new (if is_tracing phase then t else record t { base = t.last }) (if z then record b { on = in_cycle phase; asked = λ class. 0 } else b) p k limit n) (sym e) (at_rest e))
+      by_on : (o : Bool) → b.on ≡ o → IsPaced new (if is_tracing phase then t else record t { base = t.last }) (if b.on then record b { on = in_cycle phase; asked = λ class. 0 } else b) p most (if b.on then n + 1 else n)
+      by_on true e = subst (λ z. IsPaced new (if is_tracing phase then t else record t { base = t.last }) (if z then record b { on = in_cycle phase; asked = λ class. 0 } else b) p most (if z then n + 1 else n)) (sym e) (at_work e)
+      by_on false e = subst (λ z. IsPaced new (if is_tracing phase then t else record t { base = t.last }) (if z then record b { on = in_cycle phase; asked = λ class. 0 } else b) p most (if z then n + 1 else n)) (sym e) (at_rest e)
 
-  paced_does : (r : Course) (e : Event) (new : Course) (t : Tally) (b : Beat) (n : ℕ) → IsCourse r → IsPaced r t b p k limit n → KeepsPace p k b e → Does r e new
-      → KeepsTo (demand_of p most) t e × ((l : ℕ) × IsPaced new (after_event t e) (next_beat b e) p k limit l)
-  paced_does r (Command_done m c reply) new t b n w i keeps does = (paced_keeps r t b n m c reply w i keeps, (n, paced_command r new t b n m c reply w i keeps does))
-  paced_does r Cycle_begun new t b n w i keeps does = (subst (λ z. LiveWithin z p.live) (i.same ∙ sym i.graph) keeps, (0, paced_begins r new t b n i does))
-  paced_does r Cycle_on new t b n w i keeps does = (tt, (n, subst (λ z. IsPaced z t b p k limit n) (sym does.1) i))
-  paced_does r (Quantum_done budget units phase) new t b n w i keeps does = (tt, paced_quantum r new budget units phase t b n w i keeps does)
-  paced_does r (Quantum_refused budget) new t b n w i keeps does = (tt, (n, subst (λ z. IsPaced z t b p k limit n) (sym does.1) i))
+  -- an event keeps to the demand
+  paced_to : (r : Course) (e : Event) (t : Tally) (b : Beat) (n : ℕ) → IsPaced r t b p most n → (b.on ≡ true → n + 1 ≤ most) → KeepsPace p k b e → KeepsTo (demand_of p most) t e
+  paced_to r (Command_done m c reply) t b n i few keeps = paced_keeps r t b n m c reply i few keeps
+  paced_to r Cycle_begun t b n i few keeps = subst (λ z. LiveWithin z p.live) (i.same ∙ sym i.graph) keeps
+  paced_to r Cycle_on t b n i few keeps = tt
+  paced_to r (Quantum_done budget units phase) t b n i few keeps = tt
+  paced_to r (Quantum_refused budget) t b n i few keeps = tt
 
-  runs_keep : (es : List Event) (r new : Course) (t : Tally) (b : Beat) (n : ℕ) → IsCourse r → IsPaced r t b p k limit n → Runs r es new → AllKeepPace p k b es → AllKeepTo (demand_of p most) t es
-  runs_keep [] r new t b n w i runs keeps = tt
-  runs_keep (e ∷ es) r new t b n w i runs keeps =
-      let s = paced_does r e runs.0 t b n w i keeps.0 runs.1 in
-      (s.0, runs_keep es runs.0 new (after_event t e) (next_beat b e) s.1.0 (does_course r e runs.0 w runs.1) s.1.1 runs.2 keeps.1)
+  -- and what is kept holds after it
+  paced_next : (r : Course) (e : Event) (new : Course) (t : Tally) (b : Beat) (n : ℕ) → IsCourse r → IsPaced r t b p most n → (b.on ≡ true → n + 1 ≤ most) → KeepsPace p k b e → Does r e new
+      → IsPaced new (after_event t e) (next_beat b e) p most (quanta_after r e n)
+  paced_next r (Command_done m c reply) new t b n w i few keeps does = paced_command r new t b n m c reply w i keeps does
+  paced_next r Cycle_begun new t b n w i few keeps does = paced_begins r new t b n i does
+  paced_next r Cycle_on new t b n w i few keeps does = subst (λ z. IsPaced z t b p most n) (sym does.1) i
+  paced_next r (Quantum_done budget units phase) new t b n w i few keeps does = paced_quantum r new budget units phase t b n w i few does
+  paced_next r (Quantum_refused budget) new t b n w i few keeps does = subst (λ z. IsPaced z t b p most n) (sym does.1) i
 
-pub pace_keeps : (h : HeapState) (es : List Event) (new : Course) (p : Pace) (k : ℕ) → 256 ≤ k → IsOpening h → 0 < length h.store.pages → Runs (opened h) es new → AllKeepPace p k (opening_beat h.limits) es → AllKeepTo (demand_of p (most_quanta h k)) (opening_tally h.limits) es
-unfolding most
-pace_keeps h es new p k great o some runs keeps = runs_keep p k (cycle_limit h) great es (opened h) new (opening_tally h.limits) (opening_beat h.limits) 0 (opening_course h o some) (record {
+  -- A run that keeps to a pace keeps to a demand, where something is kept of its course, its tally and the quanta of its
+  -- cycle by which these never get too many.
+  pub runs_keep : (Kept : Course → Tally → ℕ → Type 0) → ((r : Course) (t : Tally) (n : ℕ) → IsCourse r → Kept r t n → in_cycle r.heap.phase ≡ true → n + 1 ≤ most)
+      → ((r : Course) (e : Event) (new : Course) (t : Tally) (b : Beat) (n : ℕ) → IsCourse r → Kept r t n → KeepsPace p k b e → KeepsTo (demand_of p most) t e → Does r e new → Kept new (after_event t e) (quanta_after r e n))
+      → (es : List Event) (r new : Course) (t : Tally) (b : Beat) (n : ℕ) → IsCourse r → Kept r t n → IsPaced r t b p most n → Runs r es new → AllKeepPace p k b es → AllKeepTo (demand_of p most) t es
+  runs_keep Kept few step [] r new t b n w kept i runs keeps = tt
+  runs_keep Kept few step (e ∷ es) r new t b n w kept i runs keeps =
+      let low : b.on ≡ true → n + 1 ≤ most = λ on. few r t n w kept (sym i.on ∙ on) in
+      let to = paced_to r e t b n i low keeps.0 in (
+        to,
+        runs_keep Kept few step es runs.0 new (after_event t e) (next_beat b e) (quanta_after r e n) (does_course r e runs.0 w runs.1)
+            (step r e runs.0 t b n w kept keeps.0 to runs.1) (paced_next r e runs.0 t b n w i low keeps.0 runs.1) runs.2 keeps.1,
+      )
+
+-- at the opening nothing was asked for
+pub opening_paced : (h : HeapState) (p : Pace) (most : ℕ) → IsOpening h → IsPaced (opened h) (opening_tally h.limits) (opening_beat h.limits) p most 0
+opening_paced h p most o = record {
   graph = refl;
   same = refl;
   on = sym (ap in_cycle o.phase);
-  bound = refl;
   last = omega arith;
   base = omega arith;
-  units = λ on. absurd (cc);
   asked = λ class small. omega arith;
   since_last = λ class small. omega arith;
   since_base = λ class small. omega arith;
-}) runs keeps
+}

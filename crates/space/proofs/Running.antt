@@ -127,7 +127,7 @@ module _ (h : HeapState) (g : Graph) (blocks : ℕ → ℕ) (spare : ℕ) (w : A
 
 -- What is kept of a course and its tally: among the objects there were when the cycle began whose sweep ended
 -- last, those with a main copy need no more than live ones may.
-record IsTracked (r : Course) (t : Tally) (d : Demand) (spare : ℕ) : Type 0 where
+pub record IsTracked (r : Course) (t : Tally) (d : Demand) (spare : ℕ) : Type 0 where
   graph : t.graph ≡ present_of r
   last : t.last ≡ length (snapshot_of r).objects
   live : LiveWithin (snapshot_of r) d.live
@@ -139,7 +139,7 @@ record IsTracked (r : Course) (t : Tally) (d : Demand) (spare : ℕ) : Type 0 wh
   kept : KeepsShapes first (present_of r).objects
   only : KeepsOnly r.heap.store (length first) ids
   tidy : IsTidy r.heap.store (present_of r).objects
-  bounded : HasBoundedPages r.heap (blocks_for d) spare
+  pub bounded : HasBoundedPages r.heap (blocks_for d) spare
   pages : space_for d spare ≤ length r.heap.store.pages
 
 pub shapes_same : (xs ys : List Object) → ys ≡ xs → KeepsShapes xs ys
@@ -287,14 +287,14 @@ tracked_quantum r new budget units phase t d spare w k q = by_tracing (is_tracin
       pages = pages;
     }
 
-tracked_does : (r : Course) (e : Event) (new : Course) (t : Tally) (d : Demand) (spare : ℕ) → IsCourse r → IsTracked r t d spare → KeepsTo d t e → Does r e new → IsTracked new (after_event t e) d spare × NewFindsRoom e
+pub tracked_does : (r : Course) (e : Event) (new : Course) (t : Tally) (d : Demand) (spare : ℕ) → IsCourse r → IsTracked r t d spare → KeepsTo d t e → Does r e new → IsTracked new (after_event t e) d spare × NewFindsRoom e
 tracked_does r (Command_done m c reply) new t d spare w k keeps does = tracked_command r new m c reply t d spare w k keeps does
 tracked_does r Cycle_begun new t d spare w k keeps does = (tracked_begins r new t d spare w k keeps does, tt)
 tracked_does r Cycle_on new t d spare w k keeps does = (subst (λ z. IsTracked z t d spare) (sym does.1) k, tt)
 tracked_does r (Quantum_done budget units phase) new t d spare w k keeps does = (tracked_quantum r new budget units phase t d spare w k does, tt)
 tracked_does r (Quantum_refused budget) new t d spare w k keeps does = (subst (λ z. IsTracked z t d spare) (sym does.1) k, tt)
 
-runs_find_room : (es : List Event) (r new : Course) (t : Tally) (d : Demand) (spare : ℕ) → IsCourse r → IsTracked r t d spare → Runs r es new → AllKeepTo d t es → EveryNewFindsRoom es
+pub runs_find_room : (es : List Event) (r new : Course) (t : Tally) (d : Demand) (spare : ℕ) → IsCourse r → IsTracked r t d spare → Runs r es new → AllKeepTo d t es → EveryNewFindsRoom es
 runs_find_room [] r new t d spare w k runs keeps = tt
 runs_find_room (e ∷ es) r new t d spare w k runs keeps =
     let s = tracked_does r e runs.0 t d spare w k keeps.0 runs.1 in
@@ -315,8 +315,8 @@ module _ (h : HeapState) (o : IsOpening h) (some : 0 < length h.store.pages) whe
   unfolding Reaches
   none_reached id r = let g = (consistent_agrees h (opening h.limits) (opening h.limits) course.stands.consistent).given id r in let l = g.below in let p = r.0 in omega (arith, l, p)
 
-  tracked : (d : Demand) (spare : ℕ) → MaySpare h (blocks_for d) spare → space_for d spare ≤ length h.store.pages → IsTracked (opened h) (opening_tally h.limits) d spare
-  tracked d spare may fits = record {
+  pub opening_tracked : (d : Demand) (spare : ℕ) → MaySpare h (blocks_for d) spare → space_for d spare ≤ length h.store.pages → IsTracked (opened h) (opening_tally h.limits) d spare
+  opening_tracked d spare may fits = record {
     graph = refl;
     last = refl;
     live = record { ids = []; reached = λ id r. absurd (none_reached id r); blocks = λ class l. omega arith };
@@ -344,7 +344,4 @@ module _ (h : HeapState) (o : IsOpening h) (some : 0 < length h.store.pages) whe
   }
 
 pub space_suffices : (h : HeapState) (es : List Event) (new : Course) (d : Demand) → IsOpening h → 0 < length h.store.pages → Runs (opened h) es new → AllKeepTo d (opening_tally h.limits) es → space_for d (spare_of h) ≤ length h.store.pages → EveryNewFindsRoom es
-space_suffices h es new d o some runs keeps fits = runs_find_room es (opened h) new (opening_tally h.limits) d (spare_of h) (course h o some) (tracked h o some d (spare_of h) (inl refl) fits) runs keeps
-
-pub space_suffices_unmoved : (h : HeapState) (es : List Event) (new : Course) (d : Demand) → IsOpening h → 0 < length h.store.pages → Runs (opened h) es new → AllKeepTo d (opening_tally h.limits) es → space_for d 0 + h.defrag_below ≤ length h.store.pages → EveryNewFindsRoom es
-space_suffices_unmoved h es new d o some runs keeps fits = runs_find_room es (opened h) new (opening_tally h.limits) d 0 (course h o some) (tracked h o some d 0 (inr (refl, fits)) (omega (arith, fits))) runs keeps
+space_suffices h es new d o some runs keeps fits = runs_find_room es (opened h) new (opening_tally h.limits) d (spare_of h) (course h o some) (opening_tracked h o some d (spare_of h) (inl refl) fits) runs keeps

@@ -1,5 +1,5 @@
 -- Whether a configuration has pages enough.
-use Rattle.std.specs.Prelude.{ℕ, ◌+◌, ◌-◌, ◌*◌, ◌/◌, ◌<◌, ◌≤◌, ◌==◌, if◌then◌else◌, slice_index, Option, Some, None}
+use Rattle.std.specs.Prelude.{ℕ, ◌+◌, ◌-◌, ◌*◌, ◌/◌, ◌<◌, ◌≤◌, Bool, ◌==◌, nat_le, if◌then◌else◌, slice_index, Option, Some, None}
 use Rattle.size_classes.specs.declared.class.TheConstants.{CLASSES, PAGE_WORDS}
 use Rattle.size_classes.specs.declared.config.Config.{Config}
 use Rattle.size_classes.specs.declared.config.TheConstants.{LEAST_BUDGET, MOST_PAGES}
@@ -13,6 +13,7 @@ use Rattle.space.specs.Space.{space_for}
 abbrev pub demand_in : Table → Demand
 demand_in d = record { live = λ class. slice_index d.live class; allocated = λ class. slice_index d.allocated class }
 
+-- the pace that a table by class states
 abbrev pub pace_in : PaceTable → Pace
 pace_in p = record { live = λ class. slice_index p.live class; busy = λ class. slice_index p.busy class; idle = λ class. slice_index p.idle class }
 
@@ -24,18 +25,57 @@ spare_in c = if c.defrag_below == 0 then 0 else c.defrag_pages
 abbrev pub Fits : Config → Demand → Type 0
 Fits c d = space_for d (spare_in c) ≤ c.pages
 
--- the units that a cycle spends at most, in a heap of a configuration with so many pages
-abbrev pub limit_at : Config → ℕ → ℕ
-limit_at c pages = c.mutators * c.slots + c.statics + 3 * (PAGE_WORDS * pages) + (c.defrag_pages + CLASSES) * pages + 4
+-- below how many free pages moving follows a sweep, in a heap of a configuration; 0 where no page may be emptied
+abbrev pub below_in : Config → ℕ
+below_in c = if c.defrag_pages == 0 then 0 else c.defrag_below
 
--- the quanta of its schedule that a cycle takes at most
+-- the units that roots, marking and sweeping spend at most, in a heap of a configuration with so many pages
+abbrev pub swept_at : Config → ℕ → ℕ
+swept_at c pages = c.mutators * c.slots + c.statics + PAGE_WORDS * pages + 513 * pages + 516
+
+-- the units that moving spends at most, in a heap of a configuration with so many pages
+abbrev pub moving_at : Config → ℕ → ℕ
+moving_at c pages = (c.defrag_pages + CLASSES) * pages + PAGE_WORDS * pages + 1
+
+-- the quanta of its schedule that end in moving, at most, in a cycle
+abbrev pub ended_at : Config → ℕ → ℕ
+ended_at c pages = moving_at c pages / (c.collector_ticks * c.rate - (LEAST_BUDGET - 1)) + 1
+
+-- the quanta of its schedule that a cycle takes at most: those that end in moving may leave 255 units of their budgets
 abbrev pub quanta_at : Config → ℕ → ℕ
-quanta_at c pages = limit_at c pages / (c.collector_ticks * c.rate - (LEAST_BUDGET - 1)) + 1
+quanta_at c pages =
+    (swept_at c pages + moving_at c pages + (LEAST_BUDGET - 1) * ended_at c pages) / (c.collector_ticks * c.rate) + 1
+
+-- the quanta that a cycle takes at most where moving never begins: each action costs one unit, so that a quantum
+-- spends its whole budget
+abbrev pub unmoved_quanta_at : Config → ℕ → ℕ
+unmoved_quanta_at c pages = swept_at c pages / (c.collector_ticks * c.rate) + 1
+
+-- the pages that a pace takes in a heap that has so many, with those that moving may leave sparse
+abbrev pub moved_pages : Config → Pace → ℕ → ℕ
+moved_pages c p pages = space_for (demand_of p (quanta_at c pages)) (spare_in c)
+
+-- the pages that a pace takes in a heap that has so many, with as many that stay free as moving begins below, so that
+-- it never begins
+abbrev pub unmoved_pages : Config → Pace → ℕ → ℕ
+unmoved_pages c p pages = space_for (demand_of p (unmoved_quanta_at c pages)) 0 + below_in c
+
+-- whether a pace takes no more pages where moving never begins
+abbrev pub is_unmoved : Config → Pace → ℕ → Bool
+is_unmoved c p pages = nat_le (unmoved_pages c p pages) (moved_pages c p pages)
+
+-- the pages that a pace takes in a heap that has so many, the fewer of both
+abbrev pub pages_needed : Config → Pace → ℕ → ℕ
+pages_needed c p pages = if is_unmoved c p pages then unmoved_pages c p pages else moved_pages c p pages
+
+-- the quanta with which these pages are reckoned
+abbrev pub quanta_needed : Config → Pace → ℕ → ℕ
+quanta_needed c p pages = if is_unmoved c p pages then unmoved_quanta_at c pages else quanta_at c pages
 
 -- A pace fits in so many pages: they are as many as it takes in a heap that has so many. With more pages a
 -- cycle takes longer.
 abbrev pub FitsIn : Config → Pace → ℕ → Type 0
-FitsIn c p pages = space_for (demand_of p (quanta_at c pages)) (spare_in c) ≤ pages
+FitsIn c p pages = pages_needed c p pages ≤ pages
 
 -- the least number of pages, of those that a configuration may have, in which a pace fits; or it fits in none
 abbrev pub IsLeast : Config → Pace → Option ℕ → Type 0

@@ -1,11 +1,13 @@
 -- A pace: how many blocks are asked for while the collector does a quantum's work.
-use Rattle.std.specs.Prelude.{ℕ, ◌+◌, ◌*◌, ◌<◌, ◌≤◌, Bool, true, false, if◌then◌else◌, List, [], ◌∷◌}
+use Rattle.std.specs.Prelude.{ℕ, ◌+◌, ◌-◌, ◌*◌, ◌/◌, ◌<◌, ◌≤◌, Bool, true, false, if◌then◌else◌, List, [], ◌∷◌, length}
 use Rattle.graph_heap.specs.declared.command.Limits.{Limits}
 use Rattle.graph_heap.specs.Graph.{Graph, opening}
 use Rattle.graph_heap.specs.History.{after_entry}
 use Rattle.size_classes.specs.declared.class.TheConstants.{CLASSES}
 use Rattle.heap_model.specs.declared.phase.Phase.{Phase}
 use Rattle.heap_model.specs.declared.phase.Phase.TheVariants as phases
+use Rattle.heap_model.specs.State.{HeapState}
+use Rattle.heap_model.specs.Spent.{arena_words, swept_units}
 use Rattle.heap_model.specs.Event.{Event, Command_done, Cycle_begun, Cycle_on, Quantum_done, Quantum_refused}
 use Rattle.space.specs.Demand.{Demand, LiveWithin, asked_for}
 
@@ -24,9 +26,11 @@ pub record Beat : Type 0 where
   pub on : Bool
   pub asked : ℕ → ℕ
 
+-- where no event was done yet
 abbrev pub opening_beat : Limits → Beat
 opening_beat l = record { graph = opening l; on = false; asked = λ class. 0 }
 
+-- a cycle is on in this phase
 abbrev pub in_cycle : Phase → Bool
 in_cycle phases.Idle = false
 in_cycle (phases.Roots next) = true
@@ -34,6 +38,7 @@ in_cycle (phases.Marking part cell) = true
 in_cycle (phases.Sweeping page block) = true
 in_cycle (phases.Moving m) = true
 
+-- where events have come to after one more
 abbrev pub next_beat : Beat → Event → Beat
 next_beat b (Command_done m c reply) = record b { graph = after_entry b.graph (record { mutator = m; command = c; reply = reply }); asked = λ class. b.asked class + asked_for b.graph m c class }
 next_beat b Cycle_begun = record b { on = true; asked = λ class. 0 }
@@ -53,6 +58,21 @@ KeepsPace p k b (Quantum_refused budget) = Unit {0}
 abbrev pub AllKeepPace : Pace → ℕ → Beat → List Event → Type 0
 AllKeepPace p k b [] = Unit {0}
 AllKeepPace p k b (e ∷ es) = KeepsPace p k b e × AllKeepPace p k (next_beat b e) es
+
+-- the units that moving spends at most: a look at every page for each class and each page that may be chosen, and the
+-- words of the arena
+abbrev pub moving_units : HeapState → ℕ
+moving_units h = (h.defrag_pages + CLASSES) * length h.store.pages + arena_words h + 1
+
+-- The quanta of budgets of at least k that a cycle takes at most. Only one that ends in moving may leave a part of its
+-- budget, 255 units at most, and no more of them end there than moving takes, and one.
+abbrev pub moved_quanta : HeapState → ℕ → ℕ
+moved_quanta h k = (swept_units h + moving_units h + 255 * (moving_units h / (k - 255) + 1)) / k + 1
+
+-- the quanta of budgets of at least k that a cycle takes at most where moving never begins: each action costs one unit,
+-- so that a quantum spends its whole budget
+abbrev pub unmoved_quanta : HeapState → ℕ → ℕ
+unmoved_quanta h k = swept_units h / k + 1
 
 -- the demand to which a pace comes where a cycle takes at most so many quanta: two cycles, and the time
 -- between them

@@ -20,6 +20,7 @@ HasRoom Cycle_on = Unit {0}
 HasRoom (Quantum_done budget units phase) = Unit {0}
 HasRoom (Quantum_refused budget) = Unit {0}
 
+-- no reply among events is the refusal for want of space
 abbrev pub AllHaveRoom : List Event → Type 0
 AllHaveRoom [] = Unit {0}
 AllHaveRoom (e ∷ es) = HasRoom e × AllHaveRoom es

@@ -24,6 +24,10 @@ pages_for blocks spare (suc class) = pages_for blocks spare class + class_pages 
 abbrev pub spare_of : HeapState → ℕ
 spare_of h = if h.defrag_below == 0 then 0 else h.defrag_pages
 
+-- below how many free pages moving follows a sweep; 0 where no page may be emptied
+abbrev pub below_of : HeapState → ℕ
+below_of h = if h.defrag_pages == 0 then 0 else h.defrag_below
+
 -- the pages of all classes for a demand
 abbrev pub space_for : Demand → ℕ → ℕ
 space_for d spare = pages_for (blocks_for d) spare CLASSES

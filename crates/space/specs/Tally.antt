@@ -19,6 +19,7 @@ pub record Tally : Type 0 where
   pub last : ℕ
   pub base : ℕ
 
+-- where no event was done yet
 abbrev pub opening_tally : Limits → Tally
 opening_tally l = record { graph = opening l; last = 0; base = 0 }
 
@@ -30,6 +31,7 @@ is_tracing (phases.Marking part cell) = true
 is_tracing (phases.Sweeping page block) = true
 is_tracing (phases.Moving m) = false
 
+-- where events have come to after one more
 abbrev pub after_event : Tally → Event → Tally
 after_event t (Command_done m c reply) = record t { graph = after_entry t.graph (record { mutator = m; command = c; reply = reply }) }
 after_event t Cycle_begun = record t { last = length t.graph.objects }
@@ -56,6 +58,7 @@ abbrev pub FindsRoom : Command → Reply → Type 0
 FindsRoom (commands.New dst shape) reply = had_room reply ≡ true
 FindsRoom _ reply = Unit {0}
 
+-- an event isn't a new object that is refused for want of space
 abbrev pub NewFindsRoom : Event → Type 0
 NewFindsRoom (Command_done m c reply) = FindsRoom c reply
 NewFindsRoom Cycle_begun = Unit {0}

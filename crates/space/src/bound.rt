@@ -7,13 +7,12 @@ ghost use Rattle.size_classes.specs.declared.config.TheConstants.{LEAST_BUDGET};
 ghost use Rattle.heap_model.specs.State.{HeapState};
 ghost use Rattle.heap_model.specs.Settings.{settings_of, settings_by};
 ghost use Rattle.heap_model.specs.Opening.{IsOpening};
-ghost use Rattle.heap_model.specs.Bound.{most_quanta};
 ghost use Rattle.heap_model.specs.Event.{Course, Event, Runs};
 ghost use Rattle.heap_model.specs.Led.{opened};
 ghost use Rattle.space.specs.Demand.{Demand, asked_for};
 ghost use Rattle.space.specs.Tally.{opening_tally, AllKeepTo, EveryNewFindsRoom};
-ghost use Rattle.space.specs.Pace.{Pace, opening_beat, AllKeepPace, demand_of};
-ghost use Rattle.space.specs.Space.{space_for, spare_of};
+ghost use Rattle.space.specs.Pace.{Pace, opening_beat, AllKeepPace, moved_quanta, unmoved_quanta, demand_of};
+ghost use Rattle.space.specs.Space.{space_for, spare_of, below_of};
 ghost use Rattle.space.specs.Fitting.{Fits, FitsIn};
 ghost use Rattle.space.specs.Room.{asks, AllHaveRoom};
 
@@ -28,21 +27,35 @@ pub fn space_suffices()
 /// no sweep is followed by moving, and no page is left sparse.
 pub fn space_suffices_unmoved()
     ensures { (h : HeapState) (es : List Event) (new : Course) (d : Demand) → IsOpening h → 0 < length h.store.pages → Runs (opened h) es new → AllKeepTo d (opening_tally h.limits) es
-        → space_for d 0 + h.defrag_below ≤ length h.store.pages → EveryNewFindsRoom es }
+        → space_for d 0 + below_of h ≤ length h.store.pages → EveryNewFindsRoom es }
 {}
 
 /// A run that keeps to a pace keeps to a demand. A cycle takes at most so many quanta, so that what is asked
 /// for between them adds up to no more than two cycles' quanta, and the time between two cycles, ask for.
 pub fn paces_are_demands()
     ensures { (h : HeapState) (es : List Event) (new : Course) (p : Pace) (k : ℕ) → LEAST_BUDGET ≤ k → IsOpening h → 0 < length h.store.pages → Runs (opened h) es new → AllKeepPace p k (opening_beat h.limits) es
-        → AllKeepTo (demand_of p (most_quanta h k)) (opening_tally h.limits) es }
+        → AllKeepTo (demand_of p (moved_quanta h k)) (opening_tally h.limits) es }
 {}
 
 /// So no new object is refused for want of space in a run that keeps to a pace, where there are as many pages
 /// as the pace takes.
 pub fn space_suffices_at_a_pace()
     ensures { (h : HeapState) (es : List Event) (new : Course) (p : Pace) (k : ℕ) → LEAST_BUDGET ≤ k → IsOpening h → 0 < length h.store.pages → Runs (opened h) es new → AllKeepPace p k (opening_beat h.limits) es
-        → space_for (demand_of p (most_quanta h k)) (spare_of h) ≤ length h.store.pages → EveryNewFindsRoom es }
+        → space_for (demand_of p (moved_quanta h k)) (spare_of h) ≤ length h.store.pages → EveryNewFindsRoom es }
+{}
+
+/// Where as many pages stay free beside those that a pace takes as moving begins below, no sweep is followed by moving,
+/// and each quantum that doesn't end its cycle spends its whole budget. So a run that keeps to the pace keeps to a
+/// smaller demand, and no new object is refused for want of space.
+pub fn space_suffices_at_an_unmoved_pace()
+    ensures demand { (h : HeapState) (es : List Event) (new : Course) (p : Pace) (k : ℕ) → LEAST_BUDGET ≤ k
+        → IsOpening h → 0 < length h.store.pages → Runs (opened h) es new → AllKeepPace p k (opening_beat h.limits) es
+        → space_for (demand_of p (unmoved_quanta h k)) 0 + below_of h ≤ length h.store.pages
+        → AllKeepTo (demand_of p (unmoved_quanta h k)) (opening_tally h.limits) es }
+    ensures room { (h : HeapState) (es : List Event) (new : Course) (p : Pace) (k : ℕ) → LEAST_BUDGET ≤ k
+        → IsOpening h → 0 < length h.store.pages → Runs (opened h) es new → AllKeepPace p k (opening_beat h.limits) es
+        → space_for (demand_of p (unmoved_quanta h k)) 0 + below_of h ≤ length h.store.pages
+        → EveryNewFindsRoom es }
 {}
 
 /// A command asks for no more blocks than its shape needs, and for none where that is too large, whatever the

@@ -6,10 +6,10 @@ ghost use Rattle.space.specs.Fitting.{demand_in};
 use size_classes::{CLASSES, Class};
 
 /// More blocks of a class than any demand or pace can state.
-pub const MOST_BLOCKS: u128 = 2_000_000_000_000_000_000_000_000_000;
+pub const MOST_BLOCKS: u128 = 300_000_000_000_000_000_000_000_000_000;
 
 /// More pages than those blocks take, with all that may be left sparse.
-pub const MOST_CLASS_PAGES: u128 = 2_000_000_000_000_000_000_010_000_000_000;
+pub const MOST_CLASS_PAGES: u128 = 300_000_000_000_000_000_000_010_000_000_000;
 
 /// Of each size class: how many blocks live objects need at most where a cycle begins, and how many the
 /// objects need that are allocated from there, or from the start, up to the end of the next cycle's sweep.

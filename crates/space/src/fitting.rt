@@ -1,6 +1,7 @@
 //! Whether a configuration has pages enough, so that no new object is refused for want of space.
 ghost use Rattle.std.specs.Prelude.{◌≡◌, ◌≤◌, ◌↔◌, IsTrue};
-ghost use Rattle.space.specs.Fitting.{demand_in, pace_in, spare_in, quanta_at, Fits, FitsIn, IsLeast};
+ghost use Rattle.space.specs.Fitting.{demand_in, pace_in, spare_in, below_in, swept_at, moving_at, quanta_at, unmoved_quanta_at};
+ghost use Rattle.space.specs.Fitting.{moved_pages, unmoved_pages, pages_needed, quanta_needed, Fits, FitsIn, IsLeast};
 
 use crate::demand::Demand;
 use crate::pace::{MOST_QUANTA, Pace};
@@ -17,18 +18,116 @@ pub fn spare(config: &Config) -> u32
     }
 }
 
-/// The quanta of the schedule that a cycle takes at most, in a heap of the configuration with so many pages.
-pub fn quanta(config: &Config, pages: u32) -> u64
+/// Below how many free pages moving follows a sweep; 0 where no page may be emptied.
+fn below(config: &Config) -> u32
+    ensures { result ≡ below_in config.now }
+{
+    if config.defrag_pages == 0 {
+        0
+    } else {
+        config.defrag_below
+    }
+}
+
+/// The units that roots, marking and sweeping spend at most, in a heap of the configuration with so many pages.
+fn swept(config: &Config, pages: u32) -> u64
     requires { pages ≤ MOST_PAGES }
-    ensures quanta { result ≡ quanta_at config.now pages }
-    ensures within { result ≤ MOST_QUANTA }
+    ensures swept { result ≡ swept_at config.now pages }
+    ensures within { result ≤ 11_000_000 }
 {
     let count = u64::from(pages);
     let roots = u64::from(config.root_cells());
     let arena = u64::from(PAGE_WORDS) * count;
+    roots + arena + 513 * count + 516
+}
+
+/// The units that moving spends at most, in a heap of the configuration with so many pages.
+fn moving(config: &Config, pages: u32) -> u64
+    requires { pages ≤ MOST_PAGES }
+    ensures moving { result ≡ moving_at config.now pages }
+    ensures within { result ≤ 26_000_000 }
+{
+    let count = u64::from(pages);
+    let arena = u64::from(PAGE_WORDS) * count;
     let looks = (u64::from(config.defrag_pages) + CLASSES as u64) * count;
-    let limit = roots + 3 * arena + looks + 4;
-    limit / (u64::from(config.budget()) - u64::from(LEAST_BUDGET - 1)) + 1
+    looks + arena + 1
+}
+
+/// The quanta of the schedule that a cycle takes at most, in a heap of the configuration with so many pages. Those that
+/// end in moving may leave a part of their budgets.
+fn quanta(config: &Config, pages: u32) -> u64
+    requires { pages ≤ MOST_PAGES }
+    ensures quanta { result ≡ quanta_at config.now pages }
+    ensures within { result ≤ MOST_QUANTA }
+{
+    let budget = u64::from(config.budget());
+    let left = u64::from(LEAST_BUDGET - 1);
+    let moving = moving(config, pages);
+    let ended = moving / (budget - left) + 1;
+    (swept(config, pages) + moving + left * ended) / budget + 1
+}
+
+/// The quanta that a cycle takes at most where moving never begins, so that each spends its whole budget.
+fn unmoved_quanta(config: &Config, pages: u32) -> u64
+    requires { pages ≤ MOST_PAGES }
+    ensures quanta { result ≡ unmoved_quanta_at config.now pages }
+    ensures within { result ≤ MOST_QUANTA }
+{
+    swept(config, pages) / u64::from(config.budget()) + 1
+}
+
+/// What a pace takes in a heap of a configuration with so many pages.
+#[derive(Clone, Copy, Debug, PartialEq, Eq)]
+pub struct Needs {
+    /// The pages.
+    pub pages: u128,
+    /// The quanta of the schedule that a cycle takes at most, with which they are reckoned.
+    pub quanta: u64,
+}
+
+impl Needs {
+    /// What it takes with the pages that moving may leave sparse.
+    fn moved(config: &Config, pace: &Pace, pages: u32) -> Needs
+        requires { pages ≤ MOST_PAGES }
+        ensures pages { result.pages ≡ moved_pages config.now (pace_in pace.now) pages }
+        ensures quanta { result.quanta ≡ quanta_at config.now pages }
+    {
+        let quanta = quanta(config, pages);
+        Needs {
+            pages: pace.pages(quanta, spare(config)),
+            quanta,
+        }
+    }
+
+    /// What it takes with as many pages that stay free as moving begins below, so that it never begins.
+    fn unmoved(config: &Config, pace: &Pace, pages: u32) -> Needs
+        requires { pages ≤ MOST_PAGES }
+        ensures pages { result.pages ≡ unmoved_pages config.now (pace_in pace.now) pages }
+        ensures quanta { result.quanta ≡ unmoved_quanta_at config.now pages }
+    {
+        let quanta = unmoved_quanta(config, pages);
+        Needs {
+            pages: pace.pages(quanta, 0) + u128::from(below(config)),
+            quanta,
+        }
+    }
+}
+
+/// What a pace takes in a heap of a configuration with so many pages, the fewer pages of two: with those that moving
+/// may leave sparse, or with as many that stay free as moving begins below. In the second case it never begins, and
+/// fewer quanta suffice for a cycle.
+pub fn pace_needs(config: &Config, pace: &Pace, pages: u32) -> Needs
+    requires { pages ≤ MOST_PAGES }
+    ensures pages { result.pages ≡ pages_needed config.now (pace_in pace.now) pages }
+    ensures quanta { result.quanta ≡ quanta_needed config.now (pace_in pace.now) pages }
+{
+    let unmoved = Needs::unmoved(config, pace, pages);
+    let moved = Needs::moved(config, pace, pages);
+    if unmoved.pages <= moved.pages {
+        unmoved
+    } else {
+        moved
+    }
 }
 
 /// Whether the pages of a configuration are as many as a demand takes.
@@ -43,7 +142,7 @@ fn fits_in(config: &Config, pace: &Pace, pages: u32) -> bool
     requires { pages ≤ MOST_PAGES }
     ensures { IsTrue result ↔ FitsIn config.now (pace_in pace.now) pages }
 {
-    pace.pages(quanta(config, pages), spare(config)) <= u128::from(pages)
+    pace_needs(config, pace, pages).pages <= u128::from(pages)
 }
 
 /// Whether the pages of a configuration are as many as a pace takes.

@@ -8,5 +8,5 @@ pub mod pace;
 pub mod steps;
 
 pub use demand::{Demand, pages_of_class};
-pub use fitting::{fits, least_pages, pace_fits, quanta, spare};
+pub use fitting::{Needs, fits, least_pages, pace_fits, pace_needs, spare};
 pub use pace::Pace;

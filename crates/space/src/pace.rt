@@ -1,15 +1,15 @@
 //! How many blocks a program asks for while the collector does a quantum's work, and the pages that they
 //! take.
-ghost use Rattle.std.specs.Prelude.{◌≡◌, ◌≤◌};
+ghost use Rattle.std.specs.Prelude.{◌≡◌, ◌*◌, ◌≤◌};
 ghost use Rattle.space.specs.Space.{space_for};
 ghost use Rattle.space.specs.Pace.{demand_of};
 ghost use Rattle.space.specs.Fitting.{pace_in};
 
-use crate::demand::pages_of_class;
+use crate::demand::{MOST_CLASS_PAGES, pages_of_class};
 use size_classes::{CLASSES, Class};
 
-/// The most quanta that a cycle can take: those of the least budget, in the largest heap.
-pub const MOST_QUANTA: u64 = 42_115_333;
+/// More quanta than a cycle can take.
+pub const MOST_QUANTA: u64 = 7_000_000_000;
 
 /// Of each size class: how many blocks live objects need at most where a cycle begins; how many are asked for
 /// at most while a cycle is on, from its beginning or a quantum up to the next quantum; and how many from the
@@ -26,7 +26,8 @@ impl Pace {
     /// sparse for each class.
     pub fn pages(&self, quanta: u64, spare: u32) -> u128
         requires { quanta ≤ MOST_QUANTA }
-        ensures { result ≡ space_for (demand_of (pace_in self.now) quanta) spare }
+        ensures pages { result ≡ space_for (demand_of (pace_in self.now) quanta) spare }
+        ensures within { result ≤ CLASSES * MOST_CLASS_PAGES }
     {
         let mut pages = 0u128;
         for number in 0..CLASSES {

@@ -4,7 +4,7 @@ ghost use Rattle.space.specs.Fitting.{pace_in};
 ghost use Rattle.space_report.specs.Report.{IsFrom};
 
 use size_classes::{Config, MOST_PAGES};
-use space::{Pace, quanta, spare};
+use space::{Pace, pace_needs};
 
 /// The least number of pages from which on a pace fits in each number that a configuration may have, with all else as
 /// the configuration has it; None where it doesn't fit in the most. With more pages a cycle takes more quanta, so that a
@@ -14,7 +14,7 @@ pub fn fits_from(config: &Config, pace: &Pace) -> Option<u32>
 {
     let mut from = None;
     for pages in 1..MOST_PAGES + 1 {
-        let needed = pace.pages(quanta(config, pages), spare(config));
+        let needed = pace_needs(config, pace, pages).pages;
         from = if needed <= u128::from(pages) {
             from.or(Some(pages))
         } else {

@@ -7,7 +7,7 @@ ghost use Rattle.space_report.specs.Report.{pace_line, pace_lines, quanta_line, 
 use crate::from::fits_from;
 use crate::lines::{Scope, pages_line, too_many};
 use size_classes::{CLASSES, Class, Config};
-use space::{Pace, least_pages, quanta, spare};
+use space::{Pace, least_pages, pace_needs};
 use std::alloc::{AllocError, Global};
 
 /// The line of a class, or nothing where no block of it is needed.
@@ -35,7 +35,7 @@ fn class_lines(alloc: Global, pace: &Pace) -> Result<String, AllocError>
     Ok(text)
 }
 
-/// How many quanta a cycle takes at most, each of the schedule's units.
+/// With how many quanta of a cycle the pages are reckoned, each of the schedule's units.
 fn quanta_line(alloc: Global, quanta: u64, units: u32) -> Result<String, AllocError>
     ensures { IfOk result (λ line. string_bytes line ≡ quanta_line quanta units) }
 {
@@ -72,27 +72,22 @@ fn lines_with(
 ) -> Result<String, AllocError>
     ensures { IfOk result (λ text. IsPaceReport scope config.now (Some pace.now) (string_bytes text)) }
 {
-    let quanta = quanta(config, config.pages);
+    let needs = pace_needs(config, pace, config.pages);
     let mut text = class_lines(alloc, pace)?;
-    let cycle = quanta_line(alloc, quanta, config.budget())?;
+    let cycle = quanta_line(alloc, needs.quanta, config.budget())?;
     text.push_str(cycle.as_str())?;
-    let pages = pages_line(
-        alloc,
-        scope,
-        pace.pages(quanta, spare(config)),
-        config.pages,
-    )?;
+    let pages = pages_line(alloc, scope, needs.pages, config.pages)?;
     text.push_str(pages.as_str())?;
     let last = least_lines(alloc, least_pages(config, pace), fits_from(config, pace))?;
     text.push_str(last.as_str())?;
     Ok(text)
 }
 
-/// What is told of a pace in a heap of a configuration, with quanta of its schedule's units: of each class of which blocks
-/// are needed its size in words, the blocks of live objects, of what is asked for while a cycle is on up to the next
-/// quantum, and between two cycles; how many quanta a cycle takes at most; how many pages are needed, of how many that
-/// there are, and for which runs they suffice; the least number of pages that does, and from how many on each does.
-/// Without a pace, that the blocks are too many.
+/// What is told of a pace in a heap of a configuration, with quanta of its schedule's units: of each class of which
+/// blocks are needed its size in words, the blocks of live objects, of what is asked for while a cycle is on up to
+/// the next quantum, and between two cycles; with how many quanta of a cycle the pages are reckoned; how many pages
+/// are needed, of how many that there are, and for which runs they suffice; the least number of pages that does, and
+/// from how many on each does. Without a pace, that the blocks are too many.
 pub fn pace_report(
     alloc: Global,
     config: &Config,

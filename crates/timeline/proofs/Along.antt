@@ -1,11 +1,10 @@
--- Samples of heaps, one heap after the other.
+-- Samples of moments, one after the other.
 use Rattle.std.proofs.Common.{◌≡◌, ◌≢◌, ◌⊎◌, ℕ, zero, suc, ◌+◌, ◌-◌, ◌*◌, ◌/◌, ◌^◌, ◌<◌, ◌≤◌, inl, inr, List, [], ◌∷◌, ◌++◌, length, length-append, get_or, slice_get, option_map, Some, refl, ap, ◌∙◌, sym, arith, add-mul, mul_assoc, mul_comm, mul-le-mul_right, pow_mono, pow-add}
 use Rattle.std.proofs.lemmas.Bool.{cases_order}
 use Rattle.std.proofs.lemmas.Option.{slice_get_past, slice_get_cases, slice_get-get_or}
-use Rattle.heap_model.specs.State.{HeapState}
 use Rattle.drawing.specs.declared.over_time.TheConstants.{MOST_SAMPLES}
 use Rattle.drawing.specs.declared.sample.Sample.{Sample}
-use Rattle.timeline.specs.Samples.{sampled, AreSamples, IsStride}
+use Rattle.timeline.specs.Samples.{Moment, sampled, AreSamples, IsStride}
 use Rattle.timeline.specs.Sampler.{AreTaken}
 
 -- the last of a list, and those before it
@@ -46,31 +45,31 @@ not_same_place : (i n stride : ℕ) → 0 < stride → (i < n) ⊎ (n < i) → i
 not_same_place i n stride some (inl below) e = omega (arith, e, some, a_stride_less i n stride below)
 not_same_place i n stride some (inr above) e = omega (arith, e, some, a_stride_less n i stride above)
 
-module _ (heaps : List HeapState) (h : HeapState) (samples : List Sample) (stride : ℕ) where
-  -- a heap that isn't sampled
-  passed : AreSamples heaps stride samples → ((i : ℕ) → i * stride ≢ length heaps) → AreSamples (heaps ++ h ∷ []) stride samples
-  passed each apart i = each i ∙ ap (option_map sampled) (sym (get_others heaps h (i * stride) (apart i)))
+module _ (moments : List Moment) (h : Moment) (samples : List Sample) (stride : ℕ) where
+  -- a moment that isn't sampled
+  passed : AreSamples moments stride samples → ((i : ℕ) → i * stride ≢ length moments) → AreSamples (moments ++ h ∷ []) stride samples
+  passed each apart i = each i ∙ ap (option_map sampled) (sym (get_others moments h (i * stride) (apart i)))
 
-  -- a heap that is
-  added : AreSamples heaps stride samples → 0 < stride → length samples * stride ≡ length heaps → AreSamples (heaps ++ h ∷ []) stride (samples ++ sampled h ∷ [])
+  -- a moment that is
+  added : AreSamples moments stride samples → 0 < stride → length samples * stride ≡ length moments → AreSamples (moments ++ h ∷ []) stride (samples ++ sampled h ∷ [])
   added each some at i = elim (cases_order i (length samples)) [
-    | inl same ↦ get_last samples (sampled h) i same ∙ ap (option_map sampled) (sym (get_last heaps h (i * stride) (ap (λ n. n * stride) same ∙ at)))
+    | inl same ↦ get_last samples (sampled h) i same ∙ ap (option_map sampled) (sym (get_last moments h (i * stride) (ap (λ n. n * stride) same ∙ at)))
     | inr apart ↦
         get_others samples (sampled h) i (λ e. not_both i (length samples) e apart) ∙ each i
-        ∙ ap (option_map sampled) (sym (get_others heaps h (i * stride) (λ e. not_same_place i (length samples) stride some apart (e ∙ sym at))))
+        ∙ ap (option_map sampled) (sym (get_others moments h (i * stride) (λ e. not_same_place i (length samples) stride some apart (e ∙ sym at))))
   ]
 
 -- every second of the samples
-halved : (heaps : List HeapState) (stride : ℕ) (samples even : List Sample) → AreSamples heaps stride samples → ((i : ℕ) → slice_get even i ≡ slice_get samples (i * 2)) → AreSamples heaps (stride * 2) even
-halved heaps stride samples even each evens i =
-    evens i ∙ each (i * 2) ∙ ap (λ n. option_map sampled (slice_get heaps n)) (mul_assoc i 2 stride ∙ ap (λ n. i * n) (mul_comm 2 stride))
+halved : (moments : List Moment) (stride : ℕ) (samples even : List Sample) → AreSamples moments stride samples → ((i : ℕ) → slice_get even i ≡ slice_get samples (i * 2)) → AreSamples moments (stride * 2) even
+halved moments stride samples even each evens i =
+    evens i ∙ each (i * 2) ∙ ap (λ n. option_map sampled (slice_get moments n)) (mul_assoc i 2 stride ∙ ap (λ n. i * n) (mul_comm 2 stride))
 
--- the first heap
-first_each : (h : HeapState) → AreSamples (h ∷ []) 1 (sampled h ∷ [])
+-- the first moment
+first_each : (h : Moment) → AreSamples (h ∷ []) 1 (sampled h ∷ [])
 first_each h zero = refl
 first_each h (suc i) = let same : suc i ≡ suc i * 1 = omega arith in ap (λ n. option_map sampled (slice_get (h ∷ []) n)) same
 
-pub first_taken : (h : HeapState) → AreTaken (h ∷ []) (sampled h ∷ []) 1 0
+pub first_taken : (h : Moment) → AreTaken (h ∷ []) (sampled h ∷ []) 1 0
 first_taken h = record {
   each = first_each h;
   few = omega arith;
@@ -82,29 +81,29 @@ first_taken h = record {
 }
 
 -- between two that are sampled
-between : (i n stride since heaps : ℕ) → heaps + stride ≡ n * stride + since + 1 → since + 1 < stride → (i ≡ n) ⊎ ((i < n) ⊎ (n < i)) → i * stride ≢ heaps
-between i n stride since heaps count l (inl same) e = omega (arith, e, count, l, ap (λ m. m * stride) same)
-between i n stride since heaps count l (inr (inl below)) e = omega (arith, e, count, l, a_stride_less i n stride below)
-between i n stride since heaps count l (inr (inr above)) e = omega (arith, e, count, l, a_stride_less n i stride above)
+between : (i n stride since moments : ℕ) → moments + stride ≡ n * stride + since + 1 → since + 1 < stride → (i ≡ n) ⊎ ((i < n) ⊎ (n < i)) → i * stride ≢ moments
+between i n stride since moments count l (inl same) e = omega (arith, e, count, l, ap (λ m. m * stride) same)
+between i n stride since moments count l (inr (inl below)) e = omega (arith, e, count, l, a_stride_less i n stride below)
+between i n stride since moments count l (inr (inr above)) e = omega (arith, e, count, l, a_stride_less n i stride above)
 
 -- twice the stride
 doubled : (stride exponent : ℕ) → stride ≡ 2 ^ exponent → stride * 2 ≡ 2 ^ (exponent + 1)
 doubled stride exponent power = omega (arith, power, pow-add 2 exponent 1)
 
 -- is no more than it must be
-doubled_least : (stride exponent heaps k : ℕ) → stride ≡ 2 ^ exponent → MOST_SAMPLES * stride < heaps → k < exponent + 1 → MOST_SAMPLES * 2 ^ k < heaps
-doubled_least stride exponent heaps k power long below =
+doubled_least : (stride exponent moments k : ℕ) → stride ≡ 2 ^ exponent → MOST_SAMPLES * stride < moments → k < exponent + 1 → MOST_SAMPLES * 2 ^ k < moments
+doubled_least stride exponent moments k power long below =
     let less : 2 ^ k ≤ 2 ^ exponent = pow_mono (omega (arith, below)) in
     omega (arith, power, long, less)
 
-module _ (heaps : List HeapState) (h : HeapState) (samples : List Sample) (stride since : ℕ) (t : AreTaken heaps samples stride since) where
-  longer : length (heaps ++ h ∷ []) ≡ length heaps + 1
-  longer = length-append heaps (h ∷ [])
+module _ (moments : List Moment) (h : Moment) (samples : List Sample) (stride since : ℕ) (t : AreTaken moments samples stride since) where
+  longer : length (moments ++ h ∷ []) ≡ length moments + 1
+  longer = length-append moments (h ∷ [])
 
   -- the stride isn't full
-  pub one_passed : since + 1 < stride → AreTaken (heaps ++ h ∷ []) samples stride (since + 1)
+  pub one_passed : since + 1 < stride → AreTaken (moments ++ h ∷ []) samples stride (since + 1)
   one_passed l = record {
-    each = passed heaps h samples stride t.each (λ i. between i (length samples) stride since (length heaps) t.count l (cases_order i (length samples)));
+    each = passed moments h samples stride t.each (λ i. between i (length samples) stride since (length moments) t.count l (cases_order i (length samples)));
     few = t.few;
     exponent = t.exponent;
     power = t.power;
@@ -114,13 +113,13 @@ module _ (heaps : List HeapState) (h : HeapState) (samples : List Sample) (strid
   }
 
   module _ (full : since + 1 ≡ stride) where
-    at : length samples * stride ≡ length heaps
+    at : length samples * stride ≡ length moments
     at = omega (arith, full, t.count)
 
     -- it is full, and there is room
-    pub one_taken : length samples ≢ MOST_SAMPLES → AreTaken (heaps ++ h ∷ []) (samples ++ sampled h ∷ []) stride 0
+    pub one_taken : length samples ≢ MOST_SAMPLES → AreTaken (moments ++ h ∷ []) (samples ++ sampled h ∷ []) stride 0
     one_taken room = record {
-      each = added heaps h samples stride t.each (omega (arith, full)) at;
+      each = added moments h samples stride t.each (omega (arith, full)) at;
       few = omega (arith, t.few, room, length-append samples (sampled h ∷ []));
       exponent = t.exponent;
       power = t.power;
@@ -134,26 +133,26 @@ module _ (heaps : List HeapState) (h : HeapState) (samples : List Sample) (strid
       few : length even ≡ 500
       few = omega (arith, most, kept)
 
-      long : length heaps ≡ 1000 * stride
+      long : length moments ≡ 1000 * stride
       long = sym at ∙ ap (λ n. n * stride) most
 
-      half : length even * (stride * 2) ≡ length heaps
+      half : length even * (stride * 2) ≡ length moments
       half = let same : length even * (stride * 2) ≡ 500 * (stride * 2) = ap (λ n. n * (stride * 2)) few in omega (arith, same, long)
 
-      pub one_thinned : AreTaken (heaps ++ h ∷ []) (even ++ sampled h ∷ []) (stride * 2) 0
+      pub one_thinned : AreTaken (moments ++ h ∷ []) (even ++ sampled h ∷ []) (stride * 2) 0
       one_thinned = record {
-        each = added heaps h even (stride * 2) (halved heaps stride samples even t.each evens) (omega (arith, full)) half;
+        each = added moments h even (stride * 2) (halved moments stride samples even t.each evens) (omega (arith, full)) half;
         few = omega (arith, few, length-append even (sampled h ∷ []));
         exponent = t.exponent + 1;
         power = doubled stride t.exponent t.power;
-        least = λ k below. doubled_least stride t.exponent (length (heaps ++ h ∷ [])) k t.power (omega (arith, long, longer)) below;
+        least = λ k below. doubled_least stride t.exponent (length (moments ++ h ∷ [])) k t.power (omega (arith, long, longer)) below;
         short = omega (arith, full);
         count = omega (arith, half, longer, ap (λ n. n * (stride * 2)) (length-append even (sampled h ∷ [])), add-mul (length even) 1 (stride * 2));
       }
 
--- the stride is that of so many heaps
-pub is_stride : (heaps : List HeapState) (samples : List Sample) (stride since : ℕ) → AreTaken heaps samples stride since → IsStride (length heaps) stride
-is_stride heaps samples stride since t = record {
+-- the stride is that of so many moments
+pub is_stride : (moments : List Moment) (samples : List Sample) (stride since : ℕ) → AreTaken moments samples stride since → IsStride (length moments) stride
+is_stride moments samples stride since t = record {
   exponent = t.exponent;
   power = t.power;
   enough = omega (arith, t.count, t.short, mul-le-mul_right {m = length samples} {n = MOST_SAMPLES} stride t.few);
@@ -161,5 +160,5 @@ is_stride heaps samples stride since t = record {
 }
 
 -- the same of a list that was pushed
-pub pushed : (heaps : List HeapState) (h : HeapState) (samples new : List Sample) (s : Sample) (stride stride' since : ℕ) → new ≡ samples ++ s ∷ [] → s ≡ sampled h → stride' ≡ stride → AreTaken heaps (samples ++ sampled h ∷ []) stride since → AreTaken heaps new stride' since
-pushed heaps h samples new s stride stride' since e is same t = rw (e, is, same) t
+pub pushed : (moments : List Moment) (h : Moment) (samples new : List Sample) (s : Sample) (stride stride' since : ℕ) → new ≡ samples ++ s ∷ [] → s ≡ sampled h → stride' ≡ stride → AreTaken moments (samples ++ sampled h ∷ []) stride since → AreTaken moments new stride' since
+pushed moments h samples new s stride stride' since e is same t = rw (e, is, same) t

@@ -1,5 +1,5 @@
 -- What it is to take samples of a run.
-use Rattle.std.specs.Prelude.{[], length, Result, Ok, Err}
+use Rattle.std.specs.Prelude.{◌≡◌, [], length, Result, Ok, Err}
 use Rattle.size_classes.specs.declared.config.Config.{Config}
 use Rattle.trace.specs.declared.fault.TextFault.{TextFault}
 use Rattle.trace.specs.declared.fault.TextFault.TheVariants.{NoMemory as Without_memory}
@@ -9,13 +9,14 @@ use Rattle.player.specs.New.{IsNew}
 use Rattle.player.specs.Player.{PlayerState}
 use Rattle.player.specs.Playing.{Stage, stage, Played}
 use Rattle.timeline.specs.declared.samples.Samples.{Samples}
-use Rattle.timeline.specs.Samples.{heaps_along, AreSamples, IsStride}
+use Rattle.timeline.specs.Samples.{moments_along, AreSamples, IsStride}
 
--- these are the samples of the run that played an input
+-- these are the samples of the run that played an input, with the number of its lines
 abbrev pub AreSamplesOf : (given : Given) (old new : Stage) → Played Nothing given old new (Ok tt) → Samples → Type 0
 AreSamplesOf given old new played s =
-    let heaps = heaps_along old played.over.lines played.over.version played.over.events played.over.mid played.over.done in
-    IsStride (length heaps) s.stride × AreSamples heaps s.stride s.items.items
+    let lines = played.over.lines in
+    let moments = moments_along old lines played.over.version played.over.events played.over.mid played.over.done in
+    IsStride (length moments) s.stride × AreSamples moments s.stride s.items.items × (s.lines ≡ length lines)
 
 -- The lines of an input are played on a new player, and the samples are those of the run; or the fault is that with
 -- which playing them ends; or memory was refused.

@@ -1,7 +1,6 @@
 //! Taking samples at even distances.
 ghost use Rattle.std.specs.Prelude.{◌≡◌, ◌<◌, ◌^◌, ◌++◌, ◌∷◌, [], List, length, IfOk, OnOk};
-ghost use Rattle.heap_model.specs.State.{HeapState};
-ghost use Rattle.timeline.specs.Samples.{is_idle, sampled};
+ghost use Rattle.timeline.specs.Samples.{Moment, moment, sampled};
 ghost use Rattle.timeline.specs.Sampler.{IsAlong};
 
 use crate::samples::Samples;
@@ -18,31 +17,36 @@ pub struct Sampler {
     since: u64,
 }
 
-/// A sample of a heap. Its objects are counted where no cycle is on.
-fn sample(heap: &Heap) -> Sample
-    ensures { result ≡ sampled heap.now }
+/// A sample of a heap after so many lines. Its objects are counted where no cycle is on.
+fn sample(line: u64, heap: &Heap) -> Sample
+    ensures { result ≡ sampled (moment line heap.now) }
 {
     let is_idle = matches!(heap.phase(), Phase::Idle);
-    Sample::of(heap, is_idle)
+    Sample::of(heap, line, is_idle)
 }
 
 impl Sampler {
-    /// A sample of a heap before the first event.
+    /// A sample of a heap before the first line.
     pub fn new(alloc: Global, heap: &Heap) -> Result<Sampler, NoMemory>
-        ensures { IfOk result (IsAlong (heap.now ∷ [])) }
+        ensures { IfOk result (IsAlong (moment 0 heap.now ∷ [])) }
     {
         let mut items = Vec::new(alloc);
-        items.push(sample(heap))?;
+        items.push(sample(0, heap))?;
         Ok(Sampler {
-            samples: Samples { stride: 1, items },
+            samples: Samples {
+                stride: 1,
+                items,
+                lines: 0,
+            },
             since: 0,
         })
     }
 
-    /// An event led to this heap, of which a sample is taken where the stride is full.
-    pub fn event(&mut self, heap: &Heap) -> Result<(), NoMemory>
-        requires { (heaps : List HeapState) × IsAlong heaps self.old × (length heaps < 2 ^ 64) }
-        ensures { OnOk result ((heaps : List HeapState) → IsAlong heaps self.old → IsAlong (heaps ++ heap.now ∷ []) self.new) }
+    /// The event of this line led to this heap, of which a sample is taken where the stride is full.
+    pub fn event(&mut self, line: u64, heap: &Heap) -> Result<(), NoMemory>
+        requires { (moments : List Moment) × IsAlong moments self.old × (length moments < 2 ^ 64) }
+        ensures { OnOk result ((moments : List Moment) → IsAlong moments self.old
+            → IsAlong (moments ++ moment line heap.now ∷ []) self.new) }
     {
         self.since += 1;
         if self.since < self.samples.stride {
@@ -52,7 +56,7 @@ impl Sampler {
         if self.samples.items.len() == MOST_SAMPLES {
             self.samples.thin();
         }
-        self.samples.items.push(sample(heap))?;
+        self.samples.items.push(sample(line, heap))?;
         Ok(())
     }
 }

@@ -11,6 +11,8 @@ pub struct Samples {
     pub stride: u64,
     /// Sample i, from 0, is of the heap after the first i * stride events.
     pub items: Vec<Sample>,
+    /// How many lines the trace has.
+    pub lines: u64,
 }
 
 /// Keeps every second sample, the first one among them.

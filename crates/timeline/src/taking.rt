@@ -16,7 +16,7 @@ use trace::{LineReader, Source, TextFault, Version};
 /// written, and takes samples of the heap: the first of the new heap, and then one after each stride of
 /// events. Commands, beginnings, quanta and ticks are events; lines that are skipped, and that of the version,
 /// aren't. The stride is the least power of two with which there are at most `MOST_SAMPLES` samples. In a sample
-/// of a heap that has no cycle on, the objects are counted. A fault is that with which playing the trace ends;
+/// of a heap that has no cycle on, the objects are counted, and each tells how many lines were done. A fault is that with which playing the trace ends;
 /// or memory was refused, for that or for the samples.
 pub fn take_samples<S: Source>(
     alloc: Global,
@@ -36,7 +36,8 @@ pub fn take_samples<S: Source>(
         if !is_event {
             continue;
         }
-        sampler.event(player.recorded().heap())?;
+        sampler.event(reader.number(), player.recorded().heap())?;
     }
+    sampler.samples.lines = reader.number();
     Ok(sampler.samples)
 }

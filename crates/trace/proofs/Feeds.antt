@@ -1,51 +1,44 @@
 -- Lines in a buffer.
-use Rattle.std.proofs.Common.{◌≡◌, ◌≢◌, ℕ, ◌+◌, ◌-◌, ◌≤◌, ◌<◌, Bool, true, false, cond, eqb, List, ◌∷◌, ◌++◌, length, take, drop, Some, None, Option, nat_lt, arith, length-take, get_or-take, take-take, drop-drop, append_assoc, ap, ◌∙◌, sym, subst, refl}
-use Rattle.std.specs.Prelude.{IfSome, IsNone, position, slice_range}
-use Rattle.std.specs.List.{position_or_len}
-use Rattle.std.proofs.lemmas.Bool.{eqb-true, eq-eqb, ltb-false}
-use Rattle.std.proofs.lemmas.List.{drop-take}
-use Rattle.std.proofs.lemmas.List.Sums.{fails_before_first}
-use Rattle.std.proofs.lemmas.List.Quantifiers.{position-Some}
+use Rattle.std.proofs.Common.{◌≡◌, ℕ, ◌+◌, ◌-◌, ◌≤◌, ◌<◌, List, ◌∷◌, ◌++◌, length, take, drop, Some, None, Option, arith, length-take, get_or-take, take-take, drop-drop, append_assoc, ap, ◌∙◌, sym, subst}
+use Rattle.std.specs.Prelude.{IfSome, IsNone, min, slice_range}
+use Rattle.std.proofs.lemmas.Bool.{eqb-true, eq-eqb}
+use Rattle.std.proofs.lemmas.List.{drop-take, get_or_default, take_min}
+use Rattle.memchr.specs.Find.{IsFirstByte, is_byte}
 use Rattle.trace.specs.Streams.{NoLf, IsLine, Comes, FirstLf}
 use Rattle.trace.proofs.Cuts.{whole, parted}
 
-abbrev is_lf : ℕ → Bool
-is_lf b = eqb b 10
-
--- a byte that fails the test isn't LF
-other : (b : ℕ) → eqb b 10 ≡ false → b ≢ 10
-other b not is = let t : eqb b 10 ≡ true = eq-eqb b 10 is in absurd (cc)
-
-first_in : (bytes : List ℕ) (i : ℕ) → position is_lf (take 257 bytes) ≡ Some i → FirstLf bytes i
-first_in bytes i e =
-    let at = position-Some is_lf (take 257 bytes) i 0 e in
-    let near : i < 257 = omega (arith, at.0, length-take 257 bytes) in
-    let within : i < length bytes = omega (arith, at.0, length-take 257 bytes) in
+-- the first LF of the first 257 bytes is the first of all
+first_in : (bytes : List ℕ) (i : ℕ) → IsFirstByte (is_byte 10) (take 257 bytes) (Some i) → FirstLf bytes i
+first_in bytes i first =
+    let at = first.0 in
+    let near : i < 257 = omega (arith, at.high, length-take 257 bytes) in
+    let within : i < length bytes = omega (arith, at.high, length-take 257 bytes) in
     record {
       near = omega arith;
       within = within;
-      here = parted 10 bytes i within (sym (get_or-take 257 bytes i 0 near) ∙ eqb-true _ 10 at.1);
-      before = λ k d h. let low : k < i = omega (arith, h, length-take i bytes) in
+      here = parted 10 bytes i within (sym (get_or-take 257 bytes i 0 near) ∙ eqb-true _ 10 first.1);
+      before = λ k d h is. let low : k < i = omega (arith, h, length-take i bytes) in
           let small : k < 257 = omega arith in
-          other _ (ap is_lf (get_or-take i bytes k d low ∙ sym (get_or-take 257 bytes k d small)) ∙ (position-Some is_lf (take 257 bytes) i d e).2 k low);
+          let inside : k < length bytes = omega arith in
+          at.before k (omega arith) low (eq-eqb _ 10 (get_or-take 257 bytes k 0 small ∙ get_or_default bytes k 0 d inside ∙ sym (get_or-take i bytes k d low) ∙ is));
     }
 
-pub found_in : (bytes : List ℕ) (o : Option ℕ) → o ≡ position is_lf (take 257 bytes) → IfSome o (λ i. FirstLf bytes i)
-found_in bytes None e = tt
-found_in bytes (Some i) e = first_in bytes i (sym e)
+none_in : (xs : List ℕ) → IsFirstByte (is_byte 10) xs None → NoLf xs
+none_in xs nowhere k d h is = nowhere k (omega arith) h (eq-eqb _ 10 (get_or_default xs k 0 d h ∙ is))
 
-no_position : (b : Bool) (i : ℕ) → cond b (Some i) None ≡ None → b ≡ false
-no_position true i e = absurd (cc)
-no_position false i e = refl
+pub found_in : (bytes : List ℕ) (o : Option ℕ) → IsFirstByte (is_byte 10) (take 257 bytes) o → IfSome o (λ i. FirstLf bytes i)
+found_in bytes None first = tt
+found_in bytes (Some i) first = first_in bytes i first
 
-none_in : (xs : List ℕ) → position is_lf xs ≡ None → NoLf xs
-none_in xs e k d h =
-    let past = ltb-false (position_or_len is_lf xs) (length xs) (no_position (nat_lt (position_or_len is_lf xs) (length xs)) (position_or_len is_lf xs) e) in
-    other _ (fails_before_first is_lf xs k d (omega (arith, past, h)))
+pub none_found : (bytes : List ℕ) (o : Option ℕ) → IsFirstByte (is_byte 10) (take 257 bytes) o → IsNone o → NoLf (take 257 bytes)
+none_found bytes None first h = none_in (take 257 bytes) first
+none_found bytes (Some i) first h = absurd (cc h)
 
-pub none_found : (bytes : List ℕ) (o : Option ℕ) → o ≡ position is_lf (take 257 bytes) → IsNone o → NoLf (take 257 bytes)
-none_found bytes None e h = none_in (take 257 bytes) (sym e)
-none_found bytes (Some i) e h = absurd (cc h)
+-- so many bytes as are searched are the first 257
+pub front_is : (bytes : List ℕ) (n : ℕ) → n ≡ min (length bytes) 257 → take n bytes ≡ take 257 bytes
+front_is bytes n e =
+    let same : n ≡ min 257 (length bytes) = omega (arith, e) in
+    ap (λ k. take k bytes) same ∙ take_min 257 bytes
 
 -- the line in a buffer, and what is kept behind it
 module _ (buffer : List ℕ) (start end i : ℕ) (range : start ≤ end) (within : end ≤ length buffer) (lf : FirstLf (slice_range buffer start end) i) where

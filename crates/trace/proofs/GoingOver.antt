@@ -1,6 +1,6 @@
 -- Going over lines: what is done so far, and how it goes on and ends.
 use Rattle.std.proofs.Common.{Bool, true, false, ◌≡◌, ℕ, ◌+◌, ◌≤◌, inl, inr, List, [], ◌∷◌, ◌++◌, length, arith, length-append, append_assoc, append-nil, ap, ◌∙◌, sym, subst, refl}
-use Rattle.std.specs.Prelude.{IsTrue, Result, Ok, Err, Option, Some, None}
+use Rattle.std.specs.Prelude.{IsTrue, Ok, Err, Option, Some, None}
 use Rattle.trace.specs.declared.fault.TextFault.{TextFault}
 use Rattle.trace.specs.declared.version.Version.{Version}
 use Rattle.trace.specs.declared.version.Version.TheVariants.{First}

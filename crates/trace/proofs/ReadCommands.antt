@@ -1,5 +1,5 @@
 -- Reading a command is exact.
-use Rattle.std.proofs.Common.{◌≡◌, ℕ, ◌^◌, ◌<◌, inl, inr, true, List, ◌∷◌, ◌++◌, length, take, drop, Some, None, Option, ap, ◌∙◌, refl}
+use Rattle.std.proofs.Common.{◌≡◌, ℕ, ◌^◌, ◌<◌, inl, inr, List, ◌∷◌, ◌++◌, Some, None, Option, ap, ◌∙◌, refl}
 use Rattle.std.specs.Prelude.{decimal, codes}
 use Rattle.std.specs.Str.{bytes_eq}
 use Rattle.std.proofs.lemmas.Slice.Eq.{bytes_eq-Decides}
@@ -11,33 +11,41 @@ use Rattle.trace.specs.declared.keyword.Keyword.{Keyword}
 use Rattle.trace.specs.declared.keyword.Keyword.TheVariants as keywords
 use Rattle.trace.specs.declared.version.Version.{Version}
 use Rattle.trace.specs.declared.version.Version.TheVariants.{First, Second}
-use Rattle.trace.specs.Spelling.{two, shape_text, keyword_text, command_text, command_line, ShapeFits, CommandFits, IsOf}
-use Rattle.trace.specs.Reading.{◌>>=◌, number_in, after_in, likely_at, front_keyword_in, two_in, shape_in, slot_and_shape_in, likely_keyword, arguments_in, bare_in, keyword_or, command_in, mutator_and_command_in}
-use Rattle.trace.proofs.Keywords.{likely_is}
-use Rattle.trace.proofs.Exact.{bind_parts, told, chosen, behind_is, after_in-Some, after_in-spelled, Exact, narrow, wide, exact_number, exact_front, exact_two, exact_three, exact_four}
-
--- a word that was recognised, and what follows it
-glued : (bytes word rest : List ℕ) → bytes_eq (take (length word) bytes) word ≡ true → drop (length word) bytes ≡ rest → bytes ≡ word ++ rest
-glued bytes word rest e g = behind_is word bytes e ∙ ap (λ l. word ++ l) g
+use Rattle.trace.specs.Spelling.{shape_text, keyword_text, command_text, command_line, ShapeFits, CommandFits, IsOf}
+use Rattle.trace.specs.Reading.{◌>>=◌, after_in, after_or, keywords_by, first_keyword_in, front_keyword_in, shape_in, slot_and_shape_in, arguments_in, bare_in, keyword_or, command_in, mutator_and_command_in}
+use Rattle.trace.proofs.Keywords.{front_keyword_in-spelled, front_keyword_in-Some}
+use Rattle.trace.proofs.Exact.{bind_parts, told, chosen, after_in-Some, Exact, narrow, wide, exact_number, exact_front, exact_two, exact_three, exact_four}
 
 abbrev SpellsShape : List ℕ → Shape → Type 0
 SpellsShape bytes s = (bytes ≡ shape_text s) × ShapeFits s
 
+-- either a word was at the front and what stands after it was read, or there is another answer
+word_or : {A P : Type 0} (o : Option (List ℕ)) (read : List ℕ → Option A) (other : Option A) (x : A) → after_or o read other ≡ Some x
+    → ((rest : List ℕ) → o ≡ Some rest → read rest ≡ Some x → P) → (other ≡ Some x → P) → P
+word_or None read other x e f g = g e
+word_or (Some rest) read other x e f g = f rest refl e
+
+-- numbers after a word at the front, made into a shape
+shaped : {A : Type 0} (word bytes rest : List ℕ) (read : List ℕ → Option A) (text : A → List ℕ) (Fits : A → Type 0) → Exact read text Fits → (f : A → Shape) → ((x : A) → Fits x → SpellsShape (word ++ text x) (f x))
+    → (s : Shape) → after_in word bytes ≡ Some rest → (read rest >>= λ x. Some (f x)) ≡ Some s → SpellsShape bytes s
+shaped word bytes rest read text Fits exact f is s front e = bind_parts (read rest) _ s e (λ x ex e1.
+    let r = exact.found rest x ex in
+    let t = is x r.1 in
+    told (SpellsShape bytes) (f x) s (after_in-Some word bytes rest front ∙ ap (λ l. word ++ l) r.0 ∙ t.0, t.1) e1)
+
 shape_found : (bytes : List ℕ) (s : Shape) → shape_in bytes ≡ Some s → SpellsShape bytes s
 unfolding shape_in
-shape_found bytes s e = elim (chosen (bytes_eq (take 6 bytes) (codes "plain ")) _ _ s e) [
-  | inl h ↦ bind_parts (two_in 32 32 (drop 6 bytes)) _ s h.1 (λ n en e1. let t = (exact_two 32 32 narrow narrow).found (drop 6 bytes) n en in told (SpellsShape bytes) (Plain n.0 n.1) s (glued bytes (codes "plain ") (two n.0 n.1) h.0 t.0, t.1) e1)
-  | inr r ↦ elim (chosen (bytes_eq (take 5 bytes) (codes "refs ")) _ _ s r.1) [
-    | inl h ↦ bind_parts (number_in 32 (drop 5 bytes)) _ s h.1 (λ n en e1. let t = (exact_number 32 narrow).found (drop 5 bytes) n en in told (SpellsShape bytes) (RefArray n) s (glued bytes (codes "refs ") (decimal n) h.0 t.0, t.1) e1)
-    | inr r ↦ elim (chosen (bytes_eq (take 6 bytes) (codes "words ")) _ _ s r.1) [
-      | inl h ↦ bind_parts (number_in 32 (drop 6 bytes)) _ s h.1 (λ n en e1. let t = (exact_number 32 narrow).found (drop 6 bytes) n en in told (SpellsShape bytes) (WordArray n) s (glued bytes (codes "words ") (decimal n) h.0 t.0, t.1) e1)
-      | inr r ↦ absurd (cc r.1)
-    ]
-  ]
-]
+shape_found bytes s e =
+    word_or (after_in (codes "plain ") bytes) _ _ s e
+    (λ rest front r. shaped (codes "plain ") bytes rest _ _ _ (exact_two 32 32 narrow narrow) (λ n. Plain n.0 n.1) (λ n f. (refl, f)) s front r)
+    (λ e1. word_or (after_in (codes "refs ") bytes) _ _ s e1
+    (λ rest front r. shaped (codes "refs ") bytes rest _ _ _ (exact_number 32 narrow) RefArray (λ n f. (refl, f)) s front r)
+    (λ e2. word_or (after_in (codes "words ") bytes) _ _ s e2
+    (λ rest front r. shaped (codes "words ") bytes rest _ _ _ (exact_number 32 narrow) WordArray (λ n f. (refl, f)) s front r)
+    (λ e3. absurd (cc e3))))
 
 shape_only : (s : Shape) → ShapeFits s → shape_in (shape_text s) ≡ Some s
-unfolding shape_in
+unfolding shape_in after_in
 shape_only (Plain refs words) f = rw ((exact_two 32 32 narrow narrow).only (refs, words) f) refl
 shape_only (RefArray n) f = rw ((exact_number 32 narrow).only n f) refl
 shape_only (WordArray n) f = rw ((exact_number 32 narrow).only n f) refl
@@ -81,9 +89,9 @@ arguments_found version keywords.Describe = made version _ _ _ (exact_number 32 
 -- a command is read again, given what reads its arguments
 again : {A : Type 0} (version : Version) (read : List ℕ → Option A) (text : A → List ℕ) (Fits : A → Type 0) → Exact read text Fits → (k : Keyword) (f : A → Command) → ((bytes : List ℕ) → arguments_in k bytes ≡ (read bytes >>= λ y. Some (f y)))
     → (x : A) → Fits x → command_in version (keyword_text k ++ 32 ∷ text x) ≡ Some (f x)
-unfolding command_in front_keyword_in
+unfolding command_in
 again version read text Fits exact k f is x h =
-    rw (likely_is k (text x), after_in-spelled (keyword_text k) (32 ∷ text x), after_in-spelled (codes " ") (text x)) (is (text x) ∙ ap (λ o. o >>= λ y. Some (f y)) (exact.only x h))
+    rw (front_keyword_in-spelled k (text x)) (is (text x) ∙ ap (λ o. o >>= λ y. Some (f y)) (exact.only x h))
 
 -- a word alone
 bare_found : (version : Version) (bytes : List ℕ) (c : Command) → bare_in version bytes ≡ Some c → SpellsCommand version bytes c
@@ -103,19 +111,14 @@ either None bare c e f g = g e
 either (Some p) bare c e f g = f p refl e
 
 command_found : (version : Version) (bytes : List ℕ) (c : Command) → command_in version bytes ≡ Some c → SpellsCommand version bytes c
-unfolding command_in front_keyword_in
+unfolding command_in
 command_found version bytes c e =
     either (front_keyword_in bytes) (bare_in version bytes) c e
-    (λ p ep e1.
-    bind_parts (after_in (keyword_text (likely_at bytes)) bytes) _ p ep (λ word ew e2. bind_parts (after_in (codes " ") word) _ p e2 (λ rest er e3.
-    let parts : bytes ≡ keyword_text (likely_at bytes) ++ 32 ∷ rest = after_in-Some (keyword_text (likely_at bytes)) bytes word ew ∙ ap (λ l. keyword_text (likely_at bytes) ++ l) (after_in-Some (codes " ") word rest er) in
-    let whole = told (λ (q : Keyword × List ℕ). bytes ≡ keyword_text q.0 ++ 32 ∷ q.1) (likely_at bytes, rest) p parts e3 in
-    let r = arguments_found version p.0 p.1 c e1 in
-    (whole ∙ r.0, r.1, r.2))))
+    (λ p ep e1. let r = arguments_found version p.0 p.1 c e1 in (front_keyword_in-Some bytes p ep ∙ r.0, r.1, r.2))
     (bare_found version bytes c)
 
 command_only : (version : Version) (c : Command) → CommandFits c → IsOf c version → command_in version (command_text c) ≡ Some c
-unfolding arguments_in command_in front_keyword_in likely_keyword after_in bare_in
+unfolding arguments_in command_in front_keyword_in keywords_by first_keyword_in after_in bare_in
 command_only version (commands.New dst shape) f is = again version _ _ _ exact_slot_and_shape keywords.New (λ n. commands.New n.0 n.1) (λ bytes. refl) (dst, shape) f
 command_only version (commands.Load dst obj i) f is = again version _ _ _ (exact_three 32 32 32 narrow narrow narrow) keywords.Load (λ n. commands.Load n.0 n.1.0 n.1.1) (λ bytes. refl) (dst, (obj, i)) (f.0, (f.1, f.2))
 command_only version (commands.Store obj i src) f is = again version _ _ _ (exact_three 32 32 32 narrow narrow narrow) keywords.Store (λ n. commands.Store n.0 n.1.0 n.1.1) (λ bytes. refl) (obj, (i, src)) (f.0, (f.1, f.2))

@@ -70,6 +70,7 @@ abbrev pub reads_failed : {A : Type 0} → Result A TextFault → ℕ
 reads_failed (Err Read) = 1
 reads_failed _ = 0
 
+-- how many writes failed
 abbrev pub writes_failed : {A : Type 0} → Result A TextFault → ℕ
 writes_failed (Err Write) = 1
 writes_failed _ = 0

@@ -3,6 +3,7 @@ use Rattle.std.specs.Prelude.{◌+◌, ◌-◌, ◌^◌, ◌<◌, ◌≤◌, sli
 use Rattle.trace.specs.declared.line_reader.LineReader.TheInside.{Inside}
 use Rattle.trace.specs.LineReader.{Lines}
 
+-- the fields of a reader, as what it shows
 abbrev pub lines_in : Inside → Lines
 lines_in a = record { line = slice_range a.buffer a.line_start a.line_end; kept = slice_range a.buffer a.start a.end; number = a.number }
 

@@ -1,5 +1,5 @@
 -- How private functions read, as functions on lists. What is promised of reading stands in Spelling.
-use Rattle.std.specs.Prelude.{ℕ, ◌+◌, ◌-◌, ◌^◌, true, false, ◌&&◌, nat_lt, nat_le, ◌==◌, if◌then◌else◌, List, [], ◌∷◌, length, take, drop, get_or, codes, decimal, Option, Some, None, position, find}
+use Rattle.std.specs.Prelude.{ℕ, ◌+◌, ◌-◌, ◌^◌, true, false, ◌&&◌, nat_lt, nat_le, ◌==◌, if◌then◌else◌, List, [], ◌∷◌, ◌++◌, length, take, drop, get_or, codes, decimal, Option, Some, None, position, find}
 use Rattle.std.specs.Str.{bytes_eq}
 use Rattle.std.specs.Str.Parse.{digits_value}
 use Rattle.graph_heap.specs.declared.command.Shape.{Shape}
@@ -61,40 +61,51 @@ three_in a b c = number_then a (two_in b c)
 unfoldable pub four_in : ℕ → ℕ → ℕ → ℕ → List ℕ → Option (ℕ × (ℕ × (ℕ × ℕ)))
 four_in a b c d = number_then a (three_in b c d)
 
--- the kind whose word, with a blank after it, has these bytes; of others it is some kind
-unfoldable pub likely_keyword : ℕ → ℕ → ℕ → ℕ → ℕ → Keyword
-likely_keyword first second fourth fifth sixth =
-    if first == 110 then keywords.New else
-    if first == 103 then keywords.Get else
-    if first == 112 then keywords.Put else
-    if first == 100 then keywords.Describe else
-    if first == 108 then (if fifth == 32 then keywords.Load else keywords.LoadStatic) else
-    if first == 115 then (if second == 97 then keywords.Same else if sixth == 32 then keywords.Store else keywords.StoreStatic) else
-    if second == 111 then keywords.Copy else
-    if second == 108 then keywords.Clear else
-    if fourth == 32 then keywords.CompareStore else
-    if fourth == 112 then keywords.ComparePut else keywords.CompareStatic
-
 -- what stands after a word at the front
 unfoldable pub after_in : List ℕ → List ℕ → Option (List ℕ)
 after_in word bytes = if bytes_eq (take (length word) bytes) word then Some (drop (length word) bytes) else None
 
--- the kind whose word is at the front, and what stands after it and a blank
-abbrev pub likely_at : List ℕ → Keyword
-likely_at bytes = likely_keyword (get_or bytes 0 0) (get_or bytes 1 0) (get_or bytes 3 0) (get_or bytes 4 0) (get_or bytes 5 0)
+-- the kinds of commands that compare and then write
+abbrev pub comparing : List Keyword
+comparing = keywords.CompareStore ∷ keywords.ComparePut ∷ keywords.CompareStatic ∷ []
 
+-- the kinds whose words begin with these two bytes; of bytes with which no word begins they are some kinds
+unfoldable pub keywords_by : ℕ → ℕ → List Keyword
+keywords_by first second =
+    if first == 110 then keywords.New ∷ [] else
+    if first == 103 then keywords.Get ∷ [] else
+    if first == 112 then keywords.Put ∷ [] else
+    if first == 100 then keywords.Describe ∷ [] else
+    if first == 108 then keywords.Load ∷ keywords.LoadStatic ∷ [] else
+    if first == 115 then (if second == 97 then keywords.Same ∷ [] else keywords.Store ∷ keywords.StoreStatic ∷ []) else
+    if second == 111 then keywords.Copy ∷ [] else
+    if second == 108 then keywords.Clear ∷ [] else comparing
+
+-- a kind and what stands after its word, where that was found, or another answer
+abbrev pub found_or : Keyword → Option (List ℕ) → Option (Keyword × List ℕ) → Option (Keyword × List ℕ)
+found_or k None other = other
+found_or k (Some rest) other = Some (k, rest)
+
+-- the first of these kinds whose word is at the front, and what stands after it and a blank
+unfoldable pub first_keyword_in : List Keyword → List ℕ → Option (Keyword × List ℕ)
+first_keyword_in [] bytes = None
+first_keyword_in (k ∷ ks) bytes = found_or k (after_in (keyword_text k ++ codes " ") bytes) (first_keyword_in ks bytes)
+
+-- the kind whose word is at the front, and what stands after it and a blank
 unfoldable pub front_keyword_in : List ℕ → Option (Keyword × List ℕ)
-front_keyword_in bytes = do
-  word ← after_in (keyword_text (likely_at bytes)) bytes
-  rest ← after_in (codes " ") word
-  Some (likely_at bytes, rest)
+front_keyword_in bytes = first_keyword_in (keywords_by (get_or bytes 0 0) (get_or bytes 1 0)) bytes
+
+-- what a reader gives of what stands after a word at the front, or another answer
+abbrev pub after_or : {A : Type 0} → Option (List ℕ) → (List ℕ → Option A) → Option A → Option A
+after_or None read other = other
+after_or (Some rest) read other = read rest
 
 -- a shape
 unfoldable pub shape_in : List ℕ → Option Shape
 shape_in bytes =
-    if bytes_eq (take 6 bytes) (codes "plain ") then two_in 32 32 (drop 6 bytes) >>= (λ n. Some (Plain n.0 n.1)) else
-    if bytes_eq (take 5 bytes) (codes "refs ") then number_in 32 (drop 5 bytes) >>= (λ n. Some (RefArray n)) else
-    if bytes_eq (take 6 bytes) (codes "words ") then number_in 32 (drop 6 bytes) >>= (λ n. Some (WordArray n)) else None
+    after_or (after_in (codes "plain ") bytes) (λ rest. two_in 32 32 rest >>= (λ n. Some (Plain n.0 n.1)))
+    (after_or (after_in (codes "refs ") bytes) (λ rest. number_in 32 rest >>= (λ n. Some (RefArray n)))
+    (after_or (after_in (codes "words ") bytes) (λ rest. number_in 32 rest >>= (λ n. Some (WordArray n))) None))
 
 -- a slot and a shape
 unfoldable pub slot_and_shape_in : List ℕ → Option (ℕ × Shape)

@@ -33,9 +33,11 @@ TellsVersion number line = (number ≡ 1) × (line ≡ version_line)
 abbrev pub two : ℕ → ℕ → List ℕ
 two a b = decimal a ++ 32 ∷ decimal b
 
+-- three numbers in decimal
 abbrev pub three : ℕ → ℕ → ℕ → List ℕ
 three a b c = decimal a ++ 32 ∷ two b c
 
+-- four numbers in decimal
 abbrev pub four : ℕ → ℕ → ℕ → ℕ → List ℕ
 four a b c d = decimal a ++ 32 ∷ three b c d
 
@@ -92,6 +94,7 @@ ShapeFits (Plain refs words) = (refs < 2 ^ 32) × (words < 2 ^ 32)
 ShapeFits (RefArray n) = n < 2 ^ 32
 ShapeFits (WordArray n) = n < 2 ^ 32
 
+-- the numbers of a command fit in lines
 abbrev pub CommandFits : Command → Type 0
 CommandFits (commands.New dst shape) = (dst < 2 ^ 32) × ShapeFits shape
 CommandFits (commands.Load dst obj i) = (dst < 2 ^ 32) × (obj < 2 ^ 32) × (i < 2 ^ 32)

@@ -14,6 +14,7 @@ pub record Given : Type 0 where
   pub after : List ℕ
   pub ended : Bool
 
+-- what a source gave between two moments, by what contracts see of it
 abbrev pub given_by : {S : Type 0} → (S → List ℕ) → (S → Bool) → S → S → Given
 given_by given ended old new = record { before = given old; after = given new; ended = ended new }
 
@@ -22,6 +23,7 @@ pub record Taken : Type 0 where
   pub before : List ℕ
   pub after : List ℕ
 
+-- the bytes that a sink had taken at two moments, by what contracts see of it
 abbrev pub taken_by : {K : Type 0} → (K → List ℕ) → K → K → Taken
 taken_by taken old new = record { before = taken old; after = taken new }
 
@@ -43,6 +45,7 @@ GrowsByPart old new bytes = (n : ℕ) × (n < length bytes) × (new ≡ old ++ t
 abbrev pub NoLf : List ℕ → Type 0
 NoLf bytes = All (λ b. b ≢ 10) bytes
 
+-- a line has at most 256 bytes, none of which is LF
 abbrev pub IsLine : List ℕ → Type 0
 IsLine line = NoLf line × (length line ≤ 256)
 

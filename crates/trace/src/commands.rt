@@ -2,23 +2,24 @@
 ghost use Rattle.std.specs.Prelude.{◌≡◌};
 ghost use Rattle.trace.specs.Reading.{shape_in, slot_and_shape_in, arguments_in, bare_in, command_in, mutator_and_command_in};
 
-use crate::field::{field, four, number, numbers_and_word, numbers_and_words, three, two};
+use crate::field::{after, field, four, number, numbers_and_word, numbers_and_words, three, two};
 use crate::keyword::Keyword;
 use crate::version::Version;
 use graph_heap::{Command, Shape};
 
 /// A shape.
 #[tactic(auto, unfolding(crate::specs::Reading::shape_in))]
+#[inline(always)]
 pub(crate) fn shape(bytes: &[u8]) -> Option<Shape>
     ensures { result ≡ shape_in bytes.now }
 {
-    if let Some(rest) = bytes.strip_prefix(b"plain ".as_slice()) {
+    if let Some(rest) = after(b"plain ", bytes) {
         let (refs, words) = two(rest)?;
         Some(Shape::Plain { refs, words })
-    } else if let Some(rest) = bytes.strip_prefix(b"refs ".as_slice()) {
+    } else if let Some(rest) = after(b"refs ", bytes) {
         let n = number(rest)?;
         Some(Shape::RefArray(n))
-    } else if let Some(rest) = bytes.strip_prefix(b"words ".as_slice()) {
+    } else if let Some(rest) = after(b"words ", bytes) {
         let n = number(rest)?;
         Some(Shape::WordArray(n))
     } else {
@@ -28,6 +29,7 @@ pub(crate) fn shape(bytes: &[u8]) -> Option<Shape>
 
 /// A slot and a shape.
 #[tactic(auto, unfolding(crate::specs::Reading::slot_and_shape_in))]
+#[inline(always)]
 fn slot_and_shape(bytes: &[u8]) -> Option<(u32, Shape)>
     ensures { result ≡ slot_and_shape_in bytes.now }
 {
@@ -38,6 +40,7 @@ fn slot_and_shape(bytes: &[u8]) -> Option<(u32, Shape)>
 
 /// What stands after the keyword of a command.
 #[tactic(auto, unfolding(crate::specs::Reading::arguments_in))]
+#[inline(always)]
 fn arguments(keyword: Keyword, bytes: &[u8]) -> Option<Command>
     ensures { result ≡ arguments_in keyword bytes.now }
 {
@@ -100,6 +103,7 @@ fn bare(version: Version, bytes: &[u8]) -> Option<Command>
 
 /// A command.
 #[tactic(auto, unfolding(crate::specs::Reading::command_in))]
+#[inline(always)]
 fn command(version: Version, bytes: &[u8]) -> Option<Command>
     ensures { result ≡ command_in version bytes.now }
 {
@@ -111,6 +115,7 @@ fn command(version: Version, bytes: &[u8]) -> Option<Command>
 
 /// A command, after the number of its mutator.
 #[tactic(auto, unfolding(crate::specs::Reading::mutator_and_command_in))]
+#[inline(always)]
 pub(crate) fn mutator_and_command(version: Version, bytes: &[u8]) -> Option<(u32, Command)>
     ensures { result ≡ mutator_and_command_in version bytes.now }
 {

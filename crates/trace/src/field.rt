@@ -7,6 +7,7 @@ ghost use Rattle.trace.specs.Reading.{number_in, cut_at, after_in, field_in, two
 const LONG: usize = 19;
 
 /// The digits at the front, up to 19: the number that they write, and how many they are.
+#[inline(always)]
 fn front_digits(bytes: &[u8]) -> (u64, usize)
     ensures row { Row bytes.now result.0 result.1 }
     ensures most { result.1 ≤ 19 }
@@ -48,7 +49,7 @@ fn long_number(bytes: &[u8], n: u64) -> Option<(u64, usize)>
 }
 
 /// The number at the front, and how many digits it has. No digit follows it.
-#[inline(never)]
+#[inline(always)]
 fn front_number(bytes: &[u8]) -> Option<(u64, usize)>
     // What is read stands at the front, as it is spelled.
     ensures found { IfSome result (λ f. Fronts bytes.now f.0 f.1) }
@@ -69,6 +70,7 @@ fn front_number(bytes: &[u8]) -> Option<(u64, usize)>
 }
 
 /// The word that the bytes spell.
+#[inline(always)]
 pub(crate) fn word(bytes: &[u8]) -> Option<u64>
     ensures { result ≡ number_in 64 bytes.now }
 {
@@ -78,6 +80,7 @@ pub(crate) fn word(bytes: &[u8]) -> Option<u64>
 
 /// The number that the bytes spell.
 #[tactic(auto, unfolding(crate::specs::Reading::number_in))]
+#[inline(always)]
 pub(crate) fn number(bytes: &[u8]) -> Option<u32>
     ensures { result ≡ number_in 32 bytes.now }
 {
@@ -86,7 +89,7 @@ pub(crate) fn number(bytes: &[u8]) -> Option<u32>
 }
 
 /// Where a byte stands first.
-pub(crate) fn place_of(byte: u8, bytes: &[u8]) -> Option<usize>
+fn place_of(byte: u8, bytes: &[u8]) -> Option<usize>
     ensures { result ≡ position (λ b. b == byte) bytes.now }
 {
     bytes.iter().position(|b| *b == byte)
@@ -101,16 +104,19 @@ pub(crate) fn cut(byte: u8, bytes: &[u8]) -> Option<(&[u8], &[u8])>
     Some((&bytes[..i], &bytes[i + 1..]))
 }
 
-/// What stands after a word at the front.
+/// What stands after a word at the front. The word's length is constant, so that few bytes are compared at once.
 #[tactic(auto, unfolding(crate::specs::Reading::after_in))]
-pub(crate) fn after<'a>(word: &[u8], bytes: &'a [u8]) -> Option<&'a [u8]>
+#[inline(always)]
+pub(crate) fn after<'a, const N: usize>(word: &[u8; N], bytes: &'a [u8]) -> Option<&'a [u8]>
     ensures { option_map (λ b. b.now) result ≡ after_in word.now bytes.now }
 {
-    bytes.strip_prefix(word)
+    let (front, rest) = bytes.split_first_chunk::<N>()?;
+    if *front == *word { Some(rest) } else { None }
 }
 
 /// The word before the first blank, and what stands after that.
 #[tactic(auto, using(crate::proofs::Cuts::rest_of))]
+#[inline(always)]
 pub(crate) fn word_field(bytes: &[u8]) -> Option<(u64, &[u8])>
     ensures { option_map (λ c. (c.0, c.1.now)) result ≡ field_in 64 bytes.now }
 {
@@ -124,6 +130,7 @@ pub(crate) fn word_field(bytes: &[u8]) -> Option<(u64, &[u8])>
 
 /// The number before the first blank, and what stands after that.
 #[tactic(auto, unfolding(crate::specs::Reading::field_in))]
+#[inline(always)]
 pub(crate) fn field(bytes: &[u8]) -> Option<(u32, &[u8])>
     ensures { option_map (λ c. (c.0, c.1.now)) result ≡ field_in 32 bytes.now }
 {
@@ -137,6 +144,7 @@ pub(crate) fn field(bytes: &[u8]) -> Option<(u32, &[u8])>
 
 /// Two numbers.
 #[tactic(auto, unfolding(crate::specs::Reading::two_in))]
+#[inline(always)]
 pub(crate) fn two(bytes: &[u8]) -> Option<(u32, u32)>
     ensures { result ≡ two_in 32 32 bytes.now }
 {
@@ -147,6 +155,7 @@ pub(crate) fn two(bytes: &[u8]) -> Option<(u32, u32)>
 
 /// Three numbers.
 #[tactic(auto, unfolding(crate::specs::Reading::three_in))]
+#[inline(always)]
 pub(crate) fn three(bytes: &[u8]) -> Option<(u32, (u32, u32))>
     ensures { result ≡ three_in 32 32 32 bytes.now }
 {
@@ -157,6 +166,7 @@ pub(crate) fn three(bytes: &[u8]) -> Option<(u32, (u32, u32))>
 
 /// Four numbers.
 #[tactic(auto, unfolding(crate::specs::Reading::four_in))]
+#[inline(always)]
 pub(crate) fn four(bytes: &[u8]) -> Option<(u32, (u32, (u32, u32)))>
     ensures { result ≡ four_in 32 32 32 32 bytes.now }
 {
@@ -167,6 +177,7 @@ pub(crate) fn four(bytes: &[u8]) -> Option<(u32, (u32, (u32, u32)))>
 
 /// A number and a word.
 #[tactic(auto, unfolding(crate::specs::Reading::two_in))]
+#[inline(always)]
 fn number_and_word(bytes: &[u8]) -> Option<(u32, u64)>
     ensures { result ≡ two_in 32 64 bytes.now }
 {
@@ -177,6 +188,7 @@ fn number_and_word(bytes: &[u8]) -> Option<(u32, u64)>
 
 /// Two numbers and a word.
 #[tactic(auto, unfolding(crate::specs::Reading::three_in))]
+#[inline(always)]
 pub(crate) fn numbers_and_word(bytes: &[u8]) -> Option<(u32, (u32, u64))>
     ensures { result ≡ three_in 32 32 64 bytes.now }
 {
@@ -187,6 +199,7 @@ pub(crate) fn numbers_and_word(bytes: &[u8]) -> Option<(u32, (u32, u64))>
 
 /// Two words.
 #[tactic(auto, unfolding(crate::specs::Reading::two_in))]
+#[inline(always)]
 fn two_words(bytes: &[u8]) -> Option<(u64, u64)>
     ensures { result ≡ two_in 64 64 bytes.now }
 {
@@ -197,6 +210,7 @@ fn two_words(bytes: &[u8]) -> Option<(u64, u64)>
 
 /// A number and two words.
 #[tactic(auto, unfolding(crate::specs::Reading::three_in))]
+#[inline(always)]
 fn number_and_words(bytes: &[u8]) -> Option<(u32, (u64, u64))>
     ensures { result ≡ three_in 32 64 64 bytes.now }
 {
@@ -207,6 +221,7 @@ fn number_and_words(bytes: &[u8]) -> Option<(u32, (u64, u64))>
 
 /// Two numbers and two words.
 #[tactic(auto, unfolding(crate::specs::Reading::four_in))]
+#[inline(always)]
 pub(crate) fn numbers_and_words(bytes: &[u8]) -> Option<(u32, (u32, (u64, u64)))>
     ensures { result ≡ four_in 32 32 64 64 bytes.now }
 {

@@ -1,7 +1,7 @@
 //! The words with which commands begin.
-ghost use Rattle.std.specs.Prelude.{◌≡◌, get_or, option_map};
+ghost use Rattle.std.specs.Prelude.{◌≡◌, ◌∷◌, [], ◌++◌, codes, get_or, option_map};
 ghost use Rattle.trace.specs.Spelling.{keyword_text};
-ghost use Rattle.trace.specs.Reading.{front_keyword_in, likely_keyword};
+ghost use Rattle.trace.specs.Reading.{after_in, comparing, first_keyword_in, front_keyword_in, keywords_by};
 
 use crate::field::after;
 
@@ -25,6 +25,7 @@ pub(crate) enum Keyword {
 }
 
 /// The byte at a place, or 0 where there is none.
+#[inline(always)]
 fn byte(bytes: &[u8], i: usize) -> u8
     ensures { result ≡ get_or bytes.now i 0 }
 {
@@ -54,43 +55,89 @@ impl Keyword {
         }
     }
 
-    /// The kind whose word, with a blank after it, has these bytes. Of other bytes it is some kind.
-    #[tactic(auto, unfolding(crate::specs::Reading::likely_keyword))]
-    fn likely(first: u8, second: u8, fourth: u8, fifth: u8, sixth: u8) -> Keyword
-        ensures { result ≡ likely_keyword first second fourth fifth sixth }
+    /// What stands after the word and a blank, where the bytes begin with them. Each kind compares with a constant.
+    #[inline(always)]
+    fn strip(self, bytes: &[u8]) -> Option<&[u8]>
+        ensures { option_map (λ b. b.now) result ≡ after_in (keyword_text self ++ codes " ") bytes.now }
     {
-        match (first, second, fourth, fifth, sixth) {
-            (b'n', _, _, _, _) => Keyword::New,
-            (b'g', _, _, _, _) => Keyword::Get,
-            (b'p', _, _, _, _) => Keyword::Put,
-            (b'd', _, _, _, _) => Keyword::Describe,
-            (b'l', _, _, b' ', _) => Keyword::Load,
-            (b'l', _, _, _, _) => Keyword::LoadStatic,
-            (b's', b'a', _, _, _) => Keyword::Same,
-            (b's', _, _, _, b' ') => Keyword::Store,
-            (b's', _, _, _, _) => Keyword::StoreStatic,
-            (_, b'o', _, _, _) => Keyword::Copy,
-            (_, b'l', _, _, _) => Keyword::Clear,
-            (_, _, b' ', _, _) => Keyword::CompareStore,
-            (_, _, b'p', _, _) => Keyword::ComparePut,
-            _ => Keyword::CompareStatic,
+        match self {
+            Keyword::New => after(b"new ", bytes),
+            Keyword::Load => after(b"load ", bytes),
+            Keyword::Store => after(b"store ", bytes),
+            Keyword::CompareStore => after(b"cas ", bytes),
+            Keyword::Get => after(b"get ", bytes),
+            Keyword::Put => after(b"put ", bytes),
+            Keyword::ComparePut => after(b"casput ", bytes),
+            Keyword::Copy => after(b"copy ", bytes),
+            Keyword::Clear => after(b"clear ", bytes),
+            Keyword::LoadStatic => after(b"loadstatic ", bytes),
+            Keyword::StoreStatic => after(b"storestatic ", bytes),
+            Keyword::CompareStatic => after(b"casstatic ", bytes),
+            Keyword::Same => after(b"same ", bytes),
+            Keyword::Describe => after(b"describe ", bytes),
+        }
+    }
+
+    /// The kind with what stands after its word and a blank, where the bytes begin with them.
+    #[tactic(auto, unfolding(crate::specs::Reading::first_keyword_in))]
+    #[inline(always)]
+    fn one(self, bytes: &[u8]) -> Option<(Keyword, &[u8])>
+        ensures { option_map (λ c. (c.0, c.1.now)) result ≡ first_keyword_in (self ∷ []) bytes.now }
+    {
+        let rest = self.strip(bytes)?;
+        Some((self, rest))
+    }
+
+    /// The same of two kinds.
+    #[tactic(auto, unfolding(crate::specs::Reading::first_keyword_in))]
+    #[inline(always)]
+    fn either(self, other: Keyword, bytes: &[u8]) -> Option<(Keyword, &[u8])>
+        ensures { option_map (λ c. (c.0, c.1.now)) result ≡ first_keyword_in (self ∷ other ∷ []) bytes.now }
+    {
+        match self.strip(bytes) {
+            Some(rest) => Some((self, rest)),
+            None => other.one(bytes),
+        }
+    }
+
+    /// The kind of those that compare.
+    #[tactic(auto, unfolding(crate::specs::Reading::first_keyword_in))]
+    #[inline(always)]
+    fn comparing(bytes: &[u8]) -> Option<(Keyword, &[u8])>
+        ensures { option_map (λ c. (c.0, c.1.now)) result ≡ first_keyword_in comparing bytes.now }
+    {
+        match Keyword::CompareStore.strip(bytes) {
+            Some(rest) => Some((Keyword::CompareStore, rest)),
+            None => Keyword::ComparePut.either(Keyword::CompareStatic, bytes),
+        }
+    }
+
+    /// The kind, of those whose words begin with these two bytes.
+    #[tactic(auto, unfolding(crate::specs::Reading::keywords_by))]
+    #[inline(always)]
+    fn beginning(first: u8, second: u8, bytes: &[u8]) -> Option<(Keyword, &[u8])>
+        ensures { option_map (λ c. (c.0, c.1.now)) result ≡ first_keyword_in (keywords_by first second) bytes.now }
+    {
+        match (first, second) {
+            (b'n', _) => Keyword::New.one(bytes),
+            (b'g', _) => Keyword::Get.one(bytes),
+            (b'p', _) => Keyword::Put.one(bytes),
+            (b'd', _) => Keyword::Describe.one(bytes),
+            (b'l', _) => Keyword::Load.either(Keyword::LoadStatic, bytes),
+            (b's', b'a') => Keyword::Same.one(bytes),
+            (b's', _) => Keyword::Store.either(Keyword::StoreStatic, bytes),
+            (_, b'o') => Keyword::Copy.one(bytes),
+            (_, b'l') => Keyword::Clear.one(bytes),
+            _ => Keyword::comparing(bytes),
         }
     }
 
     /// The kind whose word the bytes begin with, and what stands after it and a blank.
     #[tactic(auto, unfolding(crate::specs::Reading::front_keyword_in))]
+    #[inline(always)]
     pub(crate) fn front(bytes: &[u8]) -> Option<(Keyword, &[u8])>
         ensures { option_map (λ c. (c.0, c.1.now)) result ≡ front_keyword_in bytes.now }
     {
-        let likely = Keyword::likely(
-            byte(bytes, 0),
-            byte(bytes, 1),
-            byte(bytes, 3),
-            byte(bytes, 4),
-            byte(bytes, 5),
-        );
-        let rest = after(likely.text(), bytes)?;
-        let rest = after(b" ", rest)?;
-        Some((likely, rest))
+        Keyword::beginning(byte(bytes, 0), byte(bytes, 1), bytes)
     }
 }

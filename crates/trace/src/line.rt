@@ -54,6 +54,7 @@ pub fn is_skipped(bytes: &[u8]) -> bool
 }
 
 #[tactic(auto, unfolding(crate::specs::Reading::line_in))]
+#[inline(always)]
 fn meaning(version: Version, bytes: &[u8]) -> Option<Line>
     ensures { result ≡ line_in version bytes.now }
 {
@@ -70,6 +71,7 @@ fn meaning(version: Version, bytes: &[u8]) -> Option<Line>
 }
 
 /// Reads a line of a trace of a version, without its LF. The line that tells the version isn't read here.
+#[inline(always)]
 pub fn read_line(version: Version, bytes: &[u8]) -> Option<Line>
     // What is read is spelled so, each byte of it.
     ensures found { IfSome result (λ line. Spells version bytes.now line) }

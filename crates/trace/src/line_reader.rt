@@ -3,10 +3,10 @@ ghost use Rattle.std.specs.Prelude.{true, false, ◌⊎◌, Ok, Err, ◌∷◌, 
 ghost use Rattle.trace.specs.Streams.{failed, Comes, Stays, NoLf, IsLine, FirstLf, GrowsByPart, given_by};
 
 use crate::fault::{LineFault, TextFault};
-use crate::field::place_of;
 use crate::sink::{Sink, WriteFailed};
 use crate::source::{ReadFailed, Source};
 use crate::write_buffer::WriteBuffer;
+use memchr::memchr;
 use std::marker::Model;
 
 /// How many bytes are read at once, at most.
@@ -20,10 +20,8 @@ fn line_feed(bytes: &[u8]) -> Option<usize>
     ensures found { IfSome result (λ i. FirstLf bytes.now i) }
     ensures none { IsNone result → NoLf (take 257 bytes.now) }
 {
-    if bytes.len() <= LONGEST {
-        return place_of(b'\n', bytes);
-    }
-    place_of(b'\n', &bytes[..LONGEST + 1])
+    let front = &bytes[..bytes.len().min(LONGEST + 1)];
+    memchr(b'\n', front)
 }
 
 /// Brings the bytes of a range to the front of a buffer.

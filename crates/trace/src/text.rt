@@ -7,6 +7,7 @@ use itoa::Buffer;
 
 /// Writes bytes at a place, after which there must be room for them, and answers the place after
 /// them. What stands before the place stays.
+#[inline(always)]
 pub fn put(out: &mut [u8], at: usize, bytes: &[u8]) -> usize
     requires { at + length bytes.now ≤ length out.old }
     ensures text { take result out.new ≡ take at out.old ++ bytes.now }
@@ -30,6 +31,7 @@ pub(crate) fn put_number(out: &mut [u8], at: usize, n: u64) -> usize
 
 /// Writes a word, and after it a number in decimal, at a place, and answers the place after them.
 /// There must be room for the word and 20 digits. What stands before the place stays.
+#[inline(always)]
 pub fn put_named(out: &mut [u8], at: usize, word: &[u8], n: u64) -> usize
     requires { at + length word.now + 20 ≤ length out.old }
     ensures text { take result out.new ≡ take at out.old ++ (word.now ++ decimal n) }

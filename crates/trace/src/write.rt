@@ -9,6 +9,7 @@ use crate::text::{put, put_named, put_number};
 use graph_heap::{Command, Entry, Reply, Shape};
 
 /// Writes a word, a blank and a number.
+#[inline(always)]
 fn put_one(out: &mut [u8], at: usize, word: &[u8], n: u64) -> usize
     requires { at + length word.now + 21 ≤ length out.old }
     ensures text { take result out.new ≡ take at out.old ++ (word.now ++ 32 ∷ decimal n) }
@@ -132,6 +133,7 @@ pub fn write_command(mutator: u32, command: &Command, out: &mut [u8; 256], at: u
 }
 
 /// Writes a reply.
+#[inline(always)]
 fn put_reply(out: &mut [u8], at: usize, reply: &Reply) -> usize
     requires { at + 78 ≤ length out.old }
     ensures text { take result out.new ≡ take at out.old ++ reply_text reply.now }
@@ -163,6 +165,7 @@ fn put_reply(out: &mut [u8], at: usize, reply: &Reply) -> usize
 
 /// Writes a reply at a place, without LF, and answers the place after it. What stands before the
 /// place stays.
+#[inline(always)]
 pub fn write_reply(reply: &Reply, out: &mut [u8], at: usize) -> usize
     requires { at + 78 ≤ length out.old }
     ensures text { take result out.new ≡ take at out.old ++ reply_text reply.now }

@@ -60,6 +60,7 @@ impl WriteBuffer {
     }
 
     /// Adds the line of a reply, for which there must be room.
+    #[inline(always)]
     pub fn add_reply(&mut self, reply: &Reply)
         requires { length self.old + 256 ≤ 65536 }
         ensures { self.new ≡ self.old ++ (reply_text reply.now ++ 10 ∷ []) }

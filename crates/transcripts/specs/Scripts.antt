@@ -21,6 +21,7 @@ IsOfScripts mutators lines.Skip = Unit {0}
 IsOfScripts mutators (lines.Command m c) = m < mutators
 IsOfScripts mutators line = ⊥
 
+-- a line of scripts says this
 abbrev pub DoesScript : ℕ → Version → List ℕ → Unit {0} → List Line → Unit {0} → Type 0
 DoesScript mutators version text old (line ∷ []) new = Spells version text line × IsOfScripts mutators line
 DoesScript mutators version text old spelled new = ⊥

@@ -3,7 +3,7 @@ use Rattle.std.specs.List.{list_all}
 use Rattle.std.proofs.lemmas.List.Folds.{list_all_at}
 use Rattle.drawing.specs.declared.share.TheConstants.{WINDOWS}
 use Rattle.drawing.specs.Utilisation.{IsShare}
-use Rattle.drawing.proofs.Points.{zip_put}
+use Rattle.drawing.proofs.Shares.{zip_put}
 use Rattle.drawing.proofs.measuring.put_shares.Goals as goal
 
 -- each window has a tick

@@ -1,4 +1,4 @@
-use Rattle.std.proofs.Common.{◌≡◌, ◌+◌, drop}
+use Rattle.std.proofs.Common.{◌≡◌, drop}
 use Rattle.drawing.specs.Samples.{samples_from}
 use Rattle.drawing.proofs.Parts.{SoFar}
 use Rattle.drawing.proofs.over_time.write_samples.Given as goal
@@ -6,6 +6,6 @@ use Rattle.drawing.proofs.over_time.write_samples.Given as goal
 -- the samples so far are written, and no call has failed
 abbrev pub invariant-loop-place : goal.invariant-loop-place
 invariant-loop-place g l = record {
-  written : SoFar (g.K.Sink.taken l.fn.sink) (g.K.Sink.taken l.sink) (samples_from 80 l.scale l.samples) (samples_from (80 + l.place) l.scale (drop l.place l.samples));
+  written : SoFar (g.K.Sink.taken l.fn.sink) (g.K.Sink.taken l.sink) (samples_from l.scale l.samples) (samples_from l.scale (drop l.place l.samples));
   failures : g.K.Sink.failures l.sink ≡ g.K.Sink.failures l.fn.sink;
 }

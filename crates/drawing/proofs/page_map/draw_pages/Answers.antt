@@ -4,29 +4,30 @@ use Rattle.heap_model.specs.State.{HeapState}
 use Rattle.drawing.specs.declared.caption.Words.TheVariants.{PagesOfTheHeap}
 use Rattle.drawing.specs.declared.element.Element.{Element}
 use Rattle.drawing.specs.Frame.{frame}
-use Rattle.drawing.specs.PageMap.{map_frame, map_height, map_told, squares}
+use Rattle.drawing.specs.PageMap.{map_frame, map_told, map_shown}
+use Rattle.drawing.specs.Squares.{map_height}
 use Rattle.drawing.proofs.Parts.{at_err, in_head, in_body, in_end, to_end}
 use Rattle.drawing.proofs.page_map.draw_pages.Goals as goal
 
-head_is : (h : HeapState) (n : ℕ) (told : List Element) → n ≡ map_height (length h.store.pages) → told ≡ map_told h → frame 1060 n PagesOfTheHeap ++ told ≡ map_frame h ++ map_told h
-head_is h n told high is = ap (λ k. frame 1060 k PagesOfTheHeap ++ told) high ∙ ap (λ xs. map_frame h ++ xs) is
+head_is : (h : HeapState) (n : ℕ) (told : List Element) → n ≡ map_height (length h.store.pages) → told ≡ map_told h → frame 1200 n PagesOfTheHeap ++ told ≡ map_frame h ++ map_told h
+head_is h n told high is = ap (λ k. frame 1200 k PagesOfTheHeap ++ told) high ∙ ap (λ xs. map_frame h ++ xs) is
 
 pub returns-in_err-write_head-clause-err : goal.returns-in_err-write_head-clause-err
 returns-in_err-write_head-clause-err g c =
     let h = c.args.heap.now in
-    at_err c.from_residual.result _ (in_head _ (map_frame h) (map_told h) (squares 0 h.store.pages) (head_is h _ _ c.height.ensures c.told.ensures) _ _ c.in_err-write_head.ensures.err)
+    at_err c.from_residual.result _ (in_head _ (map_frame h) (map_told h) (map_shown h) (head_is h _ _ (c.height-height.ensures ∙ ap map_height c.pages.ensures.pages) c.told.ensures) _ _ c.in_err-write_head.ensures.err)
 
 pub returns-in_err-write_squares-clause-err : goal.returns-in_err-write_squares-clause-err
 returns-in_err-write_squares-clause-err g c =
     let h = c.args.heap.now in
-    at_err c.from_residual-in_err-write_squares.result _ (in_body _ (map_frame h) (map_told h) (squares 0 h.store.pages) (head_is h _ _ c.height.ensures c.told.ensures) _ _ c.in_ok-write_head.ensures.ok _ c.in_err-write_squares.ensures.err)
+    at_err c.from_residual-in_err-write_squares.result _ (in_body _ (map_frame h) (map_told h) (map_shown h) (head_is h _ _ (c.height-height.ensures ∙ ap map_height c.pages.ensures.pages) c.told.ensures) _ _ c.in_ok-write_head.ensures.ok _ c.in_err-write_squares.ensures.err)
 
 pub returns-clause-ok : goal.returns-clause-ok
 returns-clause-ok g c =
     let h = c.args.heap.now in
-    on_ok_weaker c.write_close.result (to_end _ (map_frame h) (map_told h) (squares 0 h.store.pages) (head_is h _ _ c.height.ensures c.told.ensures) _ _ c.in_ok-write_head.ensures.ok _ c.in_ok-write_squares.ensures.ok _) c.write_close.ensures.ok
+    on_ok_weaker c.write_close.result (to_end _ (map_frame h) (map_told h) (map_shown h) (head_is h _ _ (c.height-height.ensures ∙ ap map_height c.pages.ensures.pages) c.told.ensures) _ _ c.in_ok-write_head.ensures.ok _ c.in_ok-write_squares.ensures.ok _) c.write_close.ensures.ok
 
 pub returns-clause-err : goal.returns-clause-err
 returns-clause-err g c =
     let h = c.args.heap.now in
-    on_err_weaker c.write_close.result (in_end _ (map_frame h) (map_told h) (squares 0 h.store.pages) (head_is h _ _ c.height.ensures c.told.ensures) _ _ c.in_ok-write_head.ensures.ok _ c.in_ok-write_squares.ensures.ok _) c.write_close.ensures.err
+    on_err_weaker c.write_close.result (in_end _ (map_frame h) (map_told h) (map_shown h) (head_is h _ _ (c.height-height.ensures ∙ ap map_height c.pages.ensures.pages) c.told.ensures) _ _ c.in_ok-write_head.ensures.ok _ c.in_ok-write_squares.ensures.ok _) c.write_close.ensures.err

@@ -1,6 +1,6 @@
 use Rattle.std.proofs.Common.{◌≤◌, List, take, length, refl, arith}
 use Rattle.drawing.specs.declared.share.Share.{Share}
-use Rattle.drawing.proofs.Points.{are_shares}
+use Rattle.drawing.proofs.Shares.{are_shares}
 use Rattle.drawing.proofs.utilisation.draw_utilisation.Goals as goal
 
 pub returns-clause-drawn : goal.returns-clause-drawn

@@ -83,3 +83,9 @@ returns-clause-input g c = λ none.
     let e = c.in_ok-next_line.ensures in
     let i = c.loop-run.invariant in
     stays_on (g.S.Source.input c.args.source.now) _ _ i.reading.input (e.input (refl {a = 0}))
+
+pub returns-in_err-measure_line-clause-input : goal.returns-in_err-measure_line-clause-input
+returns-in_err-measure_line-clause-input g c = λ none.
+    let e = c.in_ok-next_line.ensures in
+    let i = c.loop-run.invariant in
+    stays_on (g.S.Source.input c.args.source.now) _ _ i.reading.input (e.input (refl {a = 0}))

@@ -1,9 +1,7 @@
-use Rattle.std.proofs.Common.{◌≡◌, ℕ, ◌+◌, Option, Some, None, arith, ap, ◌∙◌, sym, subst}
+use Rattle.std.proofs.Common.{◌≡◌, ℕ, ◌+◌, ◌≤◌, Option, Some, None, arith, sym, subst}
 use Rattle.std.specs.Option.{option_or}
 use Rattle.size_classes.specs.declared.config.TheConstants.{MOST_PAGES}
-use Rattle.space.specs.Pace.{demand_of}
-use Rattle.space.specs.Space.{space_for}
-use Rattle.space.specs.Fitting.{pace_in, spare_in, quanta_at, FitsIn}
+use Rattle.space.specs.Fitting.{pace_in, pages_needed, FitsIn}
 use Rattle.space_report.specs.Report.{IsFrom}
 use Rattle.space_report.proofs.Onward.{HoldsFrom, with_next, without_next}
 use Rattle.space_report.proofs.from.fits_from.Goals as goal
@@ -12,16 +10,22 @@ use Rattle.space_report.proofs.from.fits_from.Goals.{then-needed-from, else-need
 pub loop-pages-preserved : goal.loop-pages-preserved
 loop-pages-preserved c = elim c.if-needed-from.branch [
   | then-needed-from w ↦ let e : option_or c.loop-pages.from (Some c.loop-pages.pages) ≡ c.if-needed-from.from = cc (w.from-is, w.or-from.ensures) in
-      subst (HoldsFrom Fits (c.loop-pages.pages + 1)) e (with_next Fits c.loop-pages.pages c.loop-pages.from c.loop-pages.invariant (omega (arith, c.loop-pages.auto.pages)) (omega (arith, needed, w.if-needed-from.true, c.from.ensures)))
+      subst (HoldsFrom Fits (c.loop-pages.pages + 1)) e (with_next Fits c.loop-pages.pages c.loop-pages.from c.loop-pages.invariant (omega (arith, c.loop-pages.auto.pages)) (fits (omega (arith, w.if-needed-from.true, c.from.ensures))))
   | else-needed-from w ↦ let e : None ≡ c.if-needed-from.from = cc (w.from-is) in
-      subst (HoldsFrom Fits (c.loop-pages.pages + 1)) e (without_next Fits c.loop-pages.pages (λ f. absurd (omega (arith, needed, f, w.if-needed-from.false, c.from.ensures))))
+      subst (HoldsFrom Fits (c.loop-pages.pages + 1)) e (without_next Fits c.loop-pages.pages (λ f. (let l = back f in absurd (omega (arith, l, w.if-needed-from.false, c.from.ensures)))))
 ]
   where
     Fits : ℕ → Type 0
     Fits = FitsIn c.args.config.now (pace_in c.args.pace.now)
 
-    needed : c.pages-needed.result ≡ space_for (demand_of (pace_in c.args.pace.now) (quanta_at c.args.config.now c.loop-pages.pages)) (spare_in c.args.config.now)
-    needed = c.pages-needed.ensures ∙ ap (λ q. space_for (demand_of (pace_in c.args.pace.now) q) c.spare.result) c.quanta.ensures.quanta ∙ ap (λ s. space_for (demand_of (pace_in c.args.pace.now) (quanta_at c.args.config.now c.loop-pages.pages)) s) c.spare.ensures
+    needed : c.pace_needs-needed.result.pages ≡ pages_needed c.args.config.now (pace_in c.args.pace.now) c.loop-pages.pages
+    needed = c.pace_needs-needed.ensures.pages
+
+    fits : c.pace_needs-needed.result.pages ≤ c.loop-pages.pages → Fits c.loop-pages.pages
+    fits l = subst (λ z. z ≤ c.loop-pages.pages) needed l
+
+    back : Fits c.loop-pages.pages → c.pace_needs-needed.result.pages ≤ c.loop-pages.pages
+    back f = subst (λ z. z ≤ c.loop-pages.pages) (sym needed) f
 
 pub returns : goal.returns
 returns c = by_from c.loop-pages.from c.loop-pages.invariant

@@ -6,7 +6,7 @@ use Rattle.player.specs.Player.{PlayerState}
 use Rattle.player.specs.declared.style.Style.TheVariants.{Nothing}
 use Rattle.player.specs.Playing.{stage, TellsVersionOf, PlaysText}
 use Rattle.player.specs.New.{IsNew}
-use Rattle.timeline.specs.Samples.{heaps_along}
+use Rattle.timeline.specs.Samples.{moments_along}
 use Rattle.timeline.specs.Sampler.{IsAlong}
 use Rattle.timeline.proofs.taking.take_samples.Given as goal
 
@@ -16,7 +16,7 @@ invariant-loop-sampler g l = record {
   first : PlayerState;
   fresh : IsNew l.config first;
   done : SoFar (TellsVersionOf Nothing) (PlaysText Nothing) (given_by g.S.Source.given g.S.Source.ended l.fn.source l.source) (stage first []) (stage l.player []) l.reader l.version;
-  along : IsAlong (heaps_along (stage first []) done.lines l.version done.events (stage l.player []) done.done) l.sampler;
+  along : IsAlong (moments_along (stage first []) done.lines l.version done.events (stage l.player []) done.done) l.sampler;
   reading : IsReading (g.S.Source.given l.source) (g.S.Source.failures l.fn.source) (g.S.Source.failures l.source) (g.S.Source.input l.fn.source) (g.S.Source.input l.source) l.reader;
 }
 

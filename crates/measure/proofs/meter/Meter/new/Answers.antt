@@ -5,4 +5,5 @@ use Rattle.measure.proofs.meter.Meter.new.Goals as goal
 
 pub returns : goal.returns
 returns c = λ h o e.
-    opening_measures h _ o (c.in_ok-new.ensures ∙ ap opening (sym e)) refl refl c.none-nothing.ensures c.none-nothing.ensures c.none-nothing.ensures c.none-nothing.ensures c.none-nothing.ensures c.none-nothing.ensures c.none-nothing.ensures
+    let s = c.new-2.ensures in
+    opening_measures h _ o (c.in_ok-new.ensures ∙ ap opening (sym e)) refl refl s.tracing s.live s.since c.new-3.ensures c.none-nothing.ensures c.none-nothing.ensures c.none-nothing.ensures c.none-nothing.ensures

@@ -1,5 +1,5 @@
 use Rattle.std.proofs.Common.{◌≡◌, ◌+◌, length, [], ◌∷◌, ◌++◌, refl, sym, ◌∙◌, subst, arith}
-use Rattle.timeline.specs.Samples.{sampled}
+use Rattle.timeline.specs.Samples.{moment, sampled}
 use Rattle.timeline.specs.Sampler.{AreTaken}
 use Rattle.timeline.specs.declared.sampler.Sampler.{Sampler}
 use Rattle.timeline.proofs.Along.{one_passed, one_taken, one_thinned, pushed}
@@ -7,22 +7,22 @@ use Rattle.timeline.proofs.sampler.Sampler.event.Goals as goal
 use Rattle.timeline.proofs.sampler.Sampler.event.Goals.{then-len-eq-MOST_SAMPLES, else-len-eq-MOST_SAMPLES}
 
 pub returns-then-self : goal.returns-then-self
-returns-then-self c = λ heaps a. one_passed heaps c.args.heap.now _ _ _ a c.if-self.true
+returns-then-self c = λ moments a. one_passed moments (moment c.args.line c.args.heap.now) _ _ _ a c.if-self.true
 
 pub returns : goal.returns
-returns c = λ heaps a.
-    let h = c.args.heap.now in
+returns c = λ moments a.
+    let h = moment c.args.line c.args.heap.now in
     let old = c.args.self.now.samples in
     let at_len : c.len.result ≡ old.items.len = c.len.ensures in
     let full : c.args.self.now.since + 1 ≡ old.stride = omega (arith, a.short, c.if-self.false) in
     let number : c.len.result ≡ length old.items.items = omega (arith, at_len, old.items.ok) in
-    let P : Sampler → Type 0 = λ s. AreTaken (heaps ++ h ∷ []) (s.samples.items.items ++ sampled h ∷ []) s.samples.stride s.since in
+    let P : Sampler → Type 0 = λ s. AreTaken (moments ++ h ∷ []) (s.samples.items.items ++ sampled h ∷ []) s.samples.stride s.since in
     let taken : P c.if-len-eq-MOST_SAMPLES.self = elim c.if-len-eq-MOST_SAMPLES.branch [
       | then-len-eq-MOST_SAMPLES w ↦
           let t = w.thin.ensures in
           let most = sym number ∙ w.if-len-eq-MOST_SAMPLES.true in
-          subst P (sym w.self-is) (rw t.stride (one_thinned heaps h old.items.items old.stride c.args.self.now.since a full w.thin.new.self.items.items most t.each t.length))
+          subst P (sym w.self-is) (rw t.stride (one_thinned moments h old.items.items old.stride c.args.self.now.since a full w.thin.new.self.items.items most t.each t.length))
       | else-len-eq-MOST_SAMPLES w ↦
-          subst P (sym w.self-is) (one_taken heaps h old.items.items old.stride c.args.self.now.since a full (λ e. w.if-len-eq-MOST_SAMPLES.false (number ∙ e)))
+          subst P (sym w.self-is) (one_taken moments h old.items.items old.stride c.args.self.now.since a full (λ e. w.if-len-eq-MOST_SAMPLES.false (number ∙ e)))
     ] in
-    pushed (heaps ++ h ∷ []) h c.if-len-eq-MOST_SAMPLES.self.samples.items.items c.push.new.self.items c.sample.result _ _ _ c.in_ok-push.ensures.items c.sample.ensures refl taken
+    pushed (moments ++ h ∷ []) h c.if-len-eq-MOST_SAMPLES.self.samples.items.items c.push.new.self.items c.sample.result _ _ _ c.in_ok-push.ensures.items c.sample.ensures refl taken

@@ -1,0 +1,57 @@
+use Rattle.std.proofs.Common.{◌≡◌, ◌≤◌, ◌+◌, ◌-◌, ◌*◌, ◌/◌, ◌++◌, suc, refl, ap, sym, ◌∙◌, arith, mul-le-mul_right}
+use Rattle.std.proofs.Math.Nat.{div-mul-le_self}
+use Rattle.drawing.specs.Axes.{step_of, axis_number, numbers_from}
+use Rattle.drawing.proofs.Parts.{at_err, none_yet, further, cut_short, all_of}
+use Rattle.drawing.proofs.Samples.{numbers_on}
+use Rattle.drawing.proofs.axis.write_axis.Goals as goal
+
+pub overflow_mul-place : goal.overflow_mul-place
+overflow_mul-place g c =
+    let within : c.loop-place.place ≤ c.args.greatest / c.step-step.result = omega arith in
+    omega (arith, mul-le-mul_right c.step-step.result within, div-mul-le_self c.args.greatest c.step-step.result)
+
+pub loop-place-init : goal.loop-place-init
+loop-place-init g c = record { left = c.args.greatest / step_of c.args.greatest + 1; count = omega arith; written = none_yet _ _; failures = refl }
+
+pub returns-in_err-write_elements-clause-err : goal.returns-in_err-write_elements-clause-err
+returns-in_err-write_elements-clause-err g c =
+    let i = c.loop-place.invariant in
+    let greatest = c.args.greatest in
+    let end = ap (λ s. greatest / s) c.step-step.ensures.step in
+    let some : i.left ≡ suc (i.left - 1) = omega (arith, i.count, end, c.loop-place-test.true) in
+    let here = c.number.ensures ∙ ap (λ s. axis_number c.args.axis greatest (c.loop-place.place * s)) c.step-step.ensures.step in
+    let on = numbers_on c.args.axis greatest i.left (i.left - 1) c.loop-place.place some ∙ ap (λ xs. xs ++ numbers_from c.args.axis greatest (c.loop-place.place + 1) (i.left - 1)) (sym here) in
+    at_err c.from_residual.result _ (cut_short _ _ _ _ i.written _ _ on _ c.in_err-write_elements.ensures.err)
+
+pub loop-place-preserved : goal.loop-place-preserved
+loop-place-preserved g c =
+    let i = c.loop-place.invariant in
+    let greatest = c.args.greatest in
+    let end = ap (λ s. greatest / s) c.step-step.ensures.step in
+    let some : i.left ≡ suc (i.left - 1) = omega (arith, i.count, end, c.loop-place-test.true) in
+    let here = c.number.ensures ∙ ap (λ s. axis_number c.args.axis greatest (c.loop-place.place * s)) c.step-step.ensures.step in
+    let on = numbers_on c.args.axis greatest i.left (i.left - 1) c.loop-place.place some ∙ ap (λ xs. xs ++ numbers_from c.args.axis greatest (c.loop-place.place + 1) (i.left - 1)) (sym here) in
+    record {
+      left = i.left - 1;
+      count = omega (arith, i.count, some);
+      written = further _ _ _ _ i.written _ _ on _ c.in_ok-write_elements.ensures.ok;
+      failures = omega (arith, c.in_ok-write_elements.ensures.cause, i.failures);
+    }
+
+pub returns-clause-ok : goal.returns-clause-ok
+returns-clause-ok g c =
+    let i = c.loop-place.invariant in
+    let end = ap (λ s. c.args.greatest / s) c.step-step.ensures.step in
+    let none_left : i.left ≡ 0 = omega (arith, i.count, end, c.loop-place-test.false) in
+    all_of _ _ _ _ i.written (ap (numbers_from c.args.axis c.args.greatest c.loop-place.place) none_left)
+
+pub returns-in_ok-write_elements-clause-ok : goal.returns-in_ok-write_elements-clause-ok
+returns-in_ok-write_elements-clause-ok g c =
+    let i = c.loop-place.invariant in
+    let greatest = c.args.greatest in
+    let end = ap (λ s. greatest / s) c.step-step.ensures.step in
+    let some : i.left ≡ suc (i.left - 1) = omega (arith, i.count, end, c.loop-place-test.true) in
+    let here = c.number.ensures ∙ ap (λ s. axis_number c.args.axis greatest (c.loop-place.place * s)) c.step-step.ensures.step in
+    let on = numbers_on c.args.axis greatest i.left (i.left - 1) c.loop-place.place some ∙ ap (λ xs. xs ++ numbers_from c.args.axis greatest (c.loop-place.place + 1) (i.left - 1)) (sym here) in
+    let last : i.left - 1 ≡ 0 = omega (arith, i.count, end) in
+    all_of _ _ _ _ (further _ _ _ _ i.written _ _ on _ c.in_ok-write_elements.ensures.ok) (ap (numbers_from c.args.axis greatest (c.loop-place.place + 1)) last)

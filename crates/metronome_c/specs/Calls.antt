@@ -1,0 +1,73 @@
+-- The calls of a program on one handle, one after the other.
+use Rattle.std.specs.Prelude.{◌≡◌, ℕ, List, [], ◌∷◌, Result, Ok, Err}
+use Rattle.graph_heap.specs.declared.command.Command.{Command}
+use Rattle.size_classes.specs.declared.settings.Settings.{Settings}
+use Rattle.size_classes.specs.declared.config.Config.{Config}
+use Rattle.size_classes.specs.Config.{IsOf}
+use Rattle.heap_model.specs.State.{HeapState}
+use Rattle.heap_model.specs.Event.{Course, Event, Command_done, Cycle_begun, Cycle_on, Quantum_done, Quantum_refused, Runs}
+use Rattle.heap_model.specs.Led.{opened}
+use Rattle.machine.specs.Headline.{Holds, AlwaysHolds}
+use Rattle.machine.specs.Space.{IsJustMade, FindsSpace}
+use Rattle.metronome_c.specs.declared.answer.Answer.{Answer}
+use Rattle.metronome_c.specs.declared.collector.QuantumSpent.{QuantumSpent}
+use Rattle.metronome_c.specs.declared.status.Status.{Status}
+use Rattle.metronome_c.specs.declared.status.Status.TheVariants.{Done, Busy, BudgetOutOfRange}
+use Rattle.metronome_c.specs.Answer.{answer_of}
+use Rattle.metronome_c.specs.Collecting.{phase_number, BeginsOpen, SpendsOpen}
+use Rattle.metronome_c.specs.Status.{status_number}
+use Rattle.metronome_c.specs.Steps.{Steps}
+
+-- A call that may change a heap, and what it came to: a command of a mutator, with its answer; a cycle to be begun,
+-- with the status; a budget to be spent, with what stood in the record for the quantum before and after, and the
+-- status.
+pub data Call : Type 0 where
+  Command_called : ℕ → Command → Answer → Call
+  Begin_called : ℕ → Call
+  Quantum_called : ℕ → QuantumSpent → QuantumSpent → ℕ → Call
+
+-- what a call does to what the handle holds, as the contract of its export says
+abbrev pub DoesCall : Result HeapState Status → Call → Result HeapState Status → Type 0
+DoesCall old (Command_called m c answer) new = Steps old m c new answer
+DoesCall old (Begin_called status) new = BeginsOpen old new status
+DoesCall old (Quantum_called budget before after status) new = SpendsOpen old budget new before after status
+
+-- calls one after the other
+abbrev pub Calls : Result HeapState Status → List Call → Result HeapState Status → Type 0
+Calls old [] new = new ≡ old
+Calls old (call ∷ calls) new = (next : Result HeapState Status) × DoesCall old call next × Calls next calls new
+
+-- the call told the program what the event came to
+abbrev pub TellsEvent : Event → Call → Type 0
+TellsEvent (Command_done m c reply) call = call ≡ Command_called m c (answer_of reply)
+TellsEvent Cycle_begun call = call ≡ Begin_called (status_number Done)
+TellsEvent Cycle_on call = call ≡ Begin_called (status_number Busy)
+TellsEvent (Quantum_done budget units phase) call = (before : QuantumSpent)
+    × (call ≡ Quantum_called budget before (record { units = units; phase = phase_number phase }) (status_number Done))
+TellsEvent (Quantum_refused budget) call = (before : QuantumSpent)
+    × (call ≡ Quantum_called budget before before (status_number BudgetOutOfRange))
+
+-- each call told what its event came to
+abbrev pub AllTellEvents : List Event → List Call → Type 0
+AllTellEvents [] calls = calls ≡ []
+AllTellEvents (e ∷ es) [] = ⊥
+AllTellEvents (e ∷ es) (call ∷ calls) = TellsEvent e call × AllTellEvents es calls
+
+-- The calls are events, which lead from the heap that was made to the one that the handle holds, with the history of
+-- the commands; each told the program what it came to; and all that is promised of a heap with its history holds there.
+pub record AreEvents (h : HeapState) (calls : List Call) (new : Result HeapState Status) : Type 0 where
+  pub events : List Event
+  pub course : Course
+  pub runs : Runs (opened h) events course
+  pub told : AllTellEvents events calls
+  pub left : new ≡ Ok course.heap
+  pub holds : Holds course
+
+-- A heap of a configuration with the numbers of these settings was just made: whatever comes, what is promised of a
+-- heap with its history holds, and no reply is the refusal for want of space where that is promised.
+pub record IsPromised (s : Settings) (h : HeapState) : Type 0 where
+  pub config : Config
+  pub of : IsOf s config
+  pub made : IsJustMade config (opened h)
+  pub holds : AlwaysHolds (opened h)
+  pub space : FindsSpace (opened h)

@@ -1,0 +1,54 @@
+//! The laws of the library. Each function does nothing: its contract is the law.
+ghost use Rattle.std.specs.Prelude.{◌≡◌, ◌*◌, ℕ, List, [], ◌∷◌, Result, Ok, Err};
+ghost use Rattle.graph_heap.specs.declared.command.Refusal.TheVariants as refusals;
+ghost use Rattle.size_classes.specs.declared.config.Config.{Config};
+ghost use Rattle.size_classes.specs.declared.key.Key.TheVariants as keys;
+ghost use Rattle.size_classes.specs.declared.settings.Settings.{Settings};
+ghost use Rattle.heap_model.specs.Bound.{most_quanta};
+ghost use Rattle.heap_model.specs.Opening.{IsOpening};
+ghost use Rattle.heap_model.specs.Settings.{settings_of, settings_by};
+ghost use Rattle.heap_model.specs.Spent.{cycle_limit};
+ghost use Rattle.heap_model.specs.State.{HeapState};
+ghost use Rattle.metronome_c.specs.Calls.{Call, Calls, AreEvents, IsPromised};
+ghost use Rattle.metronome_c.specs.Lifetime.{Creates};
+ghost use Rattle.metronome_c.specs.Limit.{limit_of};
+ghost use Rattle.metronome_c.specs.declared.metronome.TheConstants.{CHECK_WORD};
+ghost use Rattle.metronome_c.specs.declared.status.Status.{Status};
+ghost use Rattle.metronome_c.specs.declared.status.Status.TheVariants.{Done, Refused, NoMemory, Busy, BudgetOutOfRange, Closed, Open, ScheduleOutOfRange, BadHandle, SettingOutOfRange, OtherVersion};
+ghost use Rattle.metronome_c.specs.declared.status.TheConstants.Status.{ALL};
+
+/// Where a heap was just made of a closed handle, and a program calls the library as it likes, the calls are events
+/// that the heap does one after the other, with a history that only grows: each call tells what its event came to, and
+/// what is promised of a heap with its history (`machine::Recorded::run`) holds of it, whatever comes.
+pub fn calls_are_events()
+    ensures made { (s : Settings) (h : HeapState) (status : ℕ) → Creates (Err Closed) s (Ok h) status → IsPromised s h }
+    ensures calls { (s : Settings) (h : HeapState) (status : ℕ) (calls : List Call) (new : Result HeapState Status)
+        → Creates (Err Closed) s (Ok h) status → Calls (Ok h) calls new → AreEvents h calls new }
+{}
+
+/// The limit that is told of a configuration is that of a heap that was made of it: the units of a cycle are within it,
+/// and one of so many quanta of the schedule ends the cycle.
+pub fn limits_are_those_of_heaps()
+    ensures units { (c : Config) (h : HeapState) → IsOpening h → settings_of h ≡ settings_by c
+        → (limit_of c).units ≡ cycle_limit h }
+    ensures quanta { (c : Config) (h : HeapState) → IsOpening h → settings_of h ≡ settings_by c
+        → (limit_of c).quanta ≡ most_quanta h (c.collector_ticks * c.rate) }
+{}
+
+/// The order of the statuses. A number is told as the first status that has it.
+pub fn statuses_are_in_order()
+    ensures { ALL ≡ Done ∷ Refused refusals.BadSlot ∷ Refused refusals.NullSlot ∷ Refused refusals.BadIndex
+        ∷ Refused refusals.WrongKind ∷ Refused refusals.TooLarge ∷ Refused refusals.IdentitiesSpent
+        ∷ Refused refusals.NoSpace ∷ Refused refusals.BadStatic ∷ NoMemory ∷ Busy ∷ BudgetOutOfRange
+        ∷ Refused refusals.NotLive ∷ Refused refusals.AlreadyLive ∷ Closed ∷ Open ∷ ScheduleOutOfRange ∷ BadHandle
+        ∷ SettingOutOfRange keys.Pages ∷ SettingOutOfRange keys.Mutators ∷ SettingOutOfRange keys.Slots
+        ∷ SettingOutOfRange keys.Statics ∷ SettingOutOfRange keys.Identities ∷ SettingOutOfRange keys.DefragBelow
+        ∷ SettingOutOfRange keys.DefragPages ∷ SettingOutOfRange keys.CollectorTicks
+        ∷ SettingOutOfRange keys.MutatorTicks ∷ SettingOutOfRange keys.Rate ∷ SettingOutOfRange keys.Live
+        ∷ OtherVersion ∷ [] }
+{}
+
+/// The check word of a handle that holds a heap. Memory that nothing set hardly has it by chance.
+pub fn the_check_word_is_fixed()
+    ensures { CHECK_WORD ≡ 5567949226808069965 }
+{}

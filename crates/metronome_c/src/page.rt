@@ -1,0 +1,53 @@
+//! Pages as C sees them.
+ghost use Rattle.std.specs.Prelude.{◌≡◌};
+ghost use Rattle.metronome_c.specs.Held.{held};
+ghost use Rattle.metronome_c.specs.Figures.{Tells, page_of};
+
+use crate::figures::tell;
+use crate::metronome::Metronome;
+use machine::Heap;
+
+/// A page: the words of each of its blocks, how many of these are held, and whether it is leaving or receiving, as 1 or
+/// 0. Of a free page each number is 0.
+#[repr(C)]
+#[derive(Clone, Copy, Debug, PartialEq, Eq)]
+pub struct MetronomePage {
+    pub size: u32,
+    pub held: u32,
+    pub leaving: u32,
+    pub receiving: u32,
+}
+
+impl MetronomePage {
+    /// The page of a number; a free one, where there is none.
+    fn of(heap: &Heap, number: usize) -> MetronomePage
+        ensures { result ≡ page_of number heap.now }
+    {
+        match heap.page(number) {
+            Some(view) => MetronomePage {
+                size: view.class.size(),
+                held: view.held as u32,
+                leaving: u32::from(view.leaving),
+                receiving: u32::from(view.receiving),
+            },
+            None => MetronomePage {
+                size: 0,
+                held: 0,
+                leaving: 0,
+                receiving: 0,
+            },
+        }
+    }
+}
+
+/// Tells the page of a number, from 0.
+#[unsafe(no_mangle)]
+pub extern "C" fn metronome_page(
+    heap: &mut Metronome,
+    number: usize,
+    page: &mut MetronomePage,
+) -> u32
+    ensures { Tells (page_of number) (held heap.old) (held heap.new) page.old page.new result }
+{
+    tell(page, heap.ask(|inner| MetronomePage::of(inner, number)))
+}

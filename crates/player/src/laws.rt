@@ -1,0 +1,16 @@
+//! A law of plays. The function does nothing: its contract is the law.
+ghost use Rattle.std.specs.Prelude.{Result};
+ghost use Rattle.size_classes.specs.declared.config.Config.{Config};
+ghost use Rattle.machine.specs.Headline.{Holds};
+ghost use Rattle.machine.specs.Space.{SpaceSuffices};
+ghost use Rattle.trace.specs.Streams.{Given};
+ghost use Rattle.trace.specs.declared.fault.TextFault.{TextFault};
+ghost use Rattle.player.specs.declared.style.Style.{Style};
+ghost use Rattle.player.specs.New.{IsNew};
+ghost use Rattle.player.specs.Playing.{Stage, Played};
+
+/// What is played on a new player leaves a heap of which all holds that is promised, and space suffices for its events.
+pub fn plays_are_promised()
+    ensures { (config : Config) (style : Style) (given : Given) (old new : Stage) (result : Result (Unit {0}) TextFault)
+        (p : Played style given old new result) → IsNew config old.player → Holds new.player.course × SpaceSuffices config p.over.events }
+{}

@@ -1,0 +1,199 @@
+/*
+ * Calls in the wrong order, and on what is no handle: each is told, and changes nothing. A handle of bytes that nothing set comes
+ * first, then one that is closed, one that is open twice over, and one that is gone. Its pages and the limit of a cycle are looked
+ * at too, as a program does that asks before it makes a heap.
+ */
+#include "metronome.h"
+#include <stdio.h>
+#include <string.h>
+
+static int passed, failed;
+
+static void check(int holds, int line) {
+    if (holds) {
+        passed++;
+    } else {
+        failed++;
+        fprintf(stderr, "failed: line %d\n", line);
+    }
+}
+
+#define IS(status, call) check((call) == (uint32_t)(status), __LINE__)
+
+/* What a call tells through its pointers, all bytes 7. */
+struct told {
+    metronome_shape shape;
+    metronome_spent spent;
+    metronome_counts counts;
+    metronome_page_view page;
+    uint64_t number;
+    uint32_t phase;
+};
+
+/* Whether an answer is refused with a status. */
+static bool is_refused(metronome_answer answer, uint32_t status) {
+    return answer.kind == METRONOME_REFUSED && answer.number == status;
+}
+
+/* How many of the 18 commands are refused with a status. */
+static int refused_commands(metronome *h, uint32_t status, struct told *told) {
+    const metronome_answer answers[] = {
+        metronome_new_plain(h, 0, 0, 1, 1),        metronome_new_refs(h, 0, 0, 1),        metronome_new_words(h, 0, 0, 1),
+        metronome_load(h, 0, 0, 0, 0),             metronome_store(h, 0, 0, 0, 0),        metronome_compare_store(h, 0, 0, 0, 0, 0),
+        metronome_get(h, 0, 0, 0),                 metronome_put(h, 0, 0, 0, 1),          metronome_compare_put(h, 0, 0, 0, 0, 1),
+        metronome_copy(h, 0, 0, 0),                metronome_clear(h, 0, 0),              metronome_load_static(h, 0, 0, 0),
+        metronome_store_static(h, 0, 0, 0),        metronome_compare_static(h, 0, 0, 0, 0), metronome_same(h, 0, 0, 0),
+        metronome_describe(h, 0, 0, &told->shape), metronome_join(h, 0),                  metronome_leave(h, 0),
+    };
+    int refused = 0;
+    for (size_t i = 0; i < sizeof answers / sizeof *answers; i++) refused += is_refused(answers[i], status);
+    return refused;
+}
+
+/* How many of the other calls tell a status: they are 8. */
+static int refused_calls(metronome *h, uint32_t status, struct told *told) {
+    metronome_pacing pacing = METRONOME_PACING(1, 1, 256);
+    metronome_row row = METRONOME_ROW(0, 1, 2);
+    return (metronome_begin(h) == status) + (metronome_quantum(h, 256, &told->spent) == status)
+        + (metronome_phase(h, &told->phase) == status) + (metronome_units(h, &told->number) == status)
+        + (metronome_free_pages(h, &told->number) == status) + (metronome_count(h, &told->counts) == status)
+        + (metronome_page(h, 0, &told->page) == status)
+        + (metronome_pace(h, &pacing, 1) == status && metronome_whole_cycle(h, 256) == status
+           && metronome_close_frame(h, &row, 0) == status);
+}
+
+/* Every call on a handle that holds no heap tells a status, and nothing else; the handle stays as it was. */
+static void nothing_is_done(metronome *h, uint32_t status) {
+    metronome before;
+    struct told told, stood;
+    memcpy(&before, h, sizeof before);
+    memset(&told, 7, sizeof told);
+    memset(&stood, 7, sizeof stood);
+    check(refused_commands(h, status, &told) == 18, __LINE__);
+    check(refused_calls(h, status, &told) == 8, __LINE__);
+    check(memcmp(&told, &stood, sizeof told) == 0, __LINE__);
+    metronome_destroy(h);
+    check(memcmp(&before, h, sizeof before) == 0, __LINE__);
+}
+
+/* What was never set isn't taken for a handle, whatever single byte fills it. */
+static void what_was_never_set_is_told(const metronome_settings *settings) {
+    for (int byte = 1; byte < 256; byte++) {
+        metronome h;
+        memset(&h, byte, sizeof h);
+        nothing_is_done(&h, METRONOME_BAD_HANDLE);
+        IS(METRONOME_BAD_HANDLE, metronome_create(&h, settings));
+    }
+}
+
+/* A program of another version is told so, whatever it gives as a handle, and nothing is made. */
+static void another_version_is_told(const metronome_settings *settings) {
+    metronome h = METRONOME_CLOSED, never_set;
+    memset(&never_set, 0xA5, sizeof never_set);
+    IS(METRONOME_OTHER_VERSION, metronome_create_for(&h, settings, METRONOME_VERSION + 1));
+    IS(METRONOME_OTHER_VERSION, metronome_create_for(&h, settings, METRONOME_VERSION - 1));
+    IS(METRONOME_OTHER_VERSION, metronome_create_for(&never_set, settings, METRONOME_VERSION - 1));
+    nothing_is_done(&h, METRONOME_NO_HEAP);
+}
+
+/* A handle is made, made again, moved, destroyed, destroyed again, and made anew. */
+static void a_handle_has_one_heap(const metronome_settings *settings) {
+    metronome h = METRONOME_CLOSED, moved = METRONOME_CLOSED;
+    nothing_is_done(&h, METRONOME_NO_HEAP);
+    IS(METRONOME_OK, metronome_create(&h, settings));
+    check(metronome_new_plain(&h, 0, 0, 0, 1).kind == METRONOME_MADE, __LINE__);
+    IS(METRONOME_OPEN, metronome_create(&h, settings));
+    check(metronome_put(&h, 0, 0, 0, 42).kind == METRONOME_DONE, __LINE__);
+    moved = h;
+    h = (metronome)METRONOME_CLOSED;
+    check(metronome_get(&moved, 0, 0, 0).number == 42, __LINE__);
+    nothing_is_done(&h, METRONOME_NO_HEAP);
+    metronome_destroy(&moved);
+    nothing_is_done(&moved, METRONOME_NO_HEAP);
+    IS(METRONOME_OK, metronome_create(&moved, settings));
+    check(is_refused(metronome_get(&moved, 0, 0, 0), METRONOME_NULL_SLOT), __LINE__);
+    metronome_destroy(&moved);
+}
+
+/* Calls of a mutator and of the collector, before and after those that they need. */
+static void calls_come_out_of_order(const metronome_settings *settings) {
+    metronome h = METRONOME_CLOSED;
+    metronome_spent spent = { 7, 7 };
+    IS(METRONOME_OK, metronome_create(&h, settings));
+    IS(METRONOME_OK, metronome_quantum(&h, 256, &spent));
+    check(spent.units == 0 && spent.phase == METRONOME_IDLE, __LINE__);
+    check(is_refused(metronome_leave(&h, 1), METRONOME_NOT_LIVE), __LINE__);
+    check(is_refused(metronome_join(&h, 0), METRONOME_ALREADY_LIVE), __LINE__);
+    check(is_refused(metronome_get(&h, 0, 0, 0), METRONOME_NULL_SLOT), __LINE__);
+    IS(METRONOME_OK, metronome_begin(&h));
+    IS(METRONOME_BUSY, metronome_begin(&h));
+    check(metronome_leave(&h, 0).kind == METRONOME_DONE, __LINE__);
+    check(is_refused(metronome_new_plain(&h, 0, 0, 1, 1), METRONOME_NOT_LIVE), __LINE__);
+    metronome_destroy(&h);
+    IS(METRONOME_NO_HEAP, metronome_quantum(&h, 256, &spent));
+}
+
+/* A text of no length may go nowhere. */
+static void texts_may_go_nowhere(void) {
+    check(metronome_text(METRONOME_NO_SPACE, NULL, 0) == 8, __LINE__);
+    char text[9] = "7777777";
+    check(metronome_text(METRONOME_NO_SPACE, text, 0) == 8 && strcmp(text, "7777777") == 0, __LINE__);
+    check(metronome_text(METRONOME_NO_SPACE, text, sizeof text) == 8 && strcmp(text, "no space") == 0, __LINE__);
+}
+
+static bool is_page(metronome *h, size_t number, uint32_t size, uint32_t held) {
+    metronome_page_view page = { 7, 7, 7, 7 };
+    return metronome_page(h, number, &page) == METRONOME_OK && page.size == size && page.held == held && page.leaving == 0
+        && page.receiving == 0;
+}
+
+/* A header takes 4 words of a block, and a cell one. A page that there isn't is told as a free one is. */
+static void pages_are_told(const metronome_settings *settings) {
+    metronome h = METRONOME_CLOSED;
+    IS(METRONOME_OK, metronome_create(&h, settings));
+    check(metronome_new_plain(&h, 0, 0, 1, 1).kind == METRONOME_MADE, __LINE__);
+    check(is_page(&h, 0, 6, 1) && is_page(&h, 1, 0, 0), __LINE__);
+    check(metronome_new_words(&h, 0, 1, 1).kind == METRONOME_MADE, __LINE__);
+    check(metronome_new_refs(&h, 0, 2, 1).kind == METRONOME_MADE, __LINE__);
+    check(is_page(&h, 0, 6, 1) && is_page(&h, 1, 5, 2), __LINE__);
+    check(is_page(&h, 2, 0, 0) && is_page(&h, SIZE_MAX, 0, 0), __LINE__);
+    metronome_destroy(&h);
+}
+
+/* 1 static and 8 slots, 3 * 2048 words of each of 2 pages, 38 looks at each, and 4: 12377 units. Of a quantum of 1000 units no
+ * more than 255 are left, so that 745 go into each but the last. */
+static void cycles_keep_to_their_limit(metronome_settings settings) {
+    metronome h = METRONOME_CLOSED;
+    metronome_limit limit = { 7, 7 };
+    metronome_spent spent = { 0, METRONOME_ROOTS };
+    uint64_t quanta = 0, units = 0;
+    IS(METRONOME_OK, metronome_cycle_limit(&settings, &limit));
+    check(limit.units == 12377 && limit.quanta == 17, __LINE__);
+    IS(METRONOME_OK, metronome_create(&h, &settings));
+    IS(METRONOME_OK, metronome_begin(&h));
+    for (; spent.phase != METRONOME_IDLE && quanta <= limit.quanta; quanta++) metronome_quantum(&h, 1000, &spent);
+    IS(METRONOME_OK, metronome_units(&h, &units));
+    check(quanta <= limit.quanta && units <= limit.units, __LINE__);
+    metronome_destroy(&h);
+    limit.units = limit.quanta = 7;
+    settings.rate = 25;
+    IS(METRONOME_BAD_SCHEDULE, metronome_cycle_limit(&settings, &limit));
+    settings.slots = 257;
+    IS(METRONOME_BAD_SETTING + 2, metronome_cycle_limit(&settings, &limit));
+    check(limit.units == 7 && limit.quanta == 7, __LINE__);
+}
+
+int main(void) {
+    metronome_settings settings = METRONOME_SETTINGS(2, 2, 4);
+    settings.statics = 1;
+    settings.live = 1;
+    what_was_never_set_is_told(&settings);
+    another_version_is_told(&settings);
+    a_handle_has_one_heap(&settings);
+    calls_come_out_of_order(&settings);
+    texts_may_go_nowhere();
+    pages_are_told(&settings);
+    cycles_keep_to_their_limit(settings);
+    printf("%d passed, %d failed\n", passed, failed);
+    return failed != 0;
+}

@@ -1,0 +1,215 @@
+/*
+ * metronome_heap.hpp: the part of metronome.hpp, which includes it and says how its calls come, that is of whole heaps.
+ */
+#ifndef METRONOME_HEAP_HPP
+#define METRONOME_HEAP_HPP
+
+#include "metronome.h"
+
+#include <array>
+#include <bitset>
+#include <cassert>
+#include <cstddef>
+#include <cstdint>
+#include <exception>
+#include <memory>
+#include <new>
+#include <utility>
+
+namespace barleynight {
+
+class Mutator;
+
+namespace detail {
+
+constexpr std::size_t MOST_MUTATORS = 64, MOST_SLOTS = 256;
+
+// An answer as a status.
+inline std::uint32_t status_of(metronome_answer answer) noexcept {
+    constexpr std::uint32_t ok = METRONOME_OK;
+    return answer.kind == METRONOME_REFUSED ? static_cast<std::uint32_t>(answer.number) : ok;
+}
+
+// The number of an answer, told where it isn't refused.
+inline std::uint32_t tell(metronome_answer answer, std::uint64_t &number) noexcept {
+    if (answer.kind != METRONOME_REFUSED) number = answer.number;
+    return status_of(answer);
+}
+
+// Whether an answer is of a kind, told where it isn't refused.
+inline std::uint32_t tell_kind(metronome_answer answer, std::uint32_t kind, bool &is) noexcept {
+    if (answer.kind != METRONOME_REFUSED) is = answer.kind == kind;
+    return status_of(answer);
+}
+
+// A heap that stays where it is when its `Heap` is moved, and which of its mutators have a `Mutator`.
+struct HeapState {
+    HeapState() = default;
+    HeapState(const HeapState &) = delete;
+    HeapState &operator=(const HeapState &) = delete;
+    ~HeapState() {
+        assert(used.none() && "a heap outlives its mutators");
+        metronome_destroy(&handle);
+    }
+
+    metronome handle = METRONOME_CLOSED;
+    std::uint32_t slots = 0;
+    std::bitset<MOST_MUTATORS> used;
+};
+
+// A mutator, and its free slots.
+struct MutatorState {
+    MutatorState(HeapState &its_heap, std::uint32_t its_number) noexcept : heap(its_heap), number(its_number) {
+        for (std::uint32_t slot = heap.slots; slot > 0; slot--) give(slot - 1);
+    }
+    MutatorState(const MutatorState &) = delete;
+    MutatorState &operator=(const MutatorState &) = delete;
+    ~MutatorState() {
+        if (!is_on) return;
+        assert(left == heap.slots && "a mutator outlives its roots");
+        metronome_leave(&heap.handle, number);
+        heap.used.reset(number);
+    }
+
+    metronome *handle() noexcept { return &heap.handle; }
+    std::uint32_t take() noexcept { return free[--left]; }
+    void give(std::uint32_t slot) noexcept { free[left++] = slot; }
+
+    HeapState &heap;
+    std::uint32_t number;
+    std::size_t left = 0;
+    std::array<std::uint32_t, MOST_SLOTS> free;
+    bool is_on = false;
+};
+
+} // namespace detail
+
+#ifdef __cpp_exceptions
+
+// What a refused call throws: its status, and the text of it.
+class Refusal : public std::exception {
+public:
+    explicit Refusal(std::uint32_t status) noexcept : its_status(status) { metronome_text(status, text, sizeof text); }
+
+    std::uint32_t status() const noexcept { return its_status; }
+    const char *what() const noexcept override { return text; }
+
+private:
+    std::uint32_t its_status;
+    char text[64];
+};
+
+namespace detail {
+
+inline void need(std::uint32_t status) {
+    if (status != METRONOME_OK) throw Refusal(status);
+}
+
+} // namespace detail
+
+#endif
+
+// A heap, or none: of a closed one each call is refused as NO_HEAP.
+class Heap {
+public:
+    Heap() = default;
+
+    std::uint32_t try_open(const metronome_settings &settings) noexcept {
+        if (state) return METRONOME_OPEN;
+        std::unique_ptr<detail::HeapState> made(new (std::nothrow) detail::HeapState);
+        if (!made) return METRONOME_NO_MEMORY;
+        const std::uint32_t status = metronome_create(&made->handle, &settings);
+        if (status != METRONOME_OK) return status;
+        made->slots = static_cast<std::uint32_t>(settings.slots);
+        state = std::move(made);
+        return METRONOME_OK;
+    }
+
+    // BUSY where a cycle is on already.
+    std::uint32_t try_begin() noexcept { return metronome_begin(handle()); }
+    std::uint32_t try_quantum(std::uint32_t budget, metronome_spent &spent) noexcept {
+        return metronome_quantum(handle(), budget, &spent);
+    }
+    std::uint32_t try_whole_cycle(std::uint32_t budget) noexcept { return metronome_whole_cycle(handle(), budget); }
+    std::uint32_t try_pace(metronome_pacing &pacing, std::uint64_t words) noexcept {
+        return metronome_pace(handle(), &pacing, words);
+    }
+
+    std::uint32_t try_phase(std::uint32_t &phase) noexcept { return metronome_phase(handle(), &phase); }
+    std::uint32_t try_units(std::uint64_t &units) noexcept { return metronome_units(handle(), &units); }
+    std::uint32_t try_free_pages(std::uint64_t &pages) noexcept { return metronome_free_pages(handle(), &pages); }
+    std::uint32_t try_count(metronome_counts &counts) noexcept { return metronome_count(handle(), &counts); }
+    std::uint32_t try_page(std::size_t number, metronome_page_view &page) noexcept {
+        return metronome_page(handle(), number, &page);
+    }
+
+    // The handle for calls of metronome.h. It is only read and written by these.
+    metronome *handle() noexcept { return state ? &state->handle : &none; }
+
+#ifdef __cpp_exceptions
+    explicit Heap(const metronome_settings &settings) { detail::need(try_open(settings)); }
+
+    // Whether a cycle began: none was on.
+    bool begin() {
+        const std::uint32_t status = try_begin();
+        if (status != METRONOME_BUSY) detail::need(status);
+        return status == METRONOME_OK;
+    }
+    metronome_spent quantum(std::uint32_t budget) {
+        metronome_spent spent{};
+        detail::need(try_quantum(budget, spent));
+        return spent;
+    }
+    void whole_cycle(std::uint32_t budget) { detail::need(try_whole_cycle(budget)); }
+    void pace(metronome_pacing &pacing, std::uint64_t words) { detail::need(try_pace(pacing, words)); }
+
+    std::uint32_t phase() {
+        std::uint32_t phase = METRONOME_IDLE;
+        detail::need(try_phase(phase));
+        return phase;
+    }
+    std::uint64_t units() {
+        std::uint64_t units = 0;
+        detail::need(try_units(units));
+        return units;
+    }
+    std::uint64_t free_pages() {
+        std::uint64_t pages = 0;
+        detail::need(try_free_pages(pages));
+        return pages;
+    }
+    metronome_counts count() {
+        metronome_counts counts{};
+        detail::need(try_count(counts));
+        return counts;
+    }
+    metronome_page_view page(std::size_t number) {
+        metronome_page_view page{};
+        detail::need(try_page(number, page));
+        return page;
+    }
+#endif
+
+private:
+    friend class Mutator;
+
+    std::unique_ptr<detail::HeapState> state;
+    metronome none = METRONOME_CLOSED;
+};
+
+// What a cycle takes at most in a heap of these settings.
+inline std::uint32_t try_cycle_limit(const metronome_settings &settings, metronome_limit &limit) noexcept {
+    return metronome_cycle_limit(&settings, &limit);
+}
+
+#ifdef __cpp_exceptions
+inline metronome_limit cycle_limit(const metronome_settings &settings) {
+    metronome_limit limit{};
+    detail::need(try_cycle_limit(settings, limit));
+    return limit;
+}
+#endif
+
+} // namespace barleynight
+
+#endif

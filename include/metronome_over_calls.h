@@ -1,0 +1,119 @@
+/*
+ * metronome_over_calls.h: frames of slots and a pace for the collector, as plain C over the calls of metronome.h, which includes
+ * it. Of it nothing is proved.
+ */
+#ifndef METRONOME_OVER_CALLS_H
+#define METRONOME_OVER_CALLS_H
+
+#include "metronome.h"
+
+/* ---- Frames: slots that are taken and given back as a stack ---- */
+
+/* A row of slots of one mutator. Those from `next` to `end - 1` are free, and hold null; nothing else may write to them. */
+typedef struct metronome_row {
+    uint32_t mutator;
+    uint32_t next;
+    uint32_t end;
+} metronome_row;
+
+/* The row of slots `first` to `end - 1` of a mutator, none of them taken: all of its slots, say, with 0 and the setting. */
+#define METRONOME_ROW(mutator, first, end) { (mutator), (first), (end) }
+
+/* A frame: the first slot that is taken in it, if one is. */
+typedef uint32_t metronome_frame;
+
+/* Opens a frame: what is taken from now on belongs to it, up to the next frame that is opened and not closed. */
+METRONOME_NONNULL static inline metronome_frame metronome_open_frame(const metronome_row *row) {
+    return row->next;
+}
+
+/* Takes the next slot of the row, which holds null, and tells its number. OK; BAD_SLOT where no slot is left, and neither the
+ * row nor *slot has changed then: close a frame first, or make the heap with more slots (256 at most). */
+METRONOME_NONNULL static inline uint32_t metronome_take_slot(metronome_row *row, uint32_t *slot) {
+    if (row->next >= row->end) return METRONOME_BAD_SLOT;
+    *slot = row->next++;
+    return METRONOME_OK;
+}
+
+/* Closes a frame, and those that were opened after it: null into each of their slots, which are free again. What is to be
+ * kept is copied into a slot of an outer frame before. Needs a live mutator. OK; NOT_LIVE, NO_HEAP, or BAD_SLOT where the row
+ * isn't one of the heap's, and the slots that weren't reached stay taken. */
+METRONOME_NONNULL static inline uint32_t metronome_close_frame(metronome *heap, metronome_row *row, metronome_frame frame) {
+    while (row->next > frame) {
+        metronome_answer answer = metronome_clear(heap, row->mutator, row->next - 1);
+        if (answer.kind == METRONOME_REFUSED) return (uint32_t)answer.number;
+        row->next--;
+    }
+    return METRONOME_OK;
+}
+
+/* ---- The collector, paced by what is made ---- */
+
+/* Goes through two cycles, the one that is on among them, in quanta of so many units: what nothing leads to is freed then. So a
+ * program with a deadline paces itself (metronome_pace), and others do this where a new object is refused:
+ *
+ *     metronome_answer answer = metronome_new_plain(&heap, 0, slot, 1, 2);
+ *     if (answer.kind == METRONOME_REFUSED && answer.number == METRONOME_NO_SPACE
+ *         && metronome_whole_cycle(&heap, 100000) == METRONOME_OK)
+ *         answer = metronome_new_plain(&heap, 0, slot, 1, 2);
+ *
+ * OK, BAD_BUDGET, NO_HEAP. */
+METRONOME_NONNULL static inline uint32_t metronome_whole_cycle(metronome *heap, uint32_t budget) {
+    metronome_spent spent = { 0, METRONOME_IDLE };
+    uint32_t status = METRONOME_OK;
+    for (int ends = 0; ends < 2 && status == METRONOME_OK; ends += spent.phase == METRONOME_IDLE) {
+        status = metronome_begin(heap);
+        if (status == METRONOME_OK || status == METRONOME_BUSY) status = metronome_quantum(heap, budget, &spent);
+    }
+    return status;
+}
+
+/* A pace: how often the collector works, by the words that the program makes. */
+typedef struct metronome_pacing {
+    uint64_t begin_below; /* a cycle begins where fewer pages than this are free; above `pages`, one is always on */
+    uint64_t words;       /* 1 or more: a quantum for each so many words made */
+    uint32_t budget;      /* 256 to 1000000: the units of a quantum */
+    uint64_t owed;        /* words made since the last quantum; 0 at first */
+} metronome_pacing;
+
+#define METRONOME_PACING(begin_below, words, budget) { (begin_below), (words), (budget), 0 }
+
+/* Tells the pace that so many words are about to be made; an object of n cells takes n + 4. For each so many as the pace says,
+ * it begins a cycle if none is on and too few pages are free, and spends a quantum of the cycle that is on. A program calls it
+ * before each new object. It takes no longer than a quantum, but where more words come at once than the pace has for one: an
+ * array of many words owes many quanta.
+ *
+ * HOW TO CHOOSE THE NUMBERS. The budget is the longest pause of the collector: a unit takes some 5 to 10 ns on a processor of
+ * 2.5 GHz. A cycle takes at most Q quanta of it, as metronome.h says. Of blocks of one size at most B are made between two
+ * quanta: those for which `words` have room, and one more. No object is refused for want of space where begin_below pages have
+ * room for L + (2 * Q + 1) * B blocks of each size, of which live objects need L, and for 1 + defrag_pages pages of each size
+ * besides. In short, with a budget of 1000 or more, a few sizes, no moving, and half of the pages live:
+ * words = (budget - 255) / 20 and begin_below = pages.
+ *
+ * For a program's own numbers, record a run (metronome_record.h) of settings whose collector_ticks * rate is the budget.
+ * `metronome pages --pace` tells Q, and of each size L, B and what was made between two cycles, and whether the pages suffice;
+ * that they do for every run at this pace is proved of the heap. That a program keeps to the pace is not: it does if it calls
+ * this before each new object, and if no more of its objects are live than in the run that was recorded.
+ *
+ * OK; BAD_BUDGET where the budget or the words are out of their range, NO_HEAP. */
+METRONOME_NONNULL static inline uint32_t metronome_pace(metronome *heap, metronome_pacing *pacing, uint64_t words) {
+    if (pacing->words == 0) return METRONOME_BAD_BUDGET;
+    for (pacing->owed += words; pacing->owed >= pacing->words; pacing->owed -= pacing->words) {
+        metronome_spent spent;
+        uint32_t phase = METRONOME_IDLE;
+        uint64_t free_pages = 0;
+        uint32_t status = metronome_phase(heap, &phase);
+        if (status == METRONOME_OK) status = metronome_free_pages(heap, &free_pages);
+        if (status != METRONOME_OK) return status;
+        if (phase == METRONOME_IDLE && free_pages >= pacing->begin_below) {
+            pacing->owed %= pacing->words;
+            return METRONOME_OK;
+        }
+        if (phase == METRONOME_IDLE) metronome_begin(heap);
+        status = metronome_quantum(heap, pacing->budget, &spent);
+        if (status != METRONOME_OK) return status;
+    }
+    return METRONOME_OK;
+}
+
+#endif

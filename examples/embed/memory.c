@@ -101,6 +101,17 @@ static void check_use(metronome *heap) {
     check(phases >> METRONOME_MOVING == 1, "blocks were moved");
 }
 
+/* The largest heap is made, and given back. */
+static void check_largest(void) {
+    metronome heap = METRONOME_CLOSED;
+    metronome_settings settings = METRONOME_SETTINGS(4096, 64, 256);
+    settings.statics = 256;
+    long stood = held;
+    check(metronome_create(&heap, &settings) == METRONOME_OK, "the largest heap");
+    metronome_destroy(&heap);
+    check(held == stood, "all of the largest heap is given back");
+}
+
 int main(void) {
     metronome heap = METRONOME_CLOSED;
     metronome_settings settings = METRONOME_SETTINGS(64, 2, 8);
@@ -116,6 +127,7 @@ int main(void) {
     check_use(&heap);
     metronome_destroy(&heap);
     check(held == stood, "all is given back");
+    check_largest();
 
     int refused = 0;
     for (refused_at = 1; refused_at <= needed; refused_at++) {

@@ -10,8 +10,8 @@ BRACES = re.compile(
     rf"|(?P<below>[^{{}}]*) if (?P<low>{NUMBER}) < (?P<high>{NUMBER}) else (?P<above>[^{{}}]*)"
     rf"|(?P<value>{NUMBER}))\}}"
 )
-ESCAPE = re.compile(r"\\(?:x([0-9a-f]{2})|(.))")
-ESCAPED = {"n": "\n", "r": "\r", "t": "\t", "\\": "\\"}
+ESCAPE = re.compile(rb"\\(?:x([0-9a-f]{2})|(.))")
+ESCAPED = {b"n": b"\n", b"r": b"\r", b"t": b"\t", b"\\": b"\\"}
 
 
 @dataclass(frozen=True)
@@ -123,12 +123,11 @@ def data(text):
 
 def escaped(text):
     """The bytes that a text with escapes stands for."""
-    made, at = b"", 0
-    for found in ESCAPE.finditer(text):
-        made += text[at : found.start()].encode()
-        made += bytes.fromhex(found[1]) if found[1] else ESCAPED[found[2]].encode()
-        at = found.end()
-    return made + text[at:].encode()
+
+    def meant(found):
+        return bytes([int(found[1], 16)]) if found[1] else ESCAPED[found[2]]
+
+    return ESCAPE.sub(meant, text.encode())
 
 
 def shown(data):

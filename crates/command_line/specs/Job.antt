@@ -1,12 +1,14 @@
 -- What the words of a command line ask for.
-use Rattle.std.specs.Prelude.{◌≡◌, ℕ, ◌<◌, ◌≤◌, List, length, Option, None, codes}
+use Rattle.std.specs.Prelude.{◌≡◌, ℕ, ◌<◌, ◌≤◌, List, length, Option, None, unwrap_or, codes}
 use Rattle.std.specs.List.{All}
 use Rattle.std.specs.Option.{IfSome}
 use Rattle.size_classes.specs.declared.config.TheConstants.{LEAST_BUDGET, MOST_BUDGET}
 use Rattle.command_line.specs.declared.job.Picture.{Picture}
 use Rattle.command_line.specs.declared.job.Picture.TheVariants as pictures
+use Rattle.command_line.specs.declared.job.Report.{Report}
+use Rattle.command_line.specs.declared.job.Report.TheVariants as reports
 use Rattle.command_line.specs.declared.job.Job.{Job}
-use Rattle.command_line.specs.declared.job.Job.TheVariants.{Play, Check, Threads, Inspect, Cycles, Mmu, Draw, DrawTime, Pages}
+use Rattle.command_line.specs.declared.job.Job.TheVariants.{Play, Check, Threads, Inspect, Cycles, Path, Mmu, Draw, DrawGraph, DrawTime, Pages}
 
 -- a window has 1 to 1099511627776 ticks
 abbrev pub IsWindow : ℕ → Type 0
@@ -17,10 +19,12 @@ abbrev pub IsInRange : Job → Type 0
 IsInRange (Play config trace history) = Unit {0}
 IsInRange (Check config history) = Unit {0}
 IsInRange (Threads config scripts turns budget) = (turns ≤ 10000) × (LEAST_BUDGET ≤ budget) × (budget ≤ MOST_BUDGET)
-IsInRange (Inspect config trace after) = IfSome after (λ lines. lines ≤ 4294967295)
+IsInRange (Inspect config trace by after) = IfSome after (λ lines. lines ≤ 4294967295)
 IsInRange (Draw config trace picture after) = IfSome after (λ lines. lines ≤ 4294967295)
+IsInRange (DrawGraph config trace after most) = IfSome after (λ lines. lines ≤ 4294967295) × (1 ≤ most) × (most ≤ 4294967295)
 IsInRange (DrawTime config trace) = Unit {0}
 IsInRange (Cycles config trace csv) = Unit {0}
+IsInRange (Path config trace id after) = IfSome after (λ lines. lines ≤ 4294967295)
 IsInRange (Pages config trace by) = Unit {0}
 IsInRange (Mmu config trace windows) = (0 < length windows.items) × All IsWindow windows.items
 
@@ -29,8 +33,15 @@ abbrev pub picture_name : Picture → List ℕ
 picture_name pictures.Pages = codes "pages"
 picture_name pictures.Utilisation = codes "utilisation"
 
--- the job draws the picture of this name: of a heap after so many event lines, or over all events
-abbrev pub IsDrawing : List ℕ → Option ℕ → Job → Type 0
-IsDrawing name lines (Draw config trace picture after) = (name ≡ picture_name picture) × (lines ≡ after)
-IsDrawing name lines (DrawTime config trace) = (name ≡ codes "time") × (lines ≡ None)
-IsDrawing name lines other = ⊥
+-- the name of a report of a heap
+abbrev pub report_name : Report → List ℕ
+report_name reports.Pages = codes "page"
+report_name reports.Sizes = codes "size"
+
+-- The job draws the picture of this name: of a heap after so many event lines; of at most so many objects of its graph; or over
+-- all events.
+abbrev pub IsDrawing : List ℕ → Option ℕ → Option ℕ → Job → Type 0
+IsDrawing name lines objects (Draw config trace picture after) = (name ≡ picture_name picture) × (lines ≡ after) × (objects ≡ None)
+IsDrawing name lines objects (DrawGraph config trace after most) = (name ≡ codes "graph") × (lines ≡ after) × (most ≡ unwrap_or objects 500)
+IsDrawing name lines objects (DrawTime config trace) = (name ≡ codes "time") × (lines ≡ None) × (objects ≡ None)
+IsDrawing name lines objects other = ⊥

@@ -13,6 +13,7 @@ pub fn program<'a>(alloc: Global) -> Result<Command<'a>, AllocError> {
         .subcommand(threads(alloc)?)?
         .subcommand(inspect(alloc)?)?
         .subcommand(cycles(alloc)?)?
+        .subcommand(path(alloc)?)?
         .subcommand(mmu(alloc)?)?
         .subcommand(draw(alloc)?)?
         .subcommand(pages(alloc)?)
@@ -108,12 +109,28 @@ fn after<'a>(alloc: Global) -> Arg<'a> {
 }
 
 fn inspect<'a>(alloc: Global) -> Result<Command<'a>, AllocError> {
-    playing(alloc, "inspect", "Play a trace and report the heap")?.arg(after(alloc))
+    let by = Arg::new(alloc, "by")
+        .long("by")
+        .value_name("PART")
+        .default_value("page")
+        .help("By what to report: page or size");
+    playing(alloc, "inspect", "Play a trace and report the heap")?
+        .arg(by)?
+        .arg(after(alloc))
 }
 
 fn cycles<'a>(alloc: Global) -> Result<Command<'a>, AllocError> {
     let csv = flag(alloc, "csv", "Write commas between the figures");
     playing(alloc, "cycles", "Play a trace and tell of each cycle")?.arg(csv)
+}
+
+fn path<'a>(alloc: Global) -> Result<Command<'a>, AllocError> {
+    let id = Arg::new(alloc, "ID")
+        .required(true)
+        .value_parser(value_parser!(u64))
+        .help("The identity of the object, as the replies name it");
+    let about = "Play a trace and tell why an object is alive";
+    playing(alloc, "path", about)?.arg(id)?.arg(after(alloc))
 }
 
 fn mmu<'a>(alloc: Global) -> Result<Command<'a>, AllocError> {
@@ -131,10 +148,12 @@ fn draw<'a>(alloc: Global) -> Result<Command<'a>, AllocError> {
         .long("as")
         .value_name("PICTURE")
         .required(true)
-        .help("The picture: pages, time or utilisation");
-    playing(alloc, "draw", "Play a trace and draw a picture in SVG")?
+        .help("The picture: graph, pages, time or utilisation");
+    let most = "Draw at most N objects of a graph, 500 if not said";
+    playing(alloc, "draw", "Play a trace and draw a picture")?
         .arg(picture)?
-        .arg(after(alloc))
+        .arg(after(alloc))?
+        .arg(number(alloc, "most", "N", most))
 }
 
 fn pages<'a>(alloc: Global) -> Result<Command<'a>, AllocError> {

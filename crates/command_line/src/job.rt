@@ -9,6 +9,15 @@ pub enum Picture {
     Utilisation,
 }
 
+/// By what a heap is reported.
+#[derive(Clone, Copy, Debug, PartialEq, Eq)]
+pub enum Report {
+    /// Page by page, with its phase, its roots and its objects.
+    Pages,
+    /// By size class.
+    Sizes,
+}
+
 /// By what it is told how many pages suffice.
 #[derive(Clone, Copy, Debug, PartialEq, Eq)]
 pub enum Sizing<'a> {
@@ -46,6 +55,7 @@ pub enum Job<'a> {
     Inspect {
         config: &'a str,
         trace: &'a str,
+        by: Report,
         after: Option<u32>,
     },
     /// Play a trace, and write the utilisation of windows of so many ticks.
@@ -61,6 +71,13 @@ pub enum Job<'a> {
         picture: Picture,
         after: Option<u32>,
     },
+    /// Play a trace, or its first event lines, and draw the objects that can be reached, at most so many.
+    DrawGraph {
+        config: &'a str,
+        trace: &'a str,
+        after: Option<u32>,
+        most: u32,
+    },
     /// Play a trace, and draw its heap over its events.
     DrawTime {
         config: &'a str,
@@ -71,6 +88,13 @@ pub enum Job<'a> {
         config: &'a str,
         trace: &'a str,
         csv: bool,
+    },
+    /// Play a trace, or its first event lines, and tell why the object of an identity is alive.
+    Path {
+        config: &'a str,
+        trace: &'a str,
+        id: u64,
+        after: Option<u32>,
     },
     /// Play a trace, and tell how many pages suffice.
     Pages {

@@ -10,6 +10,6 @@ mod words;
 
 pub use document::read_config;
 pub use fault::{ReadFault, WordsFault};
-pub use job::{Job, Picture, Request, Sizing};
+pub use job::{Job, Picture, Report, Request, Sizing};
 pub use toml_table::{OpenFault, any_member, open_document};
 pub use words::read_words;

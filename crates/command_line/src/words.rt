@@ -1,11 +1,11 @@
 //! The words of the command line.
-ghost use Rattle.std.specs.Prelude.{◌≡◌, ◌<◌, ◌≤◌, IfOk, OnOk, length};
+ghost use Rattle.std.specs.Prelude.{◌≡◌, ◌<◌, ◌≤◌, None, IfOk, OnOk, length};
 ghost use Rattle.std.specs.List.{All};
-ghost use Rattle.command_line.specs.Job.{IsDrawing, IsInRange, IsWindow, picture_name};
+ghost use Rattle.command_line.specs.Job.{IsDrawing, IsInRange, IsWindow, picture_name, report_name};
 
 use crate::commands::program;
 use crate::fault::WordsFault;
-use crate::job::{Job, Picture, Request, Sizing};
+use crate::job::{Job, Picture, Report, Request, Sizing};
 use clap::ArgMatches;
 use clap::error::ErrorKind;
 use size_classes::{LEAST_BUDGET, MOST_BUDGET};
@@ -40,6 +40,7 @@ fn job_of<'a>(alloc: Global, name: &str, found: &ArgMatches<'a>) -> Result<Job<'
         "threads" => threads(alloc, found),
         "inspect" => inspect(alloc, found),
         "cycles" => cycles(alloc, found),
+        "path" => path(alloc, found),
         "mmu" => mmu(alloc, found),
         "draw" => draw(alloc, found),
         "pages" => pages(alloc, found),
@@ -106,11 +107,30 @@ fn threads<'a>(alloc: Global, found: &ArgMatches<'a>) -> Result<Job<'a>, WordsFa
 fn inspect<'a>(alloc: Global, found: &ArgMatches<'a>) -> Result<Job<'a>, WordsFault>
     ensures { IfOk result IsInRange }
 {
+    // (clap gives it its default where it isn't named)
+    let by = found.get_str("by").unwrap_or("");
     Ok(Job::Inspect {
         config: file(alloc, found, "CONFIG")?,
         trace: file(alloc, found, "TRACE")?,
+        by: report(alloc, by)?,
         after: found.get_one("after"),
     })
+}
+
+/// The report of a heap of a name.
+fn report(alloc: Global, name: &str) -> Result<Report, WordsFault>
+    ensures { IfOk result (λ report. name.now ≡ report_name report) }
+{
+    match name {
+        "page" => Ok(Report::Pages),
+        "size" => Ok(Report::Sizes),
+        _ => {
+            let why = format!(in alloc;
+                "invalid value '{name}' for '--by <PART>': it is neither page nor size"
+            )?;
+            Err(refused(alloc, why.as_str()))
+        }
+    }
 }
 
 fn cycles<'a>(alloc: Global, found: &ArgMatches<'a>) -> Result<Job<'a>, WordsFault>
@@ -120,6 +140,18 @@ fn cycles<'a>(alloc: Global, found: &ArgMatches<'a>) -> Result<Job<'a>, WordsFau
         config: file(alloc, found, "CONFIG")?,
         trace: file(alloc, found, "TRACE")?,
         csv: found.get_flag("csv"),
+    })
+}
+
+fn path<'a>(alloc: Global, found: &ArgMatches<'a>) -> Result<Job<'a>, WordsFault>
+    ensures { IfOk result IsInRange }
+{
+    Ok(Job::Path {
+        config: file(alloc, found, "CONFIG")?,
+        trace: file(alloc, found, "TRACE")?,
+        // (clap has refused what is no such number)
+        id: found.get_one("ID").unwrap_or_default(),
+        after: found.get_one("after"),
     })
 }
 
@@ -143,33 +175,55 @@ fn draw<'a>(alloc: Global, found: &ArgMatches<'a>) -> Result<Job<'a>, WordsFault
     let config = file(alloc, found, "CONFIG")?;
     let trace = file(alloc, found, "TRACE")?;
     let name = found.get_str("as").unwrap_or("");
-    drawing(alloc, config, trace, name, found.get_one("after"))
+    let after = found.get_one("after");
+    drawing(alloc, config, trace, name, after, found.get_one("most"))
 }
 
-/// What draws the picture of a name. A picture over the events is of all of them.
+/// What draws the picture of a name. A picture over the events is of all of them, and objects are counted of a graph alone.
 fn drawing<'a>(
     alloc: Global,
     config: &'a str,
     trace: &'a str,
     name: &str,
     after: Option<u32>,
+    most: Option<u32>,
 ) -> Result<Job<'a>, WordsFault>
     ensures range { IfOk result IsInRange }
-    ensures named { IfOk result (IsDrawing name.now after) }
+    ensures named { IfOk result (IsDrawing name.now after most) }
 {
-    if name != "time" {
-        return Ok(Job::Draw {
+    if name == "graph" {
+        let most = most.unwrap_or(500);
+        within(alloc, "--most <N>", u64::from(most), 1, 4294967295)?;
+        return Ok(Job::DrawGraph {
             config,
             trace,
-            picture: picture(alloc, name)?,
             after,
+            most,
         });
     }
-    if after.is_some() {
-        let why = "the argument '--after <N>' cannot be used with '--as time'";
-        return Err(refused(alloc, why));
+    without(alloc, most, "--most <N>", name)?;
+    if name == "time" {
+        without(alloc, after, "--after <N>", name)?;
+        return Ok(Job::DrawTime { config, trace });
     }
-    Ok(Job::DrawTime { config, trace })
+    let picture = picture(alloc, name)?;
+    Ok(Job::Draw {
+        config,
+        trace,
+        picture,
+        after,
+    })
+}
+
+/// Refuses a number that isn't for the picture of a name, as `clap` does.
+fn without(alloc: Global, number: Option<u32>, argument: &str, name: &str) -> Result<(), WordsFault>
+    ensures { OnOk result (number ≡ None) }
+{
+    if number.is_none() {
+        return Ok(());
+    }
+    let why = format!(in alloc; "the argument '{argument}' cannot be used with '--as {name}'")?;
+    Err(refused(alloc, why.as_str()))
 }
 
 fn pages<'a>(alloc: Global, found: &ArgMatches<'a>) -> Result<Job<'a>, WordsFault>
@@ -204,7 +258,7 @@ fn picture(alloc: Global, name: &str) -> Result<Picture, WordsFault>
         "utilisation" => Ok(Picture::Utilisation),
         _ => {
             let why = format!(in alloc;
-                "invalid value '{name}' for '--as <PICTURE>': it is none of pages, time and utilisation"
+                "invalid value '{name}' for '--as <PICTURE>': it is none of graph, pages, time and utilisation"
             )?;
             Err(refused(alloc, why.as_str()))
         }

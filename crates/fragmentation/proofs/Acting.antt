@@ -1,5 +1,5 @@
 -- What holds of few pages and of what is left, through each action and each chain of actions.
-use Rattle.std.proofs.Common.{◌≡◌, ℕ, suc, ◌+◌, ◌-◌, ◌<◌, ◌≤◌, ◌⊎◌, inl, inr, Bool, true, false, ◌&&◌, if◌then◌else◌, nat_lt, List, [], ◌∷◌, Option, Some, None, length, ap, ◌∙◌, sym, subst, arith, refl}
+use Rattle.std.proofs.Common.{◌≡◌, ℕ, ◌+◌, ◌-◌, ◌<◌, ◌≤◌, ◌⊎◌, inl, inr, Bool, true, false, ◌&&◌, if◌then◌else◌, nat_lt, List, [], ◌∷◌, Option, Some, None, length, ap, ◌∙◌, sym, subst, arith, refl}
 use Rattle.std.proofs.lemmas.List.Sums.{sum_by-cons}
 use Rattle.std.proofs.lemmas.List.Quantifiers.{position-Some}
 use Rattle.graph_heap.specs.Graph.{Graph, first_slot}
@@ -12,7 +12,7 @@ use Rattle.heap_model.specs.declared.phase.Moving.TheVariants as moves
 use Rattle.heap_model.specs.declared.phase.Candidate.{Candidate}
 use Rattle.heap_model.specs.Pages.{Page, is_usable, is_free, page_at, free_pages}
 use Rattle.heap_model.specs.Store.{Store}
-use Rattle.heap_model.specs.State.{HeapState, is_leaving}
+use Rattle.heap_model.specs.State.{HeapState}
 use Rattle.heap_model.specs.Marks.{HasNoMark, AreClosed}
 use Rattle.heap_model.specs.Placed.{IsPlaced}
 use Rattle.heap_model.specs.Settings.{HeapSettings, settings_of}
@@ -28,14 +28,15 @@ use Rattle.space.specs.Demand.{asked_by}
 use Rattle.space.specs.Tally.{is_tracing}
 use Rattle.space.specs.Counts.{main_blocks, leaving_pages, used_pages}
 use Rattle.space.specs.Placement.{IsTidy}
-use Rattle.space.proofs.Counts.{one_if, used}
+use Rattle.space.proofs.Counts.{one_if, used, both_true}
 use Rattle.space.proofs.Tidying.{shrinks_then, shrinks_writes, shrinks_shades, shrinks_frees, shrinks_keeps, tidy_same, tidy_action}
 use Rattle.space.proofs.Changing.{shrinks_records}
+use Rattle.space.proofs.Spacing.{none_leaving}
 use Rattle.fragmentation.specs.Gathering.{AreUsed, ReceivesFirst, AreTight, HasLooked, IsGathering}
 use Rattle.fragmentation.specs.Suffice.{gathered_pages, GathersAll}
 use Rattle.fragmentation.proofs.IsFew.{IsFew}
 use Rattle.fragmentation.proofs.IsLeftover.{IsSettled, IsMoved, IsEmptying, IsLeftover}
-use Rattle.fragmentation.proofs.Free.{both_true, chosen_free}
+use Rattle.fragmentation.proofs.Free.{chosen_free}
 use Rattle.fragmentation.proofs.Few.{few_starts, few_action, moving_not}
 use Rattle.fragmentation.proofs.Passing.{in_pass}
 use Rattle.fragmentation.proofs.Gathering.{gather_action, gather_same, clears_pages, tight_action}
@@ -106,21 +107,18 @@ pub record IsGoing (h : HeapState) (present snapshot : Graph) : Type 0 where
   pub gathering : IsGathering h.store.pages (length h.store.pages) h.phase
   pub all : GathersAll h
 
-gathers_same : (h k : HeapState) → settings_of k ≡ settings_of h → GathersAll h → GathersAll k
-gathers_same h k e w = record {
+pub gathers_settings : (h k : HeapState) → settings_of k ≡ settings_of h → GathersAll h → GathersAll k
+gathers_settings h k e w = record {
   always = (let a : length k.store.pages ≡ length h.store.pages = ap (λ (s : HeapSettings). s.pages) e in let b : k.defrag_below ≡ h.defrag_below = ap (λ (s : HeapSettings). s.defrag_below) e in let c = w.always in omega (arith, a, b, c));
   all = (let a : length k.store.pages ≡ length h.store.pages = ap (λ (s : HeapSettings). s.pages) e in let b : k.defrag_pages ≡ h.defrag_pages = ap (λ (s : HeapSettings). s.defrag_pages) e in let c = w.all in omega (arith, a, b, c));
 }
-
-pub gathers_settings : (h k : HeapState) → settings_of k ≡ settings_of h → GathersAll h → GathersAll k
-gathers_settings h k e w = gathers_same h k e w
 
 going_action : (h after : HeapState) (cost : ℕ) (present snapshot : Graph) → IsGoing h present snapshot → Action h cost after → IsGoing after present snapshot
 going_action h after cost g s w a = record {
   stands = stands_action h after cost g s w.stands a;
   tidy = tidy_action h after cost g s g.objects w.stands a w.tidy;
   gathering = gather_action h after cost w.stands.pages w.stands.closed w.gathering a;
-  all = gathers_same h after (action_settings h after cost a) w.all;
+  all = gathers_settings h after (action_settings h after cost a) w.all;
 }
 
 going_relinked : (h : HeapState) (linked : Store) (present snapshot : Graph) → Relinks h.store linked → IsGoing h present snapshot → IsGoing (record h { store = linked }) present snapshot
@@ -128,7 +126,7 @@ going_relinked h linked g s links w = record {
   stands = stands_relinked h linked links g s w.stands;
   tidy = tidy_same h.store linked g.objects (shrinks_keeps h.store linked links.blocks) links.pages w.tidy;
   gathering = gather_same h.store.pages linked.pages h.phase h.phase links.pages refl w.gathering;
-  all = gathers_same h (record h { store = linked }) (relinked_settings h linked links) w.all;
+  all = gathers_settings h (record h { store = linked }) (relinked_settings h linked links) w.all;
 }
 
 -- out of a sweep
@@ -192,13 +190,6 @@ sparse_always h some all = both _ _ (lt 0 h.defrag_pages (let a = all.all in ome
         few_one : (b : Bool) → one_if b ≤ 1
         few_one true = omega arith
         few_one false = omega arith
-
-none_leaving : (pages : List (Option Page)) → ((k : ℕ) → HasNoMark (page_at pages k)) → leaving_pages pages ≡ 0
-none_leaving [] n = refl
-none_leaving (o ∷ os) n =
-    let r = none_leaving os (λ k. n (suc k)) in
-    let h : one_if (is_leaving o) ≡ 0 = ap one_if (n 0).leaving in
-    let a = sum_by-cons (λ z. one_if (is_leaving z)) o os in omega (arith, r, h, a)
 
 -- how far a heap has come in a quantum whose cycle's sweep hadn't ended before: it hasn't ended, or it has
 pub record Before (h : HeapState) (first made old : ℕ → ℕ) : Type 0 where

@@ -1,14 +1,12 @@
 -- A run that keeps to a budget keeps within its pages.
-use Rattle.std.proofs.Common.{◌≡◌, ℕ, zero, suc, ◌+◌, ◌-◌, ◌*◌, ◌/◌, ◌<◌, ◌≤◌, ◌⊎◌, inl, inr, Bool, true, false, if◌then◌else◌, nat_lt, List, [], ◌∷◌, length, drop, ap, sym, subst, arith, refl}
+use Rattle.std.proofs.Common.{◌≡◌, ℕ, zero, suc, ◌+◌, ◌<◌, ◌≤◌, Bool, true, false, if◌then◌else◌, nat_lt, List, [], ◌∷◌, length, drop, ap, sym, subst, arith, refl}
 use Rattle.std.proofs.lemmas.List.Sums.{sum_by-cons}
-use Rattle.std.proofs.Math.Nat.{div-mul-le_self, lt-div-mul-add, mul-le-mul_right}
 use Rattle.graph_heap.specs.declared.command.Command.{Command}
 use Rattle.graph_heap.specs.declared.command.Reply.{Reply}
 use Rattle.graph_heap.specs.Graph.{Graph, Object}
 use Rattle.size_classes.specs.declared.class.TheConstants.{CLASSES}
 use Rattle.size_classes.specs.Sizes.{blocks_in}
 use Rattle.size_classes.specs.Need.{needed}
-use Rattle.size_classes.proofs.Table.{blocks_some}
 use Rattle.heap_model.specs.declared.phase.Phase.{Phase}
 use Rattle.heap_model.specs.Pages.{whole_pages}
 use Rattle.heap_model.specs.State.{HeapState}
@@ -19,48 +17,13 @@ use Rattle.heap_model.proofs.Course.{opening_course}
 use Rattle.space.specs.Demand.{blocks_of, asked_for}
 use Rattle.space.specs.Tally.{is_tracing, NewFindsRoom, EveryNewFindsRoom}
 use Rattle.space.specs.Space.{class_sum}
-use Rattle.space.proofs.Counts.{class_sum_le, class_sum_both, zeros}
+use Rattle.space.proofs.Counts.{class_sum_le, class_sum_both}
 use Rattle.space.proofs.Pacing.{command_less}
 use Rattle.fragmentation.specs.Season.{Season, Lives, opening_season, made_since, season_swept, season_after, Keeps, AllKeep}
 use Rattle.fragmentation.specs.Suffice.{gathered_pages, season_pages, WithinPages, pages_of, Budget, budget_pages, WithinBudget, GathersAll}
-use Rattle.fragmentation.proofs.Few.{whole_more, whole_none}
+use Rattle.fragmentation.proofs.Paging.{pages_more, pages_both, pages_none}
 use Rattle.fragmentation.proofs.Counted.{IsCounted, counted_command, made_more, base_low, all_find_room, opening_counted}
 use Rattle.fragmentation.proofs.Moving.{IsMoving, moving_step, opening_moving}
-
-pages_more : (f g : ℕ → ℕ) → ((k : ℕ) → k < CLASSES → f k ≤ g k) → pages_of f ≤ pages_of g
-pages_more f g e = class_sum_le _ _ CLASSES (λ k l. whole_more k (f k) (g k) l (e k l))
-
--- pages for two numbers of blocks
-whole_both : (b x y : ℕ) → 0 < b → (x + y + (b - 1)) / b ≤ (x + (b - 1)) / b + (y + (b - 1)) / b
-whole_both b x y some =
-    let p : x + (b - 1) < (x + (b - 1)) / b * b + b = lt-div-mul-add some in
-    let q : y + (b - 1) < (y + (b - 1)) / b * b + b = lt-div-mul-add some in
-    let r = div-mul-le_self (x + y + (b - 1)) b in
-    within ((x + (b - 1)) / b) ((y + (b - 1)) / b) ((x + y + (b - 1)) / b) (omega (arith, p, some)) (omega (arith, q, some)) r
-  where
-    order : (a c : ℕ) → (a ≤ c) ⊎ (c + 1 ≤ a)
-    order a c = grind arith
-
-    within : (u v w : ℕ) → x ≤ u * b → y ≤ v * b → w * b ≤ x + y + (b - 1) → w ≤ u + v
-    within u v w p q r = elim (order w (u + v)) [
-      | inl l ↦ l
-      | inr l ↦ absurd (
-          let m = mul-le-mul_right b l in
-          let d : (u + v + 1) * b ≡ u * b + v * b + b = omega arith in
-          omega (arith, m, d, p, q, r, some))
-    ]
-
-pages_both : (f g : ℕ → ℕ) → pages_of (λ k. f k + g k) ≤ pages_of f + pages_of g
-pages_both f g =
-    let l = class_sum_le (λ k. whole_pages k (f k + g k)) (λ k. whole_pages k (f k) + whole_pages k (g k)) CLASSES (λ k l. whole_both (blocks_in k) (f k) (g k) (blocks_some k l)) in
-    let e = class_sum_both (λ k. whole_pages k (f k)) (λ k. whole_pages k (g k)) CLASSES in
-    omega (arith, l, e)
-
-none_pages : pages_of (λ class. 0) ≡ 0
-none_pages =
-    let l = class_sum_le (λ k. whole_pages k 0) (λ k. 0) CLASSES (λ k l. (let h = whole_none k l in omega (arith, h))) in
-    let z = zeros CLASSES in
-    omega (arith, l, z)
 
 ones : (n : ℕ) → class_sum (λ k. 1) n ≡ n
 ones zero = refl
@@ -172,4 +135,4 @@ budget_suffices h es new b live o some all runs lives keeps fits =
     (record { moving = opening_moving h live (budget_pages b) o some all fits; since = omega (arith, none); before = omega (arith, none); last = omega arith; base = omega arith; swept = omega arith }) runs keeps
   where
     none : pages_of (λ class. 0) ≡ 0
-    none = none_pages
+    none = pages_none

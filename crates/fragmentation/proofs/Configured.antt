@@ -1,5 +1,5 @@
 -- The laws, in a configuration's numbers.
-use Rattle.std.proofs.Common.{◌≡◌, ℕ, ◌<◌, ◌≤◌, inl, inr, List, length, sym, subst, arith}
+use Rattle.std.proofs.Common.{◌≡◌, ℕ, ◌+◌, ◌<◌, ◌≤◌, inl, inr, List, length, sym, subst, arith}
 use Rattle.size_classes.specs.declared.class.TheConstants.{CLASSES}
 use Rattle.size_classes.specs.declared.config.Config.{Config}
 use Rattle.heap_model.specs.State.{HeapState}
@@ -7,12 +7,12 @@ use Rattle.heap_model.specs.Settings.{settings_of, settings_by}
 use Rattle.heap_model.specs.Opening.{IsOpening}
 use Rattle.heap_model.specs.Event.{Course, Event, Runs}
 use Rattle.heap_model.specs.Led.{opened}
-use Rattle.space.specs.Space.{pages_for, spare_of}
-use Rattle.space.specs.Fitting.{spare_in}
+use Rattle.space.specs.Space.{pages_for, spare_of, below_of}
+use Rattle.space.specs.Fitting.{spare_in, below_in}
 use Rattle.space.specs.Tally.{EveryNewFindsRoom}
 use Rattle.space.specs.Room.{AllHaveRoom}
 use Rattle.space.proofs.Roomless.{all_have_room}
-use Rattle.space.proofs.Configured.{pages as same_pages, below as same_below, defrag as same_defrag, some as has_some, same_spare}
+use Rattle.space.proofs.Configured.{pages as same_pages, below as same_limit, defrag as same_defrag, some as has_some, same_spare, same_below}
 use Rattle.fragmentation.specs.Season.{Lives, opening_season, AllKeep}
 use Rattle.fragmentation.specs.Suffice.{GathersAll, WithinPages, WithinBlocks, pages_of, Budget, budget_pages, WithinBudget}
 use Rattle.fragmentation.specs.Configured.{MovesAll, FitsTogether}
@@ -31,9 +31,12 @@ module _ (config : Config) (h : HeapState) (o : IsOpening h) (same : settings_of
   spare : spare_of h ≡ spare_in config
   spare = same_spare config h o same
 
+  below : below_of h ≡ below_in config
+  below = same_below config h o same
+
   gathers : MovesAll config → GathersAll h
   gathers m = record {
-    always = (let a = m.always in let e = same_below config h o same in omega (arith, a, e, pages));
+    always = (let a = m.always in let e = same_limit config h o same in omega (arith, a, e, pages));
     all = (let a = m.all in let e = same_defrag config h o same in omega (arith, a, e, pages));
   }
 
@@ -42,7 +45,7 @@ module _ (config : Config) (h : HeapState) (o : IsOpening h) (same : settings_of
     where
       by_form : FitsTogether config blocks → EveryNewFindsRoom es
       by_form (inl l) = joint_suffices h es new blocks live o some runs keeps (subst (λ z. pages_for blocks z CLASSES ≤ length h.store.pages) (sym spare) (omega (arith, l, pages)))
-      by_form (inr (inl l)) = joint_suffices_unmoved h es new blocks live o some runs keeps (let e = same_below config h o same in omega (arith, l, e, pages))
+      by_form (inr (inl l)) = joint_suffices_unmoved h es new blocks live o some runs keeps (subst (λ z. pages_for blocks 0 CLASSES + z ≤ length h.store.pages) (sym below) (omega (arith, l, pages)))
       by_form (inr (inr l)) = sparse_suffices h es new blocks live o some runs keeps (omega (arith, l, spare, pages))
 
   pub moving_configured : MovesAll config → AllKeep (WithinPages config.pages) live (opening_season h.limits) es → AllHaveRoom es

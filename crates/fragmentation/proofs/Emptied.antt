@@ -12,8 +12,9 @@ use Rattle.heap_model.specs.Action.{KeepsBlocks, MovesBlock, IsNext, is_choosabl
 use Rattle.heap_model.proofs.Held.{set_page_here, page_within, size_some}
 use Rattle.heap_model.proofs.Moved.{same_number, usable_fits}
 use Rattle.space.proofs.Tidying.{not_same, Shrinks, shrinks_keeps, place_page}
+use Rattle.space.proofs.Counts.{both_true}
 use Rattle.fragmentation.proofs.IsLeftover.{leaves, IsStranded, StrandedOn, NoneStranded, StandsBehind}
-use Rattle.fragmentation.proofs.Free.{both_true, Choosable, choosable_is}
+use Rattle.fragmentation.proofs.Free.{Choosable, choosable_is}
 use Rattle.fragmentation.proofs.Leftover.{page_set, on_page, behind_index}
 
 -- a page that was chosen

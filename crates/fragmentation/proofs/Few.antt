@@ -1,20 +1,18 @@
 -- How many pages a class has since a sweep ended, through actions and blocks that are taken.
-use Rattle.std.proofs.Common.{◌≡◌, ℕ, zero, suc, ◌+◌, ◌-◌, ◌*◌, ◌<◌, ◌≤◌, inl, inr, Bool, true, false, not, ◌&&◌, cond, ◌==◌, if◌then◌else◌, List, [], ◌∷◌, Option, Some, None, length, set, drop, get_or, ap, ◌∙◌, sym, subst, arith, refl}
+use Rattle.std.proofs.Common.{◌≡◌, ℕ, zero, suc, ◌+◌, ◌*◌, ◌<◌, ◌≤◌, inl, inr, Bool, true, false, not, ◌&&◌, cond, ◌==◌, if◌then◌else◌, List, [], ◌∷◌, Option, Some, None, length, set, drop, get_or, ap, ◌∙◌, sym, subst, arith, refl}
 use Rattle.std.specs.Prelude.{count_by}
 use Rattle.std.proofs.lemmas.Bool.{eq-eqb, ne_eqb}
 use Rattle.std.proofs.lemmas.List.Sums.{sum_by-cons}
 use Rattle.std.proofs.lemmas.List.Quantifiers.{position-Some}
-use Rattle.std.proofs.lemmas.Nat.{le-div}
 use Rattle.std.proofs.lemmas.Option.{slice_get_within, get_or_from_slice_get, same_Some}
-use Rattle.std.proofs.Math.Nat.{div-eq_of_lt, mul-le-mul_left, div-mul-le_self}
+use Rattle.std.proofs.Math.Nat.{mul-le-mul_left}
 use Rattle.size_classes.specs.declared.class.TheConstants.{CLASSES}
 use Rattle.size_classes.specs.Sizes.{blocks_in}
-use Rattle.size_classes.proofs.Table.{blocks_some}
 use Rattle.heap_model.specs.declared.phase.Phase.{Phase}
 use Rattle.heap_model.specs.declared.phase.Phase.TheVariants as phases
 use Rattle.heap_model.specs.declared.phase.Moving.TheVariants as moves
 use Rattle.heap_model.specs.declared.phase.Candidate.{Candidate}
-use Rattle.heap_model.specs.Pages.{Page, IsPage, ArePages, IsOpen, is_usable, with_held, page_at, free_on, free_blocks, whole_pages}
+use Rattle.heap_model.specs.Pages.{Page, IsPage, ArePages, IsOpen, is_usable, with_held, page_at, free_on, free_blocks}
 use Rattle.heap_model.specs.State.{HeapState}
 use Rattle.heap_model.specs.Standing.{is_sweeping}
 use Rattle.heap_model.specs.Action.{IsNext, Action, Scans_root, Ends_roots, Scans_header, Scans_cell, Ends_marking, Frees_block, Passes_block, Closes_page, Ends_sweep, Looks_at_page, Chooses_page, Chooses_none, Moves_block, Ends_moving, AtPass, In_pass, After_page, MovingDone, No_class, No_page, held_on, closed, is_sparse, is_choosable}
@@ -23,11 +21,11 @@ use Rattle.heap_model.proofs.Rooms.{set_sum}
 use Rattle.heap_model.proofs.Moved.{same_number, usable_fits}
 use Rattle.space.specs.Tally.{is_tracing}
 use Rattle.space.specs.Counts.{is_of, used_pages}
-use Rattle.space.proofs.Counts.{one_if, used_set}
+use Rattle.space.proofs.Counts.{one_if, used_set, both_true, flags_all}
 use Rattle.space.proofs.Spacing.{shades_same}
 use Rattle.fragmentation.specs.Tight.{IsTight}
 use Rattle.fragmentation.proofs.IsFew.{held_from, to_move, IsFew}
-use Rattle.fragmentation.proofs.Free.{both_true, flags_all, free_change, Choosable, choosable_is, choosable_all, chosen_free}
+use Rattle.fragmentation.proofs.Free.{free_change, Choosable, choosable_is, choosable_all, chosen_free}
 use Rattle.fragmentation.proofs.Taken.{free_less}
 use Rattle.fragmentation.proofs.Gathering.{tight_action}
 
@@ -54,15 +52,6 @@ of_one class k p c e = ap one_if (ap (λ z. z == k) c ∙ e)
 
 of_none : (class k : ℕ) (p : Page) → p.class ≡ class → (class == k) ≡ false → one_if (is_of k (Some p)) ≡ 0
 of_none class k p c e = ap one_if (ap (λ z. z == k) c ∙ e)
-
-pub whole_more : (class m n : ℕ) → class < CLASSES → m ≤ n → whole_pages class m ≤ whole_pages class n
-whole_more class m n small l =
-    let some = blocks_some class small in
-    let d = div-mul-le_self (m + (blocks_in class - 1)) (blocks_in class) in
-    le-div (whole_pages class m) (n + (blocks_in class - 1)) (blocks_in class) some (omega (arith, d, l))
-
-pub whole_none : (class : ℕ) → class < CLASSES → whole_pages class 0 ≡ 0
-whole_none class small = let some = blocks_some class small in div-eq_of_lt (omega (arith, some))
 
 -- pages and phase that leave the numbers as they are, or make them no worse
 few_less : (old new : List (Option Page)) (p q : Phase) (first made : ℕ → ℕ) → IsFew old p first made

@@ -23,7 +23,8 @@ use Rattle.fragmentation.specs.Tight.{IsTight}
 use Rattle.fragmentation.proofs.IsFew.{held_from, to_move, IsFew, few_pages}
 use Rattle.fragmentation.proofs.Free.{free_change}
 use Rattle.fragmentation.proofs.Taken.{FromUsed, FromFree, took, fresh_few, fresh_other, opened_tight, block_tight}
-use Rattle.fragmentation.proofs.Few.{whole_more, whole_none, one_less, none_less}
+use Rattle.fragmentation.proofs.Paging.{whole_more, whole_none}
+use Rattle.fragmentation.proofs.Few.{one_less, none_less}
 
 -- the phase looks at the same blocks of the page that is emptied, while others are taken
 emptied_same : (old new : List (Option Page)) (p : Phase) (class : ℕ) → IsPlaced old p → ((k : ℕ) (q : Page) → page_at old k ≡ Some q → q.leaving ≡ true → page_at new k ≡ Some q) → to_move new class p ≡ to_move old class p

@@ -1,5 +1,5 @@
 -- New objects: what they leave of how few pages there are.
-use Rattle.std.proofs.Common.{◌≡◌, ℕ, ◌+◌, ◌-◌, ◌*◌, ◌/◌, ◌<◌, ◌≤◌, ◌⊎◌, inl, inr, Bool, true, false, ◌&&◌, ◌==◌, if◌then◌else◌, nat_lt, List, Option, Some, None, length, ap, ◌∙◌, sym, subst, arith, refl}
+use Rattle.std.proofs.Common.{◌≡◌, ℕ, ◌+◌, ◌-◌, ◌*◌, ◌/◌, ◌<◌, ◌≤◌, ◌⊎◌, inl, inr, Bool, true, false, ◌&&◌, ◌==◌, if◌then◌else◌, List, Option, Some, None, length, ap, ◌∙◌, sym, subst, arith, refl}
 use Rattle.std.proofs.lemmas.Bool.{eq-eqb}
 use Rattle.std.proofs.lemmas.Bool.Decides.{eqb_tells}
 use Rattle.std.proofs.lemmas.Nat.{le-div}
@@ -29,16 +29,17 @@ use Rattle.heap_model.proofs.Marks.{taken_placed}
 use Rattle.heap_model.proofs.Taken.{class_low, block_pages, takes_keep}
 use Rattle.space.specs.Demand.{asked_by}
 use Rattle.space.specs.Counts.{main_blocks, leaving_pages, used_pages}
-use Rattle.space.proofs.Counts.{one_if, own, leaving_set}
+use Rattle.space.proofs.Counts.{one_if, own, leaving_set, both_true}
 use Rattle.space.proofs.Tidying.{Shrinks, shrinks_none, shrinks_then, shrinks_writes}
 use Rattle.space.proofs.Changing.{made_blocks, shrinks_records}
 use Rattle.fragmentation.specs.Tight.{staying_pages}
 use Rattle.fragmentation.proofs.IsFew.{IsFew}
 use Rattle.fragmentation.specs.Suffice.{gathered_pages}
 use Rattle.fragmentation.proofs.IsLeftover.{leaves, IsStranded, one_leaving, kept_pages, IsSettled, IsMoved, IsEmptying, IsLeftover}
-use Rattle.fragmentation.proofs.Free.{free_change, both_true}
+use Rattle.fragmentation.proofs.Free.{free_change}
 use Rattle.fragmentation.proofs.Taken.{FromUsed, FromFree, took, fresh_few, fresh_other}
-use Rattle.fragmentation.proofs.Few.{whole_more, one_less, none_less}
+use Rattle.fragmentation.proofs.Paging.{gathered_more, gathered_least, gathered_enough}
+use Rattle.fragmentation.proofs.Few.{one_less, none_less}
 use Rattle.fragmentation.proofs.FewTaken.{block_few}
 use Rattle.fragmentation.proofs.Leftover.{staying_set, leftover_same}
 use Rattle.fragmentation.proofs.Gathering.{takes_tight, clears_pages}
@@ -190,34 +191,6 @@ leaves_kept old new class k w = by_page (page_at old k) refl (page_at new k) ref
         off : (b : Bool) → (b && false) ≡ false
         off true = refl
         off false = refl
-
-gathered_more : (class m n : ℕ) → class < CLASSES → m ≤ n → gathered_pages class m ≤ gathered_pages class n
-gathered_more class m n small l = by_tests (nat_lt m (blocks_in class)) refl (nat_lt n (blocks_in class)) refl
-  where
-    w : whole_pages class m ≤ whole_pages class n
-    w = whole_more class m n small l
-
-    never : (m n b : ℕ) → m ≤ n → nat_lt m b ≡ false → nat_lt n b ≡ true → ⊥
-    never m n b l x y = grind arith
-
-    by_tests : (x : Bool) → nat_lt m (blocks_in class) ≡ x → (y : Bool) → nat_lt n (blocks_in class) ≡ y → (if x then whole_pages class m else whole_pages class m + 1) ≤ (if y then whole_pages class n else whole_pages class n + 1)
-    by_tests true e true f = w
-    by_tests true e false f = omega (arith, w)
-    by_tests false e true f = absurd (never m n (blocks_in class) l e f)
-    by_tests false e false f = omega (arith, w)
-
-pub gathered_least : (class n : ℕ) → whole_pages class n ≤ gathered_pages class n
-gathered_least class n = by_test (nat_lt n (blocks_in class))
-  where
-    by_test : (b : Bool) → whole_pages class n ≤ (if b then whole_pages class n else whole_pages class n + 1)
-    by_test true = omega arith
-    by_test false = omega arith
-
-pub gathered_enough : (class n : ℕ) → blocks_in class ≤ n → gathered_pages class n ≡ whole_pages class n + 1
-gathered_enough class n l = ap (λ b. if b then whole_pages class n else whole_pages class n + 1) (not_less n (blocks_in class) l)
-  where
-    not_less : (a b : ℕ) → b ≤ a → nat_lt a b ≡ false
-    not_less a b l = grind arith
 
 -- a need that is greater, with the same store
 settled_more : (s : Store) (class m n : ℕ) → class < CLASSES → m ≤ n → IsSettled s class m → IsSettled s class n

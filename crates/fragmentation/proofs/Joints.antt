@@ -1,5 +1,5 @@
 -- No new object is refused in a run that keeps to a demand taken together.
-use Rattle.std.proofs.Common.{◌≡◌, ℕ, ◌+◌, ◌<◌, ◌≤◌, inl, inr, true, List, length, ap, sym, subst, arith, refl}
+use Rattle.std.proofs.Common.{◌≡◌, ℕ, ◌+◌, ◌<◌, ◌≤◌, inl, true, List, length, ap, sym, subst, arith, refl}
 use Rattle.size_classes.specs.declared.class.TheConstants.{CLASSES}
 use Rattle.graph_heap.specs.Graph.{Graph}
 use Rattle.graph_heap.specs.Effect.{reply_of}
@@ -14,11 +14,12 @@ use Rattle.heap_model.proofs.Course.{opening_course}
 use Rattle.space.specs.Demand.{asked_for, asked_by}
 use Rattle.space.specs.Tally.{FindsRoom, NewFindsRoom, EveryNewFindsRoom}
 use Rattle.space.specs.Counts.{is_of, main_blocks, leaving_pages}
-use Rattle.space.specs.Space.{pages_for, spare_of}
+use Rattle.space.specs.Space.{pages_for, spare_of, below_of}
 use Rattle.space.specs.Placement.{MayLeave, MaySpare, HasBoundedPages}
 use Rattle.space.proofs.Spacing.{bounded_pages, bounded_same}
 use Rattle.space.proofs.Changing.{bounded_change}
 use Rattle.space.proofs.Running.{Went, chain_went, command_has_room, change_count}
+use Rattle.space.proofs.Unmoved.{may_none}
 use Rattle.fragmentation.specs.Season.{Season, Lives, opening_season, season_after, Keeps, AllKeep}
 use Rattle.fragmentation.specs.Suffice.{WithinBlocks}
 use Rattle.fragmentation.proofs.Counted.{IsCounted, counted_held, all_find_room, count_none, opening_counted}
@@ -87,5 +88,5 @@ module _ (live : Lives) (blocks : ℕ → ℕ) (spare : ℕ) where
 pub joint_suffices : (h : HeapState) (es : List Event) (new : Course) (blocks : ℕ → ℕ) (live : Lives) → IsOpening h → 0 < length h.store.pages → Runs (opened h) es new → AllKeep (WithinBlocks blocks live) live (opening_season h.limits) es → pages_for blocks (spare_of h) CLASSES ≤ length h.store.pages → EveryNewFindsRoom es
 joint_suffices h es new blocks live o some runs keeps fits = joint_runs live blocks (spare_of h) h es new o some runs keeps (inl refl) fits
 
-pub joint_suffices_unmoved : (h : HeapState) (es : List Event) (new : Course) (blocks : ℕ → ℕ) (live : Lives) → IsOpening h → 0 < length h.store.pages → Runs (opened h) es new → AllKeep (WithinBlocks blocks live) live (opening_season h.limits) es → pages_for blocks 0 CLASSES + h.defrag_below ≤ length h.store.pages → EveryNewFindsRoom es
-joint_suffices_unmoved h es new blocks live o some runs keeps fits = joint_runs live blocks 0 h es new o some runs keeps (inr (refl, fits)) (omega (arith, fits))
+pub joint_suffices_unmoved : (h : HeapState) (es : List Event) (new : Course) (blocks : ℕ → ℕ) (live : Lives) → IsOpening h → 0 < length h.store.pages → Runs (opened h) es new → AllKeep (WithinBlocks blocks live) live (opening_season h.limits) es → pages_for blocks 0 CLASSES + below_of h ≤ length h.store.pages → EveryNewFindsRoom es
+joint_suffices_unmoved h es new blocks live o some runs keeps fits = joint_runs live blocks 0 h es new o some runs keeps (may_none h blocks fits) (omega (arith, fits))

@@ -19,7 +19,7 @@ use Rattle.fragmentation.specs.Suffice.{gathered_pages}
 use Rattle.fragmentation.proofs.IsLeftover.{leaves, StrandedOn, NoneStranded, one_leaving, IsSettled, IsMoved, StandsBehind, IsEmptying}
 use Rattle.fragmentation.proofs.Emptied.{ChosenPage, chosen_page, MovedBlock, moved_block}
 use Rattle.fragmentation.proofs.Free.{Choosable, choosable_is, choosable_all, free_change, tight_fewest}
-use Rattle.fragmentation.proofs.Few.{whole_more}
+use Rattle.fragmentation.proofs.Paging.{whole_more}
 use Rattle.fragmentation.proofs.Leftover.{staying_set, page_set, AtLook}
 
 -- a page that is chosen: no main copy of its class was left on another

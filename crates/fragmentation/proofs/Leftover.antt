@@ -23,12 +23,11 @@ use Rattle.heap_model.proofs.Held.{set_page, page_within, held_block, held_at, s
 use Rattle.heap_model.proofs.Rooms.{no_blocks, set_sum}
 use Rattle.heap_model.proofs.Moved.{same_number}
 use Rattle.space.specs.Counts.{stays, main_blocks, leaving_pages}
-use Rattle.space.proofs.Counts.{one_if, own}
+use Rattle.space.proofs.Counts.{one_if, own, both_true}
 use Rattle.space.proofs.Tidying.{Shrinks, shrinks_keeps, closes_main, place_page}
 use Rattle.fragmentation.specs.Tight.{IsTight, staying_pages}
 use Rattle.fragmentation.specs.Suffice.{gathered_pages}
 use Rattle.fragmentation.proofs.IsLeftover.{leaves, IsStranded, StrandedOn, NoneStranded, one_leaving, kept_pages, IsSettled, IsMoved, IsEmptying, IsLeftover}
-use Rattle.fragmentation.proofs.Free.{both_true}
 
 abbrev stay_on : ℕ → Option Page → ℕ
 stay_on class o = one_if (stays class o)

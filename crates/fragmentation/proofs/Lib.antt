@@ -1,3 +1,4 @@
+pub mod Paging
 pub mod Free
 pub mod Taken
 pub mod Passing

@@ -34,7 +34,7 @@ use Rattle.fragmentation.specs.Season.{Season, Lives, opening_season, made_since
 use Rattle.fragmentation.specs.Suffice.{gathered_pages, season_pages, WithinPages, GathersAll}
 use Rattle.fragmentation.proofs.IsFew.{IsFew, few_pages}
 use Rattle.fragmentation.proofs.IsLeftover.{IsLeftover}
-use Rattle.fragmentation.proofs.Few.{whole_more}
+use Rattle.fragmentation.proofs.Paging.{whole_more}
 use Rattle.fragmentation.proofs.FewTaken.{few_room}
 use Rattle.fragmentation.proofs.Gathering.{gather_change}
 use Rattle.fragmentation.proofs.Growing.{leftover_change, leftover_more, few_made}

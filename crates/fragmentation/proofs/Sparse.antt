@@ -25,7 +25,7 @@ use Rattle.heap_model.proofs.Rooms.{no_blocks}
 use Rattle.heap_model.proofs.Marks.{no_mark}
 use Rattle.heap_model.proofs.Moved.{same_number}
 use Rattle.space.specs.Counts.{stays, main_on, main_blocks}
-use Rattle.space.proofs.Counts.{one_if, own}
+use Rattle.space.proofs.Counts.{one_if, own, both_true}
 use Rattle.space.proofs.Tidying.{Shrinks, shrinks_then, shrinks_writes, shrinks_shades, shrinks_frees}
 use Rattle.fragmentation.specs.Tight.{IsTight, staying_pages}
 use Rattle.fragmentation.specs.Gathering.{AreUsed, IsGathering}
@@ -33,7 +33,7 @@ use Rattle.fragmentation.specs.Suffice.{gathered_pages}
 use Rattle.fragmentation.proofs.IsLeftover.{leaves, StrandedOn, NoneStranded, one_leaving, kept_pages, IsSettled, StandsBehind}
 use Rattle.fragmentation.proofs.IsSparse.{IsPassed, Empties, IsSparse}
 use Rattle.fragmentation.proofs.Emptied.{ChosenPage, chosen_page, MovedBlock, moved_block}
-use Rattle.fragmentation.proofs.Free.{both_true, Choosable, choosable_is, choosable_all, chosen_free}
+use Rattle.fragmentation.proofs.Free.{Choosable, choosable_is, choosable_all, chosen_free}
 use Rattle.fragmentation.proofs.Few.{moving_not}
 use Rattle.fragmentation.proofs.Passing.{in_pass}
 use Rattle.fragmentation.proofs.Gathering.{tight_action}

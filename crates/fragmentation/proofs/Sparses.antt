@@ -39,9 +39,8 @@ use Rattle.fragmentation.specs.Season.{Keeps, AllKeep, Season, Lives, opening_se
 use Rattle.fragmentation.specs.Suffice.{sparse_pages, WithinBlocks, gathered_pages}
 use Rattle.fragmentation.proofs.IsLeftover.{leaves, IsSettled, kept_pages}
 use Rattle.fragmentation.proofs.IsSparse.{IsSparse}
-use Rattle.fragmentation.proofs.Few.{whole_none}
+use Rattle.fragmentation.proofs.Paging.{whole_none, gathered_least}
 use Rattle.fragmentation.proofs.Gathering.{gather_change}
-use Rattle.fragmentation.proofs.Growing.{gathered_least}
 use Rattle.fragmentation.proofs.Counted.{IsCounted, all_find_room, opening_counted, opening_settled}
 use Rattle.fragmentation.proofs.Joints.{within_blocks, bounded_begins, bounded_opening}
 use Rattle.fragmentation.proofs.SparseChanges.{sparse_change, chain_sparse}

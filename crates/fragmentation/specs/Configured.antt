@@ -3,7 +3,7 @@ use Rattle.std.specs.Prelude.{ℕ, ◌+◌, ◌<◌, ◌≤◌, ◌⊎◌}
 use Rattle.size_classes.specs.declared.class.TheConstants.{CLASSES}
 use Rattle.size_classes.specs.declared.config.Config.{Config}
 use Rattle.space.specs.Space.{pages_for}
-use Rattle.space.specs.Fitting.{spare_in}
+use Rattle.space.specs.Fitting.{spare_in, below_in}
 use Rattle.fragmentation.specs.Suffice.{sparse_pages}
 
 -- moving follows each sweep, and as many pages as there are may be emptied
@@ -17,5 +17,5 @@ pub record MovesAll (c : Config) : Type 0 where
 abbrev pub FitsTogether : Config → (ℕ → ℕ) → Type 0
 FitsTogether c blocks =
     (pages_for blocks (spare_in c) CLASSES ≤ c.pages)
-    ⊎ ((pages_for blocks 0 CLASSES + c.defrag_below ≤ c.pages)
+    ⊎ ((pages_for blocks 0 CLASSES + below_in c ≤ c.pages)
     ⊎ (sparse_pages blocks + spare_in c ≤ c.pages))

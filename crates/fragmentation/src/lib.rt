@@ -23,7 +23,7 @@ ghost use Rattle.heap_model.specs.Led.{opened};
 ghost use Rattle.space.specs.Counts.{main_blocks};
 ghost use Rattle.space.specs.Tally.{EveryNewFindsRoom};
 ghost use Rattle.space.specs.Room.{AllHaveRoom};
-ghost use Rattle.space.specs.Space.{pages_for, spare_of};
+ghost use Rattle.space.specs.Space.{pages_for, spare_of, below_of};
 ghost use Rattle.fragmentation.specs.Tight.{IsTight, staying_pages};
 ghost use Rattle.fragmentation.specs.Gathering.{IsGathering, AreTight};
 ghost use Rattle.fragmentation.specs.Configured.{MovesAll, FitsTogether};
@@ -90,7 +90,7 @@ pub fn joint_suffices()
 /// is followed by moving, and no page is left sparse.
 pub fn joint_suffices_unmoved()
     ensures { (h : HeapState) (es : List Event) (new : Course) (blocks : ℕ → ℕ) (live : Lives) → IsOpening h → 0 < length h.store.pages → Runs (opened h) es new
-        → AllKeep (WithinBlocks blocks live) live (opening_season h.limits) es → pages_for blocks 0 CLASSES + h.defrag_below ≤ length h.store.pages → EveryNewFindsRoom es }
+        → AllKeep (WithinBlocks blocks live) live (opening_season h.limits) es → pages_for blocks 0 CLASSES + below_of h ≤ length h.store.pages → EveryNewFindsRoom es }
 {}
 
 /// The same with fewer pages, however many a cycle may empty: one page more than its blocks take for each class that has a

@@ -11,8 +11,6 @@ use Rattle.std.proofs.lemmas.List.Folds.{list_any-append, list_any_at, Any-from_
 use Rattle.std.proofs.lemmas.List.Sums.{sum_by-set, count_by-le-length}
 use Rattle.std.proofs.lemmas.Grind.{get_or_default_zero}
 use Rattle.std.proofs.lemmas.Map.Keys.{IsDistinct-push}
-use Rattle.graph_heap.specs.declared.command.Shape.{Shape}
-use Rattle.graph_heap.specs.declared.command.Shape.TheVariants.{Plain}
 use Rattle.graph_heap.specs.declared.command.Refusal.{Refusal}
 use Rattle.graph_heap.specs.declared.command.Refusal.TheVariants as refusals
 use Rattle.graph_heap.specs.declared.reference.reaching.Found.TheInside.{Inside}
@@ -172,7 +170,7 @@ unfolding object_of
 null_object objects id e = rw e refl
 
 -- an object with a reference cell is there
-with_cell : (objects : List Object) (id i : ℕ) → i < length (object_of objects id).refs → IsAmong (length objects) id
+pub with_cell : (objects : List Object) (id i : ℕ) → i < length (object_of objects id).refs → IsAmong (length objects) id
 with_cell objects id i l = elim (zero_or id) [
   | inl z ↦ (let none : length (object_of objects id).refs ≡ 0 = ap (λ (o : Object). length o.refs) (null_object objects id z) in absurd (omega (arith, l, none)))
   | inr s ↦ (elim (le_or id (length objects)) [
@@ -260,28 +258,28 @@ module _ (g : Graph) (f : FoundIds) (next : ℕ) (s : Searched g f next) (over :
     once = once;
   }
 
--- the shape of an object that is found, or isn't
-shape_by : (objects : List Object) (id : ℕ) → id ≢ 0 → (object_of objects id).shape ≡ (unwrap_or (slice_get objects (id - 1)) no_object).shape
-shape_by objects id some = ap (λ (o : Object). o.shape) (object_at_place objects id some ∙ sym (unwrap_or-slice_get objects (id - 1) no_object))
+-- the object that is found, or none
+object_by : (objects : List Object) (id : ℕ) → id ≢ 0 → object_of objects id ≡ unwrap_or (slice_get objects (id - 1)) no_object
+object_by objects id some = object_at_place objects id some ∙ sym (unwrap_or-slice_get objects (id - 1) no_object)
 
-shape_in : (r : Option Object) (s : Shape) (o : Object) → s ≡ (unwrap_or r no_object).shape → found r ≡ Ok o → o.shape ≡ s
-shape_in None s o e h = absurd (cc)
-shape_in (Some x) s o e h = let same : x ≡ o = cc in ap (λ (y : Object). y.shape) (sym same) ∙ sym e
+object_in : (r : Option Object) (x o : Object) → x ≡ unwrap_or r no_object → found r ≡ Ok o → o ≡ x
+object_in None x o e h = absurd (cc)
+object_in (Some y) x o e h = let same : y ≡ o = cc in sym same ∙ sym e
 
-shape_out : (r : Option Object) (s : Shape) (why : Refusal) → s ≡ (unwrap_or r no_object).shape → found r ≡ Err why → Plain 0 0 ≡ s
-shape_out None s why e h = sym e
-shape_out (Some x) s why e h = absurd (cc)
+object_out : (r : Option Object) (x : Object) (why : Refusal) → x ≡ unwrap_or r no_object → found r ≡ Err why → no_object ≡ x
+object_out None x why e h = sym e
+object_out (Some y) x why e h = absurd (cc)
 
-pub shape_found : (objects : List Object) (id : ℕ) (o : Object) → object_at objects id ≡ Ok o → o.shape ≡ (object_of objects id).shape
-shape_found objects id o e = by_test (id == 0) refl e
+pub object_found : (objects : List Object) (id : ℕ) (o : Object) → object_at objects id ≡ Ok o → o ≡ object_of objects id
+object_found objects id o e = by_test (id == 0) refl e
   where
-    by_test : (b : Bool) → (id == 0) ≡ b → cond b (Err refusals.NullSlot) (found (slice_get objects (id - 1))) ≡ Ok o → o.shape ≡ (object_of objects id).shape
+    by_test : (b : Bool) → (id == 0) ≡ b → cond b (Err refusals.NullSlot) (found (slice_get objects (id - 1))) ≡ Ok o → o ≡ object_of objects id
     by_test true t h = absurd (cc)
-    by_test false t h = shape_in (slice_get objects (id - 1)) (object_of objects id).shape o (shape_by objects id (λ z. absurd (let no : false ≡ true = sym t ∙ eq-eqb id 0 z in cc))) h
+    by_test false t h = object_in (slice_get objects (id - 1)) (object_of objects id) o (object_by objects id (λ z. absurd (let no : false ≡ true = sym t ∙ eq-eqb id 0 z in cc))) h
 
-pub no_shape : (objects : List Object) (id : ℕ) (why : Refusal) → object_at objects id ≡ Err why → Plain 0 0 ≡ (object_of objects id).shape
-no_shape objects id why e = by_test (id == 0) refl e
+pub no_object_found : (objects : List Object) (id : ℕ) (why : Refusal) → object_at objects id ≡ Err why → no_object ≡ object_of objects id
+no_object_found objects id why e = by_test (id == 0) refl e
   where
-    by_test : (b : Bool) → (id == 0) ≡ b → cond b (Err refusals.NullSlot) (found (slice_get objects (id - 1))) ≡ Err why → Plain 0 0 ≡ (object_of objects id).shape
-    by_test true t h = sym (ap (λ (o : Object). o.shape) (null_object objects id (eqb-true id 0 t)))
-    by_test false t h = shape_out (slice_get objects (id - 1)) (object_of objects id).shape why (shape_by objects id (λ z. absurd (let no : false ≡ true = sym t ∙ eq-eqb id 0 z in cc))) h
+    by_test : (b : Bool) → (id == 0) ≡ b → cond b (Err refusals.NullSlot) (found (slice_get objects (id - 1))) ≡ Err why → no_object ≡ object_of objects id
+    by_test true t h = sym (null_object objects id (eqb-true id 0 t))
+    by_test false t h = object_out (slice_get objects (id - 1)) (object_of objects id) why (object_by objects id (λ z. absurd (let no : false ≡ true = sym t ∙ eq-eqb id 0 z in cc))) h

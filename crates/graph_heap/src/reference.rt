@@ -7,6 +7,7 @@ ghost use Rattle.graph_heap.specs.Effect.{deed_of, effect_of, fitting, reply_of,
 ghost use Rattle.graph_heap.specs.History as history;
 ghost use Rattle.graph_heap.specs.History.{IsEntryOf, after_entry};
 
+mod edges;
 mod reaching;
 mod row;
 

@@ -2,8 +2,9 @@
 ghost use Rattle.std.specs.Prelude.{◌≡◌, ◌+◌, ◌-◌, ◌<◌, ◌≤◌, ◌*◌, ◌∷◌, IfOk, length, replicate, slice_index, slice_set};
 ghost use Rattle.heap_model.specs.Header.{Header, header_in, header_word, shape_in, recoloured, ShapeFits};
 ghost use Rattle.heap_model.specs.Block.{spliced, words_at};
+ghost use Rattle.heap_model.specs.State.{same_colour};
 
-use crate::header::{colour_of, pack, part_of, recolour, shape_of};
+use crate::header::{colour_of, has_colour, pack, part_of, recolour, shape_of};
 use graph_heap::{NoMemory, Shape};
 use std::alloc::Global;
 use std::marker::Model;
@@ -74,6 +75,14 @@ impl Arena {
         ensures { result ≡ (header_in (slice_index self.now (block + 1))).colour }
     {
         colour_of(self.words[block + 1])
+    }
+
+    /// Whether a block has a colour.
+    pub fn has_colour(&self, block: usize, colour: bool) -> bool
+        requires { block + 1 < length self.now }
+        ensures { result ≡ same_colour colour (header_in (slice_index self.now (block + 1))).colour }
+    {
+        has_colour(self.words[block + 1], colour)
     }
 
     /// Gives a block a colour. The other bits of its header stay.

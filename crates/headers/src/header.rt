@@ -1,6 +1,7 @@
 //! Word 1 of a block.
 ghost use Rattle.std.specs.Prelude.{◌≡◌, ◌*◌, ◌<◌};
 ghost use Rattle.heap_model.specs.Header.{header_word, header_in, shape_in, recoloured, bit_of, ShapeFits};
+ghost use Rattle.heap_model.specs.State.{same_colour};
 
 use graph_heap::Shape;
 
@@ -54,6 +55,13 @@ pub fn colour_of(word: u64) -> bool
     ensures { result ≡ (header_in word).colour }
 {
     word / 4 % 2 == 1
+}
+
+/// Whether a word tells of a colour.
+pub fn has_colour(word: u64, colour: bool) -> bool
+    ensures { result ≡ same_colour colour (header_in word).colour }
+{
+    4 * (word / 4 % 2) == bit(colour)
 }
 
 /// The word with another colour.

@@ -1,2 +1,4 @@
-pub mod Parts
+pub mod ClassByClass
+pub mod Fillings
 pub mod PageByPage
+pub mod Parts

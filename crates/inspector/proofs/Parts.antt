@@ -1,6 +1,6 @@
 -- Texts that are written one behind the other.
 use Rattle.std.proofs.Common.{◌≡◌, ℕ, ◌+◌, ◌≤◌, List, ◌++◌, length, take, ap, ◌∙◌, sym, subst, arith, append_assoc, length-append}
-use Rattle.std.specs.Prelude.{Result, Ok, Err, OnErr}
+use Rattle.std.specs.Prelude.{Result, Ok, Err, OnOk, OnErr}
 use Rattle.std.proofs.lemmas.List.{take-append-le}
 use Rattle.std.proofs.Math.Seq.{take-append-add}
 use Rattle.trace.specs.Streams.{GrowsByPart}
@@ -23,6 +23,10 @@ part_after old mid new a b e g = (
 pub at_err : {A E : Type 0} (r : Result A E) (P : Type 0) → P → OnErr r P
 at_err (Ok x) P p = tt
 at_err (Err e) P p = p
+
+pub ok_so : {A E : Type 0} (r : Result A E) (P Q : Type 0) → (P → Q) → OnOk r P → OnOk r Q
+ok_so (Ok x) P Q f h = f h
+ok_so (Err e) P Q f h = tt
 
 pub err_so : {A E : Type 0} (r : Result A E) (P Q : Type 0) → (P → Q) → OnErr r P → OnErr r Q
 err_so (Ok x) P Q f h = tt

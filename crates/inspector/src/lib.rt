@@ -1,9 +1,12 @@
-//! The report: what a heap and its collector are like, in lines of text.
+//! The reports: what a heap and its collector are like, in lines of text.
 #![tactic(auto)]
 
+mod by_size;
 mod fault;
+mod filling;
 mod lines;
 mod reporting;
 
+pub use by_size::report_sizes;
 pub use fault::WriteFault;
 pub use reporting::report;

@@ -105,6 +105,7 @@ impl Recorded {
 
     /// Does a command of a mutator, and enters it with its reply. Room for the entry is made first:
     /// where memory for that is refused, nothing has changed.
+    #[inline(always)]
     pub fn call(&mut self, mutator: u32, command: Command) -> Result<Receipt, NoMemory>
         ensures entry { IfOk result (λ r. (r.entry.mutator ≡ mutator) × (r.entry.command ≡ command)) }
         ensures does { IfOk result (λ r. Does self.old.course (done.Command_done mutator command r.entry.reply) self.new.course) }
@@ -181,7 +182,7 @@ impl Recorded {
     /// that only grows; what is freed is unreachable there; when a sweep ends, the heap holds exactly
     /// what was reachable when its cycle began and what was made since; and a cycle ends soon. From a heap
     /// that was just made no reply is the refusal for want of space, where the events keep to a demand that
-    /// fits its configuration (`space::fits`), or to a pace (`space::pace_fits`); nor, where moving follows each
+    /// fits its configuration, or to a pace that does (`space::pace_fits`); nor, where moving follows each
     /// sweep and may empty all pages, where they keep to a budget of pages, whatever the sizes of the objects.
     pub fn run(&mut self, events: &[Event]) -> Result<(), NoMemory>
         ensures headline { AlwaysHolds self.old.course }

@@ -35,7 +35,7 @@ module _ (a : RawHeap) (w : IsRawHeap a) (part cell : ℕ) (e : a.phase ≡ phas
   abbrev c : Coherent m (view w.heap.present) (view w.heap.snapshot)
   c = at_phase h (phases.Marking part cell) (view w.heap.present) (view w.heap.snapshot) e w.heap.stands.consistent.parts
 
-  none_left : part ≡ 0 → cell ≡ 0
+  pub none_left : part ≡ 0 → cell ≡ 0
   none_left z = let l : cell ≤ (seen h).width part = c.stage.1.column in let v : cell ≤ 0 = subst (λ x. cell ≤ (seen h).width x) z l in omega arith
 
   module _ (some : part ≢ 0) where

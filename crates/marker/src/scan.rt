@@ -1,17 +1,33 @@
 //! One step of the roots and of marking.
-ghost use Rattle.std.specs.Prelude.{◌≡◌, ◌≢◌, ◌-◌, ◌+◌, ◌<◌, ◌≤◌, ℕ, [], length, slice_index, true};
+ghost use Rattle.std.specs.Prelude.{◌≡◌, ◌≢◌, ◌-◌, ◌+◌, ◌<◌, ◌≤◌, ◌^◌, ℕ, [], length, slice_index, true, IfSome, IsNone};
 ghost use Rattle.heap_model.specs.Store.{is_held, node_of};
-ghost use Rattle.heap_model.specs.State.{width_at};
-ghost use Rattle.heap_model.specs.Action.{Action, Chain};
+ghost use Rattle.heap_model.specs.State.{seen, width_at};
+ghost use Rattle.heap_model.specs.Action.{Action, Chain, goes_to};
 ghost use Rattle.heap_model.specs.declared.phase.Phase.TheVariants as phases;
 ghost use Rattle.raw_heap.specs.Acting.{Acts};
 ghost use Rattle.raw_heap.specs.Grey.{in_buffers};
 ghost use Rattle.raw_heap.specs.Heap.{state_of, IsRawHeap};
+ghost use Rattle.marker.specs.Scanning.{scanning, IsScanning, Scans};
 
 use heap_model::phase::Phase;
 use nodes::Nodes;
 use raw_heap::RawHeap;
 use satb_barrier::{shade, take};
+
+/// The part in scan, by reference, 0 for none yet; its next cell; and how many of its cells are references.
+#[derive(Clone, Copy, Debug, PartialEq, Eq)]
+struct Scan {
+    part: u64,
+    cell: usize,
+    width: usize,
+}
+
+/// Where marking has come to, by how many units.
+#[derive(Clone, Copy, Debug, PartialEq, Eq)]
+struct Step {
+    scan: Scan,
+    units: u32,
+}
 
 /// Scans a root cell: it is corrected to the main copy, and that is shaded. Where all were scanned,
 /// marking begins. Each costs one unit.
@@ -30,10 +46,10 @@ pub fn scan_root(heap: &mut RawHeap, next: usize)
     heap.go_to(1, Phase::Roots { next: next + 1 });
 }
 
-/// Scans reference cells of the part in scan, as many as are left or as there is room for. Where none is
-/// left, it takes a grey part and scans its header; where no part is grey, sweeping begins. Each of these
-/// costs one unit. Answers the units. The buffers are empty.
-pub fn scan_part(heap: &mut RawHeap, part: u64, cell: u32, room: u32) -> u32
+/// Goes on with marking, as far as there is room for: scans the reference cells of the part in scan, then takes a
+/// grey part and scans its header, and so on; where no part is grey, sweeping begins. Each of these costs one unit.
+/// Answers the units. The buffers are empty.
+pub fn scan_parts(heap: &mut RawHeap, part: u64, cell: u32, room: u32) -> u32
     requires heap { IsRawHeap heap.old }
     requires buffers { in_buffers heap.old.grey.buffers ≡ [] }
     requires phase { heap.old.phase ≡ phases.Marking part cell }
@@ -41,45 +57,79 @@ pub fn scan_part(heap: &mut RawHeap, part: u64, cell: u32, room: u32) -> u32
     ensures acts { Acts heap.old room heap.new result }
     ensures buffers { heap.new.grey.buffers ≡ heap.old.grey.buffers }
 {
-    if part != 0 {
-        let left = heap
-            .nodes
-            .width(part as usize - 1)
-            .saturating_sub(cell as usize);
-        if left > 0 {
-            let count = left.min(room as usize) as u32;
-            scan_cells(heap, part, cell, count);
-            return count;
-        }
+    let mut scan = scan_at(heap, part, cell as usize);
+    let mut units = 0;
+    while units < room {
+        let Some(step) = scan_next(heap, scan, room - units) else {
+            units += 1;
+            heap.go_to(units, Phase::Sweeping { page: 0, block: 0 });
+            return units;
+        };
+        scan = step.scan;
+        units += step.units;
     }
-    scan_header(heap, part, cell);
-    1
+    let part = scan.part;
+    let cell = scan.cell as u32;
+    heap.go_to(units, Phase::Marking { part, cell });
+    units
 }
 
-/// Takes a grey part and scans its header, once all reference cells of the part in scan are scanned; where
-/// no part is grey, sweeping begins. The buffers are empty.
-fn scan_header(heap: &mut RawHeap, part: u64, cell: u32)
-    requires heap { IsRawHeap heap.old }
-    requires buffers { in_buffers heap.old.grey.buffers ≡ [] }
-    requires phase { heap.old.phase ≡ phases.Marking part cell }
-    requires done { part ≢ 0 → width_at (node_of heap.old.nodes (part - 1)) ≤ cell }
-    ensures acts { Action (state_of heap.old) 1 (state_of heap.new) }
-    ensures buffers { heap.new.grey.buffers ≡ heap.old.grey.buffers }
+/// A part in scan, at a cell.
+#[inline(always)]
+fn scan_at(heap: &RawHeap, part: u64, cell: usize) -> Scan
+    requires { part ≢ 0 → is_held heap.now.nodes (part - 1) ≡ true }
+    ensures { result ≡ record { part = part; cell = cell; width = (seen (state_of heap.now)).width part } }
 {
-    match take(heap) {
-        Some(part) => heap.go_to(1, Phase::Marking { part, cell: 0 }),
-        None => heap.go_to(1, Phase::Sweeping { page: 0, block: 0 }),
+    if part == 0 {
+        return Scan {
+            part,
+            cell,
+            width: 0,
+        };
     }
+    let width = heap.nodes.width(part as usize - 1);
+    Scan { part, cell, width }
 }
 
-/// Scans so many reference cells of the part in scan, from the next one on.
-fn scan_cells(heap: &mut RawHeap, part: u64, cell: u32, count: u32)
-    requires heap { IsRawHeap heap.old }
-    requires phase { heap.old.phase ≡ phases.Marking part cell }
+/// Scans reference cells of the part in scan, as many as are left or as there is room for. Where none is left, it takes
+/// a grey part and scans its header; None where no part is grey, and then nothing changes. The buffers are empty.
+#[inline(always)]
+fn scan_next(heap: &mut RawHeap, scan: Scan, room: u32) -> Option<Step>
+    requires heap { IsScanning heap.old scan.part scan.cell }
+    requires buffers { in_buffers heap.old.grey.buffers ≡ [] }
+    requires width { scan.width ≡ (seen (state_of heap.old)).width scan.part }
+    requires room { 0 < room }
+    ensures scans { IfSome result (λ r. Scans heap.old scan heap.new r.scan r.units) }
+    ensures count { IfSome result (λ r. (0 < r.units) × (r.units ≤ room)) }
+    ensures width { IfSome result (λ r. r.scan.width ≡ (seen (state_of heap.new)).width r.scan.part) }
+    ensures ends { IsNone result → (units : ℕ) → Action (state_of (scanning heap.old scan.part scan.cell units)) 1 (goes_to (state_of (scanning heap.new scan.part scan.cell units)) 1 (phases.Sweeping 0 0)) }
+    ensures buffers { heap.new.grey.buffers ≡ heap.old.grey.buffers }
+    ensures same { heap.new ≡ record heap.old { nodes = heap.new.nodes; grey = heap.new.grey } }
+{
+    if scan.cell < scan.width {
+        let count = (scan.width - scan.cell).min(room as usize);
+        scan_cells(heap, scan.part, scan.cell, count);
+        let cell = scan.cell + count;
+        let units = count as u32;
+        return Some(Step {
+            scan: Scan { cell, ..scan },
+            units,
+        });
+    }
+    let part = take(heap)?;
+    let scan = scan_at(heap, part, 0);
+    Some(Step { scan, units: 1 })
+}
+
+/// Scans so many reference cells of a part, from one on.
+fn scan_cells(heap: &mut RawHeap, part: u64, cell: usize, count: usize)
+    requires heap { IsScanning heap.old part cell }
     requires some { part ≢ 0 }
     requires within { cell + count ≤ width_at (node_of heap.old.nodes (part - 1)) }
-    ensures acts { Chain (state_of heap.old) count (state_of heap.new) }
+    ensures acts { (units : ℕ) → Chain (state_of (scanning heap.old part cell units)) count (state_of (scanning heap.new part (cell + count) (units + count))) }
+    ensures width { width_at (node_of heap.new.nodes (part - 1)) ≡ width_at (node_of heap.old.nodes (part - 1)) }
     ensures buffers { heap.new.grey.buffers ≡ heap.old.grey.buffers }
+    ensures same { heap.new ≡ record heap.old { nodes = heap.new.nodes; grey = heap.new.grey } }
 {
     let mut scanned = 0;
     while scanned < count {
@@ -87,67 +137,62 @@ fn scan_cells(heap: &mut RawHeap, part: u64, cell: u32, count: u32)
     }
 }
 
-/// Scans the next reference cells of the part in scan up to the first that isn't null, so many at most:
-/// null stays as it is. Where the next one isn't null, it scans that alone. Answers how many it scanned.
-fn scan_run(heap: &mut RawHeap, part: u64, cell: u32, most: u32) -> u32
-    requires heap { IsRawHeap heap.old }
-    requires phase { heap.old.phase ≡ phases.Marking part cell }
+/// Scans the next reference cell of a part, and where it is null those after it up to the first that isn't, so many in
+/// all at most. Answers how many it scanned.
+#[inline(always)]
+fn scan_run(heap: &mut RawHeap, part: u64, cell: usize, most: usize) -> usize
+    requires heap { IsScanning heap.old part cell }
     requires some { part ≢ 0 }
     requires most { 0 < most }
     requires within { cell + most ≤ width_at (node_of heap.old.nodes (part - 1)) }
     ensures count { (0 < result) × (result ≤ most) }
-    ensures acts { Chain (state_of heap.old) result (state_of heap.new) }
-    ensures phase { heap.new.phase ≡ phases.Marking part (cell + result) }
+    ensures acts { (units : ℕ) → Chain (state_of (scanning heap.old part cell units)) result (state_of (scanning heap.new part (cell + result) (units + result))) }
     ensures width { width_at (node_of heap.new.nodes (part - 1)) ≡ width_at (node_of heap.old.nodes (part - 1)) }
     ensures buffers { heap.new.grey.buffers ≡ heap.old.grey.buffers }
+    ensures same { heap.new ≡ record heap.old { nodes = heap.new.nodes; grey = heap.new.grey } }
 {
-    let nulls = nulls_from(&heap.nodes, part as usize - 1, cell, most);
-    if nulls == 0 {
-        scan_cell(heap, part, cell);
-        return 1;
+    let block = part as usize - 1;
+    let reference = heap.nodes.cell(block, cell);
+    if reference == 0 {
+        return 1 + nulls_from(&heap.nodes, block, cell + 1, most - 1);
     }
-    let cell = cell + nulls;
-    heap.go_to(nulls, Phase::Marking { part, cell });
-    nulls
+    scan_cell(heap, part, cell);
+    1
 }
 
 /// How many cells of a block, from one on and so many at most, are null before the first that isn't.
-fn nulls_from(nodes: &Nodes, block: usize, from: u32, most: u32) -> u32
+#[inline(always)]
+fn nulls_from(nodes: &Nodes, block: usize, from: usize, most: usize) -> usize
     requires held { is_held nodes.now block ≡ true }
+    requires small { from + most < 2 ^ 32 }
     requires within { from + most ≤ length (node_of nodes.now block).cells }
     ensures within { result ≤ most }
     ensures null { (k : ℕ) → from ≤ k → k < from + result → slice_index (node_of nodes.now block).cells k ≡ 0 }
 {
     let mut nulls = 0;
-    while nulls < most && nodes.cell(block, from as usize + nulls as usize) == 0 {
+    while nulls < most && nodes.cell(block, from + nulls) == 0 {
         nulls += 1;
     }
     nulls
 }
 
-/// Scans a reference cell of the part in scan: it is corrected to the main copy, and that is shaded.
-fn scan_cell(heap: &mut RawHeap, part: u64, cell: u32)
-    requires heap { IsRawHeap heap.old }
-    requires phase { heap.old.phase ≡ phases.Marking part cell }
+/// Scans a reference cell of a part: it is corrected to the main copy, and that is shaded. Null stays as it is.
+#[inline(always)]
+fn scan_cell(heap: &mut RawHeap, part: u64, cell: usize)
+    requires heap { IsScanning heap.old part cell }
     requires some { part ≢ 0 }
     requires left { cell < width_at (node_of heap.old.nodes (part - 1)) }
-    ensures acts { Action (state_of heap.old) 1 (state_of heap.new) }
-    ensures phase { heap.new.phase ≡ phases.Marking part (cell + 1) }
+    ensures acts { (units : ℕ) → Action (state_of (scanning heap.old part cell units)) 1 (state_of (scanning heap.new part (cell + 1) (units + 1))) }
     ensures width { width_at (node_of heap.new.nodes (part - 1)) ≡ width_at (node_of heap.old.nodes (part - 1)) }
     ensures buffers { heap.new.grey.buffers ≡ heap.old.grey.buffers }
+    ensures same { heap.new ≡ record heap.old { nodes = heap.new.nodes; grey = heap.new.grey } }
 {
     let block = part as usize - 1;
-    let main = heap
-        .nodes
-        .resolve(heap.nodes.cell(block, cell as usize))
-        .reference;
-    heap.nodes.set_cell(block, cell as usize, main);
+    let reference = heap.nodes.cell(block, cell);
+    if reference == 0 {
+        return;
+    }
+    let main = heap.nodes.follow(reference).reference;
+    heap.nodes.set_cell(block, cell, main);
     shade(heap, main);
-    heap.go_to(
-        1,
-        Phase::Marking {
-            part,
-            cell: cell + 1,
-        },
-    );
 }

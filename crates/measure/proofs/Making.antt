@@ -11,13 +11,13 @@ use Rattle.graph_heap.specs.declared.command.Change.TheVariants as changes
 use Rattle.graph_heap.specs.Graph.{Object, Graph, object_of, changed, new_object, no_object, opening, with_ref, with_word, root_cells}
 use Rattle.graph_heap.specs.Shape.{fits}
 use Rattle.graph_heap.specs.Effect.{slot_at, fitting, next_identity, admitted, settled}
-use Rattle.graph_heap.specs.Reach.{Reaches}
 use Rattle.graph_heap.specs.Reaching.{new_shape}
 use Rattle.size_classes.specs.Need.{needed}
 use Rattle.heap_model.specs.Alike.{IsFounded}
 use Rattle.heap_model.specs.Event.{change_by}
 use Rattle.heap_model.proofs.Course.{founded}
 use Rattle.heap_model.proofs.Changes.{length-put, put_each, object-append}
+use Rattle.heap_model.proofs.Written.{reaches_some}
 use Rattle.space.specs.Demand.{asked_by, asked_for}
 use Rattle.space.proofs.Roomless.{new_effect}
 use Rattle.measure.specs.Meter.{AllFit}
@@ -107,15 +107,11 @@ not_grown room g m c k less = by_makes (makes (change_by room g m c)) (count_aft
     by_makes false e a = a
 
 -- each object has the shape of one, after a change too
-unfolding_given : (g : Graph) (id : ℕ) → Reaches g id → 0 < id
-unfolding Reaches
-unfolding_given g id r = r.0
-
 pub fit_after : (g : Graph) (x : Change) → AllFit g → IsFounded g x → AllFit (changed g x)
 fit_after g changes.Nothing h f id = h id
 fit_after g (changes.Root cell v) h f id = h id
-fit_after g (changes.Ref to i v) h f id = ap fits (put_each (λ (o : Object). o.shape) g.objects to (with_ref (object_of g.objects to) i v) (unfolding_given g to f.0) f.1 refl id) ∙ h id
-fit_after g (changes.Word to i v) h f id = ap fits (put_each (λ (o : Object). o.shape) g.objects to (with_word (object_of g.objects to) i v) (unfolding_given g to f.0) f.1 refl id) ∙ h id
+fit_after g (changes.Ref to i v) h f id = ap fits (put_each (λ (o : Object). o.shape) g.objects to (with_ref (object_of g.objects to) i v) (reaches_some g to f.0) f.1 refl id) ∙ h id
+fit_after g (changes.Word to i v) h f id = ap fits (put_each (λ (o : Object). o.shape) g.objects to (with_word (object_of g.objects to) i v) (reaches_some g to f.0) f.1 refl id) ∙ h id
 fit_after g (changes.New cell new shape) h f id = ap (λ (o : Object). fits o.shape) (object-append g.objects (new_object shape) id) ∙ by_place (id == length g.objects + 1)
   where
     by_place : (b : Bool) → fits (if b then new_object shape else object_of g.objects id).shape ≡ true

@@ -21,6 +21,7 @@ use Rattle.space.specs.Tally.{is_tracing}
 use Rattle.space.specs.Pace.{Pace, Beat, AllKeepPace, opening_beat, next_beat, in_cycle}
 use Rattle.space.proofs.Pacing.{more_since}
 use Rattle.fragmentation.specs.Season.{Season, opening_season, season_after, made_since}
+use Rattle.fragmentation.proofs.Paging.{pages_none}
 use Rattle.measure.specs.declared.meter.Meter.{Meter}
 use Rattle.measure.specs.declared.season.Season.{Season as Counted}
 use Rattle.measure.specs.Counts.{AreBlocks}
@@ -30,7 +31,6 @@ use Rattle.measure.specs.Meter.{season_at, none_live, beat_after, AllFit, Asks, 
 use Rattle.measure.proofs.Counting.{are_sum, are_max, are_same}
 use Rattle.measure.proofs.Events.{beat_append, pace_more, Least, pace_live, pace_busy, pace_idle, pace_same, budgets_append}
 use Rattle.measure.proofs.Seasons.{season_append}
-use Rattle.measure.proofs.Paging.{pages_none}
 use Rattle.measure.proofs.Shifting.{shifts_still}
 use Rattle.measure.proofs.Asking.{shifts_command}
 use Rattle.measure.proofs.Making.{grown, not_grown, fit_after, fit_opening}
@@ -55,7 +55,7 @@ opening_shifts l m last base before n = record {
   made_held = (let e = n.made in omega (arith, e));
   live = 0;
   live_least = λ live pages k most. omega arith;
-  live_most = λ n. pages_none;
+  live_most = λ n. subst (λ z. z ≤ 0) (sym pages_none) (omega arith);
   live_held = (let e = n.live in omega (arith, e));
 }
 

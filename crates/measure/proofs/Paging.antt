@@ -7,40 +7,15 @@ use Rattle.size_classes.specs.declared.class.TheConstants.{CLASSES}
 use Rattle.size_classes.specs.Sizes.{blocks_in}
 use Rattle.size_classes.proofs.Table.{blocks_at, blocks_between, blocks_some}
 use Rattle.heap_model.specs.Pages.{whole_pages}
-use Rattle.space.specs.declared.demand.TheConstants.{MOST_BLOCKS}
+use Rattle.space.specs.declared.pages.TheConstants.{MOST_BLOCKS}
 use Rattle.space.specs.Space.{class_sum, class_pages}
-use Rattle.space.proofs.Counts.{class_sum_le, zeros}
+use Rattle.space.proofs.Counts.{class_sum_le}
 use Rattle.fragmentation.specs.Suffice.{gathered_pages, pages_of}
-use Rattle.fragmentation.proofs.Few.{whole_more, whole_none}
-use Rattle.fragmentation.proofs.Growing.{gathered_least}
+use Rattle.fragmentation.proofs.Paging.{whole_more, whole_none, gathered_more, gathered_least}
 use Rattle.measure.specs.Counts.{MOST, TOO_MANY, AreBlocks, IsPages}
 use Rattle.measure.specs.Season.{pages_gathered}
 
-gathered_more : (class m n : ℕ) → class < CLASSES → m ≤ n → gathered_pages class m ≤ gathered_pages class n
-gathered_more class m n small l = by_tests (nat_lt m (blocks_in class)) refl (nat_lt n (blocks_in class)) refl
-  where
-    w : whole_pages class m ≤ whole_pages class n
-    w = whole_more class m n small l
-
-    never : (m n b : ℕ) → m ≤ n → nat_lt m b ≡ false → nat_lt n b ≡ true → ⊥
-    never m n b l x y = grind arith
-
-    by_tests : (x : Bool) → nat_lt m (blocks_in class) ≡ x → (y : Bool) → nat_lt n (blocks_in class) ≡ y → (if x then whole_pages class m else whole_pages class m + 1) ≤ (if y then whole_pages class n else whole_pages class n + 1)
-    by_tests true e true f = w
-    by_tests true e false f = omega (arith, w)
-    by_tests false e true f = absurd (never m n (blocks_in class) l e f)
-    by_tests false e false f = omega (arith, w)
-
-pub pages_more : (f g : ℕ → ℕ) → ((k : ℕ) → k < CLASSES → f k ≤ g k) → pages_of f ≤ pages_of g
-pages_more f g e = class_sum_le _ _ CLASSES (λ k l. whole_more k (f k) (g k) l (e k l))
-
--- no blocks take no page
-pub pages_none : pages_of (λ class. 0) ≤ 0
-pages_none =
-    let l = class_sum_le (λ k. whole_pages k 0) (λ k. 0) CLASSES (λ k l. (let h = whole_none k l in omega (arith, h))) in
-    let z = zeros CLASSES in
-    omega (arith, l, z)
-
+-- blocks that were gathered and those made since take more pages where there are more
 pub season_more : (a b f g : ℕ → ℕ) → ((k : ℕ) → k < CLASSES → a k ≤ b k) → ((k : ℕ) → k < CLASSES → f k ≤ g k) → pages_gathered a f ≤ pages_gathered b g
 season_more a b f g h e = class_sum_le (λ k. gathered_pages k (a k) + whole_pages k (f k)) (λ k. gathered_pages k (b k) + whole_pages k (g k)) CLASSES (λ k l. (let x = gathered_more k (a k) (b k) l (h k l) in let y = whole_more k (f k) (g k) l (e k l) in omega (arith, x, y)))
 

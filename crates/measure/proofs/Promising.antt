@@ -14,7 +14,7 @@ use Rattle.size_classes.specs.declared.class.TheConstants.{CLASSES}
 use Rattle.space.specs.declared.pace.Pace.{Pace as PaceTable}
 use Rattle.space.specs.Pace.{Pace, opening_beat, AllKeepPace}
 use Rattle.space.specs.Space.{pages_for}
-use Rattle.space.specs.Fitting.{pace_in, spare_in, FitsIn}
+use Rattle.space.specs.Fitting.{pace_in, spare_in, below_in, FitsIn}
 use Rattle.space.specs.Room.{AllHaveRoom}
 use Rattle.space.proofs.Configured.{pace_configured}
 use Rattle.fragmentation.specs.Season.{Season, opening_season, AllKeep}
@@ -57,7 +57,7 @@ one_of a b d pages h = by (cases_lt pages a) (cases_lt pages b)
 
 -- pages enough for what was needed together fit
 fits_together : (c : Config) (n : Needed) → moved_pages c n ≤ c.pages → FitsTogether c (together_in n)
-fits_together c n h = one_of (pages_for (together_in n) (spare_in c) CLASSES) (still_pages n + c.defrag_below) (sparse_pages (together_in n) + spare_in c) c.pages h
+fits_together c n h = one_of (pages_for (together_in n) (spare_in c) CLASSES) (still_pages n + below_in c) (sparse_pages (together_in n) + spare_in c) c.pages h
 
 -- where nothing is moved no page is spared
 still_spare : (c : Config) → c.defrag_below ≡ 0 → spare_in c ≡ 0

@@ -6,9 +6,10 @@ use Rattle.heap_model.specs.declared.phase.Phase.{Phase}
 use Rattle.heap_model.specs.Event.{Course, Event, Command_done, Cycle_begun, Cycle_on, Quantum_done, Quantum_refused, Runs}
 use Rattle.space.specs.Demand.{blocks_of}
 use Rattle.space.specs.Tally.{is_tracing}
+use Rattle.space.proofs.Moved.{chain_tracing}
 use Rattle.fragmentation.specs.Season.{Season, Lives, made_since, season_swept, season_after, Keeps, AllKeep}
 use Rattle.measure.specs.Meter.{season_at, none_live, Anything, AreQuanta}
-use Rattle.measure.proofs.Working.{chain_traces, runs_trace}
+use Rattle.measure.proofs.Working.{runs_trace}
 
 pub season_append : (live : Lives) (s : Season) (es fs : List Event) → season_at live s (es ++ fs) ≡ season_at live (season_at live s es) fs
 season_append live s [] fs = refl
@@ -127,7 +128,7 @@ quanta_season live budget [] s r new each runs e =
     (rested_still live (is_tracing new.heap.phase) s f, rested_traces live (is_tracing new.heap.phase) (is_tracing new.heap.phase) s f (λ z. z))
 quanta_season live budget (Quantum_done b units phase ∷ qs) s r new each runs e =
     let is : runs.0.heap.phase ≡ phase = runs.1.ends in
-    let first : (is_tracing phase ≡ true → is_tracing r.heap.phase ≡ true) = λ z. chain_traces r.heap runs.0.heap units runs.1.turn.chain (ap is_tracing is ∙ z) in
+    let first : (is_tracing phase ≡ true → is_tracing r.heap.phase ≡ true) = λ z. chain_tracing r.heap runs.0.heap units runs.1.turn.chain (ap is_tracing is ∙ z) in
     let traces : (rested live (is_tracing phase) s).tracing ≡ is_tracing runs.0.heap.phase = rested_traces live (is_tracing r.heap.phase) (is_tracing phase) s e first ∙ ap is_tracing (sym is) in
     let back : (is_tracing new.heap.phase ≡ true → is_tracing phase ≡ true) = λ z. ap is_tracing (sym is) ∙ runs_trace budget qs runs.0 new each.1 runs.2 z in
     let rest = quanta_season live budget qs (rested live (is_tracing phase) s) runs.0 new each.1 runs.2 traces in

@@ -9,6 +9,7 @@ use Rattle.heap_model.specs.Event.{Event, Command_done, Cycle_begun}
 use Rattle.space.specs.Demand.{LiveWithin, blocks_of, asked_for}
 use Rattle.fragmentation.specs.Season.{Season, Lives, opening_season, made_since, needed_since, season_swept, AllKeep}
 use Rattle.fragmentation.specs.Suffice.{WithinBlocks, WithinPages, pages_of, season_pages, Budget, WithinBudget}
+use Rattle.fragmentation.proofs.Paging.{pages_more}
 use Rattle.measure.specs.declared.meter.Meter.{Meter}
 use Rattle.measure.specs.declared.season.Season.{Season as Counted}
 use Rattle.measure.specs.declared.most.Most.{Most}
@@ -18,7 +19,7 @@ use Rattle.measure.specs.Meter.{season_at, none_live, AgreeTo, Anything, Lived, 
 use Rattle.measure.proofs.Counting.{are_sum, are_same}
 use Rattle.measure.proofs.Seasons.{alike, keep_append, made_alike, stated}
 use Rattle.measure.proofs.Leasts.{season, still, goes, least_more, lived_more}
-use Rattle.measure.proofs.Paging.{pages_more, season_more}
+use Rattle.measure.proofs.Paging.{season_more}
 
 module _ (l : Limits) (es : List Event) where
   -- events that are no command and begin no cycle, and after which nothing else is needed of seasons

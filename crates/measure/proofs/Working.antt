@@ -3,39 +3,19 @@ use Rattle.std.proofs.Common.{◌≡◌, ℕ, ◌<◌, Bool, true, false, if◌t
 use Rattle.graph_heap.specs.Graph.{Graph}
 use Rattle.heap_model.specs.declared.phase.Phase.{Phase}
 use Rattle.heap_model.specs.State.{HeapState}
-use Rattle.heap_model.specs.Action.{Action, Scans_root, Ends_roots, Scans_header, Scans_cell, Ends_marking, Frees_block, Passes_block, Closes_page, Ends_sweep, Looks_at_page, Chooses_page, Chooses_none, Moves_block, Ends_moving, Chain, Nothing_done, Then}
 use Rattle.heap_model.specs.Event.{Course, Event, Command_done, Cycle_begun, Cycle_on, Quantum_done, Quantum_refused, Runs, Collects, IsCourse, present_of}
 use Rattle.heap_model.proofs.Stood.{idle_chain}
 use Rattle.heap_model.proofs.Course.{does_course, collects_present}
 use Rattle.space.specs.Tally.{is_tracing}
 use Rattle.space.specs.Pace.{Beat, next_beat, in_cycle}
 use Rattle.space.proofs.Pacing.{idle_phase}
+use Rattle.space.proofs.Moved.{chain_tracing}
 use Rattle.measure.specs.Meter.{beat_after, AreQuanta}
 
 -- tracing that is on was on before
-traces_before : (h after : HeapState) (cost : ℕ) → Action h cost after → is_tracing after.phase ≡ true → is_tracing h.phase ≡ true
-traces_before h after cost (Scans_root next k e l sh) t = ap is_tracing e
-traces_before h after cost (Ends_roots next e l) t = ap is_tracing e
-traces_before h after cost (Scans_header part cell x front back e f n) t = ap is_tracing e
-traces_before h after cost (Scans_cell part cell new k e l w0 sh) t = ap is_tracing e
-traces_before h after cost (Ends_marking part cell e f n) t = ap is_tracing e
-traces_before h after cost (Frees_block page block p new e f was unmarked w0 pages) t = ap is_tracing e
-traces_before h after cost (Passes_block page block p e f l marked) t = ap is_tracing e
-traces_before h after cost (Closes_page page block new e l f w0 pages) t = ap is_tracing e
-traces_before h after cost (Ends_sweep page block e l) t = ap is_tracing e
-traces_before h after cost (Looks_at_page class page best chosen at l m) t = absurd (let z : false ≡ true = t in cc)
-traces_before h after cost (Chooses_page class page best chosen c p new at l m lk ch pg w0 pages) t = absurd (let z : false ≡ true = t in cc)
-traces_before h after cost (Chooses_none class page best chosen at l m ch) t = absurd (let z : false ≡ true = t in cc)
-traces_before h after cost (Moves_block class page block chosen i to j p q new e pg lv n pos at fr w0 pages) t = absurd (let z : false ≡ true = t in cc)
-traces_before h after cost (Ends_moving done) t = absurd (let z : false ≡ true = t in cc)
-
-pub chain_traces : (h after : HeapState) (spent : ℕ) → Chain h spent after → is_tracing after.phase ≡ true → is_tracing h.phase ≡ true
-chain_traces h after spent Nothing_done t = t
-chain_traces h after spent (Then u cost j k linked chain links action) t = chain_traces h j u chain (traces_before (record j { store = linked }) k cost action t)
-
 pub runs_trace : (budget : ℕ) (qs : List Event) (r new : Course) → AreQuanta budget qs → Runs r qs new → is_tracing new.heap.phase ≡ true → is_tracing r.heap.phase ≡ true
 runs_trace budget [] r new each runs t = ap (λ (x : Course). is_tracing x.heap.phase) (sym runs) ∙ t
-runs_trace budget (Quantum_done b units phase ∷ qs) r new each runs t = chain_traces r.heap runs.0.heap units runs.1.turn.chain (runs_trace budget qs runs.0 new each.1 runs.2 t)
+runs_trace budget (Quantum_done b units phase ∷ qs) r new each runs t = chain_tracing r.heap runs.0.heap units runs.1.turn.chain (runs_trace budget qs runs.0 new each.1 runs.2 t)
 runs_trace budget (Command_done m c reply ∷ qs) r new each runs t = elim each [ ]
 runs_trace budget (Cycle_begun ∷ qs) r new each runs t = elim each [ ]
 runs_trace budget (Cycle_on ∷ qs) r new each runs t = elim each [ ]

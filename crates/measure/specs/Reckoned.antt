@@ -3,7 +3,7 @@ use Rattle.std.specs.Prelude.{ℕ, ◌+◌, ◌&&◌, if◌then◌else◌, min, 
 use Rattle.size_classes.specs.declared.class.TheConstants.{CLASSES}
 use Rattle.size_classes.specs.declared.config.Config.{Config}
 use Rattle.space.specs.Space.{pages_for}
-use Rattle.space.specs.Fitting.{spare_in}
+use Rattle.space.specs.Fitting.{spare_in, below_in}
 use Rattle.fragmentation.specs.Suffice.{sparse_pages}
 use Rattle.measure.specs.declared.needed.Needed.{Needed}
 use Rattle.measure.specs.Measured.{together_in}
@@ -18,7 +18,7 @@ still_pages n = pages_for (together_in n) 0 CLASSES
 abbrev pub moved_pages : Config → Needed → ℕ
 moved_pages c n =
     min (pages_for (together_in n) (spare_in c) CLASSES)
-    (min (still_pages n + c.defrag_below) (sparse_pages (together_in n) + spare_in c))
+    (min (still_pages n + below_in c) (sparse_pages (together_in n) + spare_in c))
 
 -- moving follows each sweep, and as many pages as there are may be emptied
 abbrev pub moves_all : Config → Bool

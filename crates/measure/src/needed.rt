@@ -1,7 +1,7 @@
 //! What a run needed in blocks and pages, and how many pages suffice for it.
 ghost use Rattle.std.specs.Prelude.{◌≡◌, ◌≤◌, ◌*◌};
 ghost use Rattle.size_classes.specs.declared.class.TheConstants.{CLASSES};
-ghost use Rattle.space.specs.declared.demand.TheConstants.{MOST_CLASS_PAGES};
+ghost use Rattle.space.specs.declared.pages.TheConstants.{MOST_CLASS_PAGES};
 ghost use Rattle.space.specs.Space.{pages_for};
 ghost use Rattle.fragmentation.specs.Suffice.{sparse_pages, budget_pages};
 ghost use Rattle.measure.specs.Measured.{together_in, budget_in};
@@ -9,7 +9,7 @@ ghost use Rattle.measure.specs.Reckoned.{still_pages, moved_pages, moves_all, ne
 
 use crate::page_counts::gathered_of;
 use size_classes::{CLASSES, Class, Config};
-use space::{pages_of_class, spare};
+use space::{below, pages_of_class, spare};
 
 /// What a run needed at most.
 #[derive(Clone, Copy, Debug, PartialEq, Eq)]
@@ -71,7 +71,7 @@ impl Needed {
         ensures { result ≡ moved_pages config.now self.now }
     {
         let spare = spare(config);
-        let unmoved = self.still() + u128::from(config.defrag_below);
+        let unmoved = self.still() + u128::from(below(config));
         let sparse = self.sparse() + u128::from(spare);
         self.pages(spare).min(unmoved.min(sparse))
     }

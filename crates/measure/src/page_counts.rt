@@ -1,7 +1,7 @@
 //! The pages that blocks take.
 ghost use Rattle.std.specs.Prelude.{◌≡◌, ◌<◌, ◌≤◌, ℕ};
 ghost use Rattle.size_classes.specs.declared.class.TheConstants.{CLASSES};
-ghost use Rattle.space.specs.declared.demand.TheConstants.{MOST_BLOCKS, MOST_CLASS_PAGES};
+ghost use Rattle.space.specs.declared.pages.TheConstants.{MOST_BLOCKS, MOST_CLASS_PAGES};
 ghost use Rattle.heap_model.specs.Pages.{whole_pages};
 ghost use Rattle.fragmentation.specs.Suffice.{gathered_pages, pages_of};
 ghost use Rattle.measure.specs.Counts.{AreBlocks, IsPages};
@@ -9,7 +9,7 @@ ghost use Rattle.measure.specs.Season.{pages_gathered};
 
 use crate::blocks::Blocks;
 use size_classes::{CLASSES, Class};
-use space::demand::MOST_BLOCKS;
+use space::pages::MOST_BLOCKS;
 use space::pages_of_class;
 
 /// The whole pages that so many blocks of a class take, by its number.

@@ -4,3 +4,6 @@ pub mod Reading
 pub mod Telling
 pub mod Sharing
 pub mod Covering
+pub mod Failing
+pub mod Below
+pub mod Alive

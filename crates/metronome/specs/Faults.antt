@@ -1,6 +1,9 @@
 -- The faults of the crates below, as faults of a run.
+use Rattle.std.specs.Prelude.{ℕ, ◌≡◌, ◌⊎◌, ◌+◌, Result, Err}
 use Rattle.command_line.specs.declared.fault.ReadFault.{ReadFault}
 use Rattle.command_line.specs.declared.fault.ReadFault.TheVariants as settings
+use Rattle.graph_drawing.specs.declared.fault.DrawFault.{DrawFault}
+use Rattle.graph_drawing.specs.declared.fault.DrawFault.TheVariants as drawings
 use Rattle.load_file.specs.declared.fault.LoadFault.{LoadFault}
 use Rattle.load_file.specs.declared.fault.LoadFault.TheVariants as loads
 use Rattle.trace.specs.declared.fault.TextFault.{TextFault}
@@ -25,9 +28,29 @@ of_text texts.Read = Read
 of_text texts.Write = Write
 of_text texts.NoMemory = NoMemory
 
+-- the fault of a run whose graph can't be drawn
+abbrev pub of_drawing : DrawFault → RunFault
+of_drawing drawings.Write = Write
+of_drawing drawings.NoMemory = NoMemory
+
 -- the faults of a load or a trace that can't be read into memory
 abbrev pub IsUnread : RunFault → Type 0
 IsUnread (Load why) = Unit {0}
 IsUnread Read = Unit {0}
 IsUnread NoMemory = Unit {0}
 IsUnread fault = ⊥
+
+-- how many reads have failed where a run ends so: it ends at the first
+abbrev pub failed_reads : {A : Type 0} → Result A RunFault → ℕ
+failed_reads (Err Read) = 1
+failed_reads _ = 0
+
+-- and how many writes
+abbrev pub failed_writes : {A : Type 0} → Result A RunFault → ℕ
+failed_writes (Err Write) = 1
+failed_writes _ = 0
+
+-- a run counts the failed reads of its source; where something else can't be read, its source was asked for nothing
+abbrev pub CountsReads : {S A : Type 0} → (S → ℕ) → S → S → Result A RunFault → Type 0
+CountsReads failures old new result =
+    (failures new ≡ failures old + failed_reads result) ⊎ ((fault : RunFault) × (result ≡ Err fault) × IsUnread fault × (new ≡ old))

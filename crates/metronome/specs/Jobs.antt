@@ -20,6 +20,9 @@ use Rattle.player.specs.declared.style.Style.TheVariants.{Entries, Nothing}
 use Rattle.player.specs.New.{IsNew}
 use Rattle.player.specs.Player.{PlayerState}
 use Rattle.player.specs.Playing.{Stage, stage, Played, PlayedFirst, text_written}
+use Rattle.command_line.specs.declared.job.Report.{Report}
+use Rattle.command_line.specs.declared.job.Report.TheVariants as reports
+use Rattle.inspector.specs.Filling.{sizes_told}
 use Rattle.inspector.specs.Report.{report_of}
 use Rattle.metronome.specs.declared.fault.Ending.{Ending}
 use Rattle.metronome.specs.declared.fault.Ending.TheVariants.{Done, WrongReply}
@@ -48,19 +51,24 @@ abbrev pub PlayedUpTo : Option ℕ → Given → Stage → Stage → Result (Uni
 PlayedUpTo None given old new how = Played Nothing given old new how
 PlayedUpTo (Some events) given old new how = PlayedFirst events Nothing given old new how
 
--- what is written of the heap after a play
-abbrev pub ReportedAfter : Result (Unit {0}) TextFault → HeapState → Taken → Result Ending RunFault → Type 0
--- the play came to its end: the report, or a part of it where a write failed
-ReportedAfter (Ok all) h taken (Ok ending) = (ending ≡ Done) × (taken.after ≡ taken.before ++ report_of h)
-ReportedAfter (Ok all) h taken (Err fault) = (fault ≡ Write) × GrowsByPart taken.before taken.after (report_of h)
--- a fault ended the play: nothing
-ReportedAfter (Err why) h taken result = (result ≡ Err (of_text why)) × (taken.after ≡ taken.before)
+-- the text of a report of a heap: page by page, or by size class
+abbrev pub report_by : Report → HeapState → List ℕ
+report_by reports.Pages h = report_of h
+report_by reports.Sizes h = sizes_told h
 
--- A new player played a trace, and the report of its heap was written.
-abbrev pub HeapInspected : Option ℕ → Config → Given → Taken → Result Ending RunFault → Type 0
-HeapInspected after config given taken result =
+-- what is written of a heap after a play
+abbrev pub ReportedAfter : Result (Unit {0}) TextFault → List ℕ → Taken → Result Ending RunFault → Type 0
+-- the play came to its end: the report, or a part of it where a write failed
+ReportedAfter (Ok all) report taken (Ok ending) = (ending ≡ Done) × (taken.after ≡ taken.before ++ report)
+ReportedAfter (Ok all) report taken (Err fault) = (fault ≡ Write) × GrowsByPart taken.before taken.after report
+-- a fault ended the play: nothing
+ReportedAfter (Err why) report taken result = (result ≡ Err (of_text why)) × (taken.after ≡ taken.before)
+
+-- A new player played a trace, or its first event lines, and a report of its heap was written.
+abbrev pub HeapInspected : Report → Option ℕ → Config → Given → Taken → Result Ending RunFault → Type 0
+HeapInspected by after config given taken result =
     NotBegun given taken result
-    ⊎ ((old : PlayerState) × (new : PlayerState) × (mid : List ℕ) × (how : Result (Unit {0}) TextFault) × IsNew config old × PlayedUpTo after given (stage old taken.before) (stage new mid) how × ReportedAfter how new.course.heap (record taken { before = mid }) result)
+    ⊎ ((old : PlayerState) × (new : PlayerState) × (mid : List ℕ) × (how : Result (Unit {0}) TextFault) × IsNew config old × PlayedUpTo after given (stage old taken.before) (stage new mid) how × ReportedAfter how (report_by by new.course.heap) (record taken { before = mid }) result)
 
 -- the line that tells what became of a history, and how the run ends
 abbrev pub told_of : Checked → List ℕ

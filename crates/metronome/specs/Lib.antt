@@ -3,8 +3,10 @@ pub mod Jobs
 pub mod Status
 pub mod Windows
 pub mod Drawn
+pub mod Graphed
 pub mod Told
 pub mod OverTime
 pub mod Progress
 pub mod Logged
+pub mod Alive
 pub mod Done

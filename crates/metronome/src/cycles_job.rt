@@ -1,5 +1,7 @@
 //! Telling of the cycles of a run.
+ghost use Rattle.std.specs.Prelude.{◌≡◌, ◌+◌};
 ghost use Rattle.trace.specs.Streams.{given_by, taken_by};
+ghost use Rattle.metronome.specs.Faults.{failed_reads, failed_writes};
 ghost use Rattle.metronome.specs.Logged.{CyclesTold};
 
 use crate::fault::{Ending, RunFault};
@@ -16,7 +18,9 @@ pub fn cycles_job<S: Source, K: Sink>(
     sink: &mut K,
     layout: Layout,
 ) -> Result<Ending, RunFault>
-    ensures { CyclesTold layout config.now (given_by S.given S.ended source.old source.new) (taken_by K.taken sink.old sink.new) result }
+    ensures done { CyclesTold layout config.now (given_by S.given S.ended source.old source.new) (taken_by K.taken sink.old sink.new) result }
+    ensures reads { S.failures source.new ≡ S.failures source.old + failed_reads result }
+    ensures writes { K.failures sink.new ≡ K.failures sink.old + failed_writes result }
 {
     let cycles = take_cycles(alloc, config, source)?;
     let text = cycles_text(alloc, cycles.items.as_slice(), layout)?;

@@ -1,7 +1,8 @@
 //! Drawing a heap after a play.
-ghost use Rattle.std.specs.Prelude.{◌≡◌, List, ℕ, ◌++◌, OnOk, OnErr};
-ghost use Rattle.trace.specs.Streams.{GrowsByPart, given_by, taken_by};
+ghost use Rattle.std.specs.Prelude.{◌≡◌, List, ℕ, ◌+◌, ◌++◌, OnOk, OnErr};
+ghost use Rattle.trace.specs.Streams.{failed, GrowsByPart, given_by, taken_by};
 ghost use Rattle.metronome.specs.Drawn.{IsPicture, HeapDrawn};
+ghost use Rattle.metronome.specs.Faults.{failed_reads, failed_writes};
 
 use crate::fault::{Ending, RunFault};
 use crate::jobs::play_silently;
@@ -19,7 +20,8 @@ fn draw<K: Sink>(
     picture: Picture,
     sink: &mut K,
 ) -> Result<(), WriteFailed>
-    ensures { (text : List ℕ) × IsPicture picture config.now player.now text × OnOk result (K.taken sink.new ≡ K.taken sink.old ++ text) × OnErr result (GrowsByPart (K.taken sink.old) (K.taken sink.new) text) }
+    ensures drawn { (text : List ℕ) × IsPicture picture config.now player.now text × OnOk result (K.taken sink.new ≡ K.taken sink.old ++ text) × OnErr result (GrowsByPart (K.taken sink.old) (K.taken sink.new) text) }
+    ensures cause { K.failures sink.new ≡ K.failures sink.old + failed result }
 {
     match picture {
         Picture::Pages => draw_pages(player.recorded().heap(), sink),
@@ -36,7 +38,9 @@ pub fn draw_job<S: Source, K: Sink>(
     picture: Picture,
     after: Option<u32>,
 ) -> Result<Ending, RunFault>
-    ensures { HeapDrawn picture after config.now (given_by S.given S.ended source.old source.new) (taken_by K.taken sink.old sink.new) result }
+    ensures done { HeapDrawn picture after config.now (given_by S.given S.ended source.old source.new) (taken_by K.taken sink.old sink.new) result }
+    ensures reads { S.failures source.new ≡ S.failures source.old + failed_reads result }
+    ensures writes { K.failures sink.new ≡ K.failures sink.old + failed_writes result }
 {
     let mut player = Player::new(alloc, config)?;
     play_silently(source, sink, &mut player, after)?;

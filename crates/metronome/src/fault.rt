@@ -1,10 +1,11 @@
 //! How a run ends.
 ghost use Rattle.std.specs.Prelude.{◌≡◌};
 ghost use Rattle.metronome.specs.declared.fault.RunFault.TheVariants as faults;
-ghost use Rattle.metronome.specs.Faults.{of_settings, of_load, of_text};
+ghost use Rattle.metronome.specs.Faults.{of_settings, of_load, of_text, of_drawing};
 ghost use Rattle.metronome.specs.Status.{ending_status, fault_status};
 
 use command_line::ReadFault;
+use graph_drawing::DrawFault;
 use graph_heap::NoMemory;
 use inspector::WriteFault;
 use load_file::{DocumentFault, LoadFault};
@@ -151,5 +152,16 @@ impl From<WriteFault> for RunFault {
 
     fn from(_fault: WriteFault) -> RunFault {
         RunFault::Write
+    }
+}
+
+impl From<DrawFault> for RunFault {
+    ghost from_gives = { λ why fault. fault ≡ of_drawing why };
+
+    fn from(fault: DrawFault) -> RunFault {
+        match fault {
+            DrawFault::Write => RunFault::Write,
+            DrawFault::NoMemory => RunFault::NoMemory,
+        }
     }
 }

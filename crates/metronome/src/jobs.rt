@@ -1,17 +1,20 @@
-//! What each subcommand does, from a source to a sink.
-ghost use Rattle.std.specs.Prelude.{◌≡◌, ◌≤◌, ◌++◌, length, map, replicate, IfOk, IfErr, OnOk, OnErr, string_bytes};
+//! What each subcommand does, from a source to a sink. Each ends in a failed read or write exactly where one failed.
+ghost use Rattle.std.specs.Prelude.{◌≡◌, ◌+◌, ◌≤◌, ◌++◌, length, map, replicate, IfOk, IfErr, OnOk, OnErr, string_bytes};
 ghost use Rattle.heap_model.specs.Settings.{settings_by};
-ghost use Rattle.trace.specs.Streams.{GrowsByPart, given_by, taken_by};
+ghost use Rattle.trace.specs.GoneOver.{reads_failed, writes_failed};
+ghost use Rattle.trace.specs.Streams.{failed, GrowsByPart, given_by, taken_by};
 ghost use Rattle.player.specs.declared.style.Style.TheVariants.{Entries};
 ghost use Rattle.player.specs.Playing.{stage, written_of, written_version, text_written};
 ghost use Rattle.heap_server.specs.Played.{IsOutcome};
+ghost use Rattle.metronome.specs.Faults.{failed_reads, failed_writes};
 ghost use Rattle.metronome.specs.Jobs.{TracePlayed, PlayedUpTo, HeapInspected, HistoryChecked, ScriptsRun, WindowsMeasured, verdict, told_of, finish};
 ghost use Rattle.metronome.specs.Windows.{IsWindowLine, AllTold, FirstTold};
 
 use crate::fault::{Ending, RunFault};
+use crate::reports::write_report;
+use command_line::Report;
 use graph_heap::{Command, Entry, NoMemory, Reference};
 use heap_server::{OpenGate, Outcome, play_threads};
-use inspector::report;
 use mmu_report::{bound, least_mutator, permille};
 use player::{Player, Style, play, play_first};
 use quanta::Schedule;
@@ -30,7 +33,9 @@ pub fn play_job<S: Source, K: Sink>(
     sink: &mut K,
     style: Style,
 ) -> Result<Ending, RunFault>
-    ensures { TracePlayed style config.now (given_by S.given S.ended source.old source.new) (taken_by K.taken sink.old sink.new) result }
+    ensures done { TracePlayed style config.now (given_by S.given S.ended source.old source.new) (taken_by K.taken sink.old sink.new) result }
+    ensures reads { S.failures source.new ≡ S.failures source.old + failed_reads result }
+    ensures writes { K.failures sink.new ≡ K.failures sink.old + failed_writes result }
 {
     let mut player = Player::new(alloc, config)?;
     play(source, sink, &mut player, style)?;
@@ -64,7 +69,9 @@ pub fn check_job<S: Source, K: Sink>(
     source: &mut S,
     sink: &mut K,
 ) -> Result<Ending, RunFault>
-    ensures { HistoryChecked config.now (given_by S.given S.ended source.old source.new) (taken_by K.taken sink.old sink.new) result }
+    ensures done { HistoryChecked config.now (given_by S.given S.ended source.old source.new) (taken_by K.taken sink.old sink.new) result }
+    ensures reads { S.failures source.new ≡ S.failures source.old + failed_reads result }
+    ensures writes { K.failures sink.new ≡ K.failures sink.old + failed_writes result }
 {
     let mut reference = Reference::new(alloc, &config.limits())?;
     let checked = check_entries(source, &mut reference)?;
@@ -110,7 +117,9 @@ pub fn threads_job<S: Source, K: Sink, T: Threads + Wait + Sync>(
     turns: u32,
     budget: u32,
 ) -> Result<Ending, RunFault>
-    ensures { ScriptsRun turns budget config.now (given_by S.given S.ended source.old source.new) (taken_by K.taken sink.old sink.new) result }
+    ensures done { ScriptsRun turns budget config.now (given_by S.given S.ended source.old source.new) (taken_by K.taken sink.old sink.new) result }
+    ensures reads { S.failures source.new ≡ S.failures source.old + failed_reads result }
+    ensures writes { K.failures sink.new ≡ K.failures sink.old + failed_writes result }
 {
     let (version, scripts) = read_scripts(alloc, source, &config.limits())?;
     let outcome = run_scripts(rt, alloc, config, scripts.as_slice(), turns, budget)?;
@@ -137,6 +146,7 @@ fn write_history<K: Sink>(
 ) -> Result<(), WriteFailed>
     ensures ok { OnOk result (K.taken sink.new ≡ K.taken sink.old ++ text_written Entries version history.now) }
     ensures err { OnErr result (GrowsByPart (K.taken sink.old) (K.taken sink.new) (text_written Entries version history.now)) }
+    ensures cause { K.failures sink.new ≡ K.failures sink.old + failed result }
 {
     write_version(sink, version)?;
     write_entries(sink, history)
@@ -146,6 +156,7 @@ fn write_history<K: Sink>(
 fn write_version<K: Sink>(sink: &mut K, version: Version) -> Result<(), WriteFailed>
     ensures ok { OnOk result (K.taken sink.new ≡ K.taken sink.old ++ written_version version Entries) }
     ensures err { OnErr result (GrowsByPart (K.taken sink.old) (K.taken sink.new) (written_version version Entries)) }
+    ensures cause { K.failures sink.new ≡ K.failures sink.old + failed result }
 {
     match version {
         Version::First => Ok(()),
@@ -157,6 +168,7 @@ fn write_version<K: Sink>(sink: &mut K, version: Version) -> Result<(), WriteFai
 fn write_entries<K: Sink>(sink: &mut K, history: &[Entry]) -> Result<(), WriteFailed>
     ensures ok { OnOk result (K.taken sink.new ≡ K.taken sink.old ++ written_of Entries history.now) }
     ensures err { OnErr result (GrowsByPart (K.taken sink.old) (K.taken sink.new) (written_of Entries history.now)) }
+    ensures cause { K.failures sink.new ≡ K.failures sink.old + failed result }
 {
     for entry in history {
         let mut out = [0; 256];
@@ -173,7 +185,9 @@ pub(crate) fn play_silently<S: Source, K: Sink>(
     player: &mut Player,
     after: Option<u32>,
 ) -> Result<(), TextFault>
-    ensures { PlayedUpTo after (given_by S.given S.ended source.old source.new) (stage player.old (K.taken sink.old)) (stage player.new (K.taken sink.new)) result }
+    ensures played { PlayedUpTo after (given_by S.given S.ended source.old source.new) (stage player.old (K.taken sink.old)) (stage player.new (K.taken sink.new)) result }
+    ensures reads { S.failures source.new ≡ S.failures source.old + reads_failed result }
+    ensures writes { K.failures sink.new ≡ K.failures sink.old + writes_failed result }
 {
     match after {
         None => play(source, sink, player, Style::Nothing),
@@ -181,19 +195,22 @@ pub(crate) fn play_silently<S: Source, K: Sink>(
     }
 }
 
-/// Plays a trace, or its first event lines, and writes the report of the heap.
+/// Plays a trace, or its first event lines, and writes a report of the heap.
 pub fn inspect_job<S: Source, K: Sink>(
     alloc: Global,
     config: &Config,
     source: &mut S,
     sink: &mut K,
+    by: Report,
     after: Option<u32>,
 ) -> Result<Ending, RunFault>
-    ensures { HeapInspected after config.now (given_by S.given S.ended source.old source.new) (taken_by K.taken sink.old sink.new) result }
+    ensures done { HeapInspected by after config.now (given_by S.given S.ended source.old source.new) (taken_by K.taken sink.old sink.new) result }
+    ensures reads { S.failures source.new ≡ S.failures source.old + failed_reads result }
+    ensures writes { K.failures sink.new ≡ K.failures sink.old + failed_writes result }
 {
     let mut player = Player::new(alloc, config)?;
     play_silently(source, sink, &mut player, after)?;
-    report(player.recorded().heap(), sink)?;
+    write_report(player.recorded().heap(), by, sink)?;
     Ok(Ending::Done)
 }
 
@@ -205,7 +222,9 @@ pub fn mmu_job<S: Source, K: Sink>(
     sink: &mut K,
     windows: &[u64],
 ) -> Result<Ending, RunFault>
-    ensures { WindowsMeasured windows.now config.now (given_by S.given S.ended source.old source.new) (taken_by K.taken sink.old sink.new) result }
+    ensures done { WindowsMeasured windows.now config.now (given_by S.given S.ended source.old source.new) (taken_by K.taken sink.old sink.new) result }
+    ensures reads { S.failures source.new ≡ S.failures source.old + failed_reads result }
+    ensures writes { K.failures sink.new ≡ K.failures sink.old + failed_writes result }
 {
     let mut player = Player::new(alloc, config)?;
     play(source, sink, &mut player, Style::Nothing)?;
@@ -223,6 +242,8 @@ fn write_windows<K: Sink>(
 ) -> Result<(), RunFault>
     ensures ok { OnOk result (AllTold config.now schedule.now windows.now (K.taken sink.old) (K.taken sink.new)) }
     ensures err { IfErr result (λ fault. FirstTold config.now schedule.now windows.now fault (K.taken sink.old) (K.taken sink.new)) }
+    ensures reads { failed_reads result ≡ 0 }
+    ensures writes { K.failures sink.new ≡ K.failures sink.old + failed_writes result }
 {
     for window in windows {
         let line = window_line(alloc, config, schedule, *window)?;

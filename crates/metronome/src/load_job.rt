@@ -1,8 +1,9 @@
 //! Telling what a load needs, and whether a trace keeps to it.
-ghost use Rattle.std.specs.Prelude.{IfErr, IfOk};
+ghost use Rattle.std.specs.Prelude.{◌≡◌, ◌+◌, IfErr, IfOk};
+ghost use Rattle.trace.specs.GoneOver.{reads_failed};
 ghost use Rattle.trace.specs.Streams.{given_by, taken_by};
 ghost use Rattle.arrivals.specs.Fitting.{load_in};
-ghost use Rattle.metronome.specs.Faults.{IsUnread};
+ghost use Rattle.metronome.specs.Faults.{IsUnread, failed_reads, failed_writes, CountsReads};
 ghost use Rattle.metronome.specs.Told.{IsRest, LoadTold, TextMeasured, TextChecked, TextTold};
 
 use crate::fault::{Ending, RunFault};
@@ -30,6 +31,7 @@ fn load_of<O: Opener>(alloc: Global, opener: &O, name: &str) -> Result<Load, Run
 fn rest_of<S: Source>(alloc: Global, source: &mut S) -> Result<Vec<u8>, RunFault>
     ensures rest { IfOk result (λ text. IsRest (given_by S.given S.ended source.old source.new) text.items) }
     ensures unread { IfErr result IsUnread }
+    ensures reads { S.failures source.new ≡ S.failures source.old + failed_reads result }
 {
     let mut text = Vec::new(alloc);
     let mut piece = [0; PIECE];
@@ -46,7 +48,8 @@ fn rest_of<S: Source>(alloc: Global, source: &mut S) -> Result<Vec<u8>, RunFault
 
 /// What the trace of a text needs on a new heap.
 fn measure_text(alloc: Global, config: &Config, text: &[u8]) -> Result<Measured, TextFault>
-    ensures { TextMeasured config.now text.now result }
+    ensures measured { TextMeasured config.now text.now result }
+    ensures reads { reads_failed result ≡ 0 }
 {
     let mut source = MemorySource::new(text);
     measure(alloc, config, &mut source)
@@ -54,7 +57,8 @@ fn measure_text(alloc: Global, config: &Config, text: &[u8]) -> Result<Measured,
 
 /// Whether the trace of a text keeps to a load.
 fn check_text(config: &Config, load: &Load, text: &[u8]) -> Result<Kept, TextFault>
-    ensures { TextChecked config.now (load_in load.now) text.now result }
+    ensures checked { TextChecked config.now (load_in load.now) text.now result }
+    ensures reads { reads_failed result ≡ 0 }
 {
     let mut source = MemorySource::new(text);
     keeps_load(&mut source, load, config)
@@ -69,7 +73,9 @@ fn tell_text<K: Sink>(
     text: &[u8],
     sink: &mut K,
 ) -> Result<Ending, RunFault>
-    ensures { TextTold config.now load.now text.now (taken_by K.taken sink.old sink.new) result }
+    ensures told { TextTold config.now load.now text.now (taken_by K.taken sink.old sink.new) result }
+    ensures reads { failed_reads result ≡ 0 }
+    ensures writes { K.failures sink.new ≡ K.failures sink.old + failed_writes result }
 {
     let measured = measure_text(alloc, config, text)?;
     let kept = check_text(config, load, text)?;
@@ -88,7 +94,9 @@ pub fn load_job<O: Opener, S: Source, K: Sink>(
     source: &mut S,
     sink: &mut K,
 ) -> Result<Ending, RunFault>
-    ensures { LoadTold config.now (given_by S.given S.ended source.old source.new) (taken_by K.taken sink.old sink.new) result }
+    ensures done { LoadTold config.now (given_by S.given S.ended source.old source.new) (taken_by K.taken sink.old sink.new) result }
+    ensures reads { CountsReads S.failures source.old source.new result }
+    ensures writes { K.failures sink.new ≡ K.failures sink.old + failed_writes result }
 {
     let load = load_of(alloc, opener, name)?;
     let text = rest_of(alloc, source)?;

@@ -1,6 +1,7 @@
 //! Telling how many pages a trace needs.
-ghost use Rattle.std.specs.Prelude.{IfOk, string_bytes};
+ghost use Rattle.std.specs.Prelude.{◌≡◌, ◌+◌, IfOk, string_bytes};
 ghost use Rattle.trace.specs.Streams.{given_by, taken_by};
+ghost use Rattle.metronome.specs.Faults.{failed_reads, failed_writes};
 ghost use Rattle.metronome.specs.Told.{TellsPages, PagesTold};
 
 use crate::fault::{Ending, RunFault};
@@ -40,7 +41,9 @@ pub fn pages_job<S: Source, K: Sink>(
     sink: &mut K,
     pace: bool,
 ) -> Result<Ending, RunFault>
-    ensures { PagesTold pace config.now (given_by S.given S.ended source.old source.new) (taken_by K.taken sink.old sink.new) result }
+    ensures done { PagesTold pace config.now (given_by S.given S.ended source.old source.new) (taken_by K.taken sink.old sink.new) result }
+    ensures reads { S.failures source.new ≡ S.failures source.old + failed_reads result }
+    ensures writes { K.failures sink.new ≡ K.failures sink.old + failed_writes result }
 {
     let measured = measure(alloc, config, source)?;
     let text = told(alloc, config, &measured, pace)?;

@@ -1,18 +1,21 @@
 //! A run of the program.
-ghost use Rattle.std.specs.Prelude.{◌≡◌, [], Result};
+ghost use Rattle.std.specs.Prelude.{◌≡◌, ◌+◌, [], Result};
 ghost use Rattle.metronome.specs.declared.fault.Ending.{Ending};
 ghost use Rattle.metronome.specs.declared.fault.RunFault.{RunFault};
 ghost use Rattle.trace.specs.Streams.{given_by, taken_by};
 ghost use Rattle.metronome.specs.Done.{JobDone};
+ghost use Rattle.metronome.specs.Faults.{failed_writes, CountsReads};
 ghost use Rattle.metronome.specs.Status.{status_of};
 
 use crate::cycles_job::cycles_job;
 use crate::drawing_job::draw_job;
 use crate::fault::{Ending, RunFault};
 use crate::files::{Opener, open_file, read_document};
+use crate::graph_job::graph_job;
 use crate::jobs::{check_job, inspect_job, mmu_job, play_job, threads_job};
 use crate::load_job::load_job;
 use crate::pages_job::pages_job;
+use crate::path_job::path_job;
 use crate::progress::ToldSource;
 use crate::time_job::time_job;
 use command_line::{Job, Request, Sizing, WordsFault, read_config, read_words};
@@ -90,6 +93,7 @@ where
     K: Sink,
     E: Write,
     T: Threads + Wait + Sync,
+    ensures { K.failures sink.new ≡ K.failures sink.old + failed_writes result }
 {
     let request = match read_words(alloc, words) {
         Ok(request) => request,
@@ -111,7 +115,9 @@ fn obey<O: Opener, R: Read + Drop, K: Sink, E: Write, T: Threads + Wait + Sync>(
     input: R,
     sink: &mut K,
     errors: &mut E,
-) -> Result<Ending, RunFault> {
+) -> Result<Ending, RunFault>
+    ensures { K.failures sink.new ≡ K.failures sink.old + failed_writes result }
+{
     let (settings, name) = files_of(&request.job);
     let bytes = read_document(host.alloc, host.opener, settings)?;
     let config = read_config(host.alloc, bytes.as_slice())?;
@@ -134,8 +140,10 @@ fn files_of<'a>(job: &Job<'a>) -> (&'a str, &'a str) {
         } => (config, scripts),
         Job::Inspect { config, trace, .. } => (config, trace),
         Job::Cycles { config, trace, .. } => (config, trace),
+        Job::Path { config, trace, .. } => (config, trace),
         Job::Mmu { config, trace, .. } => (config, trace),
         Job::Draw { config, trace, .. } => (config, trace),
+        Job::DrawGraph { config, trace, .. } => (config, trace),
         Job::DrawTime { config, trace } => (config, trace),
         Job::Pages { config, trace, .. } => (config, trace),
     }
@@ -152,7 +160,8 @@ fn serve<S: Source + Drop, K: Sink, E: Write, O: Opener, T: Threads + Wait + Syn
     errors: &mut E,
 ) -> Result<Ending, RunFault>
     requires { S.given source ≡ [] }
-    ensures { (after : S) × JobDone request.now.job config.now (given_by S.given S.ended source after) (taken_by K.taken sink.old sink.new) result }
+    ensures done { (after : S) × JobDone request.now.job config.now (given_by S.given S.ended source after) (taken_by K.taken sink.old sink.new) result × CountsReads S.failures source after result }
+    ensures writes { K.failures sink.new ≡ K.failures sink.old + failed_writes result }
 {
     let job = &request.job;
     if request.progress {
@@ -171,7 +180,9 @@ fn work<S: Source, K: Sink, O: Opener, T: Threads + Wait + Sync>(
     source: &mut S,
     sink: &mut K,
 ) -> Result<Ending, RunFault>
-    ensures { JobDone job.now config.now (given_by S.given S.ended source.old source.new) (taken_by K.taken sink.old sink.new) result }
+    ensures done { JobDone job.now config.now (given_by S.given S.ended source.old source.new) (taken_by K.taken sink.old sink.new) result }
+    ensures reads { CountsReads S.failures source.old source.new result }
+    ensures writes { K.failures sink.new ≡ K.failures sink.old + failed_writes result }
 {
     let alloc = host.alloc;
     match job {
@@ -181,14 +192,18 @@ fn work<S: Source, K: Sink, O: Opener, T: Threads + Wait + Sync>(
         Job::Threads { turns, budget, .. } => {
             threads_job(host.rt, alloc, config, source, sink, *turns, *budget)
         }
-        Job::Inspect { after, .. } => inspect_job(alloc, config, source, sink, *after),
+        Job::Inspect { by, after, .. } => inspect_job(alloc, config, source, sink, *by, *after),
         Job::Cycles { csv: false, .. } => {
             cycles_job(alloc, config, source, sink, Layout::Columns)
         }
         Job::Cycles { csv: true, .. } => cycles_job(alloc, config, source, sink, Layout::Commas),
+        Job::Path { id, after, .. } => path_job(alloc, config, source, sink, *id, *after),
         Job::Mmu { windows, .. } => mmu_job(alloc, config, source, sink, windows.as_slice()),
         Job::Draw { picture, after, .. } => {
             draw_job(alloc, config, source, sink, *picture, *after)
+        }
+        Job::DrawGraph { after, most, .. } => {
+            graph_job(alloc, config, source, sink, *after, *most)
         }
         Job::DrawTime { .. } => time_job(alloc, config, source, sink),
         Job::Pages {

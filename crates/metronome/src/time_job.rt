@@ -1,6 +1,7 @@
 //! Drawing a heap over a run.
-ghost use Rattle.std.specs.Prelude.{◌≡◌};
+ghost use Rattle.std.specs.Prelude.{◌≡◌, ◌+◌};
 ghost use Rattle.trace.specs.Streams.{given_by, taken_by};
+ghost use Rattle.metronome.specs.Faults.{failed_reads, failed_writes};
 ghost use Rattle.metronome.specs.OverTime.{scale_of, TimeDrawn};
 
 use crate::fault::{Ending, RunFault};
@@ -29,7 +30,9 @@ pub fn time_job<S: Source, K: Sink>(
     source: &mut S,
     sink: &mut K,
 ) -> Result<Ending, RunFault>
-    ensures { TimeDrawn config.now (given_by S.given S.ended source.old source.new) (taken_by K.taken sink.old sink.new) result }
+    ensures done { TimeDrawn config.now (given_by S.given S.ended source.old source.new) (taken_by K.taken sink.old sink.new) result }
+    ensures reads { S.failures source.new ≡ S.failures source.old + failed_reads result }
+    ensures writes { K.failures sink.new ≡ K.failures sink.old + failed_writes result }
 {
     let samples = take_samples(alloc, config, source)?;
     let scale = scale(config, &samples);

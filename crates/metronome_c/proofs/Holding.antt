@@ -1,10 +1,9 @@
 -- What a handle holds, by its check word and the heap that there is.
 use Rattle.std.proofs.Common.{◌≡◌, ◌==◌, ℕ, false, true, Bool, refl, sym, ap, subst}
-use Rattle.std.specs.Prelude.{Option, Some, None, Result, Ok, Err}
+use Rattle.std.specs.Prelude.{Option, Some, None, Ok, Err}
 use Rattle.std.specs.Option.{is_some}
 use Rattle.heap_model.specs.State.{HeapState}
 use Rattle.metronome_c.specs.declared.status.Status.{Status}
-use Rattle.metronome_c.specs.declared.status.Status.TheVariants.{Closed}
 use Rattle.metronome_c.specs.Asking.{Asks}
 use Rattle.metronome_c.specs.Held.{absence, held_by}
 

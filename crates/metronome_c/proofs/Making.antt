@@ -1,6 +1,6 @@
 -- Heaps are made, or not, and given back.
-use Rattle.std.proofs.Common.{◌≡◌, ◌==◌, ◌∙◌, ℕ, false, true, Bool, refl, sym, ap, subst}
-use Rattle.std.specs.Prelude.{Option, Some, None, Result, Ok, Err}
+use Rattle.std.proofs.Common.{◌≡◌, ◌==◌, ◌∙◌, ℕ, false, true, refl, sym, ap, subst}
+use Rattle.std.specs.Prelude.{Option, Some, None, Result, Err}
 use Rattle.std.specs.Option.{is_some}
 use Rattle.size_classes.specs.declared.settings.Settings.{Settings}
 use Rattle.size_classes.specs.declared.config.Config.{Config}
@@ -10,7 +10,7 @@ use Rattle.heap_model.specs.State.{HeapState}
 use Rattle.heap_model.specs.Opening.{IsOpening}
 use Rattle.heap_model.specs.Settings.{settings_of, settings_by}
 use Rattle.metronome_c.specs.declared.status.Status.{Status}
-use Rattle.metronome_c.specs.declared.status.Status.TheVariants.{Done, NoMemory, Open, Closed, BadHandle}
+use Rattle.metronome_c.specs.declared.status.Status.TheVariants.{Done, NoMemory, Open, BadHandle}
 use Rattle.metronome_c.specs.Status.{status_number, fault_status}
 use Rattle.metronome_c.specs.Held.{absence, held_by}
 use Rattle.metronome_c.specs.Lifetime.{IsMade, MakesUnless, Creates, Destroys}

@@ -9,7 +9,7 @@ use Rattle.metronome_c.specs.declared.status.Status.{Status}
 use Rattle.metronome_c.specs.declared.answer.MetronomeShape.{MetronomeShape}
 use Rattle.metronome_c.specs.Answer.{answer_of, answered, shape_in, shape_told}
 use Rattle.machine.specs.Plan as calls
-use Rattle.metronome_c.specs.Asking.{Asks, AsksTold}
+use Rattle.metronome_c.specs.Asking.{Asks}
 use Rattle.metronome_c.specs.Steps.{Does, Steps, TellsShape}
 
 pub steps : (m : ℕ) (c : Command) (old : Result HeapState Status) (reply : Result Reply Status) (new : Result HeapState Status) (a : Answer)

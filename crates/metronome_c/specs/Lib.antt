@@ -5,6 +5,7 @@ pub mod Collecting
 pub mod Figures
 pub mod Held
 pub mod Kept
+pub mod Lending
 pub mod Lifetime
 pub mod Limit
 pub mod Status

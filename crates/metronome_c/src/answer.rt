@@ -24,6 +24,7 @@ pub struct MetronomeShape {
 
 impl Answer {
     /// The answer that tells a reply.
+    #[inline(always)]
     fn of(reply: Reply) -> Answer
         ensures { result ≡ answer_of reply }
     {
@@ -43,6 +44,7 @@ impl Answer {
     }
 
     /// The answer that tells a reply, or why the handle holds no heap.
+    #[inline(always)]
     pub(crate) fn told(reply: Result<Reply, Status>) -> Answer
         ensures { result ≡ answered reply }
     {
@@ -53,6 +55,8 @@ impl Answer {
     }
 
     /// The answer of a handle that holds no heap.
+    #[cold]
+    #[inline(never)]
     fn refused(why: Status) -> Answer
         ensures { result ≡ refused why }
     {

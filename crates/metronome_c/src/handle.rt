@@ -1,6 +1,7 @@
 //! What C holds of a heap.
 ghost use Rattle.std.specs.Prelude.{◌≡◌, Option, Some, None, IsSome};
 ghost use Rattle.std.specs.Coded.{coded_option};
+ghost use Rattle.std.specs.Borrow.{sem};
 ghost use Rattle.std.specs.Box.Ownership.{box_owns};
 ghost use Rattle.machine.specs.contracts.heap.Heap.{the_row};
 ghost use Rattle.metronome_c.specs.Kept.{kept};
@@ -55,6 +56,8 @@ impl Model for Handle {
 unsafe impl Send for Handle {}
 
 impl Handle {
+    ghost use Rattle.metronome_c.specs.Lending.{LendsHeap};
+
     /// No heap.
     pub(crate) fn empty(alloc: Global) -> Handle
         ensures { result.value ≡ None }
@@ -86,5 +89,15 @@ impl Handle {
             at: at as *mut Heap,
             alloc,
         }
+    }
+
+    /// The heap where it is. It is held again once the borrow ends.
+    #[inline(always)]
+    pub(crate) fn lend(&mut self) -> &mut Heap
+        requires { IsSome self.old.value }
+        ensures* writes_back { sem 𝓛 (LendsHeap self.entry result) }
+        ensures value { self.old.value ≡ Some result.now }
+    {
+        unsafe { &mut *(self.at as *mut Heap) }
     }
 }

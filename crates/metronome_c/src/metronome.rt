@@ -92,7 +92,7 @@ impl Metronome {
         handle.open().into_box()
     }
 
-    /// Asks the heap, if there is one, and holds it again.
+    /// Asks the heap, if there is one.
     #[inline(always)]
     pub(crate) fn ask<T, F: FnOnce(&mut Heap) -> T + Drop>(&mut self, call: F) -> Result<T, Status>
         requires { F.IsAlwaysCallable call }
@@ -101,10 +101,7 @@ impl Metronome {
         if !self.is_open() {
             return Err(self.why_empty());
         }
-        let mut heap = self.take();
-        let answer = call(&mut heap);
-        self.put(heap);
-        Ok(answer)
+        Ok(call(self.handle.lend()))
     }
 
     /// Asks the heap for a reply, if there is one, and tells it.

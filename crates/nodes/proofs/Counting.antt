@@ -92,14 +92,14 @@ block_counted s b c main first x y z held before em ef ex ey ez =
     (ap (λ n. n + (if (node_of s b).forward == b then 1 else 0)) (sym (ap (λ (k : Copies). k.parts) before)) ∙ ap (λ m. c.parts + (if m then 1 else 0)) em ∙ ap (λ n. c.parts + n) (sym (ey ∙ as_number main)))
     (ap (λ n. n + (if not ((node_of s b).forward == b) then 1 else 0)) (sym (ap (λ (k : Copies). k.old) before)) ∙ ap (λ m. c.old + (if not m then 1 else 0)) em ∙ ap (λ n. c.old + n) (sym (ez ∙ as_number (not main)))))
 
-not_true : (b : Bool) → (b ≡ true → ⊥) → b ≡ false
+pub not_true : (b : Bool) → (b ≡ true → ⊥) → b ≡ false
 not_true true never = absurd (never refl)
 not_true false never = refl
 
 whole_places : (n s : ℕ) → n % s ≡ 0 → n ≡ n / s * s
 whole_places n s e = grind arith
 
-flag_within : (flags : List Bool) (i : ℕ) → get_or flags i false ≡ true → i < length flags
+pub flag_within : (flags : List Bool) (i : ℕ) → get_or flags i false ≡ true → i < length flags
 flag_within flags i e = let p = get_or_past flags i false in grind arith
 
 no_between : (i j z : ℕ) → i * z < j * z → j * z < (i + 1) * z → ⊥

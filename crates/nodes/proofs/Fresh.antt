@@ -6,11 +6,11 @@ use Rattle.heap_model.specs.Pages.{Page}
 use Rattle.heap_model.specs.Store.{Store, IsStore, is_held, held_in}
 use Rattle.heap_model.proofs.Opening.{page_none}
 use Rattle.pages.specs.declared.page.PageRecord.{PageRecord}
-use Rattle.pages.specs.Together.{page_by, pages_in}
+use Rattle.pages.specs.Together.{joined, page_by, pages_in}
 use Rattle.pages.proofs.Indexing.{row_none}
 use Rattle.pages.proofs.Telling.{length-pages, page_is}
 use Rattle.pages.proofs.Writing.{fresh_together}
-use Rattle.nodes.specs.Joined.{joined, AreNodes}
+use Rattle.nodes.specs.Joined.{AreNodes}
 
 free_pages : (n : ℕ) → pages_in (replicate n None) (replicate (2048 * n) 0) ≡ replicate n None
 free_pages n =

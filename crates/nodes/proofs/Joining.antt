@@ -14,11 +14,11 @@ use Rattle.headers.proofs.Fresh.{words_at-same, length-spliced, spliced_other}
 use Rattle.pages.specs.declared.page.PageRecord.{PageRecord}
 use Rattle.pages.specs.FreeList.{flags_of, free_mark}
 use Rattle.pages.specs.Index.{row_at}
-use Rattle.pages.specs.Together.{pages_in, Together, KeepsHeld, Tells}
+use Rattle.pages.specs.Together.{joined, pages_in, Together, KeepsHeld, Tells}
 use Rattle.pages.proofs.Telling.{length-pages}
 use Rattle.pages.proofs.Writing.{WritesBlock, held_place, write_keeps, write_same}
 use Rattle.pages.proofs.Flags.{get_flag, length-flags}
-use Rattle.nodes.specs.Joined.{joined, IsHeader, AreNodes}
+use Rattle.nodes.specs.Joined.{IsHeader, AreNodes}
 use Rattle.nodes.proofs.Headers.{header_after}
 use Rattle.nodes.proofs.Places.{held_in-page, flag_within, placed}
 

@@ -7,9 +7,8 @@ use Rattle.heap_model.specs.Store.{Store, IsStore, size_in, held_in}
 use Rattle.heap_model.specs.Action.{KeepsBlocks}
 use Rattle.pages.specs.declared.page.PageRecord.{PageRecord}
 use Rattle.pages.specs.Index.{row_at}
-use Rattle.pages.specs.Together.{page_by}
+use Rattle.pages.specs.Together.{joined, page_by}
 use Rattle.pages.proofs.Telling.{page_is}
-use Rattle.nodes.specs.Joined.{joined}
 use Rattle.nodes.proofs.Joining.{below_by}
 use Rattle.nodes.proofs.Freeing.{page_within, held_change, node_change, store_change}
 

@@ -5,6 +5,7 @@ pub mod Following
 pub mod Freeing
 pub mod Fresh
 pub mod Headers
+pub mod Holding
 pub mod Joining
 pub mod Leaving
 pub mod Linked
@@ -13,4 +14,6 @@ pub mod Making
 pub mod Moved
 pub mod Moving
 pub mod Places
+pub mod Sweeping
+pub mod Wasting
 pub mod Writing

@@ -7,10 +7,10 @@ use Rattle.heap_model.specs.Pages.{Page}
 use Rattle.heap_model.specs.Store.{Store, IsStore, size_at, is_held, node_of}
 use Rattle.headers.proofs.Written.{link_written}
 use Rattle.pages.specs.declared.page.PageRecord.{PageRecord}
-use Rattle.pages.specs.Together.{pages_in}
+use Rattle.pages.specs.Together.{joined, pages_in}
 use Rattle.pages.proofs.Writing.{WritesBlock}
 use Rattle.size_classes.specs.Sizes.{size_of}
-use Rattle.nodes.specs.Joined.{joined, IsHeader, AreNodes}
+use Rattle.nodes.specs.Joined.{IsHeader, AreNodes}
 use Rattle.nodes.specs.Links.{KeepsLinks}
 use Rattle.nodes.proofs.Joining.{HeldBlock, still_nodes, through}
 use Rattle.nodes.proofs.Places.{held_place, apart}

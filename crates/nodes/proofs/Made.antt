@@ -7,9 +7,9 @@ use Rattle.heap_model.specs.Pages.{Page, page_for, page_at, page_of_class, with_
 use Rattle.heap_model.specs.Store.{Store, IsStore, Adds, is_held, size_at, address_of}
 use Rattle.size_classes.specs.Sizes.{size_of}
 use Rattle.pages.specs.declared.page.PageRecord.{PageRecord}
-use Rattle.pages.specs.Together.{pages_in, Together, KeepsHeld}
+use Rattle.pages.specs.Together.{joined, pages_in, Together, KeepsHeld}
 use Rattle.pages.proofs.Writing.{WritesBlock}
-use Rattle.nodes.specs.Joined.{joined, IsHeader, AreNodes}
+use Rattle.nodes.specs.Joined.{IsHeader, AreNodes}
 use Rattle.nodes.specs.Links.{link_of, KeepsLinks}
 use Rattle.nodes.proofs.Headers.{packed_header, word_after, header_after}
 use Rattle.nodes.proofs.Places.{held_place}

@@ -12,9 +12,9 @@ use Rattle.heap_model.specs.Pages.{Page, page_at, with_held, IsOpen}
 use Rattle.heap_model.specs.Store.{Store, IsStore, size_in, size_at, is_held, address_of}
 use Rattle.headers.proofs.Fields.{length-words_at}
 use Rattle.pages.specs.declared.page.PageRecord.{PageRecord}
-use Rattle.pages.specs.Together.{pages_in, Together, KeepsHeld}
+use Rattle.pages.specs.Together.{joined, pages_in, Together, KeepsHeld}
 use Rattle.pages.proofs.Writing.{WritesBlock}
-use Rattle.nodes.specs.Joined.{joined, IsHeader, AreNodes}
+use Rattle.nodes.specs.Joined.{IsHeader, AreNodes}
 use Rattle.nodes.specs.Moving.{CanMove}
 use Rattle.nodes.proofs.Blocks.{block_by}
 use Rattle.nodes.proofs.Carried.{moves_then}

@@ -13,7 +13,8 @@ use Rattle.headers.proofs.Frames.{node_at-other}
 use Rattle.headers.proofs.Written.{cell_written, colour_written}
 use Rattle.pages.specs.declared.page.PageRecord.{PageRecord}
 use Rattle.pages.proofs.Writing.{WritesBlock}
-use Rattle.nodes.specs.Joined.{joined, IsHeader, AreNodes}
+use Rattle.nodes.specs.Joined.{IsHeader, AreNodes}
+use Rattle.pages.specs.Together.{joined}
 use Rattle.nodes.proofs.Headers.{recoloured_header}
 use Rattle.nodes.proofs.Joining.{HeldBlock, held_block, first_held, writes_later, still_nodes, through}
 use Rattle.nodes.proofs.Places.{held_place, inside, apart}

@@ -1,8 +1,22 @@
 -- Main copies and old copies, counted.
-use Rattle.std.specs.Prelude.{ℕ, zero, suc, ◌+◌, ◌*◌, Bool, ◌&&◌, not, ◌==◌, if◌then◌else◌, length}
+use Rattle.std.specs.Prelude.{◌≡◌, ◌≢◌, ℕ, zero, suc, ◌+◌, ◌*◌, ◌/◌, Bool, true, ◌&&◌, not, ◌==◌, if◌then◌else◌, length, slice_get, Some, IfSome, IsSomeAnd}
 use Rattle.size_classes.specs.declared.class.TheConstants.{PAGE_WORDS}
-use Rattle.heap_model.specs.Store.{Store, is_held, node_of}
+use Rattle.heap_model.specs.Pages.{page_at}
+use Rattle.heap_model.specs.Store.{Store, is_held, node_of, address_of}
 use Rattle.nodes.specs.declared.nodes.counting.Copies.{Copies}
+
+-- some block is held that has a part of the object of an identity
+abbrev pub HasBlock : Store → ℕ → Type 0
+HasBlock s id = (b : ℕ) × (is_held s b ≡ true) × ((node_of s b).identity ≡ id)
+
+-- no block of a page is such
+abbrev pub HasNoBlockOn : Store → ℕ → ℕ → Type 0
+HasNoBlockOn s id page = (b : ℕ) → b / PAGE_WORDS ≡ page → is_held s b ≡ true → (node_of s b).identity ≢ id
+
+-- the block at a place of a page isn't such
+abbrev pub HasNoBlockAt : Store → ℕ → ℕ → ℕ → Type 0
+HasNoBlockAt s id page index =
+    IsSomeAnd (page_at s.pages page) (λ p. slice_get p.held index ≡ Some true) → IfSome (page_at s.pages page) (λ p. (node_of s (address_of p.class page index)).identity ≢ id)
 
 -- how many numbers below one pass
 unfoldable pub count_below : (ℕ → Bool) → ℕ → ℕ

@@ -1,13 +1,9 @@
 -- The table and the words together, as a store.
 use Rattle.std.specs.Prelude.{◌≡◌, ℕ, ◌+◌, true, List, Option, slice_index}
 use Rattle.heap_model.specs.Header.{header_in, header_word}
-use Rattle.heap_model.specs.Store.{Store, IsStore, is_held}
+use Rattle.heap_model.specs.Store.{IsStore, is_held}
 use Rattle.pages.specs.declared.page.PageRecord.{PageRecord}
-use Rattle.pages.specs.Together.{pages_in, Together}
-
--- the table's records and the arena's words, as a store
-abbrev pub joined : List (Option PageRecord) → List ℕ → Store
-joined rows words = record { pages = pages_in rows words; words = words }
+use Rattle.pages.specs.Together.{joined, Together}
 
 -- no bit is set that no field of a header has
 abbrev pub IsHeader : ℕ → Type 0

@@ -4,4 +4,6 @@ pub mod Moving
 pub mod Place
 pub mod Referent
 pub mod Pages
+pub mod Sweeping
 pub mod Copies
+pub mod Wasted

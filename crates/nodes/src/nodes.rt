@@ -7,12 +7,13 @@ ghost use Rattle.heap_model.specs.Header.{ShapeFits};
 ghost use Rattle.heap_model.specs.Block.{new_node};
 ghost use Rattle.heap_model.specs.Pages.{has_room, page_for, page_at, is_usable, free_on, free_blocks, with_held, IsOpen, TakesBlock};
 ghost use Rattle.heap_model.specs.Pages as page_list;
-ghost use Rattle.heap_model.specs.Action.{Frees, KeepsBlocks, MovesBlock, closed, held_on, is_choosable};
+ghost use Rattle.heap_model.specs.Action.{KeepsBlocks, MovesBlock, closed, held_on, is_choosable};
 ghost use Rattle.heap_model.specs.Store.{size_in, is_held, address_of, Adds};
 ghost use Rattle.pages.specs.Places.{FindsHeld};
 ghost use Rattle.nodes.specs.Links.{KeepsLinks};
 ghost use Rattle.nodes.specs.Moving.{CanMove};
 ghost use Rattle.nodes.specs.Pages.{blocks_on};
+ghost use Rattle.nodes.specs.Sweeping.{Sweeps};
 
 use graph_heap::{NoMemory, Shape};
 use headers::Arena;
@@ -23,6 +24,7 @@ use std::marker::Model;
 
 mod block;
 pub mod counting;
+mod holding;
 
 /// What a reference names: an object, by its identity and the reference of its main copy, which is
 /// the copy's address plus one. For null both are 0.
@@ -54,7 +56,8 @@ pub struct Nodes {
 
 impl Model for Nodes {
     ghost use Rattle.heap_model.specs.Store.{Store};
-    ghost use Rattle.nodes.specs.Joined.{joined, AreNodes};
+    ghost use Rattle.nodes.specs.Joined.{AreNodes};
+    ghost use Rattle.pages.specs.Together.{joined};
 
     ghost Value = { Store };
 
@@ -82,15 +85,15 @@ impl Nodes {
         self.table.room(parts)
     }
 
-    /// Gives a block of a page, by its number there, back: it is held no more. Every other block is held
-    /// or not, and says, as before.
-    pub fn free(&mut self, page: usize, index: usize)
+    /// Looks at so many blocks of a page in use, from one on, as the sweeper does: each that is held and hasn't the
+    /// colour is freed.
+    pub fn sweep(&mut self, page: usize, index: usize, count: usize, colour: bool)
         requires page { page < length self.old.pages }
-        requires held { IsSomeAnd (page_at self.old.pages page) (λ p. slice_get p.held index ≡ Some true) }
-        ensures freed { IfSome (page_at self.old.pages page) (λ p. Frees self.old self.new (address_of p.class page index)) }
-        ensures pages { IfSome (page_at self.old.pages page) (λ p. self.new.pages ≡ slice_set self.old.pages page (Some (with_held p index false))) }
+        requires blocks { IsSomeAnd (page_at self.old.pages page) (λ p. index + count ≤ length p.held) }
+        ensures { Sweeps self.old self.new colour page index count }
     {
-        self.table.give(&mut self.arena, Block { page, index });
+        let block = Block { page, index };
+        self.table.sweep(&mut self.arena, block, count, colour);
     }
 
     /// Closes a page, as the sweeper does when it has looked at all its blocks: its marks go, and if no

@@ -1,20 +1,19 @@
 -- The record of a page in use is written where it stands.
 use Rattle.std.proofs.Common.{◌≡◌, ◌≢◌, ℕ, ◌+◌, ◌-◌, ◌*◌, ◌<◌, ◌≤◌, true, false, List, Option, Some, None, length, get_or, set, ap, ◌∙◌, sym, refl, subst, arith, MutBor}
-use Rattle.std.specs.Prelude.{IfSome, IsSomeAnd, slice_get}
+use Rattle.std.specs.Prelude.{IfSome, slice_get}
 use Rattle.std.specs.Option.{option_copied_mut}
-use Rattle.std.proofs.lemmas.List.{get_or_read, get_or-set_same}
-use Rattle.std.proofs.lemmas.Option.{slice_get_within}
+use Rattle.std.proofs.lemmas.List.{get_or_read}
 use Rattle.size_classes.specs.Sizes.{size_of, blocks_in}
 use Rattle.heap_model.specs.Pages.{page_at, page_of_class, with_held}
 use Rattle.pages.specs.declared.bits.BitRow.{BitRow}
 use Rattle.pages.specs.declared.page.PageRecord.{PageRecord}
 use Rattle.pages.specs.BitRow.{has_bit}
-use Rattle.pages.specs.FreeList.{flags_of, index_on, free_mark, IsFreeList, SameOutside}
+use Rattle.pages.specs.FreeList.{flags_of, index_on, IsFreeList, SameOutside}
 use Rattle.pages.specs.Index.{row_at, HasFree, IsIndex}
 use Rattle.pages.specs.Together.{pages_in, Together, KeepsHeld}
-use Rattle.pages.proofs.Indexing.{taken_last, taken_one, some_had, given_first, given_one, given_leaving, old_room}
-use Rattle.pages.proofs.Telling.{together_by, taken_by, given_by, open_by, held_by, inside_page, outside_two}
-use Rattle.pages.proofs.Writing.{popped_outside, popped_keeps, keeps_freed, freed_flag}
+use Rattle.pages.proofs.Indexing.{taken_last, taken_one, some_had}
+use Rattle.pages.proofs.Telling.{together_by, taken_by, open_by}
+use Rattle.pages.proofs.Writing.{popped_outside, popped_keeps}
 
 -- the record that was lent
 pub lent : (rows : List (Option PageRecord)) (page : ℕ) (o : Option PageRecord) (m : Option (MutBor PageRecord)) (r : MutBor PageRecord) → page < length rows → o ≡ get_or rows page o → option_copied_mut m ≡ o → m ≡ Some r → row_at rows page ≡ Some r.now
@@ -44,9 +43,6 @@ module _ (rows pages : List (Option PageRecord)) (seen : rows ≡ pages) (usable
     through u f i =
         subst (λ h. IsIndex (set rows page (Some row)) (u number) free (set free_blocks number (f h)) free_pages) (sym had_there)
         (subst (λ n. IsIndex (set rows page (Some row)) (u n) free (set free_blocks n (f (get_or free_blocks old.class 0))) free_pages) (sym number_is) i)
-
-    pub had_few : had ≤ 2097152
-    had_few = omega (arith, had_there, old_room rows usable free free_blocks free_pages b page old old inside lent_is refl known)
 
   -- ---- a block is taken
   module _ (class : ℕ) (has : HasFree class (row_at pages page)) (row_is : row ≡ record old { first = row.first; held = old.held + 1 }) where
@@ -103,56 +99,3 @@ module _ (rows pages : List (Option PageRecord)) (seen : rows ≡ pages) (usable
 
       pub taken_keeps : KeepsHeld (pages_in pages words) words new
       taken_keeps = popped_keeps pages words new together.classes page old there block place was_free is
-
-  -- ---- a block is given back
-  module _ (index : ℕ) (was_held : IsSomeAnd (page_at (pages_in pages words) page) (λ p. slice_get p.held index ≡ Some true)) where
-    pub held_there : slice_get (flags_of words (2048 * page) old.class) index ≡ Some true
-    held_there = held_by pages words page old index below there was_held
-
-    module _ (row_is : row ≡ record old { first = row.first; held = old.held - 1 }) (some : 0 < old.held) where
-      class_stays : row.class ≡ old.class
-      class_stays = ap (λ (r : PageRecord). r.class) row_is
-
-      mark_stays : row.leaving ≡ old.leaving
-      mark_stays = ap (λ (r : PageRecord). r.leaving) row_is
-
-      less : row.held + 1 ≡ old.held
-      less = omega (arith, ap (λ (r : PageRecord). r.held) row_is, some)
-
-      most : old.held ≤ blocks_in old.class
-      most = let c : IsFreeList words (2048 * page) old.class old.first old.held = subst (λ o. IfSome o (λ r. IsFreeList words (2048 * page) r.class r.first r.held)) there (together.each page) in omega (arith, c.counted)
-
-      pub leaving_given : row.leaving ≡ true → IsIndex (set rows page (Some row)) usable free free_blocks free_pages
-      leaving_given leaving = given_leaving rows usable free free_blocks free_pages b page old row inside lent_is class_stays known mark_stays less most (sym mark_stays ∙ leaving)
-
-      module _ (plain : row.leaving ≡ false) (number : ℕ) (number_is : number ≡ old.class) (had : ℕ) (had_is : had ≡ get_or free_blocks number had) where
-        pub first_given : (one new : BitRow) → one ≡ get_or usable number one → has_bit new page ≡ 1 → ((i : ℕ) → i < 4096 → i ≢ page → has_bit new i ≡ has_bit one i)
-            → IsIndex (set rows page (Some row)) (set usable number new) free (set free_blocks number (had + 1)) free_pages
-        first_given one new read here others =
-            through number number_is had had_is (λ n. set usable n new) (λ h. h + 1)
-            (given_first rows usable free free_blocks free_pages b page old row inside lent_is class_stays known mark_stays less most (sym mark_stays ∙ plain) one new (read ∙ ap (λ n. get_or usable n one) number_is) here others)
-
-        pub one_given : (blocks : ℕ) → blocks ≡ blocks_in old.class → old.held ≢ blocks → IsIndex (set rows page (Some row)) usable free (set free_blocks number (had + 1)) free_pages
-        one_given blocks blocks_is ne =
-            through number number_is had had_is (λ _. usable) (λ h. h + 1)
-            (given_one rows usable free free_blocks free_pages b page old row inside lent_is class_stays known mark_stays less most (sym mark_stays ∙ plain) (λ e. ne (e ∙ sym blocks_is)))
-
-      module _ (flags : flags_of new (2048 * page) old.class ≡ set (flags_of words (2048 * page) old.class) index false) (chain : IsFreeList new (2048 * page) old.class row.first (old.held - 1))
-          (is : new ≡ set (set words (2048 * page + index * size_of old.class) free_mark) (2048 * page + index * size_of old.class + 3) old.first) where
-        given_outside : SameOutside words new (2048 * page)
-        given_outside =
-            let w = inside_page words page old.class index true known held_there in
-            outside_two words new (2048 * page) _ _ _ _ is (omega arith) (omega (arith, w)) (omega arith) (omega (arith, w))
-
-        pub given_together : Together (set rows page (Some row)) new
-        given_together = together_by pages words new together page below old row there (old.held - 1) old.receiving row_is chain given_outside (set rows page (Some row)) after index false flags
-
-        pub given_pages : IfSome (page_at (pages_in pages words) page) (λ p. pages_in (set rows page (Some row)) new ≡ set (pages_in pages words) page (Some (with_held p index false)))
-        given_pages = given_by pages words new together page below old row there (old.held - 1) old.receiving row_is chain given_outside (set rows page (Some row)) after index false flags refl
-
-        pub given_keeps : KeepsHeld (pages_in (set rows page (Some row)) new) words new
-        given_keeps =
-            let within : index < length (flags_of words (2048 * page) old.class) = slice_get_within (flags_of words (2048 * page) old.class) index true held_there in
-            keeps_freed (set rows page (Some row)) words new page row index free_mark old.first given_together.classes (get_or-set_same rows page (Some row) None inside)
-            (ap (λ n. slice_get (flags_of new (2048 * page) n) index) class_stays ∙ ap (λ l. slice_get l index) flags ∙ freed_flag (flags_of words (2048 * page) old.class) index within)
-            (is ∙ ap (λ n. set (set words (2048 * page + index * size_of n) free_mark) (2048 * page + index * size_of n + 3) old.first) (sym class_stays))

@@ -304,35 +304,6 @@ module _ (rows : List (Option PageRecord)) (usable : List BitRow) (free : BitRow
         bit_kept (get_or free_blocks old.class 0 - 1) fewer_counted
         (usable_now ∙ lt-ltb row.held (blocks_in old.class) (omega (arith, left, more, some)) ∙ sym (usable_plain old plain ∙ lt-ltb old.held (blocks_in old.class) some))
 
-  -- one less is
-  module _ (stays : row.leaving ≡ old.leaving) (less : row.held + 1 ≡ old.held) (most : old.held ≤ blocks_in old.class) where
-    pub given_leaving : old.leaving ≡ true → IsIndex (set rows page (Some row)) usable free free_blocks free_pages
-    given_leaving leaving =
-        let now : row_free_on old.class (Some row) ≡ 0 = subst (λ k. row_free_on k (Some row) ≡ 0) same (free_leaving row (stays ∙ leaving)) in
-        let unusable : row_usable old.class (Some row) ≡ false = subst (λ k. row_usable k (Some row) ≡ false) same (usable_leaving row (stays ∙ leaving)) in
-        subst (λ l. IsIndex (set rows page (Some row)) usable free l free_pages) (set-get_or free_blocks old.class 0)
-        (bit_kept (get_or free_blocks old.class 0) (omega (arith, now, free_leaving old leaving)) (unusable ∙ sym (usable_leaving old leaving)))
-
-    module _ (plain : old.leaving ≡ false) where
-      given_free : row_free_on old.class (Some row) ≡ blocks_in old.class - row.held
-      given_free = subst (λ k. row_free_on k (Some row) ≡ blocks_in k - row.held) same (free_plain row (stays ∙ plain))
-
-      given_usable : row_usable old.class (Some row) ≡ true
-      given_usable =
-          subst (λ k. row_usable k (Some row) ≡ ltb row.held (blocks_in k)) same (usable_plain row (stays ∙ plain)) ∙ lt-ltb row.held (blocks_in old.class) (omega (arith, less, most))
-
-      more_counted : get_or free_blocks old.class 0 + 1 + row_free_on old.class (Some old) ≡ get_or free_blocks old.class 0 + row_free_on old.class (Some row)
-      more_counted = omega (arith, free_plain old plain, given_free, less, most)
-
-      pub given_first : (one new : BitRow) → one ≡ get_or usable old.class one → has_bit new page ≡ 1 → ((i : ℕ) → i < 4096 → i ≢ page → has_bit new i ≡ has_bit one i)
-          → IsIndex (set rows page (Some row)) (set usable old.class new) free (set free_blocks old.class (get_or free_blocks old.class 0 + 1)) free_pages
-      given_first one new read here others = bit_changed (get_or free_blocks old.class 0 + 1) more_counted one new read (here ∙ ap bit (sym given_usable)) others
-
-      pub given_one : old.held ≢ blocks_in old.class → IsIndex (set rows page (Some row)) usable free (set free_blocks old.class (get_or free_blocks old.class 0 + 1)) free_pages
-      given_one some =
-          bit_kept (get_or free_blocks old.class 0 + 1) more_counted
-          (given_usable ∙ sym (usable_plain old plain ∙ lt-ltb old.held (blocks_in old.class) (omega (arith, some, most))))
-
 pub usable_is : (rows : List (Option PageRecord)) (usable : List BitRow) (free : BitRow) (free_blocks : List ℕ) (free_pages : ℕ) (b : IsIndex rows usable free free_blocks free_pages) (class number : ℕ) → class < 38 → number ≡ class
     → (one : BitRow) → one ≡ get_or usable number one → (r : Option ℕ) → IfSome r (λ k. k < 4096) → IfSome r (λ k. has_bit one k ≡ 1) → IfSome r (λ k. (i : ℕ) → i < k → has_bit one i ≡ 0) → (IsNone r → (i : ℕ) → i < 4096 → has_bit one i ≡ 0)
     → r ≡ position (row_usable class) rows

@@ -5,6 +5,7 @@ pub mod Telling
 pub mod Reading
 pub mod Needing
 pub mod Single
+pub mod Sweeping
 pub mod Writing
 pub mod InPlace
 pub mod Flags

@@ -3,6 +3,7 @@ pub mod BitRow
 pub mod FreeList
 pub mod Index
 pub mod Places
+pub mod Sweeping
 pub mod Table
 pub mod Together
 pub mod View

@@ -4,6 +4,7 @@ use Rattle.std.specs.List.{enumerate_from}
 use Rattle.size_classes.specs.declared.class.TheConstants.{CLASSES, PAGE_WORDS}
 use Rattle.size_classes.specs.Sizes.{size_of}
 use Rattle.heap_model.specs.Pages.{Page, page_at}
+use Rattle.heap_model.specs.Store.{Store}
 use Rattle.pages.specs.declared.page.PageRecord.{PageRecord}
 use Rattle.pages.specs.FreeList.{flags_of, IsFreeList}
 use Rattle.pages.specs.Index.{row_at}
@@ -15,6 +16,10 @@ page_by words at = option_map (λ r. record { class = r.class; leaving = r.leavi
 -- the pages, by their records and the words
 unfoldable pub pages_in : List (Option PageRecord) → List ℕ → List (Option Page)
 pages_in rows words = map (λ p. page_by words (PAGE_WORDS * p.0) p.1) (enumerate_from 0 rows)
+
+-- the table's records and the arena's words, as a store
+abbrev pub joined : List (Option PageRecord) → List ℕ → Store
+joined rows words = record { pages = pages_in rows words; words = words }
 
 -- The table and the arena go together: there are 2048 words for each page, and each page in use has a
 -- list that runs through just its free blocks, each once.

@@ -1,7 +1,12 @@
 //! One page's list of free blocks: word 0 of a free block says that it is one, and word 3 names the next.
-ghost use Rattle.std.specs.Prelude.{◌≡◌, ℕ, ◌+◌, ◌-◌, ◌<◌, ◌≤◌, ◌*◌, length, slice_get, slice_set, slice_index, replicate, true, false, Some, IfSome, IsNone};
+ghost use Rattle.std.specs.Prelude.{◌≡◌, ℕ, ◌+◌, ◌-◌, ◌<◌, ◌≤◌, ◌*◌, List, Option, length, slice_get, slice_set, slice_index, replicate, true, false, Some, IfSome, IsNone};
 ghost use Rattle.size_classes.specs.Sizes.{size_of, blocks_in};
+ghost use Rattle.heap_model.specs.Store.{address_of};
 ghost use Rattle.pages.specs.FreeList.{flags_of, index_on, IsFreeList, SameOutside, free_mark};
+ghost use Rattle.pages.specs.Index.{row_at};
+ghost use Rattle.pages.specs.Sweeping.{has_colour, LooksAt, Looks};
+ghost use Rattle.pages.specs.Together.{joined, Together};
+ghost use Rattle.pages.specs.declared.page.PageRecord.{PageRecord as Row};
 
 use crate::page::PageRecord;
 use headers::Arena;
@@ -41,7 +46,7 @@ fn link_free(arena: &mut Arena, block: usize, next: u64)
 
 /// Puts a held block on a page's list: it is free.
 #[inline(always)]
-pub fn push(arena: &mut Arena, page: usize, row: &mut PageRecord, index: usize)
+fn push(arena: &mut Arena, page: usize, row: &mut PageRecord, index: usize)
     requires page { page < 4096 }
     requires within { 2048 * page + 2048 ≤ length arena.old }
     requires chain { IsFreeList arena.old (2048 * page) row.old.class row.old.first row.old.held }
@@ -95,6 +100,70 @@ pub fn is_taken(arena: &Arena, page: usize, class: Class, index: usize) -> bool
 {
     let block = 2048 * page + index * class.size() as usize;
     arena.forward_of(block) != u64::MAX
+}
+
+/// Whether a block of a page of a class isn't held, or has a colour.
+#[inline(always)]
+fn stays(arena: &Arena, page: usize, class: Class, index: usize, colour: bool) -> bool
+    requires page { page < 4096 }
+    requires within { 2048 * page + 2048 ≤ length arena.now }
+    requires block { index < blocks_in class }
+    ensures stays { result ≡ true → slice_get (flags_of arena.now (2048 * page) class) index ≡ Some true → has_colour arena.now colour (address_of class page index) ≡ true }
+    ensures goes { result ≡ false → (slice_get (flags_of arena.now (2048 * page) class) index ≡ Some true) × (has_colour arena.now colour (address_of class page index) ≡ false) }
+{
+    if is_taken(arena, page, class, index) {
+        let block = 2048 * page + index * class.size() as usize;
+        return arena.has_colour(block, colour);
+    }
+    true
+}
+
+/// Looks at a block of a page: where it is held and hasn't the colour, it goes on the page's list. With whatever
+/// records of other pages the page's record and the words go together, they still do.
+#[inline(always)]
+fn look(arena: &mut Arena, page: usize, row: &mut PageRecord, index: usize, colour: bool)
+    requires page { page < 4096 }
+    requires within { 2048 * page + 2048 ≤ length arena.old }
+    requires chain { IsFreeList arena.old (2048 * page) row.old.class row.old.first row.old.held }
+    requires block { index < blocks_in row.old.class }
+    ensures len { length arena.new ≡ length arena.old }
+    ensures chain { IsFreeList arena.new (2048 * page) row.old.class row.new.first row.new.held }
+    ensures row { row.new ≡ record row.old { first = row.new.first; held = row.new.held } }
+    ensures together { (rows : List (Option Row)) → Together rows arena.old → row_at rows page ≡ Some row.old
+        → Together (slice_set rows page (Some row.new)) arena.new }
+    ensures looks { (rows : List (Option Row)) → Together rows arena.old → row_at rows page ≡ Some row.old
+        → LooksAt colour page index (joined rows arena.old) (joined (slice_set rows page (Some row.new)) arena.new) }
+{
+    if stays(arena, page, row.class, index, colour) {
+        return;
+    }
+    push(arena, page, row, index);
+}
+
+/// Looks at so many blocks of a page, from one on, each after the other.
+pub fn sweep(
+    arena: &mut Arena,
+    page: usize,
+    row: &mut PageRecord,
+    from: usize,
+    count: usize,
+    colour: bool,
+)
+    requires page { page < 4096 }
+    requires within { 2048 * page + 2048 ≤ length arena.old }
+    requires chain { IsFreeList arena.old (2048 * page) row.old.class row.old.first row.old.held }
+    requires blocks { from + count ≤ blocks_in row.old.class }
+    ensures row { row.new ≡ record row.old { first = row.new.first; held = row.new.held } }
+    ensures together { (rows : List (Option Row)) → Together rows arena.old → row_at rows page ≡ Some row.old
+        → Together (slice_set rows page (Some row.new)) arena.new }
+    ensures looks { (rows : List (Option Row)) → Together rows arena.old → row_at rows page ≡ Some row.old
+        → Looks colour page from (joined rows arena.old) count (joined (slice_set rows page (Some row.new)) arena.new) }
+{
+    let mut looked = 0;
+    while looked < count {
+        look(arena, page, row, from + looked, colour);
+        looked += 1;
+    }
 }
 
 /// The first held block of a page of a class from a place on.

@@ -1,15 +1,16 @@
 //! All pages.
-ghost use Rattle.std.specs.Prelude.{◌≡◌, ◌+◌, ◌*◌, ◌<◌, ◌≤◌, ◌↔◌, slice_get, slice_set, position, length, replicate, List, ℕ, IsNone, IfSome, IsSomeAnd, Some, None, true, false, IfOk};
+ghost use Rattle.std.specs.Prelude.{◌≡◌, ◌+◌, ◌*◌, ◌<◌, ◌≤◌, ◌↔◌, slice_set, position, length, replicate, List, ℕ, IsNone, IfSome, IsSomeAnd, Some, None, true, false, IfOk};
 ghost use Rattle.heap_model.specs.Pages.{page_for, page_at, page_of_class, fresh_page, with_held, IsOpen};
 ghost use Rattle.heap_model.specs.Action.{closed};
 ghost use Rattle.pages.specs.Index.{row_at, OfClass, row_usable, row_free, bit, HasFree};
 ghost use Rattle.heap_model.specs.Store.{address_of};
 ghost use Rattle.pages.specs.FreeList.{index_on};
 ghost use Rattle.pages.specs.Places.{CanReceive, TakesAt};
-ghost use Rattle.pages.specs.Together.{pages_in, Together, KeepsHeld};
+ghost use Rattle.pages.specs.Sweeping.{Looks};
+ghost use Rattle.pages.specs.Together.{joined, pages_in, Together, KeepsHeld};
 
 use crate::bits::BitRow;
-use crate::free_list::{pop, push, thread};
+use crate::free_list::{pop, sweep, thread};
 use crate::page::{PageRecord, free_on, is_usable};
 use graph_heap::NoMemory;
 use headers::Arena;
@@ -221,29 +222,19 @@ impl PageTable {
         }
     }
 
-    /// Gives a held block back. Every other block, and every other page, stays, and so do the words of the
-    /// blocks that are held then.
-    #[inline(always)]
-    pub fn give(&mut self, arena: &mut Arena, block: Block)
+    /// Looks at so many blocks of a page in use, from one on: each that is held and hasn't the colour is given
+    /// back. Every other block, and every other page, stays, and so do the words of the blocks that are held
+    /// then.
+    pub fn sweep(&mut self, arena: &mut Arena, block: Block, count: usize, colour: bool)
         requires together { Together self.old arena.old }
         requires page { block.page < length self.old }
-        requires held { IsSomeAnd (page_at (pages_in self.old arena.old) block.page) (λ p. slice_get p.held block.index ≡ Some true) }
+        requires blocks { IsSomeAnd (page_at (pages_in self.old arena.old) block.page) (λ p. block.index + count ≤ length p.held) }
         ensures together { Together self.new arena.new }
-        ensures given { IfSome (page_at (pages_in self.old arena.old) block.page) (λ p. pages_in self.new arena.new ≡ slice_set (pages_in self.old arena.old) block.page (Some (with_held p block.index false))) }
-        ensures words { KeepsHeld (pages_in self.new arena.new) arena.old arena.new }
+        ensures looks { Looks colour block.page block.index (joined self.old arena.old) count (joined self.new arena.new) }
     {
-        let row = self.rows[block.page].as_mut().unwrap();
-        let class = row.class;
-        let was_full = row.held == class.blocks_per_page() as usize;
-        push(arena, block.page, row, block.index);
-        if row.leaving {
-            return;
-        }
-        let number = class.number();
-        self.free_blocks[number] += 1;
-        if was_full {
-            self.usable[number].set(block.page, true);
-        }
+        let mut row = self.row(block.page).unwrap();
+        sweep(arena, block.page, &mut row, block.index, count, colour);
+        self.update(block.page, row.class, Some(row));
     }
 
     /// Takes the first free block of a page that isn't leaving, for one that is moved there: it is held,

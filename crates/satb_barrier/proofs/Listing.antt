@@ -12,21 +12,20 @@ use Rattle.heap_model.specs.Store.{Store, is_held, node_of}
 use Rattle.heap_model.proofs.Seen.{held_pages}
 use Rattle.raw_heap.specs.declared.heap.RawHeap.{RawHeap}
 use Rattle.raw_heap.specs.Grey.{GreySet, grey_in, in_buffers, inserted, buffer_of, with_buffer}
-use Rattle.raw_heap.specs.Heap.{state_of, IsRawHeap}
+use Rattle.raw_heap.specs.Heap.{state_of}
 use Rattle.raw_heap.proofs.Sorting.{inserted_between, contains-inserted, length-inserted, once-inserted}
-use Rattle.raw_heap.proofs.Standing.{are_grey}
 use Rattle.raw_heap.proofs.Threading.{taken, same_buffer, buffered}
 
 here : (x : ℕ) (xs : List ℕ) → contains (inserted x xs) x ≡ true
 here x xs = contains-inserted x xs x ∙ ap (λ b. b || contains xs x) (eq-eqb x x refl)
 
-module _ (a : RawHeap) (w : IsRawHeap a) where
+module _ (a : RawHeap) (w : AreGrey (state_of a)) where
   pub few : length (grey_in a.nodes a.grey) < 2048 * length a.nodes.pages
-  few = let l = (are_grey a w).few in let s = w.heap.stands.some in omega arith
+  few = let l = w.few in let s = w.pages in omega arith
 
   module _ (some : a.grey.first ≢ 0) where
     pub first_held : is_held a.nodes (a.grey.first - 1) ≡ true
-    first_held = (are_grey a w).held a.grey.first (ap (λ xs. contains xs a.grey.first) (taken a.nodes a.grey some few) ∙ here a.grey.first _)
+    first_held = w.held a.grey.first (ap (λ xs. contains xs a.grey.first) (taken a.nodes a.grey some few) ∙ here a.grey.first _)
 
     pub first_taken : (next : ℕ) → next ≡ get_or a.nodes.words (a.grey.first - 1 + 3) 0
         → (front : List ℕ) × (back : List ℕ) × (grey_in a.nodes a.grey ≡ front ++ a.grey.first ∷ back) × (grey_in a.nodes (record a.grey { first = next }) ≡ front ++ back)

@@ -28,8 +28,9 @@ pub fn thread(heap: &mut RawHeap, part: u64)
 
 /// Takes a grey part out of the list, the one that came last. The buffers are empty.
 pub fn take(heap: &mut RawHeap) -> Option<u64>
-    requires heap { IsRawHeap heap.old }
+    requires grey { AreGrey (state_of heap.old) }
     requires buffers { in_buffers heap.old.grey.buffers ≡ [] }
+    ensures held { IfSome result (λ part. is_held heap.old.nodes (part - 1) ≡ true) }
     ensures none { IsNone result → ((state_of heap.old).grey ≡ []) × (heap.new ≡ heap.old) }
     ensures taken { IfSome result (λ part. (front : List ℕ) × (back : List ℕ) × ((state_of heap.old).grey ≡ front ++ part ∷ back) × ((state_of heap.new).grey ≡ front ++ back)) }
     ensures same { heap.new ≡ record heap.old { grey = record heap.old.grey { first = heap.new.grey.first } } }

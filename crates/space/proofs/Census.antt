@@ -25,16 +25,12 @@ use Rattle.heap_model.proofs.Held.{held_at, size_some, block_within}
 use Rattle.space.specs.Demand.{blocks_of}
 use Rattle.space.specs.Counts.{main_on, main_blocks}
 use Rattle.space.specs.Placement.{class_in, IsTidy, KeepsOnly, KeepsShapes}
-use Rattle.space.proofs.Counts.{one_if}
+use Rattle.space.proofs.Counts.{one_if, both_true}
 use Rattle.space.proofs.Tidying.{place_page}
 
 -- names are reply_has_room apart
 name_eq : Name → Name → Bool
 name_eq a b = nat_eq a.identity b.identity && nat_eq a.part b.part
-
-both_true : (x y : Bool) → (x && y) ≡ true → (x ≡ true) × (y ≡ true)
-both_true true y h = (refl, h)
-both_true false y h = absurd (cc)
 
 name_laws : IsEquivalence name_eq
 unfolding name_eq

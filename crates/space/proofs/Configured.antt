@@ -1,11 +1,12 @@
 -- The bound, in a configuration's numbers.
-use Rattle.std.proofs.Common.{◌≡◌, ℕ, ◌+◌, ◌-◌, ◌*◌, ◌/◌, ◌<◌, ◌≤◌, Bool, true, false, ◌==◌, if◌then◌else◌, List, length, ap, ◌∙◌, sym, subst, arith}
+use Rattle.std.proofs.Common.{◌≡◌, ℕ, ◌+◌, ◌-◌, ◌*◌, ◌/◌, ◌<◌, ◌≤◌, Bool, true, false, ◌==◌, if◌then◌else◌, List, length, ap, ◌∙◌, sym, subst, arith, refl}
 use Rattle.std.proofs.lemmas.List.{length-replicate}
 use Rattle.graph_heap.specs.Graph.{root_cells}
 use Rattle.size_classes.specs.declared.class.TheConstants.{CLASSES, PAGE_WORDS}
 use Rattle.size_classes.specs.declared.config.TheConstants.{LEAST_BUDGET}
 use Rattle.size_classes.specs.declared.config.Config.{Config}
 use Rattle.size_classes.specs.Config.{limits_of}
+use Rattle.size_classes.specs.Sizes.{size_of, blocks_in}
 use Rattle.heap_model.specs.State.{HeapState}
 use Rattle.heap_model.specs.Settings.{HeapSettings, settings_of, settings_by}
 use Rattle.heap_model.specs.Opening.{IsOpening}
@@ -23,9 +24,17 @@ use Rattle.space.proofs.Moved.{pace_keeps}
 use Rattle.space.proofs.Unmoved.{unmoved_suffices, unmoved_keeps}
 use Rattle.space.proofs.Running.{space_suffices}
 
+-- a page of the smallest class has 512 blocks
+most : blocks_in 0 ≡ 512
+unfolding size_of blocks_in
+most = refl
+
 swept_by : (roots pages : ℕ) (config : Config) → roots ≡ config.mutators * config.slots + config.statics → pages ≡ config.pages
     → roots + PAGE_WORDS * pages + 513 * pages + 516 ≡ swept_at config config.pages
-swept_by roots pages config r p = ap (λ z. z + PAGE_WORDS * pages + 513 * pages + 516) r ∙ ap (λ z. config.mutators * config.slots + config.statics + PAGE_WORDS * z + 513 * z + 516) p
+swept_by roots pages config r p =
+    ap (λ z. z + PAGE_WORDS * pages + 513 * pages + 516) r
+    ∙ ap (λ z. config.mutators * config.slots + config.statics + PAGE_WORDS * z + 513 * z + 516) p
+    ∙ ap (λ b. config.mutators * config.slots + config.statics + PAGE_WORDS * config.pages + (b + 1) * config.pages + (b + 4)) (sym most)
 
 module _ (config : Config) (h : HeapState) (o : IsOpening h) (same : settings_of h ≡ settings_by config) where
   limits : h.limits ≡ limits_of config
@@ -63,7 +72,7 @@ module _ (config : Config) (h : HeapState) (o : IsOpening h) (same : settings_of
   pub same_spare : spare_of h ≡ spare_in config
   same_spare = ap (λ z. if z == 0 then 0 else h.defrag_pages) below ∙ ap (λ z. if config.defrag_below == 0 then 0 else z) defrag
 
-  same_below : below_of h ≡ below_in config
+  pub same_below : below_of h ≡ below_in config
   same_below = ap (λ z. if z == 0 then 0 else h.defrag_below) defrag ∙ ap (λ z. if config.defrag_pages == 0 then 0 else z) below
 
   enough : (d : Demand) → Fits config d → space_for d (spare_of h) ≤ length h.store.pages

@@ -41,23 +41,24 @@ first_page o os w p e = w.each 0 p e
 pub other_pages : (o : Option Page) (os : List (Option Page)) → ArePages (o ∷ os) → ArePages os
 other_pages o os w = record { each = λ k p e. w.each (suc k) p e }
 
-flags_all : (flags : List Bool) → count_by not flags + count_by (λ b. b) flags ≡ length flags
+-- each flag is set or not
+pub flags_all : (flags : List Bool) → count_by not flags + count_by (λ b. b) flags ≡ length flags
 flags_all [] = refl
 flags_all (true ∷ fs) = let e = flags_all fs in let a = sum_by-cons (λ b. one_if (not b)) true fs in let b = sum_by-cons (λ b. one_if b) true fs in omega (arith, a, b, e)
 flags_all (false ∷ fs) = let e = flags_all fs in let a = sum_by-cons (λ b. one_if (not b)) false fs in let b = sum_by-cons (λ b. one_if b) false fs in omega (arith, a, b, e)
+
+pub both_true : (x y : Bool) → (x && y) ≡ true → (x ≡ true) × (y ≡ true)
+both_true true y h = (refl, h)
+both_true false y h = absurd (cc)
 
 -- the blocks of a page are free or held
 own_page : (class : ℕ) (o : Option Page) → ((p : Page) → o ≡ Some p → IsPage p) → free_on class o + main_on class o ≡ blocks_in class * stay_on class o
 own_page class None w = let z : blocks_in class * 0 ≡ 0 = mul-zero (blocks_in class) in omega (arith, z)
 own_page class (Some p) w = by_test ((p.class == class) && not p.leaving) refl
   where
-    both_true : (x y : Bool) → (x && y) ≡ true → x ≡ true
-    both_true true y h = refl
-    both_true false y h = absurd (cc)
-
     by_test : (b : Bool) → ((p.class == class) && not p.leaving) ≡ b → cond b (count_by not p.held) 0 + cond b (count_by (λ b. b) p.held) 0 ≡ blocks_in class * one_if b
     by_test true e =
-        let same : p.class ≡ class = eqb-true p.class class (both_true (p.class == class) (not p.leaving) e) in
+        let same : p.class ≡ class = eqb-true p.class class (both_true (p.class == class) (not p.leaving) e).0 in
         let l = (w p refl).blocks in
         let m : length p.held ≡ blocks_in class = l ∙ ap blocks_in same in
         let f = flags_all p.held in
@@ -205,7 +206,8 @@ pub bounded_room : (pages : List (Option Page)) (blocks need : ℕ → ℕ) (spa
 bounded_room pages blocks need spare w b fits asks = room pages blocks need spare w b asks fits
 
 -- a free block that is taken is one more that is held
-held_more : (flags : List Bool) (i : ℕ) → slice_get flags i ≡ Some false → count_by (λ b. b) (set flags i true) ≡ count_by (λ b. b) flags + 1
+-- a flag that is set is counted
+pub held_more : (flags : List Bool) (i : ℕ) → slice_get flags i ≡ Some false → count_by (λ b. b) (set flags i true) ≡ count_by (λ b. b) flags + 1
 held_more flags i e = let s = set_sum (λ b. one_if b) flags i false true false (slice_get_within flags i false e) (get_or_from_slice_get flags i false false e) in omega (arith, s)
 
 main_more : (p : Page) (class k index : ℕ) → p.class ≡ class → p.leaving ≡ false → IsOpen p index → main_on k (Some (with_held p index true)) ≡ main_on k (Some p) + one_if (class == k)

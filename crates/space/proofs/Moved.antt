@@ -61,7 +61,7 @@ action_tracing h after cost (Chooses_none class page best chosen at few last is)
 action_tracing h after cost (Moves_block class page block chosen i to j p q new e at leaving next place there empty w pages) on = absurd (cc)
 action_tracing h after cost (Ends_moving done) on = absurd (cc)
 
-chain_tracing : (h after : HeapState) (spent : ℕ) → Chain h spent after → is_tracing after.phase ≡ true → is_tracing h.phase ≡ true
+pub chain_tracing : (h after : HeapState) (spent : ℕ) → Chain h spent after → is_tracing after.phase ≡ true → is_tracing h.phase ≡ true
 chain_tracing h after spent Nothing_done on = on
 chain_tracing h after spent (Then u cost j k linked chain links action) on = chain_tracing h j u chain (action_tracing (record j { store = linked }) k cost action on)
 

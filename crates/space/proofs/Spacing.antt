@@ -1,5 +1,5 @@
 -- The pages of a heap stay within their bound through each action.
-use Rattle.std.proofs.Common.{◌≡◌, ℕ, zero, suc, ◌+◌, ◌<◌, ◌≤◌, inl, inr, length, Bool, true, false, ◌&&◌, ◌==◌, if◌then◌else◌, nat_lt, List, [], ◌∷◌, Option, Some, None, ap, ◌∙◌, sym, subst, arith, refl}
+use Rattle.std.proofs.Common.{◌≡◌, ℕ, zero, suc, ◌+◌, ◌<◌, ◌≤◌, inl, inr, length, Bool, true, false, ◌==◌, if◌then◌else◌, nat_lt, List, [], ◌∷◌, Option, Some, None, ap, ◌∙◌, sym, subst, arith, refl}
 use Rattle.std.proofs.lemmas.List.Sums.{sum_by-cons}
 use Rattle.heap_model.specs.declared.phase.Phase.{Phase}
 use Rattle.heap_model.specs.declared.phase.Phase.TheVariants as phases
@@ -15,7 +15,7 @@ use Rattle.heap_model.proofs.Marks.{no_mark, action_count}
 use Rattle.space.specs.Space.{class_sum, class_pages, pages_for, spare_of}
 use Rattle.space.specs.Counts.{is_of, used_pages, leaving_pages, IsBounded}
 use Rattle.space.specs.Placement.{MayLeave, MaySpare, HasBoundedPages}
-use Rattle.space.proofs.Counts.{one_if, all_pages, used_set, leaving_set}
+use Rattle.space.proofs.Counts.{one_if, all_pages, used_set, leaving_set, both_true}
 
 few_leaving : (spare most leaving : ℕ) (p : Phase) → MayLeave spare most leaving p → leaving ≤ spare
 few_leaving spare most leaving phases.Idle l = l
@@ -64,7 +64,7 @@ pub shades_same : (h k : HeapState) (x : ℕ) → Shades h x k → KeepsSettings
 shades_same h k x (Was_marked e) = (record { most = refl; below = refl }, refl)
 shades_same h k x (Is_marked new front back is e w) = (record { most = refl; below = refl }, w.pages)
 
-none_leaving : (pages : List (Option Page)) → ((k : ℕ) → HasNoMark (page_at pages k)) → leaving_pages pages ≡ 0
+pub none_leaving : (pages : List (Option Page)) → ((k : ℕ) → HasNoMark (page_at pages k)) → leaving_pages pages ≡ 0
 none_leaving [] n = refl
 none_leaving (o ∷ os) n =
     let r = none_leaving os (λ k. n (suc k)) in
@@ -85,10 +85,6 @@ closed_less class (Some p) = by_held (held_on (Some p) == 0)
     by_held : (b : Bool) → (one_if (is_of class (if b then None else Some (record p { leaving = false; receiving = false }))) ≤ one_if (is_of class (Some p))) × (one_if (is_leaving (if b then None else Some (record p { leaving = false; receiving = false }))) ≡ 0)
     by_held true = (omega arith, refl)
     by_held false = (omega arith, refl)
-
-both_true : (x y : Bool) → (x && y) ≡ true → (x ≡ true) × (y ≡ true)
-both_true true y h = (refl, h)
-both_true false y h = absurd (cc)
 
 -- at a look of a pass
 at_pass : (h : HeapState) (blocks : ℕ → ℕ) (spare class page : ℕ) (best : Option Candidate) (chosen : ℕ) → HasBoundedPages h blocks spare → AtPass h class page best chosen

@@ -1,6 +1,7 @@
 -- Where moving never begins, a quantum spends its whole budget, and a pace keeps to a smaller demand.
 use Rattle.std.proofs.Common.{◌≡◌, ℕ, ◌+◌, ◌<◌, ◌≤◌, inl, inr, Bool, true, false, ◌==◌, if◌then◌else◌, List, Option, Some, None, length, set, ap, ◌∙◌, sym, subst, arith, refl}
 use Rattle.std.proofs.lemmas.Bool.{cases_Bool}
+use Rattle.size_classes.specs.declared.class.TheConstants.{CLASSES}
 use Rattle.heap_model.specs.declared.phase.Phase.{Phase}
 use Rattle.heap_model.specs.declared.phase.Phase.TheVariants as phases
 use Rattle.heap_model.specs.declared.phase.Moving.{Moving}
@@ -19,7 +20,7 @@ use Rattle.heap_model.proofs.Settings.{does_settings}
 use Rattle.heap_model.proofs.Course.{does_course, opening_course}
 use Rattle.space.specs.Demand.{Demand, blocks_for}
 use Rattle.space.specs.Tally.{Tally, opening_tally, after_event, is_tracing, KeepsTo, AllKeepTo, EveryNewFindsRoom}
-use Rattle.space.specs.Space.{space_for, below_of}
+use Rattle.space.specs.Space.{space_for, pages_for, below_of}
 use Rattle.space.specs.Counts.{leaving_pages}
 use Rattle.space.specs.Placement.{MayLeave, MaySpare, HasBoundedPages}
 use Rattle.space.specs.Pace.{Pace, Beat, opening_beat, in_cycle, KeepsPace, AllKeepPace, unmoved_quanta, demand_of}
@@ -98,10 +99,10 @@ module _ (h : HeapState) (p : Pace) (k : ℕ) (some : 0 < k) where
       }
 
 -- moving never begins: either it may not at all, or as many pages stay free as it begins below
-may_none : (h : HeapState) (d : Demand) → space_for d 0 + below_of h ≤ length h.store.pages → MaySpare h (blocks_for d) 0
-may_none h d fits = elim (cases_Bool (h.defrag_pages == 0)) [
+pub may_none : (h : HeapState) (blocks : ℕ → ℕ) → pages_for blocks 0 CLASSES + below_of h ≤ length h.store.pages → MaySpare h blocks 0
+may_none h blocks fits = elim (cases_Bool (h.defrag_pages == 0)) [
   | inl e ↦ inl (no_spare (h.defrag_below == 0) (same_number h.defrag_pages 0 e))
-  | inr e ↦ inr (refl, subst (λ z. space_for d 0 + (if z then 0 else h.defrag_below) ≤ length h.store.pages) e fits)
+  | inr e ↦ inr (refl, subst (λ z. pages_for blocks 0 CLASSES + (if z then 0 else h.defrag_below) ≤ length h.store.pages) e fits)
 ]
   where
     no_spare : (b : Bool) → h.defrag_pages ≡ 0 → (if b then 0 else h.defrag_pages) ≡ 0
@@ -109,12 +110,12 @@ may_none h d fits = elim (cases_Bool (h.defrag_pages == 0)) [
     no_spare false z = z
 
 pub unmoved_suffices : (h : HeapState) (es : List Event) (new : Course) (d : Demand) → IsOpening h → 0 < length h.store.pages → Runs (opened h) es new → AllKeepTo d (opening_tally h.limits) es → space_for d 0 + below_of h ≤ length h.store.pages → EveryNewFindsRoom es
-unmoved_suffices h es new d o some runs keeps fits = runs_find_room es (opened h) new (opening_tally h.limits) d 0 (opening_course h o some) (opening_tracked h o some d 0 (may_none h d fits) (omega (arith, fits))) runs keeps
+unmoved_suffices h es new d o some runs keeps fits = runs_find_room es (opened h) new (opening_tally h.limits) d 0 (opening_course h o some) (opening_tracked h o some d 0 (may_none h (blocks_for d) fits) (omega (arith, fits))) runs keeps
 
 pub unmoved_keeps : (h : HeapState) (es : List Event) (new : Course) (p : Pace) (k : ℕ) → 0 < k → IsOpening h → 0 < length h.store.pages → Runs (opened h) es new → AllKeepPace p k (opening_beat h.limits) es
     → space_for (demand_of p (unmoved_quanta h k)) 0 + below_of h ≤ length h.store.pages → AllKeepTo (demand_of p (unmoved_quanta h k)) (opening_tally h.limits) es
 unmoved_keeps h es new p k great o some runs keeps fits =
     let d = demand_of p (unmoved_quanta h k) in
     runs_keep p k (unmoved_quanta h k) (IsStill h d k) (still_few h p k great) (still_next h p k great) es (opened h) new (opening_tally h.limits) (opening_beat h.limits) 0 (opening_course h o some)
-    (record { tracked = opening_tracked h o some d 0 (may_none h d fits) (omega (arith, fits)); limit = refl; settings = refl; spent = λ on. omega arith })
+    (record { tracked = opening_tracked h o some d 0 (may_none h (blocks_for d) fits) (omega (arith, fits)); limit = refl; settings = refl; spent = λ on. omega arith })
     (opening_paced h p (unmoved_quanta h k) o) runs keeps

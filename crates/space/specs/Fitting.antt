@@ -3,15 +3,11 @@ use Rattle.std.specs.Prelude.{ℕ, ◌+◌, ◌-◌, ◌*◌, ◌/◌, ◌<◌, 
 use Rattle.size_classes.specs.declared.class.TheConstants.{CLASSES, PAGE_WORDS}
 use Rattle.size_classes.specs.declared.config.Config.{Config}
 use Rattle.size_classes.specs.declared.config.TheConstants.{LEAST_BUDGET, MOST_PAGES}
-use Rattle.space.specs.declared.demand.Demand.{Demand as Table}
+use Rattle.size_classes.specs.Sizes.{blocks_in}
 use Rattle.space.specs.declared.pace.Pace.{Pace as PaceTable}
 use Rattle.space.specs.Demand.{Demand}
 use Rattle.space.specs.Pace.{Pace, demand_of}
 use Rattle.space.specs.Space.{space_for}
-
--- the demand that a table by class states, and the pace
-abbrev pub demand_in : Table → Demand
-demand_in d = record { live = λ class. slice_index d.live class; allocated = λ class. slice_index d.allocated class }
 
 -- the pace that a table by class states
 abbrev pub pace_in : PaceTable → Pace
@@ -29,9 +25,12 @@ Fits c d = space_for d (spare_in c) ≤ c.pages
 abbrev pub below_in : Config → ℕ
 below_in c = if c.defrag_pages == 0 then 0 else c.defrag_below
 
--- the units that roots, marking and sweeping spend at most, in a heap of a configuration with so many pages
+-- the units that roots, marking and sweeping spend at most, in a heap of a configuration with so many pages: one for each
+-- root cell and each word; for each page as many as one of the smallest class has blocks, and one; as many blocks once more,
+-- and four where phases change
 abbrev pub swept_at : Config → ℕ → ℕ
-swept_at c pages = c.mutators * c.slots + c.statics + PAGE_WORDS * pages + 513 * pages + 516
+swept_at c pages =
+    c.mutators * c.slots + c.statics + PAGE_WORDS * pages + (blocks_in 0 + 1) * pages + (blocks_in 0 + 4)
 
 -- the units that moving spends at most, in a heap of a configuration with so many pages
 abbrev pub moving_at : Config → ℕ → ℕ

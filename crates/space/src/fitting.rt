@@ -1,11 +1,10 @@
 //! Whether a configuration has pages enough, so that no new object is refused for want of space.
 ghost use Rattle.std.specs.Prelude.{◌≡◌, ◌≤◌, ◌↔◌, IsTrue};
-ghost use Rattle.space.specs.Fitting.{demand_in, pace_in, spare_in, below_in, swept_at, moving_at, quanta_at, unmoved_quanta_at};
-ghost use Rattle.space.specs.Fitting.{moved_pages, unmoved_pages, pages_needed, quanta_needed, Fits, FitsIn, IsLeast};
+ghost use Rattle.space.specs.Fitting.{pace_in, spare_in, below_in, swept_at, moving_at, quanta_at, unmoved_quanta_at};
+ghost use Rattle.space.specs.Fitting.{moved_pages, unmoved_pages, pages_needed, quanta_needed, FitsIn, IsLeast};
 
-use crate::demand::Demand;
 use crate::pace::{MOST_QUANTA, Pace};
-use size_classes::{CLASSES, Config, LEAST_BUDGET, MOST_PAGES, PAGE_WORDS};
+use size_classes::{CLASSES, Class, Config, LEAST_BUDGET, MOST_PAGES, PAGE_WORDS};
 
 /// How many pages may be left sparse: as many as a cycle may empty, and none where blocks are never moved.
 pub fn spare(config: &Config) -> u32
@@ -19,7 +18,7 @@ pub fn spare(config: &Config) -> u32
 }
 
 /// Below how many free pages moving follows a sweep; 0 where no page may be emptied.
-fn below(config: &Config) -> u32
+pub fn below(config: &Config) -> u32
     ensures { result ≡ below_in config.now }
 {
     if config.defrag_pages == 0 {
@@ -38,7 +37,8 @@ fn swept(config: &Config, pages: u32) -> u64
     let count = u64::from(pages);
     let roots = u64::from(config.root_cells());
     let arena = u64::from(PAGE_WORDS) * count;
-    roots + arena + 513 * count + 516
+    let most = u64::from(Class::new(0).blocks_per_page());
+    roots + arena + (most + 1) * count + (most + 4)
 }
 
 /// The units that moving spends at most, in a heap of the configuration with so many pages.
@@ -128,13 +128,6 @@ pub fn pace_needs(config: &Config, pace: &Pace, pages: u32) -> Needs
     } else {
         moved
     }
-}
-
-/// Whether the pages of a configuration are as many as a demand takes.
-pub fn fits(config: &Config, demand: &Demand) -> bool
-    ensures { IsTrue result ↔ Fits config.now (demand_in demand.now) }
-{
-    demand.pages(spare(config)) <= u128::from(config.pages)
 }
 
 /// Whether so many pages are as many as a pace takes in a heap that has so many.

@@ -2,11 +2,11 @@
 #![tactic(auto)]
 
 pub mod bound;
-pub mod demand;
 pub mod fitting;
 pub mod pace;
+pub mod pages;
 pub mod steps;
 
-pub use demand::{Demand, pages_of_class};
-pub use fitting::{Needs, fits, least_pages, pace_fits, pace_needs, spare};
+pub use fitting::{Needs, below, least_pages, pace_fits, pace_needs, spare};
 pub use pace::Pace;
+pub use pages::pages_of_class;

@@ -5,7 +5,7 @@ ghost use Rattle.space.specs.Space.{space_for};
 ghost use Rattle.space.specs.Pace.{demand_of};
 ghost use Rattle.space.specs.Fitting.{pace_in};
 
-use crate::demand::{MOST_CLASS_PAGES, pages_of_class};
+use crate::pages::{MOST_CLASS_PAGES, pages_of_class};
 use size_classes::{CLASSES, Class};
 
 /// More quanta than a cycle can take.

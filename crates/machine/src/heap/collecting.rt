@@ -15,7 +15,7 @@ use super::Heap;
 use crate::collector::{BudgetOutOfRange, Busy, Spent};
 use defrag::move_next;
 use heap_model::phase::Phase;
-use marker::{scan_part, scan_root};
+use marker::{scan_parts, scan_root};
 use raw_heap::RawHeap;
 use satb_barrier::flush_all;
 use sweeper::sweep_next;
@@ -37,7 +37,7 @@ fn act(heap: &mut RawHeap, room: u32) -> Option<u32>
             scan_root(heap, next);
             Some(1)
         }
-        Phase::Marking { part, cell } => Some(scan_part(heap, part, cell, room)),
+        Phase::Marking { part, cell } => Some(scan_parts(heap, part, cell, room)),
         Phase::Sweeping { page, block } => Some(sweep_next(heap, page, block, room)),
     }
 }

@@ -1,10 +1,11 @@
 //! What is told of the heap as a whole, for a report.
-ghost use Rattle.std.specs.Prelude.{◌≡◌, ◌≤◌, length, IfSome};
+ghost use Rattle.std.specs.Prelude.{◌≡◌, ◌≤◌, ◌↔◌, length, IfSome, IsTrue};
 ghost use Rattle.heap_model.specs.Pages.{page_at};
 ghost use Rattle.heap_model.specs.Pages as page_list;
 ghost use Rattle.pages.specs.View.{view_of};
 ghost use Rattle.roots.specs.Used.{used_in};
-ghost use Rattle.nodes.specs.Copies.{copies_in};
+ghost use Rattle.nodes.specs.Copies.{copies_in, HasBlock};
+ghost use Rattle.nodes.specs.Wasted.{wasted_on};
 
 use super::Heap;
 use nodes::Copies;
@@ -35,6 +36,15 @@ impl Heap {
         self.raw.nodes.page(page)
     }
 
+    /// How many words are wasted inside the held blocks of a page: of each block those behind the last cell of its part.
+    /// There are none on a free page, nor where there is no such page.
+    pub fn wasted_inside(&self, page: usize) -> usize
+        ensures wasted { result ≡ wasted_on self.now.store page }
+        ensures within { result ≤ 131072 }
+    {
+        self.raw.nodes.wasted_inside(page)
+    }
+
     /// How many root cells there are.
     pub fn root_cells(&self) -> usize
         ensures { result ≡ length self.now.roots }
@@ -48,6 +58,13 @@ impl Heap {
         ensures within { result ≤ length self.now.roots }
     {
         self.raw.roots.used()
+    }
+
+    /// Whether some block of an object is held.
+    pub fn holds(&self, id: u64) -> bool
+        ensures { IsTrue result ↔ HasBlock self.now.store id }
+    {
+        self.raw.nodes.holds(id)
     }
 
     /// How many main copies and old copies there are.

@@ -95,6 +95,7 @@ impl Nodes {
     }
 
     /// How many cells of a held block are references: they stand first.
+    #[inline(always)]
     pub fn width(&self, block: usize) -> usize
         requires { is_held self.now block ≡ true }
         ensures { result ≡ width_at (node_of self.now block) }
@@ -129,7 +130,7 @@ impl Nodes {
         requires { is_held self.now block ≡ true }
         ensures { result ≡ same_colour colour (node_of self.now block).colour }
     {
-        self.colour(block) == colour
+        self.arena.has_colour(block, colour)
     }
 
     /// Gives a held block a colour.

@@ -1,12 +1,16 @@
 //! What is told of a page, and the blocks of all pages, counted.
-ghost use Rattle.std.specs.Prelude.{◌≡◌, ◌+◌, ◌*◌, ◌<◌, ◌≤◌, length, true, IfSome};
+ghost use Rattle.std.specs.Prelude.{◌≡◌, ◌+◌, ◌-◌, ◌*◌, ◌^◌, ◌<◌, ◌≤◌, length, true, IfSome};
+ghost use Rattle.size_classes.specs.Parts.{cells_of};
 ghost use Rattle.heap_model.specs.Pages.{page_at};
-ghost use Rattle.heap_model.specs.Store.{is_held};
+ghost use Rattle.heap_model.specs.Store.{is_held, node_of};
 ghost use Rattle.pages.specs.View.{view_of};
 ghost use Rattle.nodes.specs.Copies.{copies_below, copies_in};
+ghost use Rattle.nodes.specs.Wasted.{words_in, wasted_on};
 
 use super::Nodes;
+use graph_heap::Shape;
 use pages::PageView;
+use size_classes::Run;
 
 /// How many blocks hold a part: main copies forward to themselves, and old copies to the block to which
 /// they were moved.
@@ -20,6 +24,17 @@ pub struct Copies {
     pub old: usize,
 }
 
+/// How many cells an object of a shape has.
+fn cells_in(shape: Shape) -> usize
+    ensures cells { result ≡ cells_of shape }
+    ensures few { result < 2 ^ 34 }
+{
+    match shape {
+        Shape::Plain { refs, words } => refs as usize + words as usize,
+        Shape::RefArray(n) | Shape::WordArray(n) => n as usize,
+    }
+}
+
 impl Nodes {
     /// What is told of a page: None where it is free, or where there is no such page.
     pub fn page(&self, page: usize) -> Option<PageView>
@@ -27,6 +42,36 @@ impl Nodes {
         ensures within { IfSome result (λ v. v.held ≤ 512) }
     {
         self.table.page(page)
+    }
+
+    /// How many words are wasted inside the held blocks of a page: of each block those behind the last cell of its part.
+    /// There are none on a free page, nor where there is no such page.
+    pub fn wasted_inside(&self, page: usize) -> usize
+        ensures wasted { result ≡ wasted_on self.now page }
+        ensures within { result ≤ 131072 }
+    {
+        let Some(view) = self.page(page) else {
+            return 0;
+        };
+        let size = view.class.size() as usize;
+        let mut wasted = 0;
+        for index in 0..view.class.blocks_per_page() as usize {
+            if let Some(block) = self.held_block(page, index) {
+                wasted += self.wasted_in(block, size);
+            }
+        }
+        wasted
+    }
+
+    /// How many words of a held block of this size its part doesn't use.
+    fn wasted_in(&self, block: usize, size: usize) -> usize
+        requires { is_held self.now block ≡ true }
+        ensures wasted { result ≡ size - words_in (node_of self.now block) }
+        ensures within { result ≤ size }
+    {
+        let cells = cells_in(self.shape(block));
+        let run = Run::of(cells, self.arena.part(block));
+        size.saturating_sub(run.count).saturating_sub(4)
     }
 
     /// How many main copies and old copies there are.

@@ -1,27 +1,38 @@
-use Rattle.std.proofs.Common.{◌≡◌, ◌+◌, ◌≤◌, length, ap, ◌∙◌, subst, refl, arith}
-use Rattle.heap_model.specs.Action.{Nothing_done}
-use Rattle.heap_model.specs.declared.phase.Phase.TheVariants as phases
+use Rattle.std.proofs.Common.{◌≡◌, ◌+◌, ap, ◌∙◌, subst, refl, arith}
+use Rattle.heap_model.specs.Action.{Chain}
+use Rattle.raw_heap.specs.declared.heap.RawHeap.{RawHeap}
 use Rattle.raw_heap.specs.Heap.{state_of}
-use Rattle.raw_heap.proofs.Chains.{then_chain, heap_after_chain}
-use Rattle.marker.proofs.Scanned.{cell_small}
+use Rattle.marker.specs.Scanning.{scanning}
+use Rattle.marker.proofs.Scanned.{width_small}
+use Rattle.marker.proofs.Scanning.{none_scanned, run_scanned, still_scanning}
 use Rattle.marker.proofs.scan.scan_cells.Goals as goal
 
 pub loop-scanned-init : goal.loop-scanned-init
-loop-scanned-init c =
-    (Nothing_done, c.requires.heap, subst (λ n. c.args.heap.now.phase ≡ phases.Marking c.args.part n) (let e : c.args.cell ≡ c.args.cell + 0 = omega arith in e) c.requires.phase, refl, refl, omega arith)
+loop-scanned-init c = (λ u. none_scanned c.args.heap.now c.args.part c.args.cell u, refl, refl, refl, omega arith)
 
 pub overflow_add-cell : goal.overflow_add-cell
 overflow_add-cell c =
+    let s = width_small (scanning c.args.heap.now c.args.part c.args.cell c.requires.heap.0) c.requires.heap.1 c.args.part c.args.cell refl c.requires.some in omega (arith, s, c.requires.within, c.loop-scanned-test.true)
+
+pub scan_run-scanned-requires-clause-heap : goal.scan_run-scanned-requires-clause-heap
+scan_run-scanned-requires-clause-heap c =
     let i = c.loop-scanned.invariant in
-    let s = cell_small c.loop-scanned.heap i.1 c.args.part (c.args.cell + c.loop-scanned.scanned) i.2 c.requires.some in omega (arith, s)
+    still_scanning c.args.heap.now c.loop-scanned.heap c.args.part c.args.cell c.args.part (c.args.cell + c.loop-scanned.scanned) c.loop-scanned.scanned c.requires.heap i.0 i.2
+
+pub scan_run-scanned-requires-clause-within : goal.scan_run-scanned-requires-clause-within
+scan_run-scanned-requires-clause-within c = let i = c.loop-scanned.invariant in omega (arith, i.1, c.requires.within, c.loop-scanned-test.true)
 
 pub loop-scanned-preserved : goal.loop-scanned-preserved
 loop-scanned-preserved c =
-    let i = c.loop-scanned.invariant in let h = c.loop-scanned.heap in let k = c.scan_run-scanned.new.heap in let n = c.loop-scanned.scanned in let m = c.scan_run-scanned.result in (
-      then_chain (state_of c.args.heap.now) (state_of h) (state_of k) n m i.0 c.scan_run-scanned.ensures.acts,
-      heap_after_chain h k i.1 m c.scan_run-scanned.ensures.acts (ap length c.scan_run-scanned.ensures.buffers),
-      subst (λ p. k.phase ≡ phases.Marking c.args.part p) (let e : c.args.cell + n + m ≡ c.args.cell + (n + m) = omega arith in e) c.scan_run-scanned.ensures.phase,
-      c.scan_run-scanned.ensures.width ∙ i.3,
-      c.scan_run-scanned.ensures.buffers ∙ i.4,
-      (let l : n + m ≤ c.args.count = omega (arith, c.loop-scanned-test.true, c.scan_run-scanned.ensures.count.1) in l),
+    let i = c.loop-scanned.invariant in let e = c.scan_run-scanned.ensures in let k = c.scan_run-scanned.new.heap in let n = c.loop-scanned.scanned in (
+      λ u. run_scanned (state_of (scanning c.args.heap.now c.args.part c.args.cell u)) c.loop-scanned.heap k c.args.part c.args.cell n c.scan_run-scanned.result u (i.0 u) (e.acts (u + n)),
+      e.width ∙ i.1,
+      e.buffers ∙ i.2,
+      e.same ∙ ap (λ (x : RawHeap). record x { nodes = k.nodes; grey = k.grey }) i.3,
+      omega (arith, c.loop-scanned-test.true, e.count.1),
     )
+
+pub returns-clause-acts : goal.returns-clause-acts
+returns-clause-acts c =
+    let i = c.loop-scanned.invariant in let all : c.loop-scanned.scanned ≡ c.args.count = omega (arith, i.4, c.loop-scanned-test.false) in λ u.
+    subst (λ n. Chain (state_of (scanning c.args.heap.now c.args.part c.args.cell u)) n (state_of (scanning c.loop-scanned.heap c.args.part (c.args.cell + n) (u + n)))) all (i.0 u)

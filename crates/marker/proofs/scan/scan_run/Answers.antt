@@ -1,28 +1,45 @@
-use Rattle.std.proofs.Common.{sym, subst, arith}
-use Rattle.heap_model.specs.Action.{Chain}
-use Rattle.raw_heap.specs.declared.heap.RawHeap.{RawHeap}
+use Rattle.std.proofs.Common.{◌≡◌, ℕ, ◌+◌, ◌-◌, ◌<◌, ◌≤◌, get_or, ap, ◌∙◌, sym, refl, inl, inr, arith}
+use Rattle.std.proofs.lemmas.Bool.{cases_eq}
+use Rattle.heap_model.specs.Store.{node_of}
 use Rattle.raw_heap.specs.Heap.{state_of}
 use Rattle.raw_heap.proofs.Chains.{one_action}
-use Rattle.raw_heap.proofs.Standing.{units_small}
+use Rattle.marker.specs.Scanning.{scanning}
 use Rattle.marker.proofs.Chains.{nulls_scanned}
-use Rattle.marker.proofs.Scanned.{cells_within, width_small}
+use Rattle.marker.proofs.Scanned.{part_held, cells_within, width_small}
 use Rattle.marker.proofs.scan.scan_run.Goals as goal
 
-pub nulls_from-nulls-requires-clause-within : goal.nulls_from-nulls-requires-clause-within
-nulls_from-nulls-requires-clause-within c = omega (arith, c.requires.within, cells_within c.args.heap.now c.requires.heap c.args.part c.args.cell c.requires.phase c.requires.some)
+pub cell-reference-requires-clause-held : goal.cell-reference-requires-clause-held
+cell-reference-requires-clause-held c = part_held (scanning c.args.heap.now c.args.part c.args.cell c.requires.heap.0) c.requires.heap.1 c.args.part c.args.cell refl c.requires.some
+
+pub cell-reference-requires-clause-within : goal.cell-reference-requires-clause-within
+cell-reference-requires-clause-within c = omega (arith, c.requires.most, c.requires.within, cells_within (scanning c.args.heap.now c.args.part c.args.cell c.requires.heap.0) c.requires.heap.1 c.args.part c.args.cell refl c.requires.some)
 
 pub overflow_add-cell : goal.overflow_add-cell
 overflow_add-cell c =
-    let w = width_small c.args.heap.now c.requires.heap c.args.part c.args.cell c.requires.phase c.requires.some in omega (arith, c.requires.within, c.nulls_from-nulls.ensures.within)
+    let s = width_small (scanning c.args.heap.now c.args.part c.args.cell c.requires.heap.0) c.requires.heap.1 c.args.part c.args.cell refl c.requires.some in omega (arith, s, c.requires.most, c.requires.within)
 
-pub go_to-requires : goal.go_to-requires
-go_to-requires c =
-    let u = units_small c.args.heap.now c.requires.heap in let w = width_small c.args.heap.now c.requires.heap c.args.part c.args.cell c.requires.phase c.requires.some in omega (arith, c.requires.within, c.nulls_from-nulls.ensures.within)
+pub nulls_from-requires-clause-held : goal.nulls_from-requires-clause-held
+nulls_from-requires-clause-held c = part_held (scanning c.args.heap.now c.args.part c.args.cell c.requires.heap.0) c.requires.heap.1 c.args.part c.args.cell refl c.requires.some
 
-pub returns-then-nulls-eq0-clause-acts : goal.returns-then-nulls-eq0-clause-acts
-returns-then-nulls-eq0-clause-acts c = one_action (state_of c.args.heap.now) (state_of c.scan_cell.new.heap) 1 c.scan_cell.ensures.acts
+pub nulls_from-requires-clause-small : goal.nulls_from-requires-clause-small
+nulls_from-requires-clause-small c =
+    let s = width_small (scanning c.args.heap.now c.args.part c.args.cell c.requires.heap.0) c.requires.heap.1 c.args.part c.args.cell refl c.requires.some in omega (arith, s, c.requires.most, c.requires.within)
+
+pub nulls_from-requires-clause-within : goal.nulls_from-requires-clause-within
+nulls_from-requires-clause-within c = omega (arith, c.requires.most, c.requires.within, cells_within (scanning c.args.heap.now c.args.part c.args.cell c.requires.heap.0) c.requires.heap.1 c.args.part c.args.cell refl c.requires.some)
+
+-- the next cell and those after it are null
+all_null : (cells : ℕ → ℕ) (cell n : ℕ) → cells cell ≡ 0 → ((k : ℕ) → cell + 1 ≤ k → k < cell + 1 + n → cells k ≡ 0) → (k : ℕ) → cell ≤ k → k < cell + (1 + n) → cells k ≡ 0
+all_null cells cell n here after k low high = elim (cases_eq k cell) [ inl e ↦ ap cells e ∙ here | inr ne ↦ after k (omega (arith, low, ne)) (omega (arith, high)) ]
+
+pub returns-then-reference-eq0-clause-acts : goal.returns-then-reference-eq0-clause-acts
+returns-then-reference-eq0-clause-acts c =
+    let cells : ℕ → ℕ = λ k. get_or (node_of c.args.heap.now.nodes (c.args.part - 1)).cells k 0 in λ u.
+    nulls_scanned (scanning c.args.heap.now c.args.part c.args.cell u) c.args.part c.args.cell (1 + c.nulls_from.result) refl c.requires.some (omega (arith, c.requires.most, c.requires.within, c.nulls_from.ensures.within))
+    (all_null cells c.args.cell c.nulls_from.result (sym c.cell-reference.ensures ∙ c.if-reference-eq0.true) c.nulls_from.ensures.null)
+
+pub returns-then-reference-eq0-clause-same : goal.returns-then-reference-eq0-clause-same
+returns-then-reference-eq0-clause-same c = refl
 
 pub returns-clause-acts : goal.returns-clause-acts
-returns-clause-acts c =
-    subst (λ (x : RawHeap). Chain (state_of c.args.heap.now) c.nulls_from-nulls.result (state_of x)) (sym c.go_to.ensures)
-    (nulls_scanned c.args.heap.now c.args.part c.args.cell c.nulls_from-nulls.result c.requires.phase c.requires.some (omega (arith, c.requires.within, c.nulls_from-nulls.ensures.within)) c.nulls_from-nulls.ensures.null)
+returns-clause-acts c = λ u. one_action (state_of (scanning c.args.heap.now c.args.part c.args.cell u)) (state_of (scanning c.scan_cell.new.heap c.args.part (c.args.cell + 1) (u + 1))) 1 (c.scan_cell.ensures.acts u)

@@ -2,7 +2,7 @@ use Rattle.std.proofs.Common.{◌≡◌, ◌+◌, min, get_or, arith, subst}
 use Rattle.size_classes.specs.declared.class.TheConstants.{CLASSES}
 use Rattle.heap_model.specs.Pages.{whole_pages}
 use Rattle.space.specs.Space.{class_sum}
-use Rattle.space.specs.declared.demand.TheConstants.{MOST_BLOCKS}
+use Rattle.space.specs.declared.pages.TheConstants.{MOST_BLOCKS}
 use Rattle.fragmentation.specs.Suffice.{gathered_pages}
 use Rattle.measure.proofs.Paging.{counted_gathered}
 use Rattle.measure.proofs.page_counts.season_pages.Goals as goal

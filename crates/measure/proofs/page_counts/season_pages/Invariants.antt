@@ -1,7 +1,7 @@
 use Rattle.std.proofs.Common.{◌≡◌, ◌+◌, ◌*◌, ◌≤◌, min, get_or}
 use Rattle.heap_model.specs.Pages.{whole_pages}
 use Rattle.space.specs.Space.{class_sum}
-use Rattle.space.specs.declared.demand.TheConstants.{MOST_BLOCKS, MOST_CLASS_PAGES}
+use Rattle.space.specs.declared.pages.TheConstants.{MOST_BLOCKS, MOST_CLASS_PAGES}
 use Rattle.fragmentation.specs.Suffice.{gathered_pages}
 use Rattle.measure.proofs.page_counts.season_pages.Given as goal
 

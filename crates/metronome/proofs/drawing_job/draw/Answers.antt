@@ -4,8 +4,8 @@ use Rattle.drawing.specs.Utilisation.{AreShares, utilisation_picture}
 use Rattle.metronome.proofs.Sharing.{shares_reserved}
 use Rattle.metronome.proofs.drawing_job.draw.Goals as goal
 
-pub returns-in-Utilisation : goal.returns-in-Utilisation
-returns-in-Utilisation g c =
+pub returns-in-Utilisation-clause-drawn : goal.returns-in-Utilisation-clause-drawn
+returns-in-Utilisation-clause-drawn g c =
     let config = c.args.config.now in
     let drawn = c.draw_utilisation.ensures.drawn in
     let Shares : Timetable → Type 0 = λ t. AreShares config t drawn.0 in

@@ -1,4 +1,4 @@
-use Rattle.std.proofs.Common.{◌++◌, ℕ, List, Ok, inl, inr, map, ap, ◌∙◌, subst, replicate}
+use Rattle.std.proofs.Common.{◌++◌, ℕ, List, Ok, Err, inl, inr, map, ap, ◌∙◌, subst, replicate, arith}
 use Rattle.std.specs.Prelude.{Vec}
 use Rattle.std.specs.declared.alloc.Global.{Global}
 use Rattle.graph_heap.specs.declared.command.Command.{Command}
@@ -10,11 +10,13 @@ use Rattle.transcripts.specs.Scripts.{ScriptsRead}
 use Rattle.heap_server.specs.Played.{IsOutcome}
 use Rattle.player.specs.declared.style.Style.TheVariants.{Entries}
 use Rattle.player.specs.Playing.{text_written}
+use Rattle.metronome.specs.Faults.{failed_reads, failed_writes}
 use Rattle.metronome.proofs.Finishing.{failed_so}
+use Rattle.metronome.proofs.Failing.{reads_text, text_unwritten, scripts_unwritten, memory_unread, memory_unwritten, none_read, one_written, finished_unread, finished_unwritten}
 use Rattle.metronome.proofs.jobs.threads_job.Goals as goal
 
-pub returns-in_err-write_history : goal.returns-in_err-write_history
-returns-in_err-write_history g c =
+pub returns-in_err-write_history-clause-done : goal.returns-in_err-write_history-clause-done
+returns-in_err-write_history-clause-done g c =
     let version = c.in_ok-version.version in
     let scripts = c.in_ok-version.scripts in
     let outcome = c.in_ok-outcome.outcome in
@@ -28,8 +30,8 @@ returns-in_err-write_history g c =
     let part = subst Part c.history.ensures.history c.in_err-write_history.ensures.err in
     (Ok (version, scripts), read, inr (outcome, ran, inr (failed_so c.from_residual-in_err-write_history.result _ c.from_residual-in_err-write_history.ensures.1, part)))
 
-pub returns : goal.returns
-returns g c =
+pub returns-clause-done : goal.returns-clause-done
+returns-clause-done g c =
     let version = c.in_ok-version.version in
     let scripts = c.in_ok-version.scripts in
     let outcome = c.in_ok-outcome.outcome in
@@ -39,3 +41,27 @@ returns g c =
     let read = subst Read (ap (λ (limits : Limits). limits.mutators) c.limits.ensures) c.in_ok-version.ensures.read in
     let ran = subst Ran c.as_slice.ensures.value c.in_ok-outcome.ensures in
     (Ok (version, scripts), read, inr (outcome, ran, inl (c.finished.ensures, c.in_ok-write_history.ensures.ok ∙ ap (λ (h : List Entry). old ++ text_written Entries version h) c.history.ensures.history)))
+
+pub returns-in_err-version-clause-reads : goal.returns-in_err-version-clause-reads
+returns-in_err-version-clause-reads g c = reads_text c.from_residual.result c.in_err-version.field-0.0 _ _ c.from_residual.ensures.1 c.in_err-version.ensures.reads
+
+pub returns-in_err-version-clause-writes : goal.returns-in_err-version-clause-writes
+returns-in_err-version-clause-writes g c = omega (arith, text_unwritten c.from_residual.result c.in_err-version.field-0.0 c.from_residual.ensures.1 (scripts_unwritten (given_by g.S.Source.given g.S.Source.ended c.args.source.now c.read_scripts.new.source) c.limits.result.mutators (Err c.in_err-version.field-0.0) c.in_err-version.ensures.read))
+
+pub returns-in_err-outcome-clause-reads : goal.returns-in_err-outcome-clause-reads
+returns-in_err-outcome-clause-reads g c = omega (arith, memory_unread c.from_residual-in_err-outcome.result c.from_residual-in_err-outcome.ensures.1, c.in_ok-version.ensures.reads)
+
+pub returns-in_err-outcome-clause-writes : goal.returns-in_err-outcome-clause-writes
+returns-in_err-outcome-clause-writes g c = omega (arith, memory_unwritten c.from_residual-in_err-outcome.result c.from_residual-in_err-outcome.ensures.1)
+
+pub returns-in_err-write_history-clause-reads : goal.returns-in_err-write_history-clause-reads
+returns-in_err-write_history-clause-reads g c = omega (arith, none_read c.from_residual-in_err-write_history.result c.from_residual-in_err-write_history.ensures.1, c.in_ok-version.ensures.reads)
+
+pub returns-in_err-write_history-clause-writes : goal.returns-in_err-write_history-clause-writes
+returns-in_err-write_history-clause-writes g c = omega (arith, one_written c.from_residual-in_err-write_history.result c.from_residual-in_err-write_history.ensures.1, c.in_err-write_history.ensures.cause)
+
+pub returns-clause-reads : goal.returns-clause-reads
+returns-clause-reads g c = omega (arith, c.in_ok-version.ensures.reads, ap failed_reads c.finished.ensures, finished_unread c.in_ok-outcome.outcome.all)
+
+pub returns-clause-writes : goal.returns-clause-writes
+returns-clause-writes g c = omega (arith, c.in_ok-write_history.ensures.cause, ap failed_writes c.finished.ensures, finished_unwritten c.in_ok-outcome.outcome.all)

@@ -3,6 +3,9 @@ use Rattle.player.specs.declared.style.Style.TheVariants.{Entries}
 use Rattle.player.specs.Playing.{written_of}
 use Rattle.metronome.proofs.jobs.write_entries.Given as goal
 
--- the lines of the entries so far
+-- the lines of the entries so far, and no write has failed
 abbrev pub invariant-loop-entry : goal.invariant-loop-entry
-invariant-loop-entry g l = g.K.Sink.taken l.sink ≡ g.K.Sink.taken l.fn.sink ++ written_of Entries (take l.entry-index l.history)
+invariant-loop-entry g l = record {
+  text : g.K.Sink.taken l.sink ≡ g.K.Sink.taken l.fn.sink ++ written_of Entries (take l.entry-index l.history);
+  failures : g.K.Sink.failures l.sink ≡ g.K.Sink.failures l.fn.sink;
+}

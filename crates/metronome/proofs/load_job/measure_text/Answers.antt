@@ -2,8 +2,11 @@ use Rattle.std.proofs.Common.{arith}
 use Rattle.metronome.proofs.Reading.{reads_text}
 use Rattle.metronome.proofs.load_job.measure_text.Goals as goal
 
-pub returns : goal.returns
-returns c =
+pub returns-clause-measured : goal.returns-clause-measured
+returns-clause-measured c =
     let s = c.new-source in
     let m = c.measure in
     (_, reads_text _ s.result m.new.source s.ensures.bytes s.ensures.place (m.ensures.input (omega (arith, m.ensures.reads))), m.ensures.measured)
+
+pub returns-clause-reads : goal.returns-clause-reads
+returns-clause-reads c = omega (arith, c.measure.ensures.reads)

@@ -1,9 +1,12 @@
 use Rattle.std.proofs.Common.{◌≡◌, ◌-◌, ◌^◌, ◌++◌, length}
 use Rattle.metronome.proofs.load_job.rest_of.Given as goal
 
--- the text is what the source gave
+-- the text is what the source gave, and no read has failed
 abbrev pub invariant-loop-count : goal.invariant-loop-count
-invariant-loop-count g l = g.S.Source.given l.source ≡ g.S.Source.given l.fn.source ++ l.text.items
+invariant-loop-count g l = record {
+  text : g.S.Source.given l.source ≡ g.S.Source.given l.fn.source ++ l.text.items;
+  failures : g.S.Source.failures l.source ≡ g.S.Source.failures l.fn.source;
+}
 
 abbrev pub decreases-loop-count : goal.decreases-loop-count
 decreases-loop-count g l = 2 ^ 64 - length (g.S.Source.given l.source)

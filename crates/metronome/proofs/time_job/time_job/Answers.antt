@@ -1,6 +1,6 @@
-use Rattle.std.proofs.Common.{List, Ok, refl, sym, subst}
+use Rattle.std.proofs.Common.{List, Ok, Err, refl, sym, subst, arith}
 use Rattle.std.specs.Prelude.{Result}
-use Rattle.trace.specs.Streams.{GrowsByPart}
+use Rattle.trace.specs.Streams.{GrowsByPart, given_by}
 use Rattle.drawing.specs.declared.sample.Sample.{Sample}
 use Rattle.drawing.specs.declared.over_time.Scale.{Scale}
 use Rattle.drawing.specs.Samples.{time_picture}
@@ -8,10 +8,11 @@ use Rattle.metronome.specs.declared.fault.Ending.{Ending}
 use Rattle.metronome.specs.declared.fault.RunFault.{RunFault}
 use Rattle.metronome.specs.OverTime.{SamplesDrawn}
 use Rattle.metronome.proofs.Finishing.{failed_so}
+use Rattle.metronome.proofs.Failing.{reads_text, text_unwritten, samples_unwritten, none_read, one_written}
 use Rattle.metronome.proofs.time_job.time_job.Goals as goal
 
-pub returns-in_err-draw_time : goal.returns-in_err-draw_time
-returns-in_err-draw_time g c =
+pub returns-in_err-draw_time-clause-done : goal.returns-in_err-draw_time-clause-done
+returns-in_err-draw_time-clause-done g c =
     let samples = c.in_ok-samples.samples in
     let old = g.K.Sink.taken c.args.sink.now in
     let new = g.K.Sink.taken c.draw_time.new.sink in
@@ -21,3 +22,15 @@ returns-in_err-draw_time g c =
     let part = subst Scaled c.scale-scale.ensures (subst Items c.as_slice.ensures.value c.in_err-draw_time.ensures.err) in
     let failed = failed_so c.from_residual-in_err-draw_time.result _ c.from_residual-in_err-draw_time.ensures.1 in
     (Ok samples, c.in_ok-samples.ensures.taken, subst Drawn (sym failed) (refl, part))
+
+pub returns-in_err-samples-clause-reads : goal.returns-in_err-samples-clause-reads
+returns-in_err-samples-clause-reads g c = reads_text c.from_residual.result c.in_err-samples.field-0.0 _ _ c.from_residual.ensures.1 c.in_err-samples.ensures.reads
+
+pub returns-in_err-samples-clause-writes : goal.returns-in_err-samples-clause-writes
+returns-in_err-samples-clause-writes g c = omega (arith, text_unwritten c.from_residual.result c.in_err-samples.field-0.0 c.from_residual.ensures.1 (samples_unwritten c.args.config.now (given_by g.S.Source.given g.S.Source.ended c.args.source.now c.take_samples.new.source) (Err c.in_err-samples.field-0.0) c.in_err-samples.ensures.taken))
+
+pub returns-in_err-draw_time-clause-reads : goal.returns-in_err-draw_time-clause-reads
+returns-in_err-draw_time-clause-reads g c = omega (arith, none_read c.from_residual-in_err-draw_time.result c.from_residual-in_err-draw_time.ensures.1, c.in_ok-samples.ensures.reads)
+
+pub returns-in_err-draw_time-clause-writes : goal.returns-in_err-draw_time-clause-writes
+returns-in_err-draw_time-clause-writes g c = omega (arith, one_written c.from_residual-in_err-draw_time.result c.from_residual-in_err-draw_time.ensures.1, c.in_err-draw_time.ensures.cause)

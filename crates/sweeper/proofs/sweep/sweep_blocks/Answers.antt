@@ -1,23 +1,24 @@
-use Rattle.std.proofs.Common.{◌≡◌, ◌+◌, ◌≤◌, length, ap, ◌∙◌, subst, refl, arith}
-use Rattle.heap_model.specs.Action.{Nothing_done}
+use Rattle.std.proofs.Common.{◌+◌, ap, sym, subst, refl, arith}
+use Rattle.heap_model.specs.Action.{Chain, goes_to}
+use Rattle.heap_model.specs.Pages.{page_at}
 use Rattle.heap_model.specs.declared.phase.Phase.TheVariants as phases
-use Rattle.raw_heap.specs.Grey.{GreySet}
+use Rattle.heap_model.specs.State.{HeapState}
+use Rattle.heap_model.specs.Written.{records}
+use Rattle.raw_heap.proofs.Keeping.{store_still}
+use Rattle.raw_heap.specs.declared.heap.RawHeap.{RawHeap}
 use Rattle.raw_heap.specs.Heap.{state_of}
-use Rattle.raw_heap.proofs.Chains.{then_chain, heap_after_chain}
+use Rattle.sweeper.proofs.Acting.{blocks_few, in_use}
 use Rattle.sweeper.proofs.sweep.sweep_blocks.Goals as goal
 
-pub loop-looked-init : goal.loop-looked-init
-loop-looked-init c =
-    (Nothing_done, c.requires.heap, subst (λ n. c.args.heap.now.phase ≡ phases.Sweeping c.args.page n) (let e : c.args.block ≡ c.args.block + 0 = omega arith in e) c.requires.phase, refl, refl, refl, omega arith)
+pub sweep-requires-clause-blocks : goal.sweep-requires-clause-blocks
+sweep-requires-clause-blocks c = in_use (page_at c.args.heap.now.nodes.pages c.args.page) c.args.block c.args.count c.requires.some c.requires.within
 
-pub loop-looked-preserved : goal.loop-looked-preserved
-loop-looked-preserved c =
-    let i = c.loop-looked.invariant in let h = c.loop-looked.heap in let e = c.sweep_run-looked.ensures in let k = c.sweep_run-looked.new.heap in let n = c.loop-looked.looked in let m = c.sweep_run-looked.result in (
-      then_chain (state_of c.args.heap.now) (state_of h) (state_of k) n m i.0 e.acts,
-      heap_after_chain h k i.1 m e.acts (ap (λ (g : GreySet). length g.buffers) e.grey),
-      subst (λ b. k.phase ≡ phases.Sweeping c.args.page b) (let l : c.args.block + n + m ≡ c.args.block + (n + m) = omega arith in l) e.phase,
-      e.pages ∙ i.3,
-      e.blocks ∙ i.4,
-      e.grey ∙ i.5,
-      (let l : n + m ≤ c.args.count = omega (arith, c.loop-looked-test.true, e.count.1) in l),
-    )
+pub overflow_add-block : goal.overflow_add-block
+overflow_add-block c = let f = blocks_few c.args.heap.now.nodes.pages c.requires.heap.heap.stands.pages c.args.page in omega (arith, c.requires.within, f)
+
+pub returns-clause-acts : goal.returns-clause-acts
+returns-clause-acts c =
+    let a = c.args.heap.now in let h = state_of a in let n = c.args.count in
+    subst (λ (x : RawHeap). Chain h n (state_of x)) (sym c.go_to.ensures)
+    (subst (λ (k : HeapState). Chain h n (goes_to k n (phases.Sweeping c.args.page (c.args.block + n)))) (sym (store_still a c.requires.heap (ap records c.requires.phase) c.sweep.new.self))
+    (c.sweep.ensures h refl refl c.requires.phase))

@@ -1,6 +1,6 @@
 use Rattle.std.proofs.Common.{◌≡◌, ◌*◌, ◌≤◌}
 use Rattle.space.specs.Space.{pages_for}
-use Rattle.space.specs.declared.demand.TheConstants.{MOST_CLASS_PAGES}
+use Rattle.space.specs.declared.pages.TheConstants.{MOST_CLASS_PAGES}
 use Rattle.measure.specs.Measured.{together_in}
 use Rattle.measure.proofs.needed.Needed.pages.Given as goal
 

@@ -1,6 +1,6 @@
 use Rattle.std.proofs.Common.{◌≡◌, ◌*◌, ◌≤◌}
 use Rattle.space.specs.Space.{class_sum}
-use Rattle.space.specs.declared.demand.TheConstants.{MOST_CLASS_PAGES}
+use Rattle.space.specs.declared.pages.TheConstants.{MOST_CLASS_PAGES}
 use Rattle.fragmentation.specs.Suffice.{gathered_pages}
 use Rattle.measure.specs.Measured.{together_in}
 use Rattle.measure.proofs.needed.Needed.sparse.Given as goal

@@ -1,6 +1,6 @@
 use Rattle.std.proofs.Common.{◌≡◌, ◌+◌, ◌*◌, ◌≤◌, get_or}
 use Rattle.space.specs.Space.{pages_for}
-use Rattle.space.specs.declared.demand.TheConstants.{MOST_CLASS_PAGES}
+use Rattle.space.specs.declared.pages.TheConstants.{MOST_CLASS_PAGES}
 use Rattle.space.proofs.pace.Pace.pages.Given as goal
 
 -- the pages of the classes so far

@@ -1,0 +1,4 @@
+pub mod Drawn
+pub mod Joined
+pub mod Parts
+pub mod Shown

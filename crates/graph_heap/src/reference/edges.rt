@@ -1,0 +1,36 @@
+//! The roots and the reference cells of the slow heap: the edges of its graph.
+ghost use Rattle.std.specs.Prelude.{◌≡◌, length};
+ghost use Rattle.graph_heap.specs.Graph as graph;
+
+use super::Reference;
+use crate::command::Limits;
+use crate::stored::object_of;
+
+impl Reference {
+    /// What bounds the heap. It has as many roots as there are slots and statics.
+    pub fn limits(&self) -> &Limits
+        ensures limits { result.now ≡ self.now.limits }
+        ensures row { length self.now.roots ≡ graph.root_cells self.now.limits }
+    {
+        &self.limits
+    }
+
+    /// The roots, of which each holds an identity, or 0 for null: the slots of mutator 0, of mutator 1 and so on, and then the
+    /// statics.
+    pub fn roots(&self) -> &[u64]
+        ensures { result.now ≡ self.now.roots }
+    {
+        self.roots.as_slice()
+    }
+
+    /// The reference cells of an object, of which each holds an identity, or 0 for null. Null, and an identity that isn't given
+    /// yet, has none.
+    pub fn refs(&self, id: u64) -> &[u64]
+        ensures { result.now ≡ (graph.object_of self.now.objects id).refs }
+    {
+        match object_of(self.objects.as_slice(), id) {
+            Ok(object) => object.refs.as_slice(),
+            Err(_) => &[],
+        }
+    }
+}

@@ -1,0 +1,100 @@
+//! How full the pages of a size class are.
+ghost use Rattle.std.specs.Prelude.{◌≡◌, ◌≤◌};
+ghost use Rattle.inspector.specs.Filling.{IsWithin, nothing, page_filling, filling_on, both, filling_of};
+
+use machine::Heap;
+use size_classes::{Class, PAGE_WORDS};
+
+/// How full some pages are.
+#[derive(Clone, Copy)]
+pub(crate) struct Filling {
+    /// How many pages they are.
+    pub pages: u64,
+    /// Their held blocks, old copies too.
+    pub held: u64,
+    /// Their free blocks.
+    pub free: u64,
+    /// The words of held blocks behind the last cell of their part.
+    pub inside: u64,
+    /// The words of pages behind their last block.
+    pub behind: u64,
+    /// The words of free blocks.
+    pub spare: u64,
+}
+
+/// That of no page.
+pub(crate) fn nothing() -> Filling
+    ensures { result ≡ nothing }
+{
+    Filling {
+        pages: 0,
+        held: 0,
+        free: 0,
+        inside: 0,
+        behind: 0,
+        spare: 0,
+    }
+}
+
+/// That of a page of a class, of which so many blocks are held, with so many words wasted inside them.
+fn page_filling(class: Class, held: u64, inside: u64) -> Filling
+    requires held { held ≤ 512 }
+    requires inside { inside ≤ 131072 }
+    ensures filling { result ≡ page_filling class held inside }
+    ensures within { IsWithin result 131072 }
+{
+    let size = u64::from(class.size());
+    let blocks = u64::from(class.blocks_per_page());
+    let free = blocks.saturating_sub(held);
+    let (cut, spare) = (blocks * size, free * size);
+    Filling {
+        pages: 1,
+        held,
+        free,
+        inside,
+        behind: u64::from(PAGE_WORDS).saturating_sub(cut),
+        spare,
+    }
+}
+
+/// That of a page, if it has the class.
+fn filling_on(heap: &Heap, class: Class, number: usize) -> Filling
+    ensures filling { result ≡ filling_on heap.now.store class number }
+    ensures within { IsWithin result 131072 }
+{
+    let Some(page) = heap.page(number) else {
+        return nothing();
+    };
+    if page.class.number() != class.number() {
+        return nothing();
+    }
+    page_filling(class, page.held as u64, heap.wasted_inside(number) as u64)
+}
+
+/// That of some pages and of some others.
+pub(crate) fn both(some: Filling, others: Filling) -> Filling
+    requires some { IsWithin some 1099511627776 }
+    requires others { IsWithin others 1099511627776 }
+    ensures { result ≡ both some others }
+{
+    Filling {
+        pages: some.pages + others.pages,
+        held: some.held + others.held,
+        free: some.free + others.free,
+        inside: some.inside + others.inside,
+        behind: some.behind + others.behind,
+        spare: some.spare + others.spare,
+    }
+}
+
+/// That of all pages of a class.
+pub(crate) fn filling_of(heap: &Heap, class: Class) -> Filling
+    ensures filling { result ≡ filling_of heap.now.store class }
+    ensures within { IsWithin result 536870912 }
+{
+    let mut all = nothing();
+    for number in 0..heap.pages() {
+        all = both(all, filling_on(heap, class, number));
+    }
+    all
+}

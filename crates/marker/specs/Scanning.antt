@@ -1,0 +1,19 @@
+-- Marking on its way, before the phase is written.
+use Rattle.std.specs.Prelude.{ℕ, ◌+◌}
+use Rattle.heap_model.specs.declared.phase.Phase.TheVariants as phases
+use Rattle.heap_model.specs.Action.{Chain}
+use Rattle.raw_heap.specs.declared.heap.RawHeap.{RawHeap}
+use Rattle.raw_heap.specs.Heap.{state_of, IsRawHeap}
+use Rattle.marker.specs.declared.scan.Scan.{Scan}
+
+-- the heap when marking has come to a cell of a part and so many units are spent
+abbrev pub scanning : RawHeap → ℕ → ℕ → ℕ → RawHeap
+scanning a part cell units = record a { phase = phases.Marking part cell; units = units }
+
+-- with some number of units this is a heap between two steps
+abbrev pub IsScanning : RawHeap → ℕ → ℕ → Type 0
+IsScanning a part cell = (units : ℕ) × IsRawHeap (scanning a part cell units)
+
+-- Actions that cost so much lead from the one place in marking to the other.
+abbrev pub Scans : RawHeap → Scan → RawHeap → Scan → ℕ → Type 0
+Scans old from new to cost = (units : ℕ) → Chain (state_of (scanning old from.part from.cell units)) cost (state_of (scanning new to.part to.cell (units + cost)))

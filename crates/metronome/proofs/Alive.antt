@@ -1,0 +1,42 @@
+-- The heap behind a play, and the graph heap to which its history leads.
+use Rattle.std.proofs.Common.{◌≡◌, ℕ, ◌⊎◌, inl, inr, true, List, Option, Some, None, Ok, Err, ap, ◌∙◌, sym, subst}
+use Rattle.graph_heap.specs.declared.command.Limits.{Limits}
+use Rattle.graph_heap.specs.declared.command.Entry.{Entry}
+use Rattle.graph_heap.specs.Graph.{Graph, opening}
+use Rattle.graph_heap.specs.History.{after, IsLegal}
+use Rattle.size_classes.specs.declared.config.Config.{Config}
+use Rattle.heap_model.specs.Event.{Course, Event, Runs, present_of}
+use Rattle.heap_model.specs.Settings.{settings_of, settings_by}
+use Rattle.machine.proofs.Space.{runs_settings}
+use Rattle.trace.specs.Streams.{Given}
+use Rattle.player.specs.declared.style.Style.TheVariants.{Nothing}
+use Rattle.player.specs.New.{IsNew}
+use Rattle.player.specs.Playing.{Stage, Played, PlayedFirst}
+use Rattle.metronome.specs.Jobs.{PlayedUpTo}
+
+-- a play that came to its end ran its events
+played_runs : (given : Given) (old new : Stage) → Played Nothing given old new (Ok tt) → (es : List Event) × Runs old.player.course es new.player.course
+played_runs given old new p = elim p.over.ends [
+  | inl e ↦ (p.over.events, subst (λ (s : Stage). Runs old.player.course p.over.events s.player.course) (sym e.2) p.runs)
+  | inr h ↦ (let no : Ok tt ≡ Err _ = h.0 in absurd (cc))
+]
+
+up_to_runs : (n : Option ℕ) (given : Given) (old new : Stage) → PlayedUpTo n given old new (Ok tt) → (es : List Event) × Runs old.player.course es new.player.course
+up_to_runs None given old new p = played_runs given old new p
+up_to_runs (Some n) given old new (inl all) = played_runs given old new all.0
+up_to_runs (Some n) given old new (inr first) = played_runs (record given { after = first.0; ended = true }) old new first.2
+
+-- the heap behind it has the configuration's settings
+pub played_settings : (config : Config) (n : Option ℕ) (given : Given) (old new : Stage) → IsNew config old.player → PlayedUpTo n given old new (Ok tt) → settings_of new.player.course.heap ≡ settings_by config
+played_settings config n given old new is p =
+    let r = up_to_runs n given old new p in
+    runs_settings r.0 old.player.course new.player.course r.1 ∙ is.settings
+
+-- the graph heap to which the history of a course leads
+pub graph_at : (r s : Course) (l : Limits) (history : List Entry) (g : Graph) → s ≡ r → l ≡ r.heap.limits → history ≡ s.history → IsLegal (opening s.heap.limits) s.history
+    → (IsLegal (opening l) history → g ≡ after (opening l) history) → g ≡ present_of r
+graph_at r s l history g same limits all legal is =
+    let there : history ≡ r.history = all ∙ ap (λ (x : Course). x.history) same in
+    let here : IsLegal (opening r.heap.limits) r.history = subst (λ (x : Course). IsLegal (opening x.heap.limits) x.history) same legal in
+    let so : IsLegal (opening l) history = subst (IsLegal (opening l)) (sym there) (subst (λ x. IsLegal (opening x) r.history) (sym limits) here) in
+    is so ∙ ap (λ x. after (opening x) history) limits ∙ ap (after (opening r.heap.limits)) there

@@ -1,0 +1,21 @@
+-- A source that reads from another.
+use Rattle.std.proofs.Common.{◌≡◌, ℕ, ◌+◌, Bool, List, inl, inr, ap, ◌∙◌, subst}
+use Rattle.std.specs.Prelude.{Result}
+use Rattle.size_classes.specs.declared.config.Config.{Config}
+use Rattle.command_line.specs.declared.job.Job.{Job}
+use Rattle.trace.specs.Streams.{Taken, given_by}
+use Rattle.metronome.specs.declared.fault.Ending.{Ending}
+use Rattle.metronome.specs.declared.fault.RunFault.{RunFault}
+use Rattle.metronome.specs.Faults.{failed_reads, CountsReads}
+use Rattle.metronome.specs.Done.{JobDone}
+
+module _ {T S : Type 0} (old new : T) (source : T → S) (first : S) (is : source old ≡ first) where
+  -- a job from it is a job from the other
+  pub done_below : (given : S → List ℕ) (ended : S → Bool) (job : Job) (config : Config) (taken : Taken) (r : Result Ending RunFault) → JobDone job config (given_by (λ t. given (source t)) (λ t. ended (source t)) old new) taken r
+      → JobDone job config (given_by given ended first (source new)) taken r
+  done_below given ended job config taken r done = subst (λ (s : S). JobDone job config (given_by given ended s (source new)) taken r) is done
+
+  -- and so it counts its failed reads
+  pub counts_below : {A : Type 0} (failures : S → ℕ) (r : Result A RunFault) → CountsReads (λ t. failures (source t)) old new r → CountsReads failures first (source new) r
+  counts_below failures r (inl e) = inl (e ∙ ap (λ s. failures s + failed_reads r) is)
+  counts_below failures r (inr (fault, so, unread, same)) = inr (fault, so, unread, ap source same ∙ is)

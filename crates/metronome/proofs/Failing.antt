@@ -1,0 +1,184 @@
+-- How many reads and writes failed of a run that ends so.
+use Rattle.std.proofs.Common.{◌≡◌, ℕ, ◌+◌, ◌<◌, Bool, true, false, List, [], length, inl, inr, refl, sym, subst, ap, ◌∙◌, arith}
+use Rattle.std.specs.Prelude.{Result, Err}
+use Rattle.std.specs.Result.{IsErrAnd}
+use Rattle.graph_heap.specs.Graph.{Graph}
+use Rattle.graph_heap.specs.declared.command.Entry.{Entry}
+use Rattle.size_classes.specs.declared.config.Config.{Config as Settings}
+use Rattle.trace.specs.declared.fault.TextFault.{TextFault}
+use Rattle.trace.specs.declared.fault.TextFault.TheVariants as texts
+use Rattle.trace.specs.declared.version.Version.{Version}
+use Rattle.trace.specs.declared.version.Version.TheVariants.{First, Second}
+use Rattle.trace.specs.GoneOver.{Ends, reads_failed, writes_failed}
+use Rattle.trace.specs.Streams.{Given}
+use Rattle.transcripts.specs.declared.histories.Checked.{Checked}
+use Rattle.transcripts.specs.Histories.{EntriesChecked, HistoryStops}
+use Rattle.transcripts.specs.Scripts.{ReadScripts, AreScripts, ScriptsRead, ScriptStops}
+use Rattle.player.specs.declared.style.Style.TheVariants.{Nothing}
+use Rattle.player.specs.Player.{entries_in}
+use Rattle.player.specs.Playing.{Stage, stage, Played, text_written}
+use Rattle.player.proofs.Lines.{ends_otherwise, nothing_written}
+use Rattle.timeline.specs.declared.samples.Samples.{Samples}
+use Rattle.timeline.specs.Taking.{SamplesTaken}
+use Rattle.cycles.specs.declared.cycle.Cycles.{Cycles}
+use Rattle.cycles.specs.Taking.{CyclesTaken}
+use Rattle.measure.specs.declared.measured.Measured.{Measured}
+use Rattle.measure.specs.Measuring.{TraceMeasured}
+use Rattle.arrivals.specs.Load.{Load}
+use Rattle.arrivals.specs.declared.keeping.Kept.{Kept}
+use Rattle.arrivals.specs.Metering.{NoEvent}
+use Rattle.arrivals.specs.Keeping.{LoadChecked}
+use Rattle.command_line.specs.declared.fault.ReadFault.{ReadFault}
+use Rattle.command_line.specs.declared.fault.ReadFault.TheVariants as settings
+use Rattle.metronome.specs.declared.fault.RunFault.{RunFault}
+use Rattle.metronome.specs.declared.fault.RunFault.TheVariants.{Write, NoMemory}
+use Rattle.graph_drawing.specs.declared.fault.DrawFault.{DrawFault}
+use Rattle.graph_drawing.specs.declared.fault.DrawFault.TheVariants as drawings
+use Rattle.graph_drawing.specs.Drawn.{writes_failed as graph_writes_failed}
+use Rattle.metronome.specs.Faults.{of_settings, of_text, of_drawing, IsUnread, failed_reads, failed_writes}
+use Rattle.metronome.specs.Jobs.{finish}
+use Rattle.metronome.proofs.Finishing.{failed_so}
+
+-- a run that ends in a fault counts as the fault
+reads_so : {A : Type 0} (r : Result A RunFault) (why : RunFault) → IsErrAnd r (λ e. e ≡ why) → failed_reads r ≡ failed_reads {A = A} (Err why)
+reads_so r why h = ap failed_reads (failed_so r why h)
+
+writes_so : {A : Type 0} (r : Result A RunFault) (why : RunFault) → IsErrAnd r (λ e. e ≡ why) → failed_writes r ≡ failed_writes {A = A} (Err why)
+writes_so r why h = ap failed_writes (failed_so r why h)
+
+-- a fault is handed on
+pub reads_on : {A : Type 0} (r : Result A RunFault) (fault : RunFault) (old new : ℕ) → IsErrAnd r (λ e. e ≡ fault) → new ≡ old + failed_reads {A = Unit {0}} (Err fault) → new ≡ old + failed_reads r
+reads_on r fault old new h e = e ∙ ap (λ n. old + n) (sym (reads_so r fault h))
+
+pub writes_on : {A : Type 0} (r : Result A RunFault) (fault : RunFault) (old new : ℕ) → IsErrAnd r (λ e. e ≡ fault) → new ≡ old + failed_writes {A = Unit {0}} (Err fault) → new ≡ old + failed_writes r
+writes_on r fault old new h e = e ∙ ap (λ n. old + n) (sym (writes_so r fault h))
+
+-- the fault of a text counts as that of the run
+reads_of : (fault : TextFault) → reads_failed {A = Unit {0}} (Err fault) ≡ failed_reads {A = Unit {0}} (Err (of_text fault))
+reads_of (texts.Line number why) = refl
+reads_of texts.Read = refl
+reads_of texts.Write = refl
+reads_of texts.NoMemory = refl
+
+writes_of : (fault : TextFault) → writes_failed {A = Unit {0}} (Err fault) ≡ failed_writes {A = Unit {0}} (Err (of_text fault))
+writes_of (texts.Line number why) = refl
+writes_of texts.Read = refl
+writes_of texts.Write = refl
+writes_of texts.NoMemory = refl
+
+pub reads_text : {A : Type 0} (r : Result A RunFault) (fault : TextFault) (old new : ℕ) → IsErrAnd r (λ e. e ≡ of_text fault) → new ≡ old + reads_failed {A = Unit {0}} (Err fault) → new ≡ old + failed_reads r
+reads_text r fault old new h e = reads_on r (of_text fault) old new h (e ∙ ap (λ n. old + n) (reads_of fault))
+
+pub writes_text : {A : Type 0} (r : Result A RunFault) (fault : TextFault) (old new : ℕ) → IsErrAnd r (λ e. e ≡ of_text fault) → new ≡ old + writes_failed {A = Unit {0}} (Err fault) → new ≡ old + failed_writes r
+writes_text r fault old new h e = writes_on r (of_text fault) old new h (e ∙ ap (λ n. old + n) (writes_of fault))
+
+-- and of a text of which none failed
+pub text_unread : {A : Type 0} (r : Result A RunFault) (fault : TextFault) → IsErrAnd r (λ e. e ≡ of_text fault) → reads_failed {A = Unit {0}} (Err fault) ≡ 0 → failed_reads r ≡ 0
+text_unread r fault h none = reads_so r (of_text fault) h ∙ sym (reads_of fault) ∙ none
+
+pub text_unwritten : {A : Type 0} (r : Result A RunFault) (fault : TextFault) → IsErrAnd r (λ e. e ≡ of_text fault) → writes_failed {A = Unit {0}} (Err fault) ≡ 0 → failed_writes r ≡ 0
+text_unwritten r fault h none = writes_so r (of_text fault) h ∙ sym (writes_of fault) ∙ none
+
+-- a run that ends in a failed write
+pub one_written : {A : Type 0} (r : Result A RunFault) → IsErrAnd r (λ e. e ≡ Write) → failed_writes r ≡ 1
+one_written r h = writes_so r Write h
+
+pub none_read : {A : Type 0} (r : Result A RunFault) → IsErrAnd r (λ e. e ≡ Write) → failed_reads r ≡ 0
+none_read r h = reads_so r Write h
+
+-- one that ends for want of memory
+pub memory_unread : {A : Type 0} (r : Result A RunFault) → IsErrAnd r (λ e. e ≡ NoMemory) → failed_reads r ≡ 0
+memory_unread r h = reads_so r NoMemory h
+
+pub memory_unwritten : {A : Type 0} (r : Result A RunFault) → IsErrAnd r (λ e. e ≡ NoMemory) → failed_writes r ≡ 0
+memory_unwritten r h = writes_so r NoMemory h
+
+-- one that ends in a fault of a drawn graph
+drawing_reads : (why : DrawFault) → failed_reads {A = Unit {0}} (Err (of_drawing why)) ≡ 0
+drawing_reads drawings.Write = refl
+drawing_reads drawings.NoMemory = refl
+
+drawing_writes : (why : DrawFault) → failed_writes {A = Unit {0}} (Err (of_drawing why)) ≡ graph_writes_failed (Err why)
+drawing_writes drawings.Write = refl
+drawing_writes drawings.NoMemory = refl
+
+pub drawing_unread : {A : Type 0} (r : Result A RunFault) (why : DrawFault) → IsErrAnd r (λ e. e ≡ of_drawing why) → failed_reads r ≡ 0
+drawing_unread r why h = reads_so r (of_drawing why) h ∙ drawing_reads why
+
+pub writes_drawing : {A : Type 0} (r : Result A RunFault) (why : DrawFault) → IsErrAnd r (λ e. e ≡ of_drawing why) → failed_writes r ≡ graph_writes_failed (Err why)
+writes_drawing r why h = writes_so r (of_drawing why) h ∙ drawing_writes why
+
+-- and one of scripts
+pub finished_unread : (all : Bool) → failed_reads (finish all) ≡ 0
+finished_unread true = refl
+finished_unread false = refl
+
+pub finished_unwritten : (all : Bool) → failed_writes (finish all) ≡ 0
+finished_unwritten true = refl
+finished_unwritten false = refl
+
+-- what can't be read is no failed write
+none_written : (fault : RunFault) → IsUnread fault → failed_writes {A = Unit {0}} (Err fault) ≡ 0
+none_written Write u = elim u [ ]
+none_written fault u = refl
+
+pub unread_unwritten : {A : Type 0} (r : Result A RunFault) (fault : RunFault) → IsErrAnd r (λ e. e ≡ fault) → IsUnread fault → failed_writes r ≡ 0
+unread_unwritten r fault h u = writes_so r fault h ∙ none_written fault u
+
+settings_written : (why : ReadFault) → failed_writes {A = Unit {0}} (Err (of_settings why)) ≡ 0
+settings_written (settings.Refused why) = refl
+settings_written settings.NoMemory = refl
+
+pub settings_unwritten : {A : Type 0} (r : Result A RunFault) (why : ReadFault) → IsErrAnd r (λ e. e ≡ of_settings why) → failed_writes r ≡ 0
+settings_unwritten r why h = writes_so r (of_settings why) h ∙ settings_written why
+
+-- no line writes, so that no write fails in going over them
+unwritten : {A : Type 0} (how : Result A TextFault) → (how ≡ Err texts.Write → ⊥) → writes_failed how ≡ 0
+unwritten (Err texts.Write) never = absurd (never refl)
+unwritten how never = refl
+
+ends_unwritten : {S : Type 0} (Stops : TextFault → List ℕ → ℕ → S → S → Type 0) → ((text : List ℕ) (number : ℕ) (old new : S) → Stops texts.Write text number old new → ⊥) → (count : ℕ) (mid : S) (rest : List ℕ) (ended : Bool) (new : S)
+    → Ends Stops {A = Unit {0}} count mid rest ended new (Err texts.Write) → ⊥
+ends_unwritten Stops never count mid rest ended new (inl none) = none.0
+ends_unwritten Stops never count mid rest ended new (inr (text, more, whole, line, stops)) = never text (count + 1) mid new stops
+
+pub checked_unwritten : (given : Given) (old new : Graph) (how : Result Checked TextFault) → EntriesChecked given old new how → writes_failed how ≡ 0
+checked_unwritten given old new how w =
+    unwritten how (λ e. (let v = subst (EntriesChecked given old new) e w in ends_unwritten (HistoryStops v.over.version) (λ text number g k stops. stops) (length v.over.lines) v.over.mid v.over.rest given.ended new v.over.ends))
+
+pub scripts_unwritten : (given : Given) (mutators : ℕ) (how : Result ReadScripts TextFault) → ScriptsRead given mutators how → writes_failed how ≡ 0
+scripts_unwritten given mutators how (inl none) = ap writes_failed none.0
+scripts_unwritten given mutators how (inr w) =
+    unwritten how (λ e. (let v = subst (AreScripts given mutators) e w in ends_unwritten (ScriptStops mutators v.over.version) (λ text number g k stops. stops) (length v.over.lines) v.over.mid v.over.rest given.ended tt v.over.ends))
+
+pub load_unwritten : (l : Load) (k : ℕ) (given : Given) (how : Result Kept TextFault) → LoadChecked l k given how → writes_failed how ≡ 0
+load_unwritten l k given how w =
+    unwritten how (λ e. (let v = subst (LoadChecked l k given) e w in ends_unwritten (NoEvent v.over.version) (λ text number g m stops. (let z = stops.0 in cc)) (length v.over.lines) v.over.mid v.over.rest given.ended tt v.over.ends))
+
+-- where nothing is written no write fails
+nothing_told : (version : Version) (entries : List Entry) → text_written Nothing version entries ≡ []
+nothing_told First entries = nothing_written entries
+nothing_told Second entries = nothing_written entries
+
+cut_of_nothing : (version : Version) (entries : List Entry) (n : ℕ) → n < length (text_written Nothing version entries) → ⊥
+cut_of_nothing version entries n few =
+    let none : length (text_written Nothing version entries) ≡ 0 = ap length (nothing_told version entries) in
+    omega (arith, few, none)
+
+nothing_cut : (given : Given) (old new : Stage) → Played Nothing given old new (Err texts.Write) → ⊥
+nothing_cut given old new p = elim p.over.ends [
+  | inl e ↦ ends_otherwise Nothing p.over.version (length p.over.lines) p.over.mid p.over.rest given.ended new (Err texts.Write) e refl
+  | inr w ↦ cut_of_nothing p.over.version (entries_in p.over.events) w.1.0.0 w.1.0.1
+]
+
+pub samples_unwritten : (config : Settings) (given : Given) (how : Result Samples TextFault) → SamplesTaken config given how → writes_failed how ≡ 0
+samples_unwritten config given (Err texts.Write) w = absurd (nothing_cut given (stage w.0 []) w.1 w.2)
+samples_unwritten config given how w = refl
+
+pub cycles_unwritten : (config : Settings) (given : Given) (how : Result Cycles TextFault) → CyclesTaken config given how → writes_failed how ≡ 0
+cycles_unwritten config given (Err texts.Write) w = absurd (nothing_cut given (stage w.0 []) w.1 w.2)
+cycles_unwritten config given how w = refl
+
+pub measured_unwritten : (config : Settings) (given : Given) (how : Result Measured TextFault) → TraceMeasured config given how → writes_failed how ≡ 0
+measured_unwritten config given (Err texts.Write) w = absurd (nothing_cut given (stage w.0 []) w.1 w.2)
+measured_unwritten config given how w = refl

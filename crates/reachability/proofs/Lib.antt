@@ -1,0 +1,6 @@
+pub mod Places
+pub mod Adding
+pub mod Breadth
+pub mod Routes
+pub mod Entries
+pub mod Lines

@@ -1,0 +1,4 @@
+pub mod Distance
+pub mod Search
+pub mod Route
+pub mod Text

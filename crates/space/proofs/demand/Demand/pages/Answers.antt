@@ -1,7 +1,0 @@
-use Rattle.std.proofs.Common.{◌≡◌, ◌+◌, arith, get_or, subst}
-use Rattle.size_classes.specs.declared.class.TheConstants.{CLASSES}
-use Rattle.space.specs.Space.{pages_for}
-use Rattle.space.proofs.demand.Demand.pages.Goals as goal
-
-pub returns : goal.returns
-returns c = let e : c.loop-number.number ≡ CLASSES = omega arith in subst (λ n. c.loop-number.pages ≡ pages_for (λ class. get_or c.args.self.now.live class 0 + get_or c.args.self.now.allocated class 0) c.args.spare n) e c.loop-number.invariant.value

@@ -44,6 +44,10 @@ pub struct Outcome {
 /// worker comes by the gate before each of its commands or budgets and after the last. All threads have ended
 /// when the outcome is there. Where a thread can't be started its commands are done in turn.
 ///
+/// Room for all commands is made before the threads start, so that no call takes memory while it holds the lock; only
+/// the system may have to find a page of that room when a call first writes to it. Where there is no memory for so
+/// many, the history grows as it needs.
+///
 /// A script whose command is refused memory, or finds the place word torn, ends before that command, and a budget
 /// that isn't 256 to 1000000 units ends the collector. NoMemory is answered only where nothing was started.
 pub fn play_threads<G: Gate + Sync, R: Threads + Wait + Sync>(
@@ -77,6 +81,7 @@ fn played<N: Naming + Send + Sync, G: Gate + Sync, R: Threads + Wait + Sync>(
     let (server, seats, pacer) = Server::<N>::new(alloc, opening)?;
     let mut done = Vec::new(alloc);
     done.reserve(scripts.len())?;
+    reserve_for(rt, &server, scripts);
     let shared = &server;
     let ((used, pacer), seats) = thread::join(
         rt,
@@ -94,6 +99,15 @@ fn played<N: Naming + Send + Sync, G: Gate + Sync, R: Threads + Wait + Sync>(
         { play_seats(rt, shared, gate, scripts, seats) },
     );
     Ok(settled(server, seats, pacer, scripts, budgets, used, done))
+}
+
+/// Makes room for all commands of the scripts, if there is memory for so many entries.
+fn reserve_for<N: Naming>(rt: &impl Wait, server: &Server<N>, scripts: &[Vec<Command>]) {
+    let mut calls = 0usize;
+    for script in scripts {
+        calls = calls.saturating_add(script.len());
+    }
+    let _refused = server.reserve_history(calls, rt);
 }
 
 /// Takes the server apart once all threads have ended. The numbers are what the pacer shows.

@@ -7,7 +7,12 @@ use Rattle.arrivals.specs.Load.{Load}
 
 -- the load that a table by class states
 abbrev pub load_in : Table → Load
-load_in t = record { live = λ class. slice_index t.live class; rate = λ class. slice_index t.rate class; burst = λ class. slice_index t.burst class; gap = t.gap }
+load_in t = record {
+  live = λ class. slice_index t.live class;
+  rate = λ class. slice_index t.rate class;
+  burst = λ class. slice_index t.burst class;
+  gap = t.gap;
+}
 
 -- two paces state the same of each class
 pub record IsSamePace (p q : Pace) : Type 0 where

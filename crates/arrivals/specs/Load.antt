@@ -33,7 +33,8 @@ abbrev pub AsksFrom : Load → ℕ → (ℕ → ℕ) → ℕ → List Line → T
 AsksFrom l start asked clock [] = Unit {0}
 AsksFrom l start asked clock (lines.Skip ∷ rest) = AsksFrom l start asked clock rest
 AsksFrom l start asked clock (lines.Command m c ∷ rest) =
-    ((class : ℕ) → class < CLASSES → asked class + asks c class ≤ l.rate class * (clock - start) + l.burst class) × AsksFrom l start (λ class. asked class + asks c class) clock rest
+    ((class : ℕ) → class < CLASSES → asked class + asks c class ≤ l.rate class * (clock - start) + l.burst class)
+    × AsksFrom l start (λ class. asked class + asks c class) clock rest
 AsksFrom l start asked clock (lines.Begin ∷ rest) = AsksFrom l start asked clock rest
 AsksFrom l start asked clock (lines.Quantum budget ∷ rest) = AsksFrom l start asked clock rest
 AsksFrom l start asked clock (lines.Tick n ∷ rest) = AsksFrom l start asked (clock + n) rest
@@ -41,14 +42,17 @@ AsksFrom l start asked clock (lines.Tick n ∷ rest) = AsksFrom l start asked (c
 -- so they do from each line on
 abbrev pub Arrives : Load → ℕ → List Line → Type 0
 Arrives l clock [] = Unit {0}
-Arrives l clock (line ∷ rest) = AsksFrom l clock (λ class. 0) clock (line ∷ rest) × Arrives l (clock_after clock line) rest
+Arrives l clock (line ∷ rest) =
+    AsksFrom l clock (λ class. 0) clock (line ∷ rest) × Arrives l (clock_after clock line) rest
 
 -- The same as a bucket, in one pass: what commands ask for fills it, each tick drains it by the rate, and it
 -- never holds more than the burst.
 abbrev pub StaysInBucket : Load → (ℕ → ℕ) → List Line → Type 0
 StaysInBucket l level [] = Unit {0}
 StaysInBucket l level (lines.Skip ∷ rest) = StaysInBucket l level rest
-StaysInBucket l level (lines.Command m c ∷ rest) = ((class : ℕ) → class < CLASSES → level class + asks c class ≤ l.burst class) × StaysInBucket l (λ class. level class + asks c class) rest
+StaysInBucket l level (lines.Command m c ∷ rest) =
+    ((class : ℕ) → class < CLASSES → level class + asks c class ≤ l.burst class)
+    × StaysInBucket l (λ class. level class + asks c class) rest
 StaysInBucket l level (lines.Begin ∷ rest) = StaysInBucket l level rest
 StaysInBucket l level (lines.Quantum budget ∷ rest) = StaysInBucket l level rest
 StaysInBucket l level (lines.Tick n ∷ rest) = StaysInBucket l (λ class. level class - l.rate class * n) rest
@@ -89,7 +93,8 @@ pub record KeepsLoad (l : Load) (k : ℕ) (text : List (List ℕ)) : Type 0 wher
 -- where a cycle begins, what is live needs no more
 abbrev pub AllLive : (ℕ → ℕ) → Graph → List Event → Type 0
 AllLive live g [] = Unit {0}
-AllLive live g (Command_done m c reply ∷ es) = AllLive live (after_entry g (record { mutator = m; command = c; reply = reply })) es
+AllLive live g (Command_done m c reply ∷ es) =
+    AllLive live (after_entry g (record { mutator = m; command = c; reply = reply })) es
 AllLive live g (Cycle_begun ∷ es) = LiveWithin g live × AllLive live g es
 AllLive live g (Cycle_on ∷ es) = AllLive live g es
 AllLive live g (Quantum_done budget units phase ∷ es) = AllLive live g es
@@ -98,4 +103,8 @@ AllLive live g (Quantum_refused budget ∷ es) = AllLive live g es
 -- The pace to which a load comes, where quanta take c ticks and have q ticks at least between them. From a
 -- cycle's beginning or a quantum up to the next quantum fewer than c + q ticks pass.
 abbrev pub pace_of : Load → ℕ → ℕ → Pace
-pace_of l c q = record { live = l.live; busy = λ class. l.rate class * (c + q - 1) + l.burst class; idle = λ class. l.rate class * l.gap + l.burst class }
+pace_of l c q = record {
+  live = l.live;
+  busy = λ class. l.rate class * (c + q - 1) + l.burst class;
+  idle = λ class. l.rate class * l.gap + l.burst class;
+}

@@ -47,13 +47,16 @@ pub record KeepsOn (l : Load) (k : ℕ) (m : Meter) (line : Line) : Type 0 where
 
 -- A command asks for more blocks of a class than its bucket has room for, and for no more of those before it.
 abbrev pub Overflows : Load → Meter → Command → ℕ → Type 0
-Overflows l m c class = (class < CLASSES) × (l.burst class < levels_in m class + asks c class) × ((other : ℕ) → other < class → levels_in m other + asks c other ≤ l.burst other)
+Overflows l m c class =
+    (class < CLASSES) × (l.burst class < levels_in m class + asks c class)
+    × ((other : ℕ) → other < class → levels_in m other + asks c other ≤ l.burst other)
 
 -- What came of a line, from one meter to another.
 abbrev pub Metered : Load → ℕ → Meter → Line → Meter → Option Breach → Type 0
 Metered l k old line new None = Meters l old line new × IsWithin l new × KeepsOn l k old line
 Metered l k old (lines.Command m c) new (Some (Asks class)) = Overflows l old c class
-Metered l k old (lines.Command m c) new (Some BeginsLate) = ((class : ℕ) → class < CLASSES → levels_in old class + asks c class ≤ l.burst class) × (l.gap < old.since)
+Metered l k old (lines.Command m c) new (Some BeginsLate) =
+    ((class : ℕ) → class < CLASSES → levels_in old class + asks c class ≤ l.burst class) × (l.gap < old.since)
 Metered l k old (lines.Quantum budget) new (Some SmallQuantum) = budget < k
 Metered l k old line new (Some by) = ⊥
 
@@ -63,7 +66,9 @@ NoEvent version fault text number old new = IsNoEvent version fault text number
 
 -- What came of the text of a line, with the version before it and after it: it tells that of the next, or is
 -- metered.
-abbrev pub TextMetered : Load → ℕ → List ℕ → ℕ → Version → Version → Meter → Meter → Result (Option Breach) TextFault → Type 0
+abbrev pub TextMetered : Load → ℕ → List ℕ → ℕ → Version → Version → Meter → Meter → Result (Option Breach) TextFault
+    → Type 0
 TextMetered l k text number version next old new (Ok found) =
-    (TellsVersion number text × (next ≡ Second) × (new ≡ old) × (found ≡ None)) ⊎ ((next ≡ version) × ((line : Line) × Spells version text line × Metered l k old line new found))
+    (TellsVersion number text × (next ≡ Second) × (new ≡ old) × (found ≡ None))
+    ⊎ ((next ≡ version) × ((line : Line) × Spells version text line × Metered l k old line new found))
 TextMetered l k text number version next old new (Err fault) = NoEvent version fault text number tt tt

@@ -23,8 +23,11 @@ LoadFits config l = FitsIn config (pace_of l config.collector_ticks config.mutat
 -- Lines that are played on a new player of a configuration, in a text that keeps to a load, while no more is live than it
 -- has where a cycle begins, get no reply that is the refusal for want of space.
 abbrev pub LoadFindsRoom : Config → Load → Type 0
-LoadFindsRoom config l = (style : Style) (old new : Stage) (text : List (List ℕ)) (version : Version) (es : List Event) → IsNew config old.player → LinesDone (TellsVersionOf style) (PlaysText style) old text version es new
-    → KeepsLoad l (config.collector_ticks * config.rate) text → AllLive l.live (opening (limits_of config)) es → AllHaveRoom es
+LoadFindsRoom config l =
+    (style : Style) (old new : Stage) (text : List (List ℕ)) (version : Version) (es : List Event)
+    → IsNew config old.player → LinesDone (TellsVersionOf style) (PlaysText style) old text version es new
+    → KeepsLoad l (config.collector_ticks * config.rate) text → AllLive l.live (opening (limits_of config)) es
+    → AllHaveRoom es
 
 -- What was played of an input on a new player of a configuration. Where the lines that were done keep to a load
 -- whose pace fits in the configuration's pages, no reply is the refusal for want of space.
@@ -32,5 +35,6 @@ pub record PlayedNew (config : Config) (style : Style) (given : Given) (taken : 
   pub old : PlayerState
   pub is_new : IsNew config old
   pub played : Played style given (stage old taken.before) (stage new taken.after) result
-  pub room : (l : Load) → KeepsLoad l (config.collector_ticks * config.rate) played.over.lines → AllLive l.live (opening (limits_of config)) played.over.events
+  pub room : (l : Load) → KeepsLoad l (config.collector_ticks * config.rate) played.over.lines
+      → AllLive l.live (opening (limits_of config)) played.over.events
       → LoadFits config l → AllHaveRoom played.over.events

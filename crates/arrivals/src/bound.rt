@@ -17,8 +17,11 @@ ghost use Rattle.arrivals.specs.New.{LoadFits, LoadFindsRoom};
 /// Where the lines of a text are played on a heap that was just made, and keep to a load, the events keep to
 /// its pace.
 pub fn lines_keep_a_pace()
-    ensures { (style : Style) (old new : Stage) (text : List (List ℕ)) (version : Version) (es : List Event) (l : Load) (k c q : ℕ) → IsOpening old.player.course.heap → old.player.timetable ≡ timetables.opening c q → 1 ≤ c
-        → k ≤ old.player.budget → LinesDone (TellsVersionOf style) (PlaysText style) old text version es new → KeepsLoad l k text → AllLive l.live (opening old.player.course.heap.limits) es
+    ensures { (style : Style) (old new : Stage) (text : List (List ℕ)) (version : Version) (es : List Event)
+        (l : Load) (k c q : ℕ)
+        → IsOpening old.player.course.heap → old.player.timetable ≡ timetables.opening c q → 1 ≤ c
+        → k ≤ old.player.budget → LinesDone (TellsVersionOf style) (PlaysText style) old text version es new
+        → KeepsLoad l k text → AllLive l.live (opening old.player.course.heap.limits) es
         → AllKeepPace (pace_of l c q) k (opening_beat old.player.course.heap.limits) es }
 {}
 
@@ -37,5 +40,6 @@ pub fn buckets_bound_arrivals()
 /// Of a text that says lines and keeps to a load each beginning keeps to it, as that of a trace of which not all
 /// lines could be played.
 pub fn beginnings_keep_to_loads()
-    ensures { (l : Load) (k : ℕ) (text more : List (List ℕ)) (version : Version) (said : List Line) → Says (text ++ more) version said → KeepsLoad l k (text ++ more) → KeepsLoad l k text }
+    ensures { (l : Load) (k : ℕ) (text more : List (List ℕ)) (version : Version) (said : List Line)
+        → Says (text ++ more) version said → KeepsLoad l k (text ++ more) → KeepsLoad l k text }
 {}

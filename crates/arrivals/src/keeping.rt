@@ -45,10 +45,13 @@ struct Meter {
 /// that class.
 fn fill(levels: &mut [u64; CLASSES], need: &Need, burst: &[u32; CLASSES]) -> Option<Class>
     requires { (class : ℕ) → class < CLASSES → slice_index levels.old class ≤ slice_index burst.now class }
-    ensures filled { IfNone result ((class : ℕ) → class < CLASSES → slice_index levels.new class ≡ slice_index levels.old class + slice_index need.now class) }
-    ensures within { IfNone result ((class : ℕ) → class < CLASSES → slice_index levels.new class ≤ slice_index burst.now class) }
+    ensures filled { IfNone result ((class : ℕ) → class < CLASSES
+        → slice_index levels.new class ≡ slice_index levels.old class + slice_index need.now class) }
+    ensures within { IfNone result ((class : ℕ) → class < CLASSES
+        → slice_index levels.new class ≤ slice_index burst.now class) }
     ensures passed { IfSome result (λ c. slice_index burst.now c < slice_index levels.old c + slice_index need.now c) }
-    ensures first { IfSome result (λ c. (other : ℕ) → other < c → slice_index levels.old other + slice_index need.now other ≤ slice_index burst.now other) }
+    ensures first { IfSome result (λ c. (other : ℕ) → other < c
+        → slice_index levels.old other + slice_index need.now other ≤ slice_index burst.now other) }
     ensures class { IfSome result (λ c. c < CLASSES) }
 {
     for number in 0..CLASSES {
@@ -64,7 +67,8 @@ fn fill(levels: &mut [u64; CLASSES], need: &Need, burst: &[u32; CLASSES]) -> Opt
 
 /// Drains the buckets at a rate for so many ticks.
 fn drain(levels: &mut [u64; CLASSES], rate: &[u32; CLASSES], ticks: u64)
-    ensures { (class : ℕ) → class < CLASSES → slice_index levels.new class ≡ slice_index levels.old class - slice_index rate.now class * ticks }
+    ensures { (class : ℕ) → class < CLASSES
+        → slice_index levels.new class ≡ slice_index levels.old class - slice_index rate.now class * ticks }
 {
     for number in 0..CLASSES {
         let drained = u64::from(rate[number]).saturating_mul(ticks);
@@ -87,7 +91,8 @@ impl Meter {
     /// Puts the blocks for which a command asks into the buckets. Answers the first class whose burst they pass.
     fn ask(&mut self, command: &Command, load: &Load) -> Option<Class>
         requires { IsWithin (load_in load.now) self.old }
-        ensures filled { IfNone result ((class : ℕ) → class < CLASSES → levels_in self.new class ≡ levels_in self.old class + asks command.now class) }
+        ensures filled { IfNone result ((class : ℕ) → class < CLASSES
+            → levels_in self.new class ≡ levels_in self.old class + asks command.now class) }
         ensures within { IfNone result (IsWithin (load_in load.now) self.new) }
         ensures over { IfSome result (Overflows (load_in load.now) self.old command.now) }
         ensures since { self.new.since ≡ self.old.since }
@@ -146,7 +151,8 @@ fn check_line(
     budget: u32,
 ) -> Result<Option<Breach>, TextFault>
     requires { IsWithin (load_in load.now) meter.old }
-    ensures { TextMetered (load_in load.now) budget bytes.now number version.old version.new meter.old meter.new result }
+    ensures { TextMetered (load_in load.now) budget bytes.now number version.old version.new meter.old meter.new
+        result }
 {
     match read_numbered(bytes, number, version)? {
         Some(line) => Ok(meter.note(&line, load, budget)),
@@ -162,7 +168,8 @@ pub fn keeps_load<S: Source>(
     load: &Load,
     config: &Config,
 ) -> Result<Kept, TextFault>
-    ensures checked { LoadChecked (load_in load.now) (config.now.collector_ticks * config.now.rate) (given_by S.given S.ended source.old source.new) result }
+    ensures checked { LoadChecked (load_in load.now) (config.now.collector_ticks * config.now.rate)
+        (given_by S.given S.ended source.old source.new) result }
     ensures reads { S.failures source.new ≡ S.failures source.old + reads_failed result }
     ensures input { reads_failed result ≡ 0 → Stays (S.input source.old) (S.input source.new) }
 {

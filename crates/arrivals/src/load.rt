@@ -20,7 +20,8 @@ pub struct Load {
 
 /// Notes of each class the blocks that are asked for in so many ticks.
 fn ask(blocks: &mut [u64; CLASSES], rate: &[u32; CLASSES], burst: &[u32; CLASSES], ticks: u32)
-    ensures { (class : ℕ) → class < CLASSES → slice_index blocks.new class ≡ slice_index rate.now class * ticks + slice_index burst.now class }
+    ensures { (class : ℕ) → class < CLASSES
+        → slice_index blocks.new class ≡ slice_index rate.now class * ticks + slice_index burst.now class }
 {
     for number in 0..CLASSES {
         blocks[number] = u64::from(rate[number]) * u64::from(ticks) + u64::from(burst[number]);
@@ -29,7 +30,8 @@ fn ask(blocks: &mut [u64; CLASSES], rate: &[u32; CLASSES], burst: &[u32; CLASSES
 
 /// The blocks of each class that are asked for in so many ticks.
 fn asked_in(rate: &[u32; CLASSES], burst: &[u32; CLASSES], ticks: u32) -> [u64; CLASSES]
-    ensures { (class : ℕ) → class < CLASSES → slice_index result class ≡ slice_index rate.now class * ticks + slice_index burst.now class }
+    ensures { (class : ℕ) → class < CLASSES
+        → slice_index result class ≡ slice_index rate.now class * ticks + slice_index burst.now class }
 {
     let mut blocks = [0u64; CLASSES];
     ask(&mut blocks, rate, burst, ticks);
@@ -39,7 +41,8 @@ fn asked_in(rate: &[u32; CLASSES], burst: &[u32; CLASSES], ticks: u32) -> [u64; 
 impl Load {
     /// The pace to which it comes, with the schedule of a configuration.
     pub fn pace(&self, config: &Config) -> Pace
-        ensures { IsSamePace (pace_in result) (pace_of (load_in self.now) config.now.collector_ticks config.now.mutator_ticks) }
+        ensures { IsSamePace (pace_in result)
+            (pace_of (load_in self.now) config.now.collector_ticks config.now.mutator_ticks) }
     {
         let until_quantum = config.collector_ticks + config.mutator_ticks - 1;
         Pace {

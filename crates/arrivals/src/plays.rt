@@ -27,7 +27,8 @@ pub fn play_new<S: Source, K: Sink>(
     sink: &mut K,
     style: Style,
 ) -> Result<Run, NoMemory>
-    ensures played { IfOk result (λ run. PlayedNew config.now style (given_by S.given S.ended source.old source.new) (taken_by K.taken sink.old sink.new) run.player run.ended) }
+    ensures played { IfOk result (λ run. PlayedNew config.now style (given_by S.given S.ended source.old source.new)
+        (taken_by K.taken sink.old sink.new) run.player run.ended) }
     ensures refused { OnErr result ((source.new ≡ source.old) × (sink.new ≡ sink.old)) }
     ensures reads { IfOk result (λ run. S.failures source.new ≡ S.failures source.old + reads_failed run.ended) }
     ensures writes { IfOk result (λ run. K.failures sink.new ≡ K.failures sink.old + writes_failed run.ended) }

@@ -84,7 +84,8 @@ unknown_fault document = if has_unknown_key document then Some faults.UnknownKey
 
 -- the first fault of a document: a key that isn't known, then the fault of each key in turn, last the budget
 abbrev pub document_fault : Members → Option ConfigFault
-document_fault document = first_some (unknown_fault document ∷ keys_faults document ++ budget_fault (settings_of document) ∷ [])
+document_fault document =
+    first_some (unknown_fault document ∷ keys_faults document ++ budget_fault (settings_of document) ∷ [])
 
 -- the first fault of what was read of bytes, which may be no document
 abbrev pub fault_in : Option Members → Option ConfigFault

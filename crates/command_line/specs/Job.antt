@@ -21,7 +21,8 @@ IsInRange (Check config history) = Unit {0}
 IsInRange (Threads config scripts turns budget) = (turns ≤ 10000) × (LEAST_BUDGET ≤ budget) × (budget ≤ MOST_BUDGET)
 IsInRange (Inspect config trace by after) = IfSome after (λ lines. lines ≤ 4294967295)
 IsInRange (Draw config trace picture after) = IfSome after (λ lines. lines ≤ 4294967295)
-IsInRange (DrawGraph config trace after most) = IfSome after (λ lines. lines ≤ 4294967295) × (1 ≤ most) × (most ≤ 4294967295)
+IsInRange (DrawGraph config trace after most) =
+    IfSome after (λ lines. lines ≤ 4294967295) × (1 ≤ most) × (most ≤ 4294967295)
 IsInRange (DrawTime config trace) = Unit {0}
 IsInRange (Cycles config trace csv) = Unit {0}
 IsInRange (Path config trace id after) = IfSome after (λ lines. lines ≤ 4294967295)
@@ -41,7 +42,9 @@ report_name reports.Sizes = codes "size"
 -- The job draws the picture of this name: of a heap after so many event lines; of at most so many objects of its graph; or over
 -- all events.
 abbrev pub IsDrawing : List ℕ → Option ℕ → Option ℕ → Job → Type 0
-IsDrawing name lines objects (Draw config trace picture after) = (name ≡ picture_name picture) × (lines ≡ after) × (objects ≡ None)
-IsDrawing name lines objects (DrawGraph config trace after most) = (name ≡ codes "graph") × (lines ≡ after) × (most ≡ unwrap_or objects 500)
+IsDrawing name lines objects (Draw config trace picture after) =
+    (name ≡ picture_name picture) × (lines ≡ after) × (objects ≡ None)
+IsDrawing name lines objects (DrawGraph config trace after most) =
+    (name ≡ codes "graph") × (lines ≡ after) × (most ≡ unwrap_or objects 500)
 IsDrawing name lines objects (DrawTime config trace) = (name ≡ codes "time") × (lines ≡ None) × (objects ≡ None)
 IsDrawing name lines objects other = ⊥

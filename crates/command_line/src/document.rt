@@ -86,7 +86,8 @@ fn mutators_in(document: &Table) -> i64
 fn number_at(document: &Table, key: Key) -> Result<i64, ConfigFault>
     ensures fault { result_err result ≡ key_fault (table_view document.now) key }
     ensures value { IfOk result (λ n. n ≡ number_for (table_view document.now) key) }
-    ensures within { HasRange (table_view document.now) key → IfOk result (λ n. is_allowed (mutators_of (table_view document.now)) key n ≡ true) }
+    ensures within { HasRange (table_view document.now) key
+        → IfOk result (λ n. is_allowed (mutators_of (table_view document.now)) key n ≡ true) }
 {
     let mutators = mutators_in(document);
     let Some(value) = document.get(key.name()) else {

@@ -44,7 +44,8 @@ pub fn open_document(alloc: Global, bytes: &[u8]) -> Result<Table, OpenFault>
 pub fn any_member<F: Fn(&str, &Value) -> bool>(table: &Table, test: F) -> bool
     requires { F.IsAlwaysCallable test }
     ensures { (passes : List ℕ → Data → Bool)
-        → ((name : Bor (List ℕ)) (value : Bor Value) (answer : Bool) → F.post test name value answer → answer ≡ passes name.now (view value.now))
+        → ((name : Bor (List ℕ)) (value : Bor Value) (answer : Bool) → F.post test name value answer
+        → answer ≡ passes name.now (view value.now))
         → result ≡ any_member passes (table_view table.now) }
 {
     table.iter().any(|(key, value)| test(key.as_str(), value))

@@ -1,5 +1,5 @@
 -- A number in a column.
-use Rattle.std.proofs.Common.{◌≡◌, ℕ, ◌-◌, ◌^◌, ◌<◌, false, [], List, arith, refl}
+use Rattle.std.proofs.Common.{◌≡◌, ℕ, ◌-◌, ◌^◌, false, [], arith, refl}
 use Rattle.std.specs.Fmt.{decimal, padded_integral, format_spec}
 use Rattle.std.proofs.Padding.{padded_integral_right}
 use Rattle.cycles.specs.Text.{in_column}

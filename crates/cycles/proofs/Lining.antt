@@ -1,14 +1,12 @@
 -- The steps of lines, in a log.
-use Rattle.std.proofs.Common.{◌≡◌, ◌≢◌, ◌⊎◌, ℕ, ◌+◌, ◌<◌, ◌≤◌, Bool, true, false, inl, inr, List, [], ◌∷◌, ◌++◌, Ok, Err, refl, ap, ◌∙◌, sym, subst, arith, append_assoc, append-nil}
-use Rattle.std.specs.Prelude.{Option, Some, None, Result, OnOk}
-use Rattle.graph_heap.specs.declared.no_memory.NoMemory.{NoMemory}
+use Rattle.std.proofs.Common.{◌≡◌, ◌≢◌, ℕ, ◌+◌, ◌<◌, ◌≤◌, true, false, List, [], ◌∷◌, ◌++◌, Ok, Err, refl, ap, ◌∙◌, sym, subst, arith, append_assoc, append-nil}
+use Rattle.std.specs.Prelude.{Some, None, Result}
 use Rattle.graph_heap.specs.declared.command.Command.{Command}
-use Rattle.graph_heap.specs.declared.command.Reply.{Reply}
 use Rattle.heap_model.specs.declared.phase.Phase.{Phase}
 use Rattle.heap_model.specs.declared.phase.Phase.TheVariants as phases
-use Rattle.heap_model.specs.Event.{Course, Event, Command_done, Cycle_begun, Cycle_on, Quantum_done, Does}
+use Rattle.heap_model.specs.Event.{Course, Event, Command_done, Cycle_begun, Cycle_on, Quantum_done}
 use Rattle.quanta.specs.declared.schedule.TheConstants.{CLOCK_LIMIT}
-use Rattle.quanta.specs.Timetable.{Timetable, due_below}
+use Rattle.quanta.specs.Timetable.{due_below}
 use Rattle.trace.specs.declared.line.Line.{Line}
 use Rattle.trace.specs.declared.line.Line.TheVariants as lines
 use Rattle.player.specs.Player.{PlayerState, QuantaDue, None_yet, One_more, quantum_behind, behind_quantum, DoesLine, Skips, Commands, Goes_on, Spends, Ticks}

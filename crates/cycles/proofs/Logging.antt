@@ -1,22 +1,18 @@
 -- What a log holds after one step more.
-use Rattle.std.proofs.Common.{◌≡◌, ◌≢◌, ◌⊎◌, ℕ, ◌+◌, ◌-◌, ◌^◌, min, max, Bool, true, false, cond, inl, inr, List, [], ◌∷◌, ◌++◌, length, drop, refl, ap, ◌∙◌, sym, subst, arith, append_assoc}
+use Rattle.std.proofs.Common.{◌≡◌, ℕ, ◌+◌, ◌-◌, ◌^◌, min, max, Bool, true, false, cond, List, [], ◌∷◌, ◌++◌, length, refl, ap, ◌∙◌, sym, subst, arith, append_assoc}
 use Rattle.std.specs.Prelude.{Option, Some, None, count_by}
-use Rattle.heap_model.specs.Event.{Course, Event}
-use Rattle.heap_model.specs.Pages.{free_pages}
+use Rattle.heap_model.specs.Event.{Course}
 use Rattle.nodes.specs.Copies.{copies_in}
 use Rattle.nodes.specs.declared.nodes.counting.Copies.{Copies}
 use Rattle.cycles.specs.declared.cycle.Cycle.{Cycle}
-use Rattle.cycles.specs.declared.cycle.Sweep.{Sweep}
 use Rattle.cycles.specs.declared.open.Base.{Base}
-use Rattle.cycles.specs.declared.open.End.{End}
 use Rattle.cycles.specs.declared.open.Open.{Open}
-use Rattle.cycles.specs.declared.turn.Turn.{Turn}
 use Rattle.cycles.specs.declared.log.Log.{Log}
-use Rattle.cycles.specs.Steps.{Step, is_beginning, is_quantum, begins, works, ends_sweep, ends_cycle}
-use Rattle.cycles.specs.Cycles.{counted, behind_last, copies_at, units_by, longest_of, end_of, IsSweep, SweptBy, IsCycle, AreCycles, No_cycle, One_cycle_more}
-use Rattle.cycles.specs.Log.{place_at, IsBaseAt, IsBase, IsTurn, AreCounted, end_at, IsEnd, IsOpen, HasOpen, IsOpenIn, IsLog}
+use Rattle.cycles.specs.Steps.{Step, is_quantum, begins, works, ends_sweep, ends_cycle}
+use Rattle.cycles.specs.Cycles.{counted, behind_last, copies_at, units_by, end_of, SweptBy, IsCycle, AreCycles, No_cycle, One_cycle_more}
+use Rattle.cycles.specs.Log.{place_at, IsBase, AreCounted, IsEnd, IsOpen, HasOpen, IsOpenIn, IsLog}
 use Rattle.std.proofs.lemmas.List.Sums.{fold_push}
-use Rattle.cycles.proofs.Stepping.{count_push, count_other, count_one, fewer, more, idles, ends_none, no_quantum, end_here, end_stays, last_push, swept_stays, swept_other, end_kept, end_other, held_more}
+use Rattle.cycles.proofs.Stepping.{count_push, count_other, fewer, idles, ends_none, no_quantum, end_here, last_push, swept_other, end_other, held_more}
 
 -- what is known of the last sweep and the last end, with a step more
 pub objects_more : (b : Bool) (r : Course) (o : Option Course) (n m : ℕ) → (b ≡ true → n ≡ (copies_in r.heap.store).objects) → m ≡ (copies_at o).objects → cond b n m ≡ (copies_at (cond b (Some r) o)).objects
@@ -116,7 +112,7 @@ module _ (steps : List Step) (s : Step) (log : Log) (is : IsLog steps s.before l
   passes (Some o) has = has_more steps s log.closed.items o o has later (λ i. open_stays has.earlier has.first has.later s o i (idles s other))
 
   pub log_stays : IsLog (steps ++ s ∷ []) s.after log
-  log_stays = record { base = base_stays steps s log.base is.base (idles s other); cycles = passes log.open is.cycles }
+  log_stays = record { base = base_stays steps s log.base is.base (idles s other); cycles = passes log.last is.cycles }
 
 -- no cycle is open
 pub none_open : (steps : List Step) (now : Course) (closed : List Cycle) (o : Option Open) → o ≡ None → IsOpenIn steps now closed o → AreCycles steps closed

@@ -1,6 +1,6 @@
 -- One step more, of the steps of a cycle and of all steps.
-use Rattle.std.proofs.Common.{◌≡◌, ◌≢◌, ◌⊎◌, ℕ, ◌+◌, ◌-◌, ◌^◌, ◌<◌, ◌≤◌, min, max, Bool, true, false, not, ◌&&◌, cond, inl, inr, List, [], ◌∷◌, ◌++◌, length, refl, ap, ◌∙◌, sym, subst, arith, append_assoc}
-use Rattle.std.specs.Prelude.{Option, Some, None, is_some, count_by, fold}
+use Rattle.std.proofs.Common.{◌≡◌, ◌≢◌, ◌⊎◌, ℕ, ◌+◌, ◌-◌, ◌^◌, min, Bool, true, false, not, ◌&&◌, cond, inl, inr, List, [], ◌∷◌, ◌++◌, refl, ap, ◌∙◌, sym, arith, append_assoc}
+use Rattle.std.specs.Prelude.{Option, Some, None, is_some, count_by}
 use Rattle.std.proofs.lemmas.List.Sums.{sum_by_push, sum_by-cons, fold_push}
 use Rattle.heap_model.specs.Event.{Course, Event, Command_done, Cycle_begun, Cycle_on, Quantum_done, Quantum_refused}
 use Rattle.space.specs.Tally.{is_tracing}
@@ -8,7 +8,7 @@ use Rattle.space.specs.Pace.{in_cycle}
 use Rattle.cycles.specs.declared.cycle.Sweep.{Sweep}
 use Rattle.cycles.specs.declared.open.End.{End}
 use Rattle.cycles.specs.Steps.{Step, is_beginning, is_quantum, begins, works, ends_sweep, ends_cycle}
-use Rattle.cycles.specs.Cycles.{counted, behind_last, units_by, longest_of, end_of, IsSweep, SweptBy}
+use Rattle.cycles.specs.Cycles.{counted, behind_last, end_of, IsSweep, SweptBy}
 use Rattle.cycles.specs.Log.{IsEnd, end_at}
 
 -- a count with one step more

@@ -19,7 +19,7 @@ use Rattle.player.specs.New.{IsNew}
 use Rattle.cycles.specs.declared.watch.Watch.{Watch}
 use Rattle.cycles.specs.Steps.{steps_along}
 use Rattle.cycles.specs.Log.{IsLog}
-use Rattle.cycles.specs.Watching.{LineLogged, EventLogged, TextLogged}
+use Rattle.cycles.specs.Watching.{EventLogged, TextLogged}
 use Rattle.cycles.specs.Taking.{CyclesTaken}
 use Rattle.cycles.proofs.Lining.{logs_none}
 
@@ -37,17 +37,13 @@ version_logged text number version next w read = ([], inl (read.0, read.1, refl,
 
 -- the trace ends with a fault
 pub ends_taken : (config : Config) (given : Given) (fault : TextFault) (old : PlayerState) (new : Stage) → Played Nothing given (stage old []) new (Err fault) → IsNew config old → CyclesTaken config given (Err fault)
-ends_taken config given (At_line k why) old new played is = (old, new, played, is)
-ends_taken config given Read old new played is = (old, new, played, is)
-ends_taken config given Write old new played is = (old, new, played, is)
 ends_taken config given Without_memory old new played is = tt
+ends_taken config given fault old new played is = (old, new, played, is)
 
 pub stops_taken : (config : Config) (given : Given) (fault : TextFault) (old : PlayerState) (text : List ℕ) (number : ℕ) (version next : Version) (before after : Watch) → TextLogged text number version next before after (Err fault)
     → (StopsText Nothing version fault text number (stage before.player []) (stage after.player []) → Played Nothing given (stage old []) (stage after.player []) (Err fault)) → IsNew config old → CyclesTaken config given (Err fault)
-stops_taken config given (At_line k why) old text number version next before after e played is = (old, stage after.player [], played e, is)
-stops_taken config given Read old text number version next before after e played is = (old, stage after.player [], played e, is)
-stops_taken config given Write old text number version next before after e played is = (old, stage after.player [], played e, is)
 stops_taken config given Without_memory old text number version next before after e played is = tt
+stops_taken config given fault old text number version next before after e played is = (old, stage after.player [], played e, is)
 
 -- a line more is done, and its steps are logged
 pub goes_on_logged : (given : Given) (old : Stage) (mid : Watch) (reader : Lines) (version : Version) (so : SoFar (TellsVersionOf Nothing) (PlaysText Nothing) given old (stage mid.player []) reader version) (next : Lines) (after : List ℕ) (ended : Bool) (b : Bool)

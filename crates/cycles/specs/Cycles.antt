@@ -1,5 +1,5 @@
 -- The cycles of a run, with their figures.
-use Rattle.std.specs.Prelude.{◌≡◌, ℕ, ◌+◌, ◌-◌, ◌^◌, min, max, true, false, Bool, if◌then◌else◌, List, [], ◌∷◌, ◌++◌, Option, Some, None, option_map, fold, count_by, sum_by}
+use Rattle.std.specs.Prelude.{◌≡◌, ℕ, ◌+◌, ◌-◌, ◌^◌, min, max, true, Bool, if◌then◌else◌, List, [], ◌∷◌, ◌++◌, Option, Some, None, option_map, fold, count_by, sum_by}
 use Rattle.heap_model.specs.Event.{Course}
 use Rattle.heap_model.specs.Pages.{free_pages}
 use Rattle.nodes.specs.Copies.{copies_in}
@@ -43,8 +43,11 @@ end_of s (t ∷ later) = if ends_cycle s then s.after else end_of t later
 pub record IsSweep (swept ended : Option Course) (first now : Course) (s : Sweep) : Type 0 where
   pub kept : s.kept ≡ (copies_in now.heap.store).objects
   pub made : s.made ≡ count_by makes (entered_since (Some first) now)
-  pub freed : s.freed ≡ ((copies_at swept).objects + count_by makes (entered_since swept now)) - (copies_in now.heap.store).objects
-  pub blocks : s.blocks ≡ (((copies_at swept).parts + (copies_at ended).old) + sum_by blocks_made (entered_since swept now)) - (copies_in now.heap.store).parts
+  pub freed : s.freed
+      ≡ ((copies_at swept).objects + count_by makes (entered_since swept now)) - (copies_in now.heap.store).objects
+  pub blocks : s.blocks
+      ≡ (((copies_at swept).parts + (copies_at ended).old) + sum_by blocks_made (entered_since swept now))
+      - (copies_in now.heap.store).parts
   pub free_before : s.free_before ≡ free_pages first.heap.store.pages
   pub free_after : s.free_after ≡ free_pages now.heap.store.pages
 
@@ -52,7 +55,8 @@ pub record IsSweep (swept ended : Option Course) (first now : Course) (s : Sweep
 abbrev pub SweptBy : (earlier : List Step) (first : Step) (later : List Step) → Option Sweep → Type 0
 SweptBy earlier first later None = count_by ends_sweep later ≡ 0
 SweptBy earlier first later (Some s) =
-    (front : List Step) × (last : Step) × (behind : List Step) × (later ≡ front ++ last ∷ behind) × (count_by ends_sweep front ≡ 0) × (ends_sweep last ≡ true)
+    (front : List Step) × (last : Step) × (behind : List Step) × (later ≡ front ++ last ∷ behind)
+    × (count_by ends_sweep front ≡ 0) × (ends_sweep last ≡ true)
     × IsSweep (behind_last ends_sweep None earlier) (behind_last ends_cycle None earlier) first.before last.after s
 
 -- The figures of a cycle that the first step begins, where the later ones begin none: its line, its quanta, its units, the
@@ -69,5 +73,6 @@ pub record IsCycle (earlier : List Step) (first : Step) (later : List Step) (c :
 -- These are the cycles of steps, one for each beginning.
 pub data AreCycles : List Step → List Cycle → Type 0 where
   No_cycle : (steps : List Step) → count_by begins steps ≡ 0 → AreCycles steps []
-  One_cycle_more : (earlier : List Step) (cycles : List Cycle) (first : Step) (later : List Step) (c : Cycle) → AreCycles earlier cycles → begins first ≡ true → count_by begins later ≡ 0
+  One_cycle_more : (earlier : List Step) (cycles : List Cycle) (first : Step) (later : List Step) (c : Cycle)
+      → AreCycles earlier cycles → begins first ≡ true → count_by begins later ≡ 0
       → IsCycle earlier first later c → AreCycles (earlier ++ first ∷ later) (cycles ++ c ∷ [])

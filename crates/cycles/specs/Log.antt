@@ -88,4 +88,4 @@ IsOpenIn steps now closed (Some o) = HasOpen steps now closed o
 -- What a log holds of steps that lead to a moment: the cycles that are closed, and the one that isn't.
 pub record IsLog (steps : List Step) (now : Course) (log : Log) : Type 0 where
   pub base : IsBase steps log.base
-  pub cycles : IsOpenIn steps now log.closed.items log.open
+  pub cycles : IsOpenIn steps now log.closed.items log.last

@@ -1,5 +1,5 @@
 -- The objects that entries of a history made.
-use Rattle.std.specs.Prelude.{◌≡◌, ℕ, Bool, true, false, if◌then◌else◌, List, drop, length, Option, Some, None, count_by, sum_by}
+use Rattle.std.specs.Prelude.{ℕ, Bool, true, false, if◌then◌else◌, List, drop, length, Option, Some, None}
 use Rattle.graph_heap.specs.declared.command.Command.{Command}
 use Rattle.graph_heap.specs.declared.command.Command.TheVariants.{New}
 use Rattle.graph_heap.specs.declared.command.Reply.{Reply}

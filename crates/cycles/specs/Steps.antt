@@ -49,25 +49,32 @@ abbrev pub ends_cycle : Step → Bool
 ends_cycle s = works s && not (in_cycle s.after.heap.phase)
 
 -- the quanta that were due in ticks of a line
-abbrev pub steps_due : (line until : ℕ) (old : PlayerState) (events : List Event) (new : PlayerState) → QuantaDue until old events new → List Step
+abbrev pub steps_due : (line until : ℕ) (old : PlayerState) (events : List Event) (new : PlayerState)
+    → QuantaDue until old events new → List Step
 steps_due line until old events new None_yet = []
 steps_due line until old events new (One_more es q due units phase course earlier is below does) =
     steps_due line until old es q earlier ++ step line (Quantum_done q.budget units phase) q.course course ∷ []
 
 -- the steps of a line that was done
-abbrev pub steps_of : (line : ℕ) (old : PlayerState) (text : Line) (events : List Event) (new : PlayerState) → DoesLine old text events new → List Step
+abbrev pub steps_of : (line : ℕ) (old : PlayerState) (text : Line) (events : List Event) (new : PlayerState)
+    → DoesLine old text events new → List Step
 steps_of line old text events new Skips = []
-steps_of line old text events new (Commands m c reply course does) = step line (Command_done m c reply) old.course course ∷ []
+steps_of line old text events new (Commands m c reply course does) =
+    step line (Command_done m c reply) old.course course ∷ []
 steps_of line old text events new (Begins course does) = step line Cycle_begun old.course course ∷ []
 steps_of line old text events new (Goes_on does) = step line Cycle_on old.course old.course ∷ []
-steps_of line old text events new (Spends budget units phase course does) = step line (Quantum_done budget units phase) old.course course ∷ []
-steps_of line old text events new (Ticks n es q within quanta none) = steps_due line (old.timetable.clock + n) old es q quanta
+steps_of line old text events new (Spends budget units phase course does) =
+    step line (Quantum_done budget units phase) old.course course ∷ []
+steps_of line old text events new (Ticks n es q within quanta none) =
+    steps_due line (old.timetable.clock + n) old es q quanta
 
 -- the same of a line that may tell the version, which has none
-abbrev pub steps_in : (number : ℕ) (line : List ℕ) (version : Version) (old : Stage) (events : List Event) (next : Version) (new : Stage)
+abbrev pub steps_in : (number : ℕ) (line : List ℕ) (version : Version) (old : Stage)
+    (events : List Event) (next : Version) (new : Stage)
     → Goes (TellsVersionOf Nothing) (PlaysText Nothing) number line version old events next new → List Step
 steps_in number line version old events next new (inl tells) = []
-steps_in number line version old events next new (inr goes) = steps_of number old.player goes.1.0 events new.player goes.1.2.0
+steps_in number line version old events next new (inr goes) =
+    steps_of number old.player goes.1.0 events new.player goes.1.2.0
 
 -- the steps of lines that were played, one after the other
 abbrev pub steps_along : (old : Stage) (lines : List (List ℕ)) (version : Version) (events : List Event) (new : Stage)

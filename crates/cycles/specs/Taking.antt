@@ -14,12 +14,15 @@ use Rattle.cycles.specs.Cycles.{AreCycles}
 
 -- the steps of the run that played an input
 abbrev pub steps_by : (given : Given) (old new : Stage) → Played Nothing given old new (Ok tt) → List Step
-steps_by given old new played = steps_along old played.over.lines played.over.version played.over.events played.over.mid played.over.done
+steps_by given old new played =
+    steps_along old played.over.lines played.over.version played.over.events played.over.mid played.over.done
 
 -- The lines of an input are played on a new player, and these are the cycles of the run; or the fault is that with which
 -- playing them ends; or memory was refused.
 abbrev pub CyclesTaken : Config → Given → Result Cycles TextFault → Type 0
 CyclesTaken config given (Ok cycles) =
-    (old : PlayerState) × (new : Stage) × (played : Played Nothing given (stage old []) new (Ok tt)) × IsNew config old × AreCycles (steps_by given (stage old []) new played) cycles.items.items
+    (old : PlayerState) × (new : Stage) × (played : Played Nothing given (stage old []) new (Ok tt)) × IsNew config old
+    × AreCycles (steps_by given (stage old []) new played) cycles.items.items
 CyclesTaken config given (Err Without_memory) = Unit {0}
-CyclesTaken config given (Err fault) = (old : PlayerState) × (new : Stage) × Played Nothing given (stage old []) new (Err fault) × IsNew config old
+CyclesTaken config given (Err fault) =
+    (old : PlayerState) × (new : Stage) × Played Nothing given (stage old []) new (Err fault) × IsNew config old

@@ -2,13 +2,13 @@
 use Rattle.std.specs.Prelude.{ℕ, ◌-◌, List, [], ◌∷◌, ◌++◌, length, replicate, Option, Some, None, option_map, codes, decimal}
 use Rattle.std.specs.List.{flat_map}
 use Rattle.cycles.specs.declared.cycle.Cycle.{Cycle}
-use Rattle.cycles.specs.declared.cycle.Sweep.{Sweep}
 use Rattle.cycles.specs.declared.text.Layout.{Layout}
 use Rattle.cycles.specs.declared.text.Layout.TheVariants.{Columns, Commas}
 
 -- the header line
 abbrev pub header : Layout → List ℕ
-header Columns = codes "    line   quanta    units  longest    freed   blocks     kept    moved   before    after     made\n"
+header Columns =
+    codes "    line   quanta    units  longest    freed   blocks     kept    moved   before    after     made\n"
 header Commas = codes "line,quanta,units,longest,freed,blocks,kept,moved,before,after,made\n"
 
 -- a text with blanks (byte 32) before it, so that it is at least 8 bytes long
@@ -31,13 +31,16 @@ separator Commas = codes ","
 abbrev pub figures : Cycle → List (Option ℕ)
 figures c =
     Some c.quanta ∷ Some c.units ∷ Some c.longest
-    ∷ option_map (λ s. s.freed) c.sweep ∷ option_map (λ s. s.blocks) c.sweep ∷ option_map (λ s. s.kept) c.sweep ∷ c.moved
-    ∷ option_map (λ s. s.free_before) c.sweep ∷ option_map (λ s. s.free_after) c.sweep ∷ option_map (λ s. s.made) c.sweep
+    ∷ option_map (λ s. s.freed) c.sweep ∷ option_map (λ s. s.blocks) c.sweep ∷ option_map (λ s. s.kept) c.sweep
+    ∷ c.moved
+    ∷ option_map (λ s. s.free_before) c.sweep ∷ option_map (λ s. s.free_after) c.sweep
+    ∷ option_map (λ s. s.made) c.sweep
     ∷ []
 
 -- the line of a cycle, with LF (byte 10) after it
 abbrev pub cycle_line : Layout → Cycle → List ℕ
-cycle_line layout c = (figure layout (Some c.line) ++ flat_map (λ f. separator layout ++ figure layout f) (figures c)) ++ 10 ∷ []
+cycle_line layout c =
+    (figure layout (Some c.line) ++ flat_map (λ f. separator layout ++ figure layout f) (figures c)) ++ 10 ∷ []
 
 -- the text of cycles
 abbrev pub cycles_told : Layout → List Cycle → List ℕ

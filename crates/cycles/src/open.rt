@@ -80,7 +80,8 @@ impl Base {
 
     /// What is known after one more quantum, with the copies in the heap and the length of the history.
     pub fn after(self, turn: &Turn, copies: &Copies, place: usize) -> Base
-        ensures { (steps : List Step) (s : Step) → IsBase steps self → IsTurn s turn.now → AreCounted s copies.now → place ≡ length s.after.history → IsBase (steps ++ s ∷ []) result }
+        ensures { (steps : List Step) (s : Step) → IsBase steps self → IsTurn s turn.now → AreCounted s copies.now
+            → place ≡ length s.after.history → IsBase (steps ++ s ∷ []) result }
     {
         let Turn {
             ends_sweep,
@@ -111,7 +112,8 @@ impl End {
 impl Open {
     /// A cycle that a line begins.
     pub fn new(line: u64, base: &Base, recorded: &Recorded) -> Open
-        ensures { (earlier : List Step) (s : Step) → IsBase earlier base.now → s.line ≡ line → s.before ≡ recorded.now.course → IsOpen earlier s [] result }
+        ensures { (earlier : List Step) (s : Step) → IsBase earlier base.now → s.line ≡ line
+            → s.before ≡ recorded.now.course → IsOpen earlier s [] result }
     {
         Open {
             line,
@@ -127,8 +129,11 @@ impl Open {
 
     /// What its sweep did, which has just ended and left these copies.
     fn swept(&self, recorded: &Recorded, copies: &Copies) -> Sweep
-        ensures { (swept ended : Option Course) (first : Course) → IsBaseAt swept ended self.now.base → self.now.place ≡ length first.history
-            → self.now.free ≡ page_list.free_pages first.heap.store.pages → copies.now ≡ copies_in recorded.now.course.heap.store → IsSweep swept ended first recorded.now.course result }
+        ensures { (swept ended : Option Course) (first : Course) → IsBaseAt swept ended self.now.base
+            → self.now.place ≡ length first.history
+            → self.now.free ≡ page_list.free_pages first.heap.store.pages
+            → copies.now ≡ copies_in recorded.now.course.heap.store
+            → IsSweep swept ended first recorded.now.course result }
     {
         let entries = recorded.history();
         let since = made_by(from_place(entries, self.base.place));
@@ -147,7 +152,8 @@ impl Open {
 
     /// The same after one more quantum, if the sweep has ended then.
     fn sweep_after(&self, turn: &Turn, copies: &Copies, recorded: &Recorded) -> Option<Sweep>
-        ensures { (earlier later : List Step) (first s : Step) → IsOpen earlier first later self.now → IsTurn s turn.now → AreCounted s copies.now → s.after ≡ recorded.now.course
+        ensures { (earlier later : List Step) (first s : Step) → IsOpen earlier first later self.now → IsTurn s turn.now
+            → AreCounted s copies.now → s.after ≡ recorded.now.course
             → SweptBy earlier first (later ++ s ∷ []) result }
     {
         if self.sweep.is_some() {
@@ -161,7 +167,9 @@ impl Open {
 
     /// How it ended, if it has after one more quantum.
     fn end_after(&self, turn: &Turn, copies: &Copies, heap: &Heap) -> Option<End>
-        ensures { (earlier later : List Step) (first s : Step) → begins first ≡ true → IsOpen earlier first later self.now → IsTurn s turn.now → AreCounted s copies.now → s.after.heap ≡ heap.now
+        ensures { (earlier later : List Step) (first s : Step) → begins first ≡ true
+            → IsOpen earlier first later self.now → IsTurn s turn.now → AreCounted s copies.now
+            → s.after.heap ≡ heap.now
             → IsEnd first (later ++ s ∷ []) result }
     {
         if self.end.is_some() {
@@ -175,7 +183,8 @@ impl Open {
 
     /// The cycle after one more quantum, with the copies in the heap where they were counted.
     pub fn after(self, turn: &Turn, copies: &Copies, recorded: &Recorded) -> Open
-        ensures { (earlier later : List Step) (first s : Step) → begins first ≡ true → IsOpen earlier first later self → IsTurn s turn.now → AreCounted s copies.now → s.after ≡ recorded.now.course
+        ensures { (earlier later : List Step) (first s : Step) → begins first ≡ true → IsOpen earlier first later self
+            → IsTurn s turn.now → AreCounted s copies.now → s.after ≡ recorded.now.course
             → IsOpen earlier first (later ++ s ∷ []) result }
     {
         Open {
@@ -189,7 +198,9 @@ impl Open {
 
     /// How it ended; or with this heap, where it is still on.
     fn end(&self, heap: &Heap) -> End
-        ensures { (later : List Step) (first : Step) → IsEnd first later self.now.end → (count_by ends_cycle later ≡ 0 → (end_of first later).heap ≡ heap.now) → result ≡ end_at (end_of first later) }
+        ensures { (later : List Step) (first : Step) → IsEnd first later self.now.end
+            → (count_by ends_cycle later ≡ 0 → (end_of first later).heap ≡ heap.now)
+            → result ≡ end_at (end_of first later) }
     {
         match self.end {
             Some(end) => end,
@@ -199,7 +210,8 @@ impl Open {
 
     /// The whole cycle, which is followed by another, or by the end of the run.
     pub fn closed(&self, heap: &Heap) -> Cycle
-        ensures { (earlier later : List Step) (first : Step) → IsOpen earlier first later self.now → (count_by ends_cycle later ≡ 0 → (end_of first later).heap ≡ heap.now)
+        ensures { (earlier later : List Step) (first : Step) → IsOpen earlier first later self.now
+            → (count_by ends_cycle later ≡ 0 → (end_of first later).heap ≡ heap.now)
             → IsCycle earlier first later result }
     {
         let end = self.end(heap);

@@ -62,7 +62,8 @@ impl Mark {
 impl Turn {
     /// What a quantum was that left the heap so, before which the collector was at this mark.
     pub fn of(before: &Mark, heap: &Heap) -> Turn
-        ensures { (s : Step) → is_quantum s.event ≡ true → IsMark s.before.heap before.now → s.after.heap ≡ heap.now → IsTurn s result }
+        ensures { (s : Step) → is_quantum s.event ≡ true → IsMark s.before.heap before.now → s.after.heap ≡ heap.now
+            → IsTurn s result }
     {
         let works = in_cycle(before.phase);
         let after = heap.phase();

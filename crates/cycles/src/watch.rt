@@ -109,7 +109,8 @@ impl Watch {
 
     /// The cycles of the steps, of which the last one is on, or followed by none.
     pub fn cycles(self) -> Result<Cycles, NoMemory>
-        ensures { IfOk result (λ cycles. (steps : List Step) → IsLog steps self.player.course self.log → AreCycles steps cycles.items.items) }
+        ensures { IfOk result (λ cycles. (steps : List Step) → IsLog steps self.player.course self.log
+            → AreCycles steps cycles.items.items) }
     {
         let Watch { player, mut log } = self;
         log.close(player.recorded().heap())?;

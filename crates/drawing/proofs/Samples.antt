@@ -37,3 +37,10 @@ samples_on scale samples next d k l is =
 pub numbers_on : (axis : Axis) (greatest count left k : ℕ) → count ≡ suc left
     → numbers_from axis greatest k count ≡ axis_number axis greatest (k * step_of greatest) ++ numbers_from axis greatest (k + 1) left
 numbers_on axis greatest count left k e = ap (numbers_from axis greatest k) e
+
+-- the same, by the step and by what the number draws
+pub numbers_by : (axis : Axis) (greatest left k step : ℕ) (here : List Element) → left ≡ suc (left - 1) → step ≡ step_of greatest → here ≡ axis_number axis greatest (k * step)
+    → numbers_from axis greatest k left ≡ here ++ numbers_from axis greatest (k + 1) (left - 1)
+numbers_by axis greatest left k step here some is draws =
+    numbers_on axis greatest left (left - 1) k some
+    ∙ ap (λ xs. xs ++ numbers_from axis greatest (k + 1) (left - 1)) (sym (draws ∙ ap (λ s. axis_number axis greatest (k * s)) is))

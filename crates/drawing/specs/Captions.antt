@@ -69,4 +69,6 @@ caption_text (captions.Number n) = decimal n
 caption_text (captions.Percent n) = decimal n ++ codes " %"
 caption_text (captions.OldCopies n) = codes "old copies " ++ decimal n
 caption_text (captions.Page number page) = page_text number page
-caption_text (captions.Heap phase units pages free) = codes "phase " ++ words_text phase ++ codes ", units " ++ decimal units ++ codes ", pages " ++ decimal pages ++ codes ", free " ++ decimal free
+caption_text (captions.Heap phase units pages free) =
+    codes "phase " ++ words_text phase ++ codes ", units " ++ decimal units ++ codes ", pages " ++ decimal pages
+    ++ codes ", free " ++ decimal free

@@ -35,7 +35,9 @@ view_text width height = codes " viewBox='0 0 " ++ decimal width ++ codes " " ++
 
 -- the beginning of a document of this width and height
 abbrev pub open_line : ℕ → ℕ → List ℕ
-open_line width height = codes "<svg xmlns='http://www.w3.org/2000/svg' version='1.1'" ++ extent_text width height ++ view_text width height ++ codes " font-family='sans-serif'>"
+open_line width height =
+    codes "<svg xmlns='http://www.w3.org/2000/svg' version='1.1'" ++ extent_text width height ++ view_text width height
+    ++ codes " font-family='sans-serif'>"
 
 -- the title of a picture
 abbrev pub title_line : Words → List ℕ
@@ -82,12 +84,15 @@ text_line x y size anchor caption = point_text x y size ++ anchor_text anchor ++
 -- a straight line between two points
 abbrev pub line_line : ℕ → ℕ → ℕ → ℕ → Colour → List ℕ
 line_line x1 y1 x2 y2 stroke =
-    codes "<line x1='" ++ decimal x1 ++ codes "' y1='" ++ decimal y1 ++ codes "' x2='" ++ decimal x2 ++ codes "' y2='" ++ decimal y2
+    codes "<line x1='" ++ decimal x1 ++ codes "' y1='" ++ decimal y1 ++ codes "' x2='" ++ decimal x2 ++ codes "' y2='"
+    ++ decimal y2
     ++ codes "' stroke='" ++ colour_code stroke ++ codes "'/>"
 
 -- a filled circle round a point
 abbrev pub dot_line : ℕ → ℕ → Colour → List ℕ
-dot_line x y fill = codes "<circle cx='" ++ decimal x ++ codes "' cy='" ++ decimal y ++ codes "' r='4' fill='" ++ colour_code fill ++ codes "'/>"
+dot_line x y fill =
+    codes "<circle cx='" ++ decimal x ++ codes "' cy='" ++ decimal y ++ codes "' r='4' fill='" ++ colour_code fill
+    ++ codes "'/>"
 
 -- an element as a line of text
 abbrev pub element_line : Element → List ℕ

@@ -1,5 +1,5 @@
 -- The picture of a heap over a run, from samples of it.
-use Rattle.std.specs.Prelude.{ℕ, ◌+◌, ◌-◌, min, Bool, if◌then◌else◌, List, [], ◌∷◌, ◌++◌, length, take, slice_get, Option, Some, None}
+use Rattle.std.specs.Prelude.{ℕ, ◌-◌, min, Bool, if◌then◌else◌, List, [], ◌∷◌, ◌++◌, length, take, slice_get, Option, Some, None}
 use Rattle.heap_model.specs.declared.phase.Phase.{Phase}
 use Rattle.heap_model.specs.Pages.{free_pages}
 use Rattle.heap_model.specs.State.{HeapState}
@@ -55,7 +55,8 @@ next_x lines (Some s) = line_x s.line lines
 -- samples one beside the other
 abbrev pub samples_from : Scale → List Sample → List Element
 samples_from scale [] = []
-samples_from scale (s ∷ later) = sample_marks scale s (next_x scale.lines (slice_get later 0)) ++ samples_from scale later
+samples_from scale (s ∷ later) =
+    sample_marks scale s (next_x scale.lines (slice_get later 0)) ++ samples_from scale later
 
 -- the numbers of the axes, and the samples
 abbrev pub time_shown : Scale → List Sample → List Element

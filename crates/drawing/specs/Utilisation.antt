@@ -28,7 +28,8 @@ span_of t = max t.clock (last_end t.intervals)
 -- promises them.
 pub record IsShare (config : Config) (t : Timetable) (window : ℕ) (share : Share) : Type 0 where
   pub window_is : share.window ≡ window
-  pub measured_is : (least : ℕ) × IsLeast t.intervals (span_of t) window least × (share.measured ≡ 1000 * least / window)
+  pub measured_is : (least : ℕ) × IsLeast t.intervals (span_of t) window least
+      × (share.measured ≡ 1000 * least / window)
   pub promised_is : share.promised ≡ 1000 * bound_of config.collector_ticks config.mutator_ticks window / window
 
 -- The shares of the first windows, of which the next, if there is one, is longer than the span.

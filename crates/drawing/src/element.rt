@@ -67,7 +67,8 @@ fn put_two(out: &mut [u8], at: usize, first: &[u8], a: u32, second: &[u8], b: u3
 /// Puts two lengths, each after its name, and ends the attribute that they stand in.
 fn put_quoted(out: &mut [u8], at: usize, first: &[u8], a: u32, second: &[u8], b: u32) -> usize
     requires { at + length first.now + length second.now + 41 ≤ length out.old }
-    ensures text { take result out.new ≡ take at out.old ++ (first.now ++ decimal a ++ second.now ++ decimal b ++ codes "'") }
+    ensures text { take result out.new
+        ≡ take at out.old ++ (first.now ++ decimal a ++ second.now ++ decimal b ++ codes "'") }
     ensures place { result ≤ at + length first.now + length second.now + 41 }
 {
     let end = put_two(out, at, first, a, second, b);

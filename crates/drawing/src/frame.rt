@@ -52,8 +52,10 @@ pub(crate) fn write_head<K: Sink>(
     told: &[Element],
     sink: &mut K,
 ) -> Result<(), WriteFailed>
-    ensures ok { OnOk result (K.taken sink.new ≡ K.taken sink.old ++ svg_text (frames.frame width height title ++ told.now)) }
-    ensures err { OnErr result (GrowsByPart (K.taken sink.old) (K.taken sink.new) (svg_text (frames.frame width height title ++ told.now))) }
+    ensures ok { OnOk result (K.taken sink.new
+        ≡ K.taken sink.old ++ svg_text (frames.frame width height title ++ told.now)) }
+    ensures err { OnErr result (GrowsByPart (K.taken sink.old) (K.taken sink.new)
+        (svg_text (frames.frame width height title ++ told.now))) }
     ensures cause { K.failures sink.new ≡ K.failures sink.old + failed result }
 {
     write_elements(sink, &frame(width, height, title))?;

@@ -22,11 +22,13 @@ each_from drawn place (id ∷ ids) = drawn place id ++ each_from drawn (place + 
 -- the root at a place of the row of roots: the slots of each mutator, and then the statics
 abbrev pub root_at : Limits → ℕ → Root
 root_at l place =
-    if nat_lt place (l.mutators * l.slots) then Slot (place / l.slots) (place % l.slots) else Static (place - l.mutators * l.slots)
+    if nat_lt place (l.mutators * l.slots) then Slot (place / l.slots) (place % l.slots)
+    else Static (place - l.mutators * l.slots)
 
 -- a root that holds a shown object: its box, and what it holds
 abbrev pub root_drawn : Limits → List ℕ → ℕ → ℕ → List Statement
-root_drawn l shown place id = if is_member nat_eq shown id then Box (root_at l place) ∷ Holds (root_at l place) id ∷ [] else []
+root_drawn l shown place id =
+    if is_member nat_eq shown id then Box (root_at l place) ∷ Holds (root_at l place) id ∷ [] else []
 
 -- a reference cell of an object, where it holds a shown object
 abbrev pub cell_drawn : List ℕ → ℕ → ℕ → ℕ → List Statement
@@ -34,7 +36,8 @@ cell_drawn shown from cell id = if is_member nat_eq shown id then Cell from cell
 
 -- an object, and its reference cells
 abbrev pub object_drawn : Graph → List ℕ → ℕ → List Statement
-object_drawn g shown id = Object id (object_of g.objects id).shape ∷ each_from (cell_drawn shown id) 0 (object_of g.objects id).refs
+object_drawn g shown id =
+    Object id (object_of g.objects id).shape ∷ each_from (cell_drawn shown id) 0 (object_of g.objects id).refs
 
 -- objects of those that were found
 abbrev pub objects_drawn : Graph → List ℕ → List Found → List Statement
@@ -48,7 +51,9 @@ left_out n = if n == 0 then [] else LeftOut n ∷ []
 abbrev pub graph_drawn : Graph → ℕ → List Found → List Statement
 graph_drawn g most found =
     let shown = shown_of most found in
-    (Open ∷ []) ++ (each_from (root_drawn g.limits shown) 0 g.roots ++ (objects_drawn g shown (take most found) ++ (left_out (length found - most) ++ Close ∷ [])))
+    (Open ∷ [])
+    ++ (each_from (root_drawn g.limits shown) 0 g.roots
+    ++ (objects_drawn g shown (take most found) ++ (left_out (length found - most) ++ Close ∷ [])))
 
 -- the text of the document
 abbrev pub graph_picture : Graph → ℕ → List Found → List ℕ

@@ -11,8 +11,10 @@ use Rattle.graph_drawing.specs.Drawing.{graph_picture}
 -- Of the objects that can be reached, the nearest to the roots are drawn, at most so many; or a part of this is written and
 -- then a write failed; or memory was refused, and nothing is written.
 abbrev pub GraphDrawn : Graph → ℕ → Taken → Result (Unit {0}) DrawFault → Type 0
-GraphDrawn g most taken (Ok drawn) = (found : List Found) × FindsAll g found × (taken.after ≡ taken.before ++ graph_picture g most found)
-GraphDrawn g most taken (Err Write) = (found : List Found) × FindsAll g found × GrowsByPart taken.before taken.after (graph_picture g most found)
+GraphDrawn g most taken (Ok drawn) =
+    (found : List Found) × FindsAll g found × (taken.after ≡ taken.before ++ graph_picture g most found)
+GraphDrawn g most taken (Err Write) =
+    (found : List Found) × FindsAll g found × GrowsByPart taken.before taken.after (graph_picture g most found)
 GraphDrawn g most taken (Err NoMemory) = taken.after ≡ taken.before
 
 -- how many writes failed

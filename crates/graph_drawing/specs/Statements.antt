@@ -31,12 +31,14 @@ shape_words (WordArray n) = codes "array, words " ++ decimal n
 -- an object: its identity, and below it its shape
 abbrev pub object_line : ℕ → Shape → List ℕ
 object_line id shape =
-    codes "    \"object " ++ decimal id ++ codes "\" [label=\"object " ++ decimal id ++ codes "\\n" ++ shape_words shape ++ codes "\"];"
+    codes "    \"object " ++ decimal id ++ codes "\" [label=\"object " ++ decimal id ++ codes "\\n" ++ shape_words shape
+    ++ codes "\"];"
 
 -- a reference cell of an object, and the object that it refers to
 abbrev pub cell_line : ℕ → ℕ → ℕ → List ℕ
 cell_line from cell to =
-    codes "    \"object " ++ decimal from ++ codes "\" -> \"object " ++ decimal to ++ codes "\" [label=\"" ++ decimal cell ++ codes "\"];"
+    codes "    \"object " ++ decimal from ++ codes "\" -> \"object " ++ decimal to ++ codes "\" [label=\""
+    ++ decimal cell ++ codes "\"];"
 
 -- how many objects aren't drawn
 abbrev pub left_out_line : ℕ → List ℕ

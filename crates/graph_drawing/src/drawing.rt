@@ -75,7 +75,8 @@ fn write_roots<K: Sink>(
 ) -> Result<(), WriteFailed>
     requires { AreOnce search.now.found }
     ensures ok { OnOk result (K.taken sink.new
-        ≡ K.taken sink.old ++ dot_text (each_from (root_drawn limits.now (shown_of most search.now.found)) 0 roots.now)) }
+        ≡ K.taken sink.old
+        ++ dot_text (each_from (root_drawn limits.now (shown_of most search.now.found)) 0 roots.now)) }
     ensures err { OnErr result (GrowsByPart (K.taken sink.old) (K.taken sink.new)
         (dot_text (each_from (root_drawn limits.now (shown_of most search.now.found)) 0 roots.now))) }
     ensures cause { K.failures sink.new ≡ K.failures sink.old + failed result }
@@ -96,7 +97,8 @@ fn write_cell<K: Sink>(
     sink: &mut K,
 ) -> Result<(), WriteFailed>
     requires { AreOnce search.now.found }
-    ensures ok { OnOk result (K.taken sink.new ≡ K.taken sink.old ++ dot_text (cell_drawn (shown_of most search.now.found) from cell id)) }
+    ensures ok { OnOk result (K.taken sink.new
+        ≡ K.taken sink.old ++ dot_text (cell_drawn (shown_of most search.now.found) from cell id)) }
     ensures err { OnErr result (GrowsByPart (K.taken sink.old) (K.taken sink.new)
         (dot_text (cell_drawn (shown_of most search.now.found) from cell id))) }
     ensures cause { K.failures sink.new ≡ K.failures sink.old + failed result }
@@ -137,7 +139,8 @@ fn write_object<K: Sink>(
     sink: &mut K,
 ) -> Result<(), WriteFailed>
     requires { AreOnce search.now.found }
-    ensures ok { OnOk result (K.taken sink.new ≡ K.taken sink.old ++ dot_text (object_drawn graph.now (shown_of most search.now.found) id)) }
+    ensures ok { OnOk result (K.taken sink.new
+        ≡ K.taken sink.old ++ dot_text (object_drawn graph.now (shown_of most search.now.found) id)) }
     ensures err { OnErr result (GrowsByPart (K.taken sink.old) (K.taken sink.new)
         (dot_text (object_drawn graph.now (shown_of most search.now.found) id))) }
     ensures cause { K.failures sink.new ≡ K.failures sink.old + failed result }

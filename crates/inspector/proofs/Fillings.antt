@@ -1,11 +1,13 @@
 -- How full pages are, page by page and class by class.
-use Rattle.std.proofs.Common.{◌≡◌, ℕ, ◌+◌, ◌≤◌, ◌==◌, Bool, true, false, if◌then◌else◌, Option, Some, None, List, ◌++◌, ap, ◌∙◌, sym, refl, arith, add-one, append_assoc}
+use Rattle.std.proofs.Common.{◌≡◌, ℕ, ◌+◌, ◌*◌, ◌≤◌, ◌==◌, Bool, true, false, if◌then◌else◌, Option, Some, None, List, ◌++◌, ap, ◌∙◌, sym, refl, arith, add-one, append_assoc}
+use Rattle.std.specs.Prelude.{codes, decimal}
+use Rattle.size_classes.specs.declared.class.TheConstants.{PAGE_WORDS}
 use Rattle.heap_model.specs.Action.{held_on}
 use Rattle.heap_model.specs.Pages.{Page}
 use Rattle.pages.specs.View.{view_of}
 use Rattle.pages.specs.declared.view.PageView.{PageView}
 use Rattle.inspector.specs.declared.filling.Filling.{Filling}
-use Rattle.inspector.specs.Filling.{nothing, page_filling, filling_by, both, summed, IsWithin}
+use Rattle.inspector.specs.Filling.{nothing, page_filling, filling_by, both, summed, IsWithin, fragmentation_line}
 
 -- a free page, one of another class, and one of the class
 module _ (class inside : ℕ) where
@@ -79,3 +81,10 @@ module _ (each : ℕ → Filling) where
 pub three : (b y c z : List ℕ) {a t1 t2 t3 : List ℕ} → t1 ≡ a → t2 ≡ t1 ++ (b ++ y) → t3 ≡ t2 ++ (c ++ z) → t3 ≡ a ++ b ++ y ++ c ++ z
 three b y c z {a} {t1} {t2} first second third =
     third ∙ sym (append_assoc t2 c z) ∙ ap (λ t. t ++ c ++ z) (second ∙ sym (append_assoc t1 b y) ∙ ap (λ t. t ++ b ++ y) first)
+
+-- the line of the words that are lost, by the words that the code puts
+pub fragmentation_told : (f : Filling) (words : ℕ) {t1 t2 t3 : List ℕ} → words ≡ PAGE_WORDS → t1 ≡ codes "words " ++ decimal (words * f.pages)
+    → t2 ≡ t1 ++ (codes " internal fragmentation " ++ decimal (f.inside + f.behind)) → t3 ≡ t2 ++ (codes " external fragmentation " ++ decimal f.spare) → t3 ≡ fragmentation_line f
+fragmentation_told f words is first second third =
+    three (codes " internal fragmentation ") (decimal (f.inside + f.behind)) (codes " external fragmentation ") (decimal f.spare)
+    (first ∙ ap (λ n. codes "words " ++ decimal (n * f.pages)) is) second third

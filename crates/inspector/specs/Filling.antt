@@ -93,7 +93,9 @@ sum_line f = codes "all" ++ figures f
 -- the words of all pages in use, and how many of them are lost to blocks that are held and pages that are cut into
 -- blocks, and how many to blocks that are free
 abbrev pub fragmentation_line : Filling → List ℕ
-fragmentation_line f = codes "words " ++ decimal (PAGE_WORDS * f.pages) ++ codes " internal fragmentation " ++ decimal (f.inside + f.behind)
+fragmentation_line f =
+    codes "words " ++ decimal (PAGE_WORDS * f.pages) ++ codes " internal fragmentation "
+    ++ decimal (f.inside + f.behind)
     ++ codes " external fragmentation " ++ decimal f.spare
 
 -- all lines, in their order

@@ -39,7 +39,8 @@ pages_line h = two_named (codes "pages ") (length h.store.pages) (codes " free "
 -- a page in use: its number, the words of a block, the held blocks, and all its blocks
 abbrev pub page_line : ℕ → PageView → List ℕ
 page_line number v =
-    codes "page " ++ decimal number ++ codes " size " ++ decimal (size_of v.class) ++ codes " held " ++ decimal v.held ++ codes " of " ++ decimal (blocks_in v.class)
+    codes "page " ++ decimal number ++ codes " size " ++ decimal (size_of v.class) ++ codes " held " ++ decimal v.held
+    ++ codes " of " ++ decimal (blocks_in v.class)
     ++ (if v.leaving then codes " leaving" else [])
 
 -- a free page has no line
@@ -58,7 +59,8 @@ roots_line h = two_named (codes "roots ") (length h.roots) (codes " used ") (use
 
 -- main copies with part number 0, all main copies, and old copies
 abbrev pub copies_line : Copies → List ℕ
-copies_line c = codes "objects " ++ decimal c.objects ++ codes " parts " ++ decimal c.parts ++ codes " old " ++ decimal c.old
+copies_line c =
+    codes "objects " ++ decimal c.objects ++ codes " parts " ++ decimal c.parts ++ codes " old " ++ decimal c.old
 
 -- the lines in their order
 abbrev pub head_lines : HeapState → List (List ℕ)

@@ -37,7 +37,8 @@ fn put_class(out: &mut [u8; 256], class: Class, filling: Filling) -> usize
 /// Writes the line of a class; nothing where it has no page.
 fn write_class<K: Sink>(class: Class, filling: Filling, sink: &mut K) -> Result<(), WriteFailed>
     ensures ok { OnOk result (K.taken sink.new ≡ K.taken sink.old ++ text_of (class_lines class filling)) }
-    ensures err { OnErr result (GrowsByPart (K.taken sink.old) (K.taken sink.new) (text_of (class_lines class filling))) }
+    ensures err { OnErr result (GrowsByPart (K.taken sink.old) (K.taken sink.new)
+        (text_of (class_lines class filling))) }
     ensures cause { K.failures sink.new ≡ K.failures sink.old + failed result }
 {
     if filling.pages == 0 {
@@ -53,7 +54,8 @@ fn write_classes<K: Sink>(heap: &Heap, sink: &mut K) -> Result<Filling, WriteFai
     ensures sum { IfOk result (λ all. all ≡ filling_in heap.now.store) }
     ensures within { IfOk result (λ all. IsWithin all 1099511627776) }
     ensures ok { OnOk result (K.taken sink.new ≡ K.taken sink.old ++ text_of (classes_lines heap.now.store CLASSES)) }
-    ensures err { OnErr result (GrowsByPart (K.taken sink.old) (K.taken sink.new) (text_of (classes_lines heap.now.store CLASSES))) }
+    ensures err { OnErr result (GrowsByPart (K.taken sink.old) (K.taken sink.new)
+        (text_of (classes_lines heap.now.store CLASSES))) }
     ensures cause { K.failures sink.new ≡ K.failures sink.old + failed result }
 {
     let mut all = nothing();

@@ -59,7 +59,8 @@ fn write_two<K: Sink>(
 ) -> Result<(), WriteFailed>
     requires { length first.now + length second.now ≤ 20 }
     ensures ok { OnOk result (K.taken sink.new ≡ K.taken sink.old ++ (two_named first.now n second.now m ++ 10 ∷ [])) }
-    ensures err { OnErr result (GrowsByPart (K.taken sink.old) (K.taken sink.new) (two_named first.now n second.now m ++ 10 ∷ [])) }
+    ensures err { OnErr result (GrowsByPart (K.taken sink.old) (K.taken sink.new)
+        (two_named first.now n second.now m ++ 10 ∷ [])) }
     ensures cause { K.failures sink.new ≡ K.failures sink.old + failed result }
 {
     let mut out = [0; 256];
@@ -111,8 +112,10 @@ pub(crate) fn write_page<K: Sink>(
     number: usize,
     sink: &mut K,
 ) -> Result<(), WriteFailed>
-    ensures ok { OnOk result (K.taken sink.new ≡ K.taken sink.old ++ text_of (lines_on number (view_of (page_at heap.now.store.pages number)))) }
-    ensures err { OnErr result (GrowsByPart (K.taken sink.old) (K.taken sink.new) (text_of (lines_on number (view_of (page_at heap.now.store.pages number))))) }
+    ensures ok { OnOk result (K.taken sink.new
+        ≡ K.taken sink.old ++ text_of (lines_on number (view_of (page_at heap.now.store.pages number)))) }
+    ensures err { OnErr result (GrowsByPart (K.taken sink.old) (K.taken sink.new)
+        (text_of (lines_on number (view_of (page_at heap.now.store.pages number))))) }
     ensures cause { K.failures sink.new ≡ K.failures sink.old + failed result }
 {
     let Some(page) = heap.page(number) else {
@@ -137,8 +140,10 @@ fn put_copies(out: &mut [u8; 256], copies: Copies) -> usize
 
 /// Writes how many objects, parts and old copies there are.
 pub(crate) fn write_copies<K: Sink>(heap: &Heap, sink: &mut K) -> Result<(), WriteFailed>
-    ensures ok { OnOk result (K.taken sink.new ≡ K.taken sink.old ++ (copies_line (copies_in heap.now.store) ++ 10 ∷ [])) }
-    ensures err { OnErr result (GrowsByPart (K.taken sink.old) (K.taken sink.new) (copies_line (copies_in heap.now.store) ++ 10 ∷ [])) }
+    ensures ok { OnOk result (K.taken sink.new
+        ≡ K.taken sink.old ++ (copies_line (copies_in heap.now.store) ++ 10 ∷ [])) }
+    ensures err { OnErr result (GrowsByPart (K.taken sink.old) (K.taken sink.new)
+        (copies_line (copies_in heap.now.store) ++ 10 ∷ [])) }
     ensures cause { K.failures sink.new ≡ K.failures sink.old + failed result }
 {
     let mut out = [0; 256];

@@ -22,7 +22,8 @@ fn write_head<K: Sink>(heap: &Heap, sink: &mut K) -> Result<(), WriteFailed>
 /// Writes a line for each page in use, in rising number.
 fn write_page_lines<K: Sink>(heap: &Heap, sink: &mut K) -> Result<(), WriteFailed>
     ensures ok { OnOk result (K.taken sink.new ≡ K.taken sink.old ++ text_of (page_lines 0 heap.now.store.pages)) }
-    ensures err { OnErr result (GrowsByPart (K.taken sink.old) (K.taken sink.new) (text_of (page_lines 0 heap.now.store.pages))) }
+    ensures err { OnErr result (GrowsByPart (K.taken sink.old) (K.taken sink.new)
+        (text_of (page_lines 0 heap.now.store.pages))) }
     ensures cause { K.failures sink.new ≡ K.failures sink.old + failed result }
 {
     for page in 0..heap.pages() {

@@ -33,7 +33,8 @@ gap_of document = number_in (get_member gap_name document)
 
 -- the number that a document has of a class
 abbrev pub number_of : Members → ℕ → Field → ℤ
-number_of document class field = number_in (get_member (name_of field) (members_in (get_member (size_name class) document)))
+number_of document class field =
+    number_in (get_member (name_of field) (members_in (get_member (size_name class) document)))
 
 -- the load has the numbers of the document
 pub record States (document : Members) (load : Load) : Type 0 where

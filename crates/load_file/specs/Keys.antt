@@ -48,7 +48,8 @@ members_in (Some value) = unwrap_or (as_table value) no_members
 
 -- a key of the document isn't known, or is a class's and has a key in its table that isn't known
 abbrev pub is_unknown : List ℕ → Data → Bool
-is_unknown name value = if is_size name then has_unknown_field (members_in (Some value)) else not (bytes_eq gap_name name)
+is_unknown name value =
+    if is_size name then has_unknown_field (members_in (Some value)) else not (bytes_eq gap_name name)
 
 -- some key of a document isn't known
 abbrev pub has_unknown_key : Members → Bool

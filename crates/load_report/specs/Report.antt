@@ -18,9 +18,14 @@ use Rattle.arrivals.specs.Fitting.{load_in, IsSamePace}
 
 -- the line of a trace with which it breaks a load, and how
 abbrev pub breach_line : ℕ → Breach → List ℕ
-breach_line line (Asks class) = codes "line " ++ (decimal line ++ (codes ": more blocks of " ++ (decimal (size_of class) ++ codes " words are asked for than the rate and the burst\n")))
-breach_line line BeginsLate = codes "line " ++ (decimal line ++ codes ": more ticks than the gap since the last begin\n")
-breach_line line SmallQuantum = codes "line " ++ (decimal line ++ codes ": a quantum of fewer units than the schedule gives\n")
+breach_line line (Asks class) =
+    codes "line " ++ (decimal line
+    ++ (codes ": more blocks of " ++ (decimal (size_of class)
+    ++ codes " words are asked for than the rate and the burst\n")))
+breach_line line BeginsLate =
+    codes "line " ++ (decimal line ++ codes ": more ticks than the gap since the last begin\n")
+breach_line line SmallQuantum =
+    codes "line " ++ (decimal line ++ codes ": a quantum of fewer units than the schedule gives\n")
 
 -- whether a trace keeps to a load
 abbrev pub kept_line : Kept → List ℕ
@@ -30,7 +35,9 @@ kept_line (Breaks line by) = breach_line line by
 -- the line of a class of which more blocks were live than the load has: its size in words, and the blocks of both
 abbrev pub live_line : Load → Pace → ℕ → List ℕ
 live_line load measured class = if nat_lt (load.live class) (measured.live class)
-    then codes "size " ++ (decimal (size_of class) ++ (codes " live " ++ (decimal (measured.live class) ++ (codes ", the load has " ++ (decimal (load.live class) ++ codes "\n")))))
+    then codes "size " ++ (decimal (size_of class)
+    ++ (codes " live " ++ (decimal (measured.live class)
+    ++ (codes ", the load has " ++ (decimal (load.live class) ++ codes "\n")))))
     else []
 
 -- the lines of the first classes
@@ -45,7 +52,8 @@ live_told load (Some measured) = live_lines load (pace_in measured) CLASSES
 
 -- A load covers a run that keeps to it, and of which no more was live than it has.
 abbrev pub IsCovered : LoadTable → Kept → Option PaceTable → Type 0
-IsCovered load Keeps (Some measured) = (class : ℕ) → class < CLASSES → slice_index measured.live class ≤ slice_index load.live class
+IsCovered load Keeps (Some measured) =
+    (class : ℕ) → class < CLASSES → slice_index measured.live class ≤ slice_index load.live class
 IsCovered load Keeps None = ⊥
 IsCovered load (Breaks line by) measured = ⊥
 

@@ -10,7 +10,8 @@ use std::alloc::{AllocError, Global};
 
 /// Whether no more blocks of any class were live than a load has.
 fn has_live(load: &Load, measured: &Pace) -> bool
-    ensures { IsTrue result ↔ ((class : ℕ) → class < CLASSES → slice_index measured.now.live class ≤ slice_index load.now.live class) }
+    ensures { IsTrue result
+        ↔ ((class : ℕ) → class < CLASSES → slice_index measured.now.live class ≤ slice_index load.now.live class) }
 {
     for number in 0..CLASSES {
         if measured.live[number] > load.live[number] {

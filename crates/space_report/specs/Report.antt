@@ -8,7 +8,7 @@ use Rattle.heap_model.specs.Pages.{whole_pages}
 use Rattle.space.specs.Pace.{Pace}
 use Rattle.space.specs.declared.pace.Pace.{Pace as PaceTable}
 use Rattle.space.specs.Fitting.{pace_in, pages_needed, quanta_needed, FitsIn, IsLeast}
-use Rattle.fragmentation.specs.Suffice.{Budget, budget_pages}
+use Rattle.fragmentation.specs.Suffice.{budget_pages}
 use Rattle.measure.specs.declared.needed.Needed.{Needed}
 use Rattle.measure.specs.Measured.{together_in, budget_in}
 use Rattle.measure.specs.Reckoned.{still_pages, moved_pages, needed_pages}
@@ -62,7 +62,8 @@ abbrev pub keys_line : ℕ → ℕ → ℕ → List ℕ
 keys_line still moved pages = codes "fewest " ++ (decimal pages ++ (codes ": pages = " ++ (decimal pages ++ (
     if nat_le still pages then codes ", defrag_below = 0\n"
     else if nat_le moved pages then codes "\n"
-    else codes ", defrag_below = " ++ (decimal (pages + 1) ++ (codes ", defrag_pages = " ++ (decimal pages ++ codes "\n")))))))
+    else codes ", defrag_below = " ++ (decimal (pages + 1)
+    ++ (codes ", defrag_pages = " ++ (decimal pages ++ codes "\n")))))))
 
 -- the fewest pages, of which there may be more than a heap can have, with the keys to set for them
 abbrev pub fewest_line : ℕ → ℕ → ℕ → List ℕ
@@ -79,7 +80,8 @@ verdict scope false = codes ": may not suffice\n"
 
 -- how many pages are needed, of how many that there are
 abbrev pub pages_line : Scope → ℕ → ℕ → List ℕ
-pages_line scope needed pages = codes "pages " ++ (decimal needed ++ (codes " of " ++ (decimal pages ++ verdict scope (nat_le needed pages))))
+pages_line scope needed pages =
+    codes "pages " ++ (decimal needed ++ (codes " of " ++ (decimal pages ++ verdict scope (nat_le needed pages))))
 
 -- the fewest pages that suffice for what was needed
 abbrev pub fewest_for : Config → Needed → ℕ
@@ -87,7 +89,9 @@ fewest_for c n = fewest_pages (still_pages n) (moved_pages c n) (min n.gathered 
 
 -- all that is told of what a run needed
 abbrev pub needed_report : Config → Needed → List ℕ
-needed_report c n = blocks_lines n CLASSES ++ (form_lines (still_pages n) (moved_pages c n) (budget_pages (budget_in n)) n
+needed_report c n =
+    blocks_lines n CLASSES
+    ++ (form_lines (still_pages n) (moved_pages c n) (budget_pages (budget_in n)) n
     ++ (fewest_line (still_pages n) (moved_pages c n) (fewest_for c n)
     ++ pages_line By_demand (needed_pages c n) c.pages))
 
@@ -104,7 +108,10 @@ needed_told c (Some n) = needed_report c n
 -- two cycles
 abbrev pub pace_line : Pace → ℕ → List ℕ
 pace_line p class = if (p.live class + p.busy class) + p.idle class == 0 then []
-    else codes "size " ++ (decimal (size_of class) ++ (codes " live " ++ (decimal (p.live class) ++ (codes " busy " ++ (decimal (p.busy class) ++ (codes " idle " ++ (decimal (p.idle class) ++ codes "\n")))))))
+    else codes "size " ++ (decimal (size_of class)
+    ++ (codes " live " ++ (decimal (p.live class)
+    ++ (codes " busy " ++ (decimal (p.busy class)
+    ++ (codes " idle " ++ (decimal (p.idle class) ++ codes "\n")))))))
 
 -- the lines of the first classes
 unfoldable pub pace_lines : Pace → ℕ → List ℕ
@@ -119,7 +126,9 @@ quanta_line quanta units = codes "quanta " ++ (decimal quanta ++ (codes " units 
 -- doesn't fit in the most
 abbrev pub IsFrom : Config → Pace → Option ℕ → Type 0
 IsFrom c p None = FitsIn c p MOST_PAGES → ⊥
-IsFrom c p (Some from) = (1 ≤ from) × (from ≤ MOST_PAGES) × ((pages : ℕ) → from ≤ pages → pages ≤ MOST_PAGES → FitsIn c p pages) × ((pages : ℕ) → pages + 1 ≡ from → 1 ≤ pages → FitsIn c p pages → ⊥)
+IsFrom c p (Some from) =
+    (1 ≤ from) × (from ≤ MOST_PAGES) × ((pages : ℕ) → from ≤ pages → pages ≤ MOST_PAGES → FitsIn c p pages)
+    × ((pages : ℕ) → pages + 1 ≡ from → 1 ≤ pages → FitsIn c p pages → ⊥)
 
 -- from how many pages on a pace fits in each number of them
 abbrev pub from_line : Option ℕ → List ℕ
@@ -140,4 +149,6 @@ pace_report scope c p least from =
 -- what is told of a measured pace, or that its blocks were too many to count
 abbrev pub IsPaceReport : Scope → Config → Option PaceTable → List ℕ → Type 0
 IsPaceReport scope c None text = text ≡ too_many
-IsPaceReport scope c (Some p) text = (least : Option ℕ) × (from : Option ℕ) × IsLeast c (pace_in p) least × IsFrom c (pace_in p) from × (text ≡ pace_report scope c (pace_in p) least from)
+IsPaceReport scope c (Some p) text =
+    (least : Option ℕ) × (from : Option ℕ) × IsLeast c (pace_in p) least × IsFrom c (pace_in p) from
+    × (text ≡ pace_report scope c (pace_in p) least from)

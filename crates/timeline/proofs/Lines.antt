@@ -3,7 +3,7 @@ use Rattle.std.proofs.Common.{◌≡◌, ℕ, ◌+◌, ◌≤◌, Bool, true, fa
 use Rattle.size_classes.specs.declared.config.Config.{Config}
 use Rattle.heap_model.specs.Event.{Event}
 use Rattle.trace.specs.declared.fault.TextFault.{TextFault}
-use Rattle.trace.specs.declared.fault.TextFault.TheVariants.{Line as At_line, Read, Write, NoMemory as Without_memory}
+use Rattle.trace.specs.declared.fault.TextFault.TheVariants.{NoMemory as Without_memory}
 use Rattle.trace.specs.declared.version.Version.{Version}
 use Rattle.trace.specs.GoneOver.{LinesDone, No_lines, One_line_more}
 use Rattle.trace.specs.LineReader.{Lines, lines_by}
@@ -47,7 +47,5 @@ no_line number next b is e =
 
 -- the trace ends with a fault
 pub ends_taken : (config : Config) (given : Given) (fault : TextFault) (old : PlayerState) (new : Stage) → Played Nothing given (stage old []) new (Err fault) → IsNew config old → SamplesTaken config given (Err fault)
-ends_taken config given (At_line k why) old new played is = (old, new, played, is)
-ends_taken config given Read old new played is = (old, new, played, is)
-ends_taken config given Write old new played is = (old, new, played, is)
 ends_taken config given Without_memory old new played is = tt
+ends_taken config given fault old new played is = (old, new, played, is)

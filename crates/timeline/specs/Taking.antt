@@ -21,6 +21,9 @@ AreSamplesOf given old new played s =
 -- The lines of an input are played on a new player, and the samples are those of the run; or the fault is that with
 -- which playing them ends; or memory was refused.
 abbrev pub SamplesTaken : Config → Given → Result Samples TextFault → Type 0
-SamplesTaken config given (Ok samples) = (old : PlayerState) × (new : Stage) × (played : Played Nothing given (stage old []) new (Ok tt)) × IsNew config old × AreSamplesOf given (stage old []) new played samples
+SamplesTaken config given (Ok samples) =
+    (old : PlayerState) × (new : Stage) × (played : Played Nothing given (stage old []) new (Ok tt)) × IsNew config old
+    × AreSamplesOf given (stage old []) new played samples
 SamplesTaken config given (Err Without_memory) = Unit {0}
-SamplesTaken config given (Err fault) = (old : PlayerState) × (new : Stage) × Played Nothing given (stage old []) new (Err fault) × IsNew config old
+SamplesTaken config given (Err fault) =
+    (old : PlayerState) × (new : Stage) × Played Nothing given (stage old []) new (Err fault) × IsNew config old

@@ -15,7 +15,8 @@ pub fn play_line(
     version: &mut Version,
     player: &mut Player,
 ) -> Result<bool, TextFault>
-    ensures played { LinePlayed Nothing bytes.now number version.old version.new (stage player.old []) (stage player.new []) result }
+    ensures played { LinePlayed Nothing bytes.now number version.old version.new (stage player.old [])
+        (stage player.new []) result }
     ensures reads { reads_failed result ≡ 0 }
 {
     let Some(line) = read_numbered(bytes, number, version)? else {

@@ -1,4 +1,4 @@
-use Rattle.std.proofs.Common.{[], ◌∷◌, ◌++◌, refl, sym, subst, ◌∙◌, ap}
+use Rattle.std.proofs.Common.{[], refl}
 use Rattle.std.proofs.lemmas.Result.{err_from_is_err_and}
 use Rattle.trace.proofs.Reading.{reading_at_first, reading_on}
 use Rattle.trace.proofs.GoingOver.{stays_on, at_first, ends_without, ends_over, ends_at}
@@ -10,22 +10,20 @@ use Rattle.cycles.proofs.taking.take_cycles.Goals as goal
 
 pub loop-watch-init : goal.loop-watch-init
 loop-watch-init g c =
-    let e = c.in_ok-watch.ensures in
     rw c.new-reader.ensures (record {
       first = c.in_ok-watch.watch.player;
-      fresh = e.player;
+      fresh = c.in_ok-watch.ensures.player;
       done = at_first (TellsVersionOf Nothing) (PlaysText Nothing) (g.S.Source.given c.args.source.now) (g.S.Source.ended c.args.source.now) (stage c.in_ok-watch.watch.player []);
-      logged = e.log;
+      logged = c.in_ok-watch.ensures.log;
       reading = reading_at_first (g.S.Source.given c.args.source.now) (g.S.Source.failures c.args.source.now) (g.S.Source.input c.args.source.now);
     })
 
 pub returns-in_err-next_line-clause-taken : goal.returns-in_err-next_line-clause-taken
 returns-in_err-next_line-clause-taken g c =
     let p = err_from_is_err_and c.from_residual-in_err-next_line.result c.from_residual-in_err-next_line.ensures.1 in
-    let e = c.in_err-next_line.ensures in
     let i = c.loop-watch.invariant in
     rw (p.1, p.2) (ends_taken c.args.config.now _ c.in_err-next_line.field-0.0 i.first _
-    (ends_so (ends_without i.done c.next_line.new.self _ _ (Unit {0}) (StopsText Nothing) _ e.hands)) i.fresh)
+    (ends_so (ends_without i.done c.next_line.new.self _ _ (Unit {0}) (StopsText Nothing) _ c.in_err-next_line.ensures.hands)) i.fresh)
 
 pub loop-watch-preserved : goal.loop-watch-preserved
 loop-watch-preserved g c =
@@ -43,11 +41,10 @@ loop-watch-preserved g c =
 pub returns-in_err-log_line-clause-taken : goal.returns-in_err-log_line-clause-taken
 returns-in_err-log_line-clause-taken g c =
     let p = err_from_is_err_and c.from_residual-in_err-log_line.result c.from_residual-in_err-log_line.ensures.1 in
-    let e = c.in_ok-next_line.ensures in
     let i = c.loop-watch.invariant in
     rw (p.1, p.2) (stops_taken c.args.config.now _ c.in_err-log_line.field-0.0 i.first _ _ c.loop-watch.version c.log_line.new.version c.loop-watch.watch c.log_line.new.watch c.in_err-log_line.ensures.logged
     (λ stops. ends_so
-    (ends_at i.done c.next_line.new.self _ _ _ e.hands c.if-branch.true _ c.line.ensures (Unit {0}) (StopsText Nothing) _ _ (stage c.log_line.new.watch.player []) c.number.ensures stops))
+    (ends_at i.done c.next_line.new.self _ _ _ c.in_ok-next_line.ensures.hands c.if-branch.true _ c.line.ensures (Unit {0}) (StopsText Nothing) _ _ (stage c.log_line.new.watch.player []) c.number.ensures stops))
     i.fresh)
 
 pub returns-clause-taken : goal.returns-clause-taken
@@ -64,6 +61,4 @@ returns-clause-taken g c =
 pub returns-in_err-next_line-clause-input : goal.returns-in_err-next_line-clause-input
 returns-in_err-next_line-clause-input g c =
     let p = err_from_is_err_and c.from_residual-in_err-next_line.result c.from_residual-in_err-next_line.ensures.1 in
-    let e = c.in_err-next_line.ensures in
-    let i = c.loop-watch.invariant in
-    rw (p.1, p.2) (λ none. stays_on (g.S.Source.input c.args.source.now) _ _ i.reading.input (e.input none))
+    rw (p.1, p.2) (λ none. stays_on (g.S.Source.input c.args.source.now) _ _ c.loop-watch.invariant.reading.input (c.in_err-next_line.ensures.input none))

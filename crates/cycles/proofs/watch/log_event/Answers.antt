@@ -1,4 +1,4 @@
-use Rattle.std.proofs.Common.{sym, subst, Ok}
+use Rattle.std.proofs.Common.{sym, subst}
 use Rattle.player.specs.Player.{HasBudget}
 use Rattle.cycles.specs.Watching.{LineLogged}
 use Rattle.cycles.proofs.Lining.{skip_logged}

@@ -1,8 +1,8 @@
-use Rattle.std.proofs.Common.{◌≡◌, ◌≤◌, ◌+◌, ◌-◌, ◌*◌, ◌/◌, ◌++◌, suc, refl, ap, sym, ◌∙◌, arith, mul-le-mul_right}
+use Rattle.std.proofs.Common.{◌≡◌, ◌≤◌, ◌+◌, ◌-◌, ◌/◌, suc, refl, ap, arith, mul-le-mul_right}
 use Rattle.std.proofs.Math.Nat.{div-mul-le_self}
-use Rattle.drawing.specs.Axes.{step_of, axis_number, numbers_from}
+use Rattle.drawing.specs.Axes.{step_of, numbers_from}
 use Rattle.drawing.proofs.Parts.{at_err, none_yet, further, cut_short, all_of}
-use Rattle.drawing.proofs.Samples.{numbers_on}
+use Rattle.drawing.proofs.Samples.{numbers_by}
 use Rattle.drawing.proofs.axis.write_axis.Goals as goal
 
 pub overflow_mul-place : goal.overflow_mul-place
@@ -16,21 +16,15 @@ loop-place-init g c = record { left = c.args.greatest / step_of c.args.greatest 
 pub returns-in_err-write_elements-clause-err : goal.returns-in_err-write_elements-clause-err
 returns-in_err-write_elements-clause-err g c =
     let i = c.loop-place.invariant in
-    let greatest = c.args.greatest in
-    let end = ap (λ s. greatest / s) c.step-step.ensures.step in
-    let some : i.left ≡ suc (i.left - 1) = omega (arith, i.count, end, c.loop-place-test.true) in
-    let here = c.number.ensures ∙ ap (λ s. axis_number c.args.axis greatest (c.loop-place.place * s)) c.step-step.ensures.step in
-    let on = numbers_on c.args.axis greatest i.left (i.left - 1) c.loop-place.place some ∙ ap (λ xs. xs ++ numbers_from c.args.axis greatest (c.loop-place.place + 1) (i.left - 1)) (sym here) in
+    let some : i.left ≡ suc (i.left - 1) = omega (arith, i.count, ap (λ s. c.args.greatest / s) c.step-step.ensures.step, c.loop-place-test.true) in
+    let on = numbers_by c.args.axis c.args.greatest i.left c.loop-place.place _ _ some c.step-step.ensures.step c.number.ensures in
     at_err c.from_residual.result _ (cut_short _ _ _ _ i.written _ _ on _ c.in_err-write_elements.ensures.err)
 
 pub loop-place-preserved : goal.loop-place-preserved
 loop-place-preserved g c =
     let i = c.loop-place.invariant in
-    let greatest = c.args.greatest in
-    let end = ap (λ s. greatest / s) c.step-step.ensures.step in
-    let some : i.left ≡ suc (i.left - 1) = omega (arith, i.count, end, c.loop-place-test.true) in
-    let here = c.number.ensures ∙ ap (λ s. axis_number c.args.axis greatest (c.loop-place.place * s)) c.step-step.ensures.step in
-    let on = numbers_on c.args.axis greatest i.left (i.left - 1) c.loop-place.place some ∙ ap (λ xs. xs ++ numbers_from c.args.axis greatest (c.loop-place.place + 1) (i.left - 1)) (sym here) in
+    let some : i.left ≡ suc (i.left - 1) = omega (arith, i.count, ap (λ s. c.args.greatest / s) c.step-step.ensures.step, c.loop-place-test.true) in
+    let on = numbers_by c.args.axis c.args.greatest i.left c.loop-place.place _ _ some c.step-step.ensures.step c.number.ensures in
     record {
       left = i.left - 1;
       count = omega (arith, i.count, some);
@@ -48,10 +42,7 @@ returns-clause-ok g c =
 pub returns-in_ok-write_elements-clause-ok : goal.returns-in_ok-write_elements-clause-ok
 returns-in_ok-write_elements-clause-ok g c =
     let i = c.loop-place.invariant in
-    let greatest = c.args.greatest in
-    let end = ap (λ s. greatest / s) c.step-step.ensures.step in
-    let some : i.left ≡ suc (i.left - 1) = omega (arith, i.count, end, c.loop-place-test.true) in
-    let here = c.number.ensures ∙ ap (λ s. axis_number c.args.axis greatest (c.loop-place.place * s)) c.step-step.ensures.step in
-    let on = numbers_on c.args.axis greatest i.left (i.left - 1) c.loop-place.place some ∙ ap (λ xs. xs ++ numbers_from c.args.axis greatest (c.loop-place.place + 1) (i.left - 1)) (sym here) in
-    let last : i.left - 1 ≡ 0 = omega (arith, i.count, end) in
-    all_of _ _ _ _ (further _ _ _ _ i.written _ _ on _ c.in_ok-write_elements.ensures.ok) (ap (numbers_from c.args.axis greatest (c.loop-place.place + 1)) last)
+    let some : i.left ≡ suc (i.left - 1) = omega (arith, i.count, ap (λ s. c.args.greatest / s) c.step-step.ensures.step, c.loop-place-test.true) in
+    let on = numbers_by c.args.axis c.args.greatest i.left c.loop-place.place _ _ some c.step-step.ensures.step c.number.ensures in
+    let last : i.left - 1 ≡ 0 = omega (arith, i.count, ap (λ s. c.args.greatest / s) c.step-step.ensures.step) in
+    all_of _ _ _ _ (further _ _ _ _ i.written _ _ on _ c.in_ok-write_elements.ensures.ok) (ap (numbers_from c.args.axis c.args.greatest (c.loop-place.place + 1)) last)

@@ -1,4 +1,4 @@
-use Rattle.std.proofs.Common.{◌≡◌, List, ℕ, ◌++◌, take, codes, ap, ◌∙◌, append_assoc}
+use Rattle.std.proofs.Common.{◌++◌, take, codes, ap, ◌∙◌, append_assoc}
 use Rattle.drawing.specs.Elements.{anchor_name}
 use Rattle.drawing.proofs.element.put_anchor.Goals as goal
 

@@ -1,6 +1,6 @@
 use Rattle.std.proofs.Common.{[], sym, refl, append-nil}
 use Rattle.std.proofs.lemmas.Result.{on_err_weaker, on_ok_weaker}
-use Rattle.drawing.specs.PageMap.{row_number, page_square}
+use Rattle.drawing.specs.PageMap.{page_square}
 use Rattle.drawing.proofs.Parts.{at_err, none_yet, further, cut_short, all_of}
 use Rattle.drawing.proofs.SquareLemmas.{square_is}
 use Rattle.drawing.proofs.page_map.write_square.Goals as goal

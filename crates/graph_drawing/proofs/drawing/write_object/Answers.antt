@@ -14,15 +14,13 @@ returns-in_err-write_statement-clause-err g c =
 pub returns-clause-ok : goal.returns-clause-ok
 returns-clause-ok g c =
     let shown = shown_of c.args.most c.args.search.now.found in
-    let is = object_is c.args.graph.now shown c.args.id c.shape.result c.refs.result.now c.shape.ensures c.refs.ensures in
-    let one = further _ _ _ _ (none_yet _ _) _ _ is _ c.in_ok-write_statement.ensures.ok in
+    let one = further _ _ _ _ (none_yet _ _) _ _ (object_is c.args.graph.now shown c.args.id c.shape.result c.refs.result.now c.shape.ensures c.refs.ensures) _ c.in_ok-write_statement.ensures.ok in
     let cells = each_from (cell_drawn shown c.args.id) 0 c.refs.result.now in
     on_ok_weaker c.write_cells.result (λ e. all_of _ _ _ _ (further _ _ _ _ one cells [] (sym (append-nil cells)) _ e) refl) c.write_cells.ensures.ok
 
 pub returns-clause-err : goal.returns-clause-err
 returns-clause-err g c =
     let shown = shown_of c.args.most c.args.search.now.found in
-    let is = object_is c.args.graph.now shown c.args.id c.shape.result c.refs.result.now c.shape.ensures c.refs.ensures in
-    let one = further _ _ _ _ (none_yet _ _) _ _ is _ c.in_ok-write_statement.ensures.ok in
+    let one = further _ _ _ _ (none_yet _ _) _ _ (object_is c.args.graph.now shown c.args.id c.shape.result c.refs.result.now c.shape.ensures c.refs.ensures) _ c.in_ok-write_statement.ensures.ok in
     let cells = each_from (cell_drawn shown c.args.id) 0 c.refs.result.now in
     on_err_weaker c.write_cells.result (cut_short _ _ _ _ one cells [] (sym (append-nil cells)) _) c.write_cells.ensures.err

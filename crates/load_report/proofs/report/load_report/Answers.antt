@@ -1,4 +1,4 @@
-use Rattle.std.proofs.Common.{string_bytes, ◌≡◌, ℕ, List, ◌++◌, ap, ◌∙◌, arith}
+use Rattle.std.proofs.Common.{string_bytes, ◌≡◌, ◌++◌, ap, ◌∙◌, arith}
 use Rattle.arrivals.specs.Fitting.{load_in}
 use Rattle.load_report.specs.Report.{kept_line, live_told, covered_line}
 use Rattle.load_report.proofs.report.load_report.Goals as goal

@@ -25,19 +25,17 @@ loop-sampler-init g c =
 pub returns-in_err-next_line-clause-taken : goal.returns-in_err-next_line-clause-taken
 returns-in_err-next_line-clause-taken g c =
     let p = err_from_is_err_and c.from_residual-in_err-next_line.result c.from_residual-in_err-next_line.ensures.1 in
-    let e = c.in_err-next_line.ensures in
     let i = c.loop-sampler.invariant in
     rw (p.1, p.2) (ends_taken c.args.config.now _ c.in_err-next_line.field-0.0 i.first _
-    (ends_so (ends_without i.done c.next_line.new.self _ _ (Unit {0}) (StopsText Nothing) _ e.hands)) i.fresh)
+    (ends_so (ends_without i.done c.next_line.new.self _ _ (Unit {0}) (StopsText Nothing) _ c.in_err-next_line.ensures.hands)) i.fresh)
 
 pub returns-in_err-is_event-clause-taken : goal.returns-in_err-is_event-clause-taken
 returns-in_err-is_event-clause-taken g c =
     let p = err_from_is_err_and c.from_residual-in_err-is_event.result c.from_residual-in_err-is_event.ensures.1 in
-    let e = c.in_ok-next_line.ensures in
     let i = c.loop-sampler.invariant in
     rw (p.1, p.2) (ends_taken c.args.config.now _ c.in_err-is_event.field-0.0 i.first _
     (ends_so
-    (ends_at i.done c.next_line.new.self _ _ _ e.hands c.if-branch.true _ c.line.ensures (Unit {0}) (StopsText Nothing) _ _ (stage c.play_line.new.player []) c.number.ensures c.in_err-is_event.ensures.played))
+    (ends_at i.done c.next_line.new.self _ _ _ c.in_ok-next_line.ensures.hands c.if-branch.true _ c.line.ensures (Unit {0}) (StopsText Nothing) _ _ (stage c.play_line.new.player []) c.number.ensures c.in_err-is_event.ensures.played))
     i.fresh)
 
 pub event-requires : goal.event-requires

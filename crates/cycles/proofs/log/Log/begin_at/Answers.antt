@@ -1,4 +1,4 @@
-use Rattle.std.proofs.Common.{[], sym, ap, subst, ◌∙◌}
+use Rattle.std.proofs.Common.{sym, ap, subst, ◌∙◌}
 use Rattle.heap_model.specs.Event.{Course}
 use Rattle.cycles.specs.Log.{IsBase}
 use Rattle.cycles.proofs.Stepping.{idles, no_quantum}

@@ -9,7 +9,7 @@ pub returns-in-Some : goal.returns-in-Some
 returns-in-Some c = λ steps s is other turn counted now.
     let closed = c.args.self.now.closed.items in
     let has = subst (IsOpenIn steps s.before closed) c.in-Some.is is in
-    has_more steps s closed c.in-Some.open c.after.result has other (λ i. c.after.ensures has.earlier has.later has.first s has.begun i turn counted now)
+    has_more steps s closed c.in-Some.cycle c.after.result has other (λ i. c.after.ensures has.earlier has.later has.first s has.begun i turn counted now)
 
 pub returns-in-None : goal.returns-in-None
 returns-in-None c = λ steps s is other turn counted now.

@@ -1,8 +1,7 @@
-use Rattle.std.proofs.Common.{true, sym, ap, ◌∙◌, length}
+use Rattle.std.proofs.Common.{sym, ap, ◌∙◌, length}
 use Rattle.heap_model.specs.Event.{Course}
 use Rattle.nodes.specs.Copies.{copies_in}
 use Rattle.cycles.specs.Log.{AreCounted}
-use Rattle.cycles.specs.Steps.{Step, ends_sweep, ends_cycle}
 use Rattle.cycles.proofs.Stepping.{quantum_begins_none}
 use Rattle.cycles.proofs.log.Log.quantum.Goals as goal
 

@@ -1,5 +1,5 @@
 use Rattle.cycles.specs.Steps.{works}
-use Rattle.std.proofs.Common.{◌≡◌, ℕ, ◌∙◌, ◌+◌, ◌-◌, ◌^◌, cond, min, max, refl, sym, ap, arith}
+use Rattle.std.proofs.Common.{◌≡◌, ℕ, ◌∙◌, cond, max, refl, sym, ap, arith}
 use Rattle.heap_model.specs.Event.{Course}
 use Rattle.cycles.proofs.Logging.{open_more}
 use Rattle.cycles.proofs.open.Open.after.Goals as goal

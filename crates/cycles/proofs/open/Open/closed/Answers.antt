@@ -1,4 +1,4 @@
-use Rattle.std.proofs.Common.{◌∙◌, sym, ap}
+use Rattle.std.proofs.Common.{◌∙◌, ap}
 use Rattle.std.specs.Prelude.{option_map}
 use Rattle.cycles.specs.declared.open.End.{End}
 use Rattle.cycles.proofs.open.Open.closed.Goals as goal

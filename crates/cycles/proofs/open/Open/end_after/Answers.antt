@@ -1,6 +1,5 @@
 use Rattle.std.proofs.Common.{◌∙◌, sym, ap, ℕ}
 use Rattle.heap_model.specs.State.{HeapState}
-use Rattle.nodes.specs.Copies.{copies_in}
 use Rattle.nodes.specs.declared.nodes.counting.Copies.{Copies}
 use Rattle.cycles.specs.declared.open.End.{End}
 use Rattle.cycles.proofs.Stepping.{end_some, end_none, end_now, begins_on}

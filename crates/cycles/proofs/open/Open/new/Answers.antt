@@ -1,4 +1,4 @@
-use Rattle.std.proofs.Common.{[], length, refl, sym, ap, ◌∙◌}
+use Rattle.std.proofs.Common.{length, refl, sym, ap, ◌∙◌}
 use Rattle.heap_model.specs.Event.{Course}
 use Rattle.heap_model.specs.Pages.{free_pages}
 use Rattle.cycles.proofs.open.Open.new.Goals as goal

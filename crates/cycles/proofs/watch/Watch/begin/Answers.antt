@@ -1,6 +1,4 @@
-use Rattle.std.proofs.Common.{◌≡◌, true, refl, sym, ap, subst, ◌∙◌}
-use Rattle.heap_model.specs.declared.phase.Phase.{Phase}
-use Rattle.heap_model.specs.Event.{Course}
+use Rattle.std.proofs.Common.{refl, sym, ap, ◌∙◌}
 use Rattle.space.specs.Pace.{in_cycle}
 use Rattle.space.proofs.Pacing.{idle_phase}
 use Rattle.cycles.proofs.Lining.{begin_logs, on_logs, is_on}

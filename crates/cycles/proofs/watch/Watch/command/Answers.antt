@@ -1,4 +1,4 @@
-use Rattle.std.proofs.Common.{◌∷◌, [], refl}
+use Rattle.std.proofs.Common.{refl}
 use Rattle.cycles.proofs.Lining.{command_logs}
 use Rattle.cycles.proofs.watch.Watch.command.Goals as goal
 

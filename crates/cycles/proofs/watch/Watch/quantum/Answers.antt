@@ -1,6 +1,5 @@
-use Rattle.std.proofs.Common.{◌∙◌, sym, ap, subst}
+use Rattle.std.proofs.Common.{◌∙◌, sym, subst}
 use Rattle.heap_model.specs.Event.{Course}
-use Rattle.heap_model.specs.State.{HeapState}
 use Rattle.cycles.specs.Log.{IsMark}
 use Rattle.cycles.proofs.Lining.{quantum_logs}
 use Rattle.cycles.proofs.watch.Watch.quantum.Goals as goal

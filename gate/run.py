@@ -18,10 +18,10 @@ FOLDER = "wrong-bodies"
 
 
 class Run:
-    """The edits of some crates, and what was found of them so far."""
+    """The edits of some crates, what was found of them so far, and the run that proves the crates beside it, if there is one."""
 
-    def __init__(self, crates, anew):
-        self.kept = Kept(anew)
+    def __init__(self, crates, anew, proving=None):
+        self.kept, self.proving = Kept(anew), proving
         self.edits = {it.name: edits.edits_of(it, FOLDER) for it in crates}
         self.found, self.checks, self.seconds, self.unproved = {}, Counter(), Counter(), set()
         self.telling = threading.Lock()
@@ -51,7 +51,7 @@ class Run:
         os.makedirs(f"{crate.folder}/out", exist_ok=True)
         with tempfile.TemporaryFile("a+", errors="replace") as crate.out:
             flags = ["--jobs", str(threads)]
-            status = crate.build_rlib(flags, anew=False) if crate.makes_rlib() else 0
+            status = crate.build_rlib(flags, anew=False) if crate.makes_rlib() and not self.proving else 0
             if not status and planned and not crate.has_kept():
                 # (one that the prover knows by another name is found in a whole check)
                 status = crate.check([*flags, *asked(crate, planned)]) and crate.check(flags)
@@ -72,6 +72,12 @@ class Run:
         self.unproved.add(crate.name)
         for edit in left:
             self.tell(edit, verdicts.NOT_TRIED, f"{lacking[0] if lacking else crate.name} isn't proved")
+        return []
+
+    def take(self, crate):
+        """Takes a crate's library from the run that proves it."""
+        if not self.proving.gives(crate):
+            self.unproved.add(crate.name)
         return []
 
     def task(self, crate, trial):
@@ -104,6 +110,16 @@ def asked(crate, planned):
     return [word for it in sorted(paths | set(functions.unturned(crate, paths))) for word in ("--only", it)]
 
 
+def tasks_beside(run, crates):
+    """The tasks that prove the crates which have edits to try, over libraries that come from the run beside this one."""
+    left = {it: them for it in crates if (them := run.left(it))}
+    tasks = [lanes.Task((), lambda _, it=it: run.take(it), it.name, is_idle=True) for it in {below for it in left for below in it.below()}]
+    for crate, them in left.items():
+        call = lambda threads, it=crate, them=them: run.prove(it, them, threads)
+        tasks.append(lanes.Task((0, -crate.count(rb"\n")), call, f"{crate.name}'s edits", {it.name for it in crate.below()}))
+    return tasks
+
+
 def tasks_of(run, crates):
     """The tasks that prove the crates which have edits to try, and those below them whose library isn't built: first what most
     others wait for."""
@@ -122,21 +138,21 @@ def tasks_of(run, crates):
     return tasks
 
 
-def made(crates, jobs, anew):
+def made(crates, jobs, anew, proving=None):
     """The run of all edits of these crates."""
-    run = Run(crates, anew)
+    run = Run(crates, anew, proving)
     held = rt.rtlib.lock({below for it in crates for below in [it, *it.below()]})
     try:
-        lanes.run(tasks_of(run, crates), jobs)
+        lanes.run((tasks_beside if proving else tasks_of)(run, crates), jobs)
     finally:
         for it in held:
             os.close(it)
     return run
 
 
-def tried(crates, jobs, anew, as_rt_ci=False):
+def tried(crates, jobs, anew, as_rt_ci=False, proving=None):
     """How many edits of these crates were refused, and how many weren't; it says which."""
-    run = made(crates, jobs, anew)
+    run = made(crates, jobs, anew, proving)
     for crate in crates:
         if run.checks[crate.name]:
             print(f"{crate.name}: {len(run.edits[crate.name])} edits, {run.checks[crate.name]} checks, {run.seconds[crate.name]:.0f} s")

@@ -10,7 +10,7 @@ import verdicts
 from kit import rt
 
 # How many bodies are turned at once, at most: more would leave threads without work at a run's end.
-MOST = 10
+MOST = 16
 
 # What `rt` writes before why an edit came to what it did.
 LABEL = re.compile(r"^must-fail \S+: (?:refused, as it must be|NOT REFUSED|BAD EDIT|NOT TRIED)[: ]*")

@@ -1,4 +1,6 @@
 """The edits of a crate: files that say which texts are to be turned into which."""
+import difflib
+import itertools
 import os
 import re
 from dataclasses import dataclass, field
@@ -26,12 +28,20 @@ class Edit:
         return f"{self.crate.name}/{os.path.basename(self.file).removesuffix('.edit')}"
 
 
-def changed(path, was, now):
-    """What of a file is changed: the path, where that begins and ends, and what stands there in its place."""
+def place(path, at, was, now):
+    """What of some lines is changed that begin at a place: the path, where that begins and ends, and what stands there then."""
     most = min(len(was), len(now))
-    start = next((at for at in range(most) if was[at] != now[at]), most)
-    behind = next((at for at in range(most - start) if was[-1 - at] != now[-1 - at]), most - start)
-    return path, start, len(was) - behind, now[start : len(now) - behind]
+    start = next((it for it in range(most) if was[it] != now[it]), most)
+    behind = next((it for it in range(most - start) if was[-1 - it] != now[-1 - it]), most - start)
+    return path, at + start, at + len(was) - behind, now[start : len(now) - behind]
+
+
+def changed(path, was, now):
+    """The places of a file that are changed."""
+    old, new = was.splitlines(True), now.splitlines(True)
+    starts = [0, *itertools.accumulate(map(len, old))]
+    runs = difflib.SequenceMatcher(None, old, new, autojunk=False).get_opcodes()
+    return [place(path, starts[a], "".join(old[a:b]), "".join(new[c:d])) for tag, a, b, c, d in runs if tag != "equal"]
 
 
 def read(crate, file):
@@ -47,7 +57,7 @@ def read(crate, file):
     edit.texts = texts
     for path, now in texts.items():
         with open(f"{crate.folder}/{path}", encoding="utf-8") as opened:
-            edit.places.append(changed(path, opened.read(), now))
+            edit.places += changed(path, opened.read(), now)
     return edit
 
 

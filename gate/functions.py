@@ -110,11 +110,12 @@ def functions_of_file(crate, path):
 
 
 def turned_by(edit):
-    """The path of the one function whose body an edit turns, where it turns nothing else; else None."""
-    if len(edit.places) != 1 or not edit.places[0][0].startswith("src/"):
-        return None
-    path, start, end, _ = edit.places[0]
-    return next((it.path for it in functions_of_file(edit.crate, path) if it.body < start and end < it.end), None)
+    """The paths of the functions whose bodies an edit turns, where it turns nothing else; else none."""
+    found = []
+    for path, start, end, _ in edit.places:
+        here = functions_of_file(edit.crate, path) if path.startswith("src/") else []
+        found.append(next((it.path for it in here if it.body < start and end < it.end), None))
+    return () if None in found else tuple(dict.fromkeys(found))
 
 
 def unturned(crate, turned):

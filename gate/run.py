@@ -66,7 +66,9 @@ class Run:
     def prove(self, crate, left, threads):
         """Proves a crate, and gives the trials of its edits."""
         lacking = [it.name for it in crate.below() if it.name in self.unproved]
-        planned = trials.planned(crate, left)
+        planned = trials.planned(crate, left, self.proving and not crate.has_kept())
+        if not lacking and planned and planned[0].leads:
+            return self.make(crate, planned[0], threads) + [self.task(crate, it) for it in planned[1:]]
         if not lacking and self.proved(crate, planned, threads):
             return [self.task(crate, it) for it in planned]
         self.unproved.add(crate.name)
@@ -84,10 +86,10 @@ class Run:
         """The task that makes a trial: the slowest crates come first."""
         return lanes.Task((1, -crate.count(rb"\n")), lambda _: self.make(crate, trial))
 
-    def make(self, crate, trial):
+    def make(self, crate, trial, threads=1):
         """Makes a trial, and gives those that are to follow it."""
         began = time.time()
-        results, again, wrong = trials.tried(trial)
+        results, again, wrong = trials.tried(trial, threads)
         with self.telling:
             self.checks[crate.name] += 1
             self.seconds[crate.name] += time.time() - began
@@ -104,9 +106,9 @@ class Run:
 
 def asked(crate, planned):
     """The flags that ask for just the functions of which trials ask; none where one asks for the whole crate."""
-    paths = {it for trial in planned for it in trial.paths}
-    if None in paths:
+    if any(it.is_whole for it in planned):
         return []
+    paths = {it for trial in planned for it in trial.asked}
     return [word for it in sorted(paths | set(functions.unturned(crate, paths))) for word in ("--only", it)]
 
 
@@ -116,7 +118,8 @@ def tasks_beside(run, crates):
     tasks = [lanes.Task((), lambda _, it=it: run.take(it), it.name, is_idle=True) for it in {below for it in left for below in it.below()}]
     for crate, them in left.items():
         call = lambda threads, it=crate, them=them: run.prove(it, them, threads)
-        tasks.append(lanes.Task((0, -crate.count(rb"\n")), call, f"{crate.name}'s edits", {it.name for it in crate.below()}))
+        # (a static library comes last: where another run builds it meanwhile, its work is taken)
+        tasks.append(lanes.Task((0, crate.is_static, -crate.count(rb"\n")), call, f"{crate.name}'s edits", {it.name for it in crate.below()}))
     return tasks
 
 

@@ -3,6 +3,7 @@ import os
 import tempfile
 
 import edits
+import functions
 import kept
 import run
 import trials
@@ -122,8 +123,20 @@ def judged(found):
 def guards(crate):
     """Whether a trial is thrown away in which a function is wrong that it isn't said to turn."""
     edit = edits.read(crate, f"{crate.folder}/{run.FOLDER}/adds_two.edit")
-    results, _, wrong = trials.tried(trials.Trial(crate, [edit], ["both"]))
+    results, _, wrong = trials.tried(trials.Trial(crate, [edit], [("both",)]))
     return not results and wrong == ["told::more"]
+
+
+def leads(crate, jobs):
+    """Whether a trial that leads, over nothing, refuses what it must and no more, and leaves what the next one begins with."""
+    kinds = {f"told/{name}": kind for name, *_, kind in CASES}
+    bodies = [it for it in edits.edits_of(crate, run.FOLDER) if functions.turned_by(it)]
+    wanted = {kind: {it.name for it in bodies if kinds[it.name] == kind} for kind in (verdicts.REFUSED, verdicts.NOT_REFUSED)}
+    planned = trials.planned(crate, [it for it in bodies if any(it.name in them for them in wanted.values())], begins=True)
+    found = [trials.tried(it, jobs) for it in planned]
+    refused = {it.edit.name for results, _, _ in found for it in results}
+    again = {it.name for _, them, _ in found for trial in them for it in trial.edits}
+    return planned[0].leads and (refused, again) == tuple(wanted.values()) and not any(wrong for *_, wrong in found)
 
 
 def passed(jobs):
@@ -134,6 +147,8 @@ def passed(jobs):
         found = run.made([crate], jobs, anew=False).found
         good = judged(found)
         good.append(guards(crate))
+        with tempfile.TemporaryDirectory(prefix="wrong-bodies-") as other:
+            good.append(leads(crate_in(other), jobs))
         left = {it.name for it in run.Run([crate], anew=False).left(crate)}
         good.append(left == {it for it, (kind, _) in found.items() if kind != verdicts.REFUSED and it != "told/is_nowhere"})
     return good.count(True), good.count(False)

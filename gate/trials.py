@@ -1,5 +1,6 @@
 """The trials: bodies of several functions turned at once in a copy of their crate, or one edit by itself."""
 import itertools
+import os
 import re
 import signal
 import tempfile
@@ -21,11 +22,23 @@ REJECTED = re.compile(r"^(?:\./)?(src/\S+?):(\d+):\d+: error\[", re.M)
 
 @dataclass
 class Trial:
-    """Some edits of a crate, each with the path of the function that it turns; one alone may turn anything."""
+    """Some edits of a crate, each with the paths of the functions that it turns; one alone, with none, may turn anything. One that
+    leads is made over nothing, and leaves the work that the others begin with."""
 
     crate: object
     edits: list
     paths: list
+    leads: bool = False
+
+    @property
+    def is_whole(self):
+        """Whether it takes a check of the whole crate."""
+        return self.paths == [()]
+
+    @property
+    def asked(self):
+        """The paths of all functions that it turns."""
+        return [it for paths in self.paths for it in paths]
 
 
 @dataclass
@@ -37,21 +50,28 @@ class Result:
     why: str
 
 
-def planned(crate, edits):
-    """The trials of a crate's edits: no two bodies of one function at once, and what is no function's body alone."""
-    by_path, alone = {}, []
-    for edit in edits:
-        path = functions.turned_by(edit)
-        if path:
-            by_path.setdefault(path, []).append(edit)
-        else:
-            alone.append(Trial(crate, [edit], [None]))
+def rounds(pairs):
+    """Edits with the paths that they turn, in rounds in which no function is turned twice."""
+    found = []
+    for edit, paths in pairs:
+        free = next((it for it in found if not any(set(paths) & set(taken) for _, taken in it)), None)
+        if free is None:
+            found.append(free := [])
+        free.append((edit, paths))
+    return found
+
+
+def planned(crate, edits, begins=False):
+    """The trials of a crate's edits: no two bodies of one function at once, and what is no function's body alone. Where all are
+    bodies, and nothing is proved that they begin with, the first trial leads, with as many as there are."""
+    pairs = [(it, functions.turned_by(it)) for it in edits]
+    alone = [Trial(crate, [it], [()]) for it, paths in pairs if not paths]
     trials = []
-    for number in range(max(map(len, by_path.values()), default=0)):
-        turn = [(path, them[number]) for path, them in by_path.items() if number < len(them)]
-        size = -(-len(turn) // -(-len(turn) // MOST))
-        for at in range(0, len(turn), size):
-            trials.append(Trial(crate, [it for _, it in turn[at : at + size]], [it for it, _ in turn[at : at + size]]))
+    for number, them in enumerate(rounds([it for it in pairs if it[1]])):
+        leads = begins and not alone and not number
+        size = len(them) if leads else -(-len(them) // -(-len(them) // MOST))
+        for at in range(0, len(them), size):
+            trials.append(Trial(crate, *map(list, zip(*them[at : at + size])), leads))
     return trials + alone
 
 
@@ -74,11 +94,19 @@ def over_kept(crate, call):
         return call(f"{room}/kept")
 
 
-def ask(trial, asked):
+def over_nothing(crate, call):
+    """What a call gives that gets the folder in which the work is left that others begin with."""
+    folder = f"{crate.folder}/out/incremental"
+    os.makedirs(folder, exist_ok=True)
+    return call(folder)
+
+
+def ask(trial, asked, threads):
     """What the prover says of some functions of the crate with all of a trial's edits."""
-    flags = ["--jobs", "1", *[word for it in asked for word in ("--only", it)]]
+    flags = ["--jobs", str(threads), *[word for it in asked for word in ("--only", it)]]
+    over = over_nothing if trial.leads else over_kept
     for _ in range(2):
-        ran = over_kept(trial.crate, lambda kept: rt.checked(trial.crate, turned(trial), flags, kept))
+        ran = over(trial.crate, lambda kept: rt.checked(trial.crate, turned(trial), flags, kept))
         # (killed, most likely for memory)
         if ran.returncode != -signal.SIGKILL:
             break
@@ -97,20 +125,21 @@ def whole(trial):
 
 
 def lines_of(edit):
-    """The lines that an edit changes: the file's path, and the first and the last one's number."""
-    path, start, end, _ = edit.places[0]
-    with open(f"{edit.crate.folder}/{path}", encoding="utf-8") as file:
-        text = file.read()
-    return path, text.count("\n", 0, start) + 1, text.count("\n", 0, end) + 1
+    """The lines that an edit changes: for each place, the file's path, and the first and the last one's number."""
+    found = []
+    for path, start, end, _ in edit.places:
+        with open(f"{edit.crate.folder}/{path}", encoding="utf-8") as file:
+            text = file.read()
+        found.append((path, text.count("\n", 0, start) + 1, text.count("\n", 0, end) + 1))
+    return found
 
 
 def parted(trial, said):
     """A trial that came to no verdict, in parts: apart from what the compiler rejects, or in halves; a single edit by itself."""
     if len(trial.edits) == 1:
-        return [Trial(trial.crate, trial.edits, [None])]
+        return [Trial(trial.crate, trial.edits, [()])]
     rejected = [(path, int(line)) for path, line in REJECTED.findall(said)]
-    lines = [lines_of(it) for it in trial.edits]
-    bad = [any(path == file and first <= line <= last for file, line in rejected) for path, first, last in lines]
+    bad = [any(path == file and first <= line <= last for path, first, last in lines_of(it) for file, line in rejected) for it in trial.edits]
     if not any(bad) or all(bad):
         bad = [at < len(bad) // 2 for at in range(len(bad))]
     both = [[pair for pair, it in zip(zip(trial.edits, trial.paths), bad) if it == part] for part in (True, False)]
@@ -123,25 +152,24 @@ def first_fault(said):
     return next((it for it in lines if "error" in it), lines[-1])[:160]
 
 
-def tried(trial):
+def tried(trial, threads=1):
     """What a trial's edits came to, those that are to be tried again, and the unturned functions that aren't proved."""
-    if trial.paths == [None]:
+    if trial.is_whole:
         return [whole(trial)], [], []
-    asked = functions.unturned(trial.crate, trial.paths)
-    said = ask(trial, [*trial.paths, *asked])
+    said = ask(trial, [*trial.asked, *functions.unturned(trial.crate, trial.asked)], threads)
     told = verdicts.told(said)
-    others = {name: it for name, it in told.items() if not any(verdicts.is_within(name, path) for path in trial.paths)}
+    others = {name: it for name, it in told.items() if not any(verdicts.is_within(name, path) for path in trial.asked)}
     wrong = [name for name, it in others.items() if it.fails_by_itself]
     if wrong or not verdicts.ended(said) or all(it.state != "proved" for it in others.values()):
         print(f"{trial.crate.name}: {len(trial.edits)} at once came to no verdict: {first_fault(said)}", flush=True)
         return [], parted(trial, said), wrong
     results, again = [], []
-    for edit, path in zip(trial.edits, trial.paths):
-        kind, why = verdicts.verdict(path, told)
+    for edit, paths in zip(trial.edits, trial.paths):
+        kind, why = verdicts.verdict(paths, told)
         if kind == verdicts.REFUSED or kind == verdicts.NAMES and len(trial.edits) == 1:
             results.append(Result(edit, kind, why))
         elif kind == verdicts.NOT_REFUSED or len(trial.edits) == 1:
-            again.append(Trial(trial.crate, [edit], [None]))
+            again.append(Trial(trial.crate, [edit], [()]))
         else:
-            again.append(Trial(trial.crate, [edit], [path]))
+            again.append(Trial(trial.crate, [edit], [paths]))
     return results, again, []

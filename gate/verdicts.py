@@ -83,9 +83,9 @@ def clauses(goals):
     return ", ".join(dict.fromkeys(in_words(it) for it in goals))
 
 
-def verdict(path, functions):
-    """What a run says of the edit that turned the function with this path, and which goals went unproved."""
-    said = [it for name, it in functions.items() if is_within(name, path)]
+def verdict(paths, functions):
+    """What a run says of the edit that turned the functions with these paths, and which goals went unproved."""
+    said = [it for name, it in functions.items() if any(is_within(name, path) for path in paths)]
     left = [goal for it in said for goal in it.left]
     went = [goal for it in said for goal in it.went]
     if not said:

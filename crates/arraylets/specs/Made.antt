@@ -7,8 +7,11 @@ use Rattle.heap_model.specs.Store.{Store, Writes, Adds, node_of}
 
 -- A part stands in a block that was free, at an address, and is then written into its cell of the spine
 -- that refers to it. Spine p stands at the address `spines p`.
-pub record MakesPart (old : Store) (shape : Shape) (colour : Bool) (id : ℕ) (spines : ℕ → ℕ) (part address : ℕ) (new : Store) : Type 0 where
+pub record MakesPart (old : Store) (shape : Shape) (colour : Bool) (id : ℕ) (spines : ℕ → ℕ) (part address : ℕ)
+    (new : Store) : Type 0 where
   pub between : Store
   pub added : Adds old between address (new_node address (record { shape = shape; part = part; colour = colour }) id)
   pub root : part ≡ 0 → new ≡ between
-  pub written : 0 < part → Writes between new (spines (holder_of (cells_of shape) part)) (with_cell (node_of between (spines (holder_of (cells_of shape) part))) (seat_of (cells_of shape) part) (address + 1))
+  pub written : 0 < part → Writes between new (spines (holder_of (cells_of shape) part))
+      (with_cell (node_of between (spines (holder_of (cells_of shape) part))) (seat_of (cells_of shape) part)
+      (address + 1))

@@ -12,12 +12,18 @@ use Rattle.arraylets.specs.declared.place.Place.{Place}
 abbrev pub ref_place : Shape → ℕ → Result Place Refusal
 ref_place shape i =
     if takes_refs shape
-    then (if nat_lt i (ref_cells shape) then Ok (record { part = part_in (cells_of shape) i; cell = column_in i }) else Err refusals.BadIndex)
+    then (if nat_lt i (ref_cells shape) then Ok (record { part = part_in (cells_of shape) i; cell = column_in i })
+    else Err refusals.BadIndex)
     else Err refusals.WrongKind
 
 -- word cell i: in its part, after the references
 abbrev pub word_place : Shape → ℕ → Result Place Refusal
 word_place shape i =
     if takes_words shape
-    then (if nat_lt i (word_cells shape) then Ok (record { part = part_in (cells_of shape) i; cell = width_in (ref_cells shape) (word_cells shape) (part_in (cells_of shape) i) + column_in i }) else Err refusals.BadIndex)
+    then (if nat_lt i (word_cells shape)
+    then Ok (record {
+      part = part_in (cells_of shape) i;
+      cell = width_in (ref_cells shape) (word_cells shape) (part_in (cells_of shape) i) + column_in i;
+    })
+    else Err refusals.BadIndex)
     else Err refusals.WrongKind

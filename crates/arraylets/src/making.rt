@@ -38,9 +38,12 @@ fn make_part(
     requires parts { parts.now ≡ cells_of shape }
     requires part { part < parts_in (cells_of shape) }
     requires room { has_room nodes.old.pages (needed_from (cells_of shape) part (parts_in (cells_of shape))) ≡ true }
-    ensures made { Adds nodes.old nodes.new result (new_node result (record { shape = shape; part = part; colour = colour }) identity) }
-    ensures taken { (class : ℕ) × (index : ℕ) × (class_for (part_words (cells_of shape) part) ≡ Some class) × TakesBlock nodes.old.pages class (result / 2048) index nodes.new.pages }
-    ensures room { has_room nodes.new.pages (needed_from (cells_of shape) (part + 1) (parts_in (cells_of shape))) ≡ true }
+    ensures made { Adds nodes.old nodes.new result
+        (new_node result (record { shape = shape; part = part; colour = colour }) identity) }
+    ensures taken { (class : ℕ) × (index : ℕ) × (class_for (part_words (cells_of shape) part) ≡ Some class)
+        × TakesBlock nodes.old.pages class (result / 2048) index nodes.new.pages }
+    ensures room { has_room nodes.new.pages (needed_from (cells_of shape) (part + 1) (parts_in (cells_of shape)))
+        ≡ true }
     ensures within { result ≤ 8388608 }
     ensures links { KeepsLinks nodes.old nodes.new }
 {
@@ -67,10 +70,14 @@ fn make_linked(
     requires part { part < parts_in (cells_of shape) }
     requires room { has_room nodes.old.pages (needed_from (cells_of shape) part (parts_in (cells_of shape))) ≡ true }
     requires held { 0 < part → is_held nodes.old (slice_index spines.now (holder_of (cells_of shape) part)) ≡ true }
-    requires cells { 0 < part → length (node_of nodes.old (slice_index spines.now (holder_of (cells_of shape) part))).cells ≡ part_cells (cells_of shape) (holder_of (cells_of shape) part) }
+    requires cells { 0 < part → length
+        (node_of nodes.old (slice_index spines.now (holder_of (cells_of shape) part))).cells
+        ≡ part_cells (cells_of shape) (holder_of (cells_of shape) part) }
     ensures made { MakesPart nodes.old shape colour identity (λ p. slice_index spines.now p) part result nodes.new }
-    ensures taken { (class : ℕ) × (index : ℕ) × (class_for (part_words (cells_of shape) part) ≡ Some class) × TakesBlock nodes.old.pages class (result / 2048) index nodes.new.pages }
-    ensures room { has_room nodes.new.pages (needed_from (cells_of shape) (part + 1) (parts_in (cells_of shape))) ≡ true }
+    ensures taken { (class : ℕ) × (index : ℕ) × (class_for (part_words (cells_of shape) part) ≡ Some class)
+        × TakesBlock nodes.old.pages class (result / 2048) index nodes.new.pages }
+    ensures room { has_room nodes.new.pages (needed_from (cells_of shape) (part + 1) (parts_in (cells_of shape)))
+        ≡ true }
     ensures within { result ≤ 8388608 }
     ensures links { KeepsLinks nodes.old nodes.new }
 {
@@ -102,7 +109,8 @@ fn make_parts(nodes: &mut Nodes, shape: Shape, parts: &Parts, colour: bool, iden
     requires fits { fits shape ≡ true }
     requires parts { parts.now ≡ cells_of shape }
     requires room { has_room nodes.old.pages (needed_from (cells_of shape) 0 (parts_in (cells_of shape))) ≡ true }
-    ensures made { (at : ℕ → ℕ) × (at 0 ≡ result) × MakesObject nodes.old shape colour identity at nodes.new × Takes (cells_of shape) at nodes.old.pages (parts_in (cells_of shape)) nodes.new.pages }
+    ensures made { (at : ℕ → ℕ) × (at 0 ≡ result) × MakesObject nodes.old shape colour identity at nodes.new
+        × Takes (cells_of shape) at nodes.old.pages (parts_in (cells_of shape)) nodes.new.pages }
     ensures within { result ≤ 8388608 }
     ensures links { KeepsLinks nodes.old nodes.new }
 {
@@ -120,7 +128,8 @@ fn make_parts(nodes: &mut Nodes, shape: Shape, parts: &Parts, colour: bool, iden
 pub fn new_object(nodes: &mut Nodes, shape: Shape, colour: bool, identity: u64) -> usize
     requires fits { fits shape ≡ true }
     requires room { has_room nodes.old.pages (needed shape) ≡ true }
-    ensures made { (at : ℕ → ℕ) × (at 0 ≡ result) × MakesObject nodes.old shape colour identity at nodes.new × Takes (cells_of shape) at nodes.old.pages (parts_in (cells_of shape)) nodes.new.pages }
+    ensures made { (at : ℕ → ℕ) × (at 0 ≡ result) × MakesObject nodes.old shape colour identity at nodes.new
+        × Takes (cells_of shape) at nodes.old.pages (parts_in (cells_of shape)) nodes.new.pages }
     ensures within { result ≤ 8388608 }
     ensures links { KeepsLinks nodes.old nodes.new }
 {

@@ -179,7 +179,8 @@ fn draw<'a>(alloc: Global, found: &ArgMatches<'a>) -> Result<Job<'a>, WordsFault
     drawing(alloc, config, trace, name, after, found.get_one("most"))
 }
 
-/// What draws the picture of a name. A picture over the events is of all of them, and objects are counted of a graph alone.
+/// What draws the picture of a name. A picture over the events is of all of them, and objects are counted of a graph
+/// alone.
 fn drawing<'a>(
     alloc: Global,
     config: &'a str,

@@ -17,8 +17,8 @@ abbrev pub steps_by : (given : Given) (old new : Stage) → Played Nothing given
 steps_by given old new played =
     steps_along old played.over.lines played.over.version played.over.events played.over.mid played.over.done
 
--- The lines of an input are played on a new player, and these are the cycles of the run; or the fault is that with which
--- playing them ends; or memory was refused.
+-- The lines of an input are played on a new player, and these are the cycles of the run; or the fault is that with
+-- which playing them ends; or memory was refused.
 abbrev pub CyclesTaken : Config → Given → Result Cycles TextFault → Type 0
 CyclesTaken config given (Ok cycles) =
     (old : PlayerState) × (new : Stage) × (played : Played Nothing given (stage old []) new (Ok tt)) × IsNew config old

@@ -11,8 +11,8 @@ use std::alloc::Global;
 use trace::{LineReader, Source, TextFault, Version};
 
 /// Plays the lines of a trace on a new heap of a configuration, one after the other, of which nothing is written, and
-/// answers the cycles of the run, with the figures of each. A fault is that with which playing the trace ends; or memory
-/// was refused, for that or for the cycles.
+/// answers the cycles of the run, with the figures of each. A fault is that with which playing the trace ends; or
+/// memory was refused, for that or for the cycles.
 pub fn take_cycles<S: Source>(
     alloc: Global,
     config: &Config,

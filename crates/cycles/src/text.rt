@@ -89,8 +89,8 @@ fn line(alloc: Global, layout: Layout, cycle: &Cycle) -> Result<String, AllocErr
     Ok(text)
 }
 
-/// The text of cycles: a line that names the figures, and a line for each cycle. A figure that isn't known yet is `-` in
-/// columns, and nothing between commas.
+/// The text of cycles: a line that names the figures, and a line for each cycle. A figure that isn't known yet is `-`
+/// in columns, and nothing between commas.
 pub fn cycles_text(alloc: Global, cycles: &[Cycle], layout: Layout) -> Result<String, AllocError>
     ensures { IfOk result (λ text. string_bytes text ≡ cycles_told layout cycles.now) }
 {

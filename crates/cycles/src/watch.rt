@@ -95,7 +95,8 @@ impl Watch {
         Ok(true)
     }
 
-    /// Lets so many ticks pass: the quanta that are due in them are done and logged, one by one, and then the clock moves.
+    /// Lets so many ticks pass: the quanta that are due in them are done and logged, one by one, and then the clock
+    /// moves.
     fn tick(&mut self, number: u64, ticks: u64) -> Result<(), TickFault>
         ensures { TicksLogged number ticks self.old self.new result }
     {

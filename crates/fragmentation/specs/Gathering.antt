@@ -14,12 +14,14 @@ AreUsed pages place = (k : ℕ) (p : Page) → k < place → page_at pages k ≡
 
 -- a receiving page that has a free block is the first of its class that has one
 abbrev pub ReceivesFirst : List (Option Page) → Type 0
-ReceivesFirst pages = (k j : ℕ) (p q : Page) → page_at pages k ≡ Some p → p.receiving ≡ true → is_usable p.class (Some p) ≡ true → page_at pages j ≡ Some q → is_usable p.class (Some q) ≡ true → k ≤ j
+ReceivesFirst pages = (k j : ℕ) (p q : Page) → page_at pages k ≡ Some p → p.receiving ≡ true
+    → is_usable p.class (Some p) ≡ true → page_at pages j ≡ Some q → is_usable p.class (Some q) ≡ true → k ≤ j
 
--- in a pass: the best page so far may be chosen; and where there is none, no page that was looked at may, or the class is
--- tight
+-- in a pass: the best page so far may be chosen; and where there is none, no page that was looked at may, or the class
+-- is tight
 abbrev pub HasLooked : List (Option Page) → ℕ → ℕ → Option Candidate → Type 0
-HasLooked pages class page None = ((k : ℕ) → k < page → is_choosable class (page_at pages k) ≡ false) ⊎ IsTight pages class
+HasLooked pages class page None = ((k : ℕ) → k < page → is_choosable class (page_at pages k) ≡ false)
+    ⊎ IsTight pages class
 HasLooked pages class page (Some c) = is_choosable class (page_at pages c.page) ≡ true
 
 -- the classes below one are tight
@@ -32,5 +34,7 @@ IsGathering pages count phases.Idle = Unit {0}
 IsGathering pages count (phases.Roots next) = Unit {0}
 IsGathering pages count (phases.Marking part cell) = Unit {0}
 IsGathering pages count (phases.Sweeping page block) = AreUsed pages page
-IsGathering pages count (phases.Moving (moves.Pass class page best chosen)) = AreUsed pages count × ReceivesFirst pages × AreTight pages class × HasLooked pages class page best
-IsGathering pages count (phases.Moving (moves.Emptying class page block chosen)) = AreUsed pages count × ReceivesFirst pages × AreTight pages class
+IsGathering pages count (phases.Moving (moves.Pass class page best chosen)) = AreUsed pages count × ReceivesFirst pages
+    × AreTight pages class × HasLooked pages class page best
+IsGathering pages count (phases.Moving (moves.Emptying class page block chosen)) = AreUsed pages count
+    × ReceivesFirst pages × AreTight pages class

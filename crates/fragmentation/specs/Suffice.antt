@@ -22,7 +22,8 @@ gathered_pages class blocks =
 -- asked for.
 abbrev pub season_pages : Season → (ℕ → ℕ) → ℕ
 season_pages s asked =
-    class_sum (λ class. gathered_pages class (s.before class) + whole_pages class (made_since s.swept s class + asked class))
+    class_sum (λ class. gathered_pages class (s.before class)
+    + whole_pages class (made_since s.swept s class + asked class))
     CLASSES
 
 -- a season and what is asked for take at most so many pages

@@ -32,82 +32,107 @@ ghost use Rattle.fragmentation.specs.Suffice.{GathersAll, WithinPages, WithinBlo
 
 /// A tight class has as few pages that aren't leaving as its held blocks on them need.
 pub fn tight_pages_are_fewest()
-    ensures { (pages : List (Option Page)) (class : ℕ) → class < CLASSES → ArePages pages → IsTight pages class → staying_pages pages class ≡ whole_pages class (main_blocks pages class) }
+    ensures { (pages : List (Option Page)) (class : ℕ) → class < CLASSES → ArePages pages → IsTight pages class
+        → staying_pages pages class ≡ whole_pages class (main_blocks pages class) }
 {}
 
 /// A page is chosen only where as many blocks of its class are free as a page has.
 pub fn chosen_has_a_page_free()
-    ensures { (pages : List (Option Page)) (class : ℕ) (c : Candidate) → ArePages pages → is_chosen pages class (Some c) ≡ true → blocks_in class ≤ free_blocks pages class }
+    ensures { (pages : List (Option Page)) (class : ℕ) (c : Candidate) → ArePages pages
+        → is_chosen pages class (Some c) ≡ true → blocks_in class ≤ free_blocks pages class }
 {}
 
 /// Each action keeps how far a sweep, or moving, has come.
 pub fn actions_gather()
-    ensures { (h after : HeapState) (cost : ℕ) → ArePages h.store.pages → AreClosed h.store.pages h.phase → IsGathering h.store.pages (length h.store.pages) h.phase → Action h cost after → IsGathering after.store.pages (length after.store.pages) after.phase }
+    ensures { (h after : HeapState) (cost : ℕ) → ArePages h.store.pages → AreClosed h.store.pages h.phase
+        → IsGathering h.store.pages (length h.store.pages) h.phase → Action h cost after
+        → IsGathering after.store.pages (length after.store.pages) after.phase }
 {}
 
 /// So does what a command changes.
 pub fn changes_gather()
-    ensures { (h after : HeapState) (g : Graph) (c : Change) → ArePages h.store.pages → IsGathering h.store.pages (length h.store.pages) h.phase → DoesChange h g c after → IsGathering after.store.pages (length after.store.pages) after.phase }
+    ensures { (h after : HeapState) (g : Graph) (c : Change) → ArePages h.store.pages
+        → IsGathering h.store.pages (length h.store.pages) h.phase → DoesChange h g c after
+        → IsGathering after.store.pages (length after.store.pages) after.phase }
 {}
 
 /// A class that is tight stays so but for a sweep, through actions and changes.
 pub fn tight_classes_stay()
-    ensures action { (h after : HeapState) (cost class : ℕ) → ArePages h.store.pages → is_sweeping h.phase ≡ false → Action h cost after → IsTight h.store.pages class → IsTight after.store.pages class }
-    ensures change { (h after : HeapState) (g : Graph) (c : Change) (class : ℕ) → ArePages h.store.pages → DoesChange h g c after → IsTight h.store.pages class → IsTight after.store.pages class }
+    ensures action { (h after : HeapState) (cost class : ℕ) → ArePages h.store.pages → is_sweeping h.phase ≡ false
+        → Action h cost after → IsTight h.store.pages class → IsTight after.store.pages class }
+    ensures change { (h after : HeapState) (g : Graph) (c : Change) (class : ℕ) → ArePages h.store.pages
+        → DoesChange h g c after → IsTight h.store.pages class → IsTight after.store.pages class }
 {}
 
 /// When moving has been over all classes, each is tight.
 pub fn moving_ends_tight()
-    ensures { (h : HeapState) (page chosen : ℕ) (best : Option Candidate) → IsGathering h.store.pages (length h.store.pages) h.phase → h.phase ≡ phases.Moving (moves.Pass CLASSES page best chosen) → AreTight h.store.pages CLASSES }
+    ensures { (h : HeapState) (page chosen : ℕ) (best : Option Candidate)
+        → IsGathering h.store.pages (length h.store.pages) h.phase
+        → h.phase ≡ phases.Moving (moves.Pass CLASSES page best chosen) → AreTight h.store.pages CLASSES }
 {}
 
-/// The space bound for a demand that shifts. In every run of events from an opening heap that moves after each sweep, and
-/// may empty as many pages as it has, no new object is refused for want of space, where at each command there are as many
-/// pages as its season takes: what was needed up to the last sweep's end since the cycle before began, and what was made
-/// since.
+/// The space bound for a demand that shifts. In every run of events from an opening heap that moves after each sweep,
+/// and may empty as many pages as it has, no new object is refused for want of space, where at each command there are
+/// as many pages as its season takes: what was needed up to the last sweep's end since the cycle before began, and what
+/// was made since.
 pub fn moving_suffices()
-    ensures { (h : HeapState) (es : List Event) (new : Course) (live : Lives) → IsOpening h → 0 < length h.store.pages → GathersAll h → Runs (opened h) es new
+    ensures { (h : HeapState) (es : List Event) (new : Course) (live : Lives) → IsOpening h → 0 < length h.store.pages
+        → GathersAll h → Runs (opened h) es new
         → AllKeep (WithinPages (length h.store.pages)) live (opening_season h.limits) es → EveryNewFindsRoom es }
 {}
 
-/// So where live objects take at most so many pages whenever a cycle begins, and what is made from a cycle's beginning to the
-/// end of the next cycle's sweep at most so many more, no new object is refused for want of space on the pages of live
-/// objects, twice those made, and one for each class: whatever the sizes of the objects are, and however these change.
+/// So where live objects take at most so many pages whenever a cycle begins, and what is made from a cycle's beginning
+/// to the end of the next cycle's sweep at most so many more, no new object is refused for want of space on the pages
+/// of live objects, twice those made, and one for each class: whatever the sizes of the objects are, and however these
+/// change.
 pub fn budget_suffices()
-    ensures { (h : HeapState) (es : List Event) (new : Course) (b : Budget) (live : Lives) → IsOpening h → 0 < length h.store.pages → GathersAll h → Runs (opened h) es new
-        → ((n : ℕ) → pages_of (live n) ≤ b.live) → AllKeep (WithinBudget b) live (opening_season h.limits) es → budget_pages b ≤ length h.store.pages → EveryNewFindsRoom es }
+    ensures { (h : HeapState) (es : List Event) (new : Course) (b : Budget) (live : Lives) → IsOpening h
+        → 0 < length h.store.pages → GathersAll h → Runs (opened h) es new
+        → ((n : ℕ) → pages_of (live n) ≤ b.live) → AllKeep (WithinBudget b) live (opening_season h.limits) es
+        → budget_pages b ≤ length h.store.pages → EveryNewFindsRoom es }
 {}
 
-/// The space bound for a demand that is taken together, whatever moves: in every run that keeps, at each command, what was
-/// live when the cycle began whose sweep ended last, with what is made since and asked for, within so many blocks of each
-/// class, no new object is refused for want of space, where there are as many pages as those blocks take.
+/// The space bound for a demand that is taken together, whatever moves: in every run that keeps, at each command, what
+/// was live when the cycle began whose sweep ended last, with what is made since and asked for, within so many blocks
+/// of each class, no new object is refused for want of space, where there are as many pages as those blocks take.
 pub fn joint_suffices()
-    ensures { (h : HeapState) (es : List Event) (new : Course) (blocks : ℕ → ℕ) (live : Lives) → IsOpening h → 0 < length h.store.pages → Runs (opened h) es new
-        → AllKeep (WithinBlocks blocks live) live (opening_season h.limits) es → pages_for blocks (spare_of h) CLASSES ≤ length h.store.pages → EveryNewFindsRoom es }
+    ensures { (h : HeapState) (es : List Event) (new : Course) (blocks : ℕ → ℕ) (live : Lives) → IsOpening h
+        → 0 < length h.store.pages → Runs (opened h) es new
+        → AllKeep (WithinBlocks blocks live) live (opening_season h.limits) es
+        → pages_for blocks (spare_of h) CLASSES ≤ length h.store.pages → EveryNewFindsRoom es }
 {}
 
-/// Nor is one refused where as many pages stay free beside those that the blocks take as moving begins below: then no sweep
-/// is followed by moving, and no page is left sparse.
+/// Nor is one refused where as many pages stay free beside those that the blocks take as moving begins below: then no
+/// sweep is followed by moving, and no page is left sparse.
 pub fn joint_suffices_unmoved()
-    ensures { (h : HeapState) (es : List Event) (new : Course) (blocks : ℕ → ℕ) (live : Lives) → IsOpening h → 0 < length h.store.pages → Runs (opened h) es new
-        → AllKeep (WithinBlocks blocks live) live (opening_season h.limits) es → pages_for blocks 0 CLASSES + below_of h ≤ length h.store.pages → EveryNewFindsRoom es }
+    ensures { (h : HeapState) (es : List Event) (new : Course) (blocks : ℕ → ℕ) (live : Lives) → IsOpening h
+        → 0 < length h.store.pages → Runs (opened h) es new
+        → AllKeep (WithinBlocks blocks live) live (opening_season h.limits) es
+        → pages_for blocks 0 CLASSES + below_of h ≤ length h.store.pages → EveryNewFindsRoom es }
 {}
 
-/// The same with fewer pages, however many a cycle may empty: one page more than its blocks take for each class that has a
-/// page's blocks or more, and as many as a cycle may empty once for all classes.
+/// The same with fewer pages, however many a cycle may empty: one page more than its blocks take for each class that
+/// has a page's blocks or more, and as many as a cycle may empty once for all classes.
 pub fn sparse_suffices()
-    ensures { (h : HeapState) (es : List Event) (new : Course) (blocks : ℕ → ℕ) (live : Lives) → IsOpening h → 0 < length h.store.pages → Runs (opened h) es new
-        → AllKeep (WithinBlocks blocks live) live (opening_season h.limits) es → sparse_pages blocks + spare_of h ≤ length h.store.pages → EveryNewFindsRoom es }
+    ensures { (h : HeapState) (es : List Event) (new : Course) (blocks : ℕ → ℕ) (live : Lives) → IsOpening h
+        → 0 < length h.store.pages → Runs (opened h) es new
+        → AllKeep (WithinBlocks blocks live) live (opening_season h.limits) es
+        → sparse_pages blocks + spare_of h ≤ length h.store.pages → EveryNewFindsRoom es }
 {}
 
-/// In a heap of a configuration no reply of a run is the refusal for want of space: where the run keeps to a demand that is
-/// taken together and fits; where each cycle gathers every class, and the run keeps within the configuration's pages; and
-/// there, where it keeps to a budget for which the configuration has pages.
+/// In a heap of a configuration no reply of a run is the refusal for want of space: where the run keeps to a demand
+/// that is taken together and fits; where each cycle gathers every class, and the run keeps within the configuration's
+/// pages; and there, where it keeps to a budget for which the configuration has pages.
 pub fn configured_pages_suffice()
-    ensures joint { (config : Config) (h : HeapState) (es : List Event) (new : Course) (blocks : ℕ → ℕ) (live : Lives) → 1 ≤ config.pages → IsOpening h → settings_of h ≡ settings_by config → Runs (opened h) es new
-        → AllKeep (WithinBlocks blocks live) live (opening_season h.limits) es → FitsTogether config blocks → AllHaveRoom es }
-    ensures moving { (config : Config) (h : HeapState) (es : List Event) (new : Course) (live : Lives) → 1 ≤ config.pages → IsOpening h → settings_of h ≡ settings_by config → MovesAll config → Runs (opened h) es new
+    ensures joint { (config : Config) (h : HeapState) (es : List Event) (new : Course) (blocks : ℕ → ℕ) (live : Lives)
+        → 1 ≤ config.pages → IsOpening h → settings_of h ≡ settings_by config → Runs (opened h) es new
+        → AllKeep (WithinBlocks blocks live) live (opening_season h.limits) es → FitsTogether config blocks
+        → AllHaveRoom es }
+    ensures moving { (config : Config) (h : HeapState) (es : List Event) (new : Course) (live : Lives)
+        → 1 ≤ config.pages → IsOpening h → settings_of h ≡ settings_by config → MovesAll config → Runs (opened h) es new
         → AllKeep (WithinPages config.pages) live (opening_season h.limits) es → AllHaveRoom es }
-    ensures budget { (config : Config) (h : HeapState) (es : List Event) (new : Course) (b : Budget) (live : Lives) → 1 ≤ config.pages → IsOpening h → settings_of h ≡ settings_by config → MovesAll config → Runs (opened h) es new
-        → ((n : ℕ) → pages_of (live n) ≤ b.live) → AllKeep (WithinBudget b) live (opening_season h.limits) es → budget_pages b ≤ config.pages → AllHaveRoom es }
+    ensures budget { (config : Config) (h : HeapState) (es : List Event) (new : Course) (b : Budget) (live : Lives)
+        → 1 ≤ config.pages → IsOpening h → settings_of h ≡ settings_by config → MovesAll config → Runs (opened h) es new
+        → ((n : ℕ) → pages_of (live n) ≤ b.live) → AllKeep (WithinBudget b) live (opening_season h.limits) es
+        → budget_pages b ≤ config.pages → AllHaveRoom es }
 {}

@@ -38,11 +38,15 @@ object_at objects id = if id == 0 then Err refusals.NullSlot else found (slice_g
 
 -- what a cell of an object holds
 abbrev pub ref_cell : Object → ℕ → Result ℕ Refusal
-ref_cell o i = if takes_refs o.shape then (if nat_lt i (length o.refs) then Ok (slice_index o.refs i) else Err refusals.BadIndex) else Err refusals.WrongKind
+ref_cell o i = if takes_refs o.shape
+    then (if nat_lt i (length o.refs) then Ok (slice_index o.refs i) else Err refusals.BadIndex)
+    else Err refusals.WrongKind
 
 -- what a word cell of an object holds
 abbrev pub word_cell : Object → ℕ → Result ℕ Refusal
-word_cell o i = if takes_words o.shape then (if nat_lt i (length o.words) then Ok (slice_index o.words i) else Err refusals.BadIndex) else Err refusals.WrongKind
+word_cell o i = if takes_words o.shape
+    then (if nat_lt i (length o.words) then Ok (slice_index o.words i) else Err refusals.BadIndex)
+    else Err refusals.WrongKind
 
 -- what a reference cell of the object of an identity holds
 abbrev pub ref_at : List Object → ℕ → ℕ → Result ℕ Refusal
@@ -58,7 +62,8 @@ fitting shape = if fits shape then Ok shape else Err refusals.TooLarge
 
 -- the next identity
 abbrev pub next_identity : Graph → Result ℕ Refusal
-next_identity g = if nat_lt (length g.objects) g.limits.identities then Ok (length g.objects + 1) else Err refusals.IdentitiesSpent
+next_identity g = if nat_lt (length g.objects) g.limits.identities then Ok (length g.objects + 1)
+    else Err refusals.IdentitiesSpent
 
 -- the refusal for want of space, where there is no room
 abbrev pub with_room : Bool → Result Bool Refusal
@@ -88,7 +93,8 @@ deed_of room g m (commands.CompareStore obj i expect new) = do
   e ← slot_at g.limits m expect
   n ← slot_at g.limits m new
   v ← ref_at g.objects (slice_index g.roots a) i
-  if v == slice_index g.roots e then Ok (replies.Stored, changes.Ref (slice_index g.roots a) i (slice_index g.roots n)) else Ok (replies.Kept v, changes.Nothing)
+  if v == slice_index g.roots e then Ok (replies.Stored, changes.Ref (slice_index g.roots a) i (slice_index g.roots n))
+      else Ok (replies.Kept v, changes.Nothing)
 deed_of room g m (commands.Get obj i) = do
   a ← slot_at g.limits m obj
   v ← word_at g.objects (slice_index g.roots a) i
@@ -100,7 +106,8 @@ deed_of room g m (commands.Put obj i word) = do
 deed_of room g m (commands.ComparePut obj i old new) = do
   a ← slot_at g.limits m obj
   v ← word_at g.objects (slice_index g.roots a) i
-  if v == old then Ok (replies.Stored, changes.Word (slice_index g.roots a) i new) else Ok (replies.KeptWord v, changes.Nothing)
+  if v == old then Ok (replies.Stored, changes.Word (slice_index g.roots a) i new)
+      else Ok (replies.KeptWord v, changes.Nothing)
 deed_of room g m (commands.Copy dst src) = do
   d ← slot_at g.limits m dst
   s ← slot_at g.limits m src
@@ -120,7 +127,8 @@ deed_of room g m (commands.CompareStatic k expect new) = do
   e ← slot_at g.limits m expect
   n ← slot_at g.limits m new
   d ← static_at g.limits k
-  if slice_index g.roots d == slice_index g.roots e then Ok (replies.Stored, changes.Root d (slice_index g.roots n)) else Ok (replies.Kept (slice_index g.roots d), changes.Nothing)
+  if slice_index g.roots d == slice_index g.roots e then Ok (replies.Stored, changes.Root d (slice_index g.roots n))
+      else Ok (replies.Kept (slice_index g.roots d), changes.Nothing)
 deed_of room g m (commands.Same a b) = do
   x ← slot_at g.limits m a
   y ← slot_at g.limits m b
@@ -146,7 +154,8 @@ admits false false = Err refusals.NotLive
 
 -- the admission of a mutator, for Join or for all else: there is such a mutator, and it is live or not
 abbrev pub admitted_to : Limits → List Bool → ℕ → Bool → Result Bool Refusal
-admitted_to l live m joins = if nat_lt m l.mutators then admits (slice_index_or live m false) joins else Err refusals.BadSlot
+admitted_to l live m joins = if nat_lt m l.mutators then admits (slice_index_or live m false) joins
+    else Err refusals.BadSlot
 
 -- the admission of a command, which is looked at first
 abbrev pub admitted : Graph → ℕ → Command → Result Bool Refusal

@@ -45,7 +45,11 @@ first_slot l m = m * l.slots
 
 -- a new object has null references and zero words
 abbrev pub new_object : Shape → Object
-new_object shape = record { shape = shape; refs = replicate (ref_cells shape) 0; words = replicate (word_cells shape) 0 }
+new_object shape = record {
+  shape = shape;
+  refs = replicate (ref_cells shape) 0;
+  words = replicate (word_cells shape) 0;
+}
 
 -- null, and an identity that isn't given yet, read as an object without cells
 abbrev pub no_object : Object
@@ -71,8 +75,14 @@ put_object objects id o = if id == 0 then objects else slice_set objects (id - 1
 abbrev pub changed : Graph → Change → Graph
 changed g changes.Nothing = g
 changed g (changes.Root cell id) = record g { roots = slice_set g.roots cell id }
-changed g (changes.Ref id i value) = record g { objects = put_object g.objects id (with_ref (object_of g.objects id) i value) }
-changed g (changes.Word id i value) = record g { objects = put_object g.objects id (with_word (object_of g.objects id) i value) }
-changed g (changes.New cell id shape) = record g { objects = g.objects ++ new_object shape ∷ []; roots = slice_set g.roots cell id }
+changed g (changes.Ref id i value) =
+    record g { objects = put_object g.objects id (with_ref (object_of g.objects id) i value) }
+changed g (changes.Word id i value) =
+    record g { objects = put_object g.objects id (with_word (object_of g.objects id) i value) }
+changed g (changes.New cell id shape) =
+    record g { objects = g.objects ++ new_object shape ∷ []; roots = slice_set g.roots cell id }
 changed g (changes.Join m) = record g { live = slice_set g.live m true }
-changed g (changes.Leave m) = record g { roots = nulled g.roots (first_slot g.limits m) g.limits.slots; live = slice_set g.live m false }
+changed g (changes.Leave m) = record g {
+  roots = nulled g.roots (first_slot g.limits m) g.limits.slots;
+  live = slice_set g.live m false;
+}

@@ -6,7 +6,8 @@ use Rattle.graph_heap.specs.Graph.{Graph, object_of}
 -- that it comes to, and ends at this identity, or at null, which is 0.
 abbrev pub Path : Graph → ℕ → ℕ → Type 0
 Path g zero id = (j : ℕ) × (j < length g.roots) × (slice_index g.roots j ≡ id)
-Path g (suc k) id = (from : ℕ) × (i : ℕ) × Path g k from × (i < length (object_of g.objects from).refs) × (slice_index (object_of g.objects from).refs i ≡ id)
+Path g (suc k) id = (from : ℕ) × (i : ℕ) × Path g k from × (i < length (object_of g.objects from).refs)
+    × (slice_index (object_of g.objects from).refs i ≡ id)
 
 -- the identity is at the end of a path
 unfoldable pub Reaches : Graph → ℕ → Type 0

@@ -28,7 +28,8 @@ found_in a = record { ids = a.ids.items; objects = length a.marked.items }
 
 -- those are marked that were found; each is an object's, and was found once
 pub record IsFound (a : Inside) : Type 0 where
-  pub marks : (k : ℕ) → k < length a.marked.items → slice_index_or a.marked.items k false ≡ is_member nat_eq a.ids.items (k + 1)
+  pub marks : (k : ℕ) → k < length a.marked.items
+      → slice_index_or a.marked.items k false ≡ is_member nat_eq a.ids.items (k + 1)
   pub given : (id : ℕ) → is_member nat_eq a.ids.items id ≡ true → IsAmong (length a.marked.items) id
   pub once : IsDistinct nat_eq a.ids.items
   pub count : count_by (λ b. b) a.marked.items ≡ length a.ids.items

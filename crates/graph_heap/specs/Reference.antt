@@ -6,7 +6,12 @@ use Rattle.graph_heap.specs.Stored.{object_in}
 
 -- the slow heap's fields, as a graph heap
 abbrev pub graph_in : Inside → Graph
-graph_in a = record { limits = a.limits; objects = map object_in a.objects.items; roots = a.roots.items; live = a.live.items }
+graph_in a = record {
+  limits = a.limits;
+  objects = map object_in a.objects.items;
+  roots = a.roots.items;
+  live = a.live.items;
+}
 
 -- the row of roots has its length, and each mutator is live or not
 pub record IsRow (a : Inside) : Type 0 where

@@ -10,13 +10,15 @@ ghost use Rattle.graph_heap.specs.History.{after, after_entry, IsLegal, IsEntryO
 /// A history with one more entry at its end.
 pub fn one_more()
     ensures after { (g : Graph) (h : List Entry) (e : Entry) → after g (h ++ e ∷ []) ≡ after_entry (after g h) e }
-    ensures legal { (g : Graph) (h : List Entry) (e : Entry) → IsLegal g h → IsEntryOf (after g h) e → IsLegal g (h ++ e ∷ []) }
+    ensures legal { (g : Graph) (h : List Entry) (e : Entry) → IsLegal g h → IsEntryOf (after g h) e
+        → IsLegal g (h ++ e ∷ []) }
 {}
 
 /// An entry is one of the graph heap exactly where some step gives its reply, and there is one such
 /// step: a history is determined by its commands and replies.
 pub fn one_step()
-    ensures { (g after : Graph) (e : Entry) → IsStep g e.mutator e.command e.reply after ↔ (IsEntryOf g e × (after_entry g e ≡ after)) }
+    ensures { (g after : Graph) (e : Entry)
+        → IsStep g e.mutator e.command e.reply after ↔ (IsEntryOf g e × (after_entry g e ≡ after)) }
 {}
 
 /// No change removes an object, or alters its shape.

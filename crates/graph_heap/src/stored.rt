@@ -70,7 +70,9 @@ pub fn made_of(alloc: Global, shape: Shape) -> Result<StoredObject, NoMemory>
 
 /// What a cell holds, of an object that takes such cells or not.
 fn cell_of(takes: bool, cells: &[u64], i: u32) -> Result<u64, Refusal>
-    ensures { result ≡ if takes then (if nat_lt i (length cells.now) then Ok (slice_index cells.now i) else Err refusals.BadIndex) else Err refusals.WrongKind }
+    ensures { result ≡ if takes then
+        (if nat_lt i (length cells.now) then Ok (slice_index cells.now i) else Err refusals.BadIndex)
+        else Err refusals.WrongKind }
 {
     if !takes {
         return Err(Refusal::WrongKind);
@@ -124,7 +126,9 @@ fn set_cell(cells: &mut [u64], i: u32, value: u64)
 
 /// Writes a reference cell, if it is there.
 pub fn set_ref_of(objects: &mut [StoredObject], id: u64, i: u32, value: u64)
-    ensures { map object_in objects.new ≡ put_object (map object_in objects.old) id (with_ref (graph.object_of (map object_in objects.old) id) i value) }
+    ensures { map object_in objects.new
+        ≡ put_object (map object_in objects.old) id
+        (with_ref (graph.object_of (map object_in objects.old) id) i value) }
 {
     if id != 0 && id as usize <= objects.len() {
         set_cell(objects[id as usize - 1].refs.as_mut_slice(), i, value);
@@ -133,7 +137,9 @@ pub fn set_ref_of(objects: &mut [StoredObject], id: u64, i: u32, value: u64)
 
 /// Writes a word cell, if it is there.
 pub fn set_word_of(objects: &mut [StoredObject], id: u64, i: u32, value: u64)
-    ensures { map object_in objects.new ≡ put_object (map object_in objects.old) id (with_word (graph.object_of (map object_in objects.old) id) i value) }
+    ensures { map object_in objects.new
+        ≡ put_object (map object_in objects.old) id
+        (with_word (graph.object_of (map object_in objects.old) id) i value) }
 {
     if id != 0 && id as usize <= objects.len() {
         set_cell(objects[id as usize - 1].words.as_mut_slice(), i, value);

@@ -157,7 +157,9 @@ impl Arena {
         requires room { block + (4 + cells) ≤ length self.old }
         requires shape { ShapeFits shape }
         requires part { part < 65536 }
-        ensures { self.new ≡ spliced self.old block (block ∷ header_word (record { shape = shape; part = part; colour = colour }) ∷ identity ∷ 0 ∷ replicate cells 0) }
+        ensures { self.new ≡ spliced self.old block
+            (block ∷ header_word (record { shape = shape; part = part; colour = colour }) ∷ identity ∷ 0
+            ∷ replicate cells 0) }
     {
         let header = pack(shape, part, colour);
         begin_block(self.words.as_mut_slice(), block, header, identity, cells);

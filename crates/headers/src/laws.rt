@@ -23,7 +23,8 @@ pub fn forward_written()
 /// So does a write of word 1 with another colour,
 pub fn colour_written()
     ensures { (words : List ℕ) (colour : Bool) (address size : ℕ) → 4 ≤ size → address + size ≤ length words
-        → node_at (slice_set words (address + 1) (recoloured (slice_index words (address + 1)) colour)) address size ≡ with_colour (node_at words address size) colour }
+        → node_at (slice_set words (address + 1) (recoloured (slice_index words (address + 1)) colour)) address size
+        ≡ with_colour (node_at words address size) colour }
 {}
 
 /// of word 3,
@@ -34,16 +35,20 @@ pub fn link_written()
 
 /// and of a cell of the part.
 pub fn cell_written()
-    ensures { (words : List ℕ) (i v address size : ℕ) → i < length (node_at words address size).cells → address + size ≤ length words
+    ensures { (words : List ℕ) (i v address size : ℕ) → i < length (node_at words address size).cells
+        → address + size ≤ length words
         → node_at (slice_set words (address + (4 + i)) v) address size ≡ with_cell (node_at words address size) i v }
 {}
 
 /// A new block has the record of a new part, and each other block keeps its own.
 pub fn new_block()
-    ensures here { (words : List ℕ) (address size identity : ℕ) (h : Header) → HeaderFits h → cell_count h + 4 ≤ size → address + size ≤ length words
+    ensures here { (words : List ℕ) (address size identity : ℕ) (h : Header) → HeaderFits h → cell_count h + 4 ≤ size
+        → address + size ≤ length words
         → node_at (spliced words address (new_words address h identity)) address size ≡ new_node address h identity }
-    ensures others { (words : List ℕ) (address size identity b t : ℕ) (h : Header) → cell_count h + 4 ≤ size → address + size ≤ length words
-        → (b + t ≤ address) ⊎ (address + size ≤ b) → node_at (spliced words address (new_words address h identity)) b t ≡ node_at words b t }
+    ensures others { (words : List ℕ) (address size identity b t : ℕ) (h : Header) → cell_count h + 4 ≤ size
+        → address + size ≤ length words
+        → (b + t ≤ address) ⊎ (address + size ≤ b)
+        → node_at (spliced words address (new_words address h identity)) b t ≡ node_at words b t }
 {}
 
 /// A copied block has the record of the one that it was copied from, and each other block keeps its own.
@@ -51,5 +56,6 @@ pub fn copied_block()
     ensures here { (words : List ℕ) (from to size : ℕ) → from + size ≤ length words → to + size ≤ length words
         → node_at (spliced words to (words_at words from size)) to size ≡ node_at words from size }
     ensures others { (words : List ℕ) (from to size b t : ℕ) → from + size ≤ length words → to + size ≤ length words
-        → (b + t ≤ to) ⊎ (to + size ≤ b) → node_at (spliced words to (words_at words from size)) b t ≡ node_at words b t }
+        → (b + t ≤ to) ⊎ (to + size ≤ b)
+        → node_at (spliced words to (words_at words from size)) b t ≡ node_at words b t }
 {}

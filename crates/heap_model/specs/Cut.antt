@@ -28,7 +28,9 @@ name_of identity = record { identity = identity; part = 0 }
 
 -- what a reference cell of a part names: in a spine a part, in a piece one of the object's references
 abbrev pub target_by : Run → ℕ → List ℕ → ℕ → Name
-target_by r identity refs i = if nat_lt i r.count then (if r.spine then record { identity = identity; part = r.first + i } else name_of (slice_index refs (r.first + i))) else null
+target_by r identity refs i = if nat_lt i r.count
+    then (if r.spine then record { identity = identity; part = r.first + i }
+    else name_of (slice_index refs (r.first + i))) else null
 
 -- what a reference cell of an object's part names
 unfoldable pub target_of : ℕ → Object → ℕ → ℕ → Name

@@ -31,7 +31,8 @@ pub record Refers (s : Store) (block cell : ℕ) : Type 0 where
 -- the block of the spine that refers to a part, from that of part 0 of an object of so many cells: itself,
 -- or the middle spine to which it refers
 abbrev pub spine_at : Store → ℕ → ℕ → ℕ → ℕ
-spine_at s cells block part = if holder_of cells part == 0 then block else step_to s block (seat_of cells (holder_of cells part))
+spine_at s cells block part = if holder_of cells part == 0 then block
+    else step_to s block (seat_of cells (holder_of cells part))
 
 -- the block of a part, from that of part 0: itself, or by way of the spine that refers to it
 abbrev pub block_of : Store → ℕ → ℕ → ℕ → ℕ

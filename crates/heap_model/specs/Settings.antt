@@ -14,8 +14,18 @@ pub record HeapSettings : Type 0 where
 
 -- those of a heap, and those that a configuration asks for
 abbrev pub settings_of : HeapState → HeapSettings
-settings_of h = record { limits = h.limits; pages = length h.store.pages; defrag_below = h.defrag_below; defrag_pages = h.defrag_pages }
+settings_of h = record {
+  limits = h.limits;
+  pages = length h.store.pages;
+  defrag_below = h.defrag_below;
+  defrag_pages = h.defrag_pages;
+}
 
 -- the settings that a configuration asks for
 abbrev pub settings_by : Config → HeapSettings
-settings_by config = record { limits = limits_of config; pages = config.pages; defrag_below = config.defrag_below; defrag_pages = config.defrag_pages }
+settings_by config = record {
+  limits = limits_of config;
+  pages = config.pages;
+  defrag_below = config.defrag_below;
+  defrag_pages = config.defrag_pages;
+}

@@ -18,13 +18,15 @@ ghost use Rattle.heap_model.specs.Standing.{Stands};
 
 /// What a root holds reads as the graph heap's root.
 pub fn root_reads()
-    ensures { (h : HeapState) (g : Graph) (j : ℕ) → Agrees h g → j < length h.roots → Reads (seen h) (slice_index h.roots j) (name_of (slice_index g.roots j)) }
+    ensures { (h : HeapState) (g : Graph) (j : ℕ) → Agrees h g → j < length h.roots
+        → Reads (seen h) (slice_index h.roots j) (name_of (slice_index g.roots j)) }
 {}
 
 /// While blocks are moved, each address that reads as a name goes on to read as that name, also where
 /// nothing reaches it any more.
 pub fn moves_keep_names()
-    ensures { (h after : HeapState) (cost : ℕ) (present snapshot : Graph) (place : Moving) (x : ℕ) (n : Name) → Stands h present snapshot → h.phase ≡ phases.Moving place → Action h cost after
+    ensures { (h after : HeapState) (cost : ℕ) (present snapshot : Graph) (place : Moving) (x : ℕ) (n : Name)
+        → Stands h present snapshot → h.phase ≡ phases.Moving place → Action h cost after
         → Reads (seen h) x n → Reads (seen after) x n }
 {}
 
@@ -41,44 +43,69 @@ pub fn reference_leads()
 
 /// A main copy by its address is one by its reference.
 pub fn main_copies()
-    ensures there { (h : HeapState) (address : ℕ) (n : Name) → IsMainCopy h.store address n → IsMain (seen h) (address + 1) n }
-    ensures back { (h : HeapState) (address : ℕ) (n : Name) → IsMain (seen h) (address + 1) n → IsMainCopy h.store address n }
+    ensures there { (h : HeapState) (address : ℕ) (n : Name) → IsMainCopy h.store address n
+        → IsMain (seen h) (address + 1) n }
+    ensures back { (h : HeapState) (address : ℕ) (n : Name) → IsMain (seen h) (address + 1) n
+        → IsMainCopy h.store address n }
 {}
 
 /// Each part shows the shape of its object.
 pub fn shape_shown()
-    ensures { (h : HeapState) (g : Graph) (id part address : ℕ) → Agrees h g → Reaches g id → part < count_of (object_of g.objects id) → IsMainCopy h.store address (record { identity = id; part = part })
+    ensures { (h : HeapState) (g : Graph) (id part address : ℕ) → Agrees h g → Reaches g id
+        → part < count_of (object_of g.objects id) → IsMainCopy h.store address (record { identity = id; part = part })
         → (node_of h.store address).shape ≡ (object_of g.objects id).shape }
 {}
 
 /// Reference cell i of an object stands in its part, and reads as the object's.
 pub fn ref_shown()
-    ensures { (h : HeapState) (g : Graph) (id i address : ℕ) → Agrees h g → Reaches g id → i < length (object_of g.objects id).refs
-        → IsMainCopy h.store address (record { identity = id; part = part_in (cells_of (object_of g.objects id).shape) i })
-        → Reads (seen h) (slice_index (node_of h.store address).cells (column_in i)) (name_of (slice_index (object_of g.objects id).refs i)) }
+    ensures { (h : HeapState) (g : Graph) (id i address : ℕ) → Agrees h g → Reaches g id
+        → i < length (object_of g.objects id).refs
+        → IsMainCopy h.store address (record {
+          identity = id;
+          part = part_in (cells_of (object_of g.objects id).shape) i;
+        })
+        → Reads (seen h) (slice_index (node_of h.store address).cells (column_in i))
+        (name_of (slice_index (object_of g.objects id).refs i)) }
 {}
 
 /// The cell of a spine that refers to a part reads as that part of the same object.
 pub fn piece_shown()
-    ensures { (h : HeapState) (g : Graph) (id part address : ℕ) → Agrees h g → Reaches g id → 0 < part → part < count_of (object_of g.objects id)
-        → IsMainCopy h.store address (record { identity = id; part = holder_of (cells_of (object_of g.objects id).shape) part })
-        → Reads (seen h) (slice_index (node_of h.store address).cells (seat_of (cells_of (object_of g.objects id).shape) part)) (record { identity = id; part = part }) }
+    ensures { (h : HeapState) (g : Graph) (id part address : ℕ) → Agrees h g → Reaches g id → 0 < part
+        → part < count_of (object_of g.objects id)
+        → IsMainCopy h.store address (record {
+          identity = id;
+          part = holder_of (cells_of (object_of g.objects id).shape) part;
+        })
+        → Reads (seen h) (slice_index (node_of h.store address).cells
+        (seat_of (cells_of (object_of g.objects id).shape) part)) (record { identity = id; part = part }) }
 {}
 
 /// Word cell k of an object stands in its part after the references, and is the object's.
 pub fn word_shown()
-    ensures { (h : HeapState) (g : Graph) (id k address : ℕ) → Agrees h g → Reaches g id → k < length (object_of g.objects id).words
-        → IsMainCopy h.store address (record { identity = id; part = part_in (cells_of (object_of g.objects id).shape) k })
-        → slice_index (node_of h.store address).cells (width_at (node_of h.store address) + column_in k) ≡ slice_index (object_of g.objects id).words k }
+    ensures { (h : HeapState) (g : Graph) (id k address : ℕ) → Agrees h g → Reaches g id
+        → k < length (object_of g.objects id).words
+        → IsMainCopy h.store address (record {
+          identity = id;
+          part = part_in (cells_of (object_of g.objects id).shape) k;
+        })
+        → slice_index (node_of h.store address).cells (width_at (node_of h.store address) + column_in k)
+        ≡ slice_index (object_of g.objects id).words k }
 {}
 
 /// From the block of part 0 the block of each part is found, in two steps at most, and each step is by a
 /// cell that refers to a held block.
 pub fn part_reached()
-    ensures main { (h : HeapState) (g : Graph) (id part address : ℕ) → Agrees h g → Reaches g id → part < count_of (object_of g.objects id) → IsMainCopy h.store address (name_of id)
-        → IsMainCopy h.store (block_of h.store (cells_of (object_of g.objects id).shape) address part) (record { identity = id; part = part }) }
-    ensures spine { (h : HeapState) (g : Graph) (id part address : ℕ) → Agrees h g → Reaches g id → IsWhole h.store → 0 < part → part < count_of (object_of g.objects id) → IsMainCopy h.store address (name_of id)
-        → holder_of (cells_of (object_of g.objects id).shape) part ≢ 0 → Refers h.store address (seat_of (cells_of (object_of g.objects id).shape) (holder_of (cells_of (object_of g.objects id).shape) part)) }
-    ensures piece { (h : HeapState) (g : Graph) (id part address : ℕ) → Agrees h g → Reaches g id → IsWhole h.store → 0 < part → part < count_of (object_of g.objects id) → IsMainCopy h.store address (name_of id)
-        → Refers h.store (spine_at h.store (cells_of (object_of g.objects id).shape) address part) (seat_of (cells_of (object_of g.objects id).shape) part) }
+    ensures main { (h : HeapState) (g : Graph) (id part address : ℕ) → Agrees h g → Reaches g id
+        → part < count_of (object_of g.objects id) → IsMainCopy h.store address (name_of id)
+        → IsMainCopy h.store (block_of h.store (cells_of (object_of g.objects id).shape) address part)
+        (record { identity = id; part = part }) }
+    ensures spine { (h : HeapState) (g : Graph) (id part address : ℕ) → Agrees h g → Reaches g id → IsWhole h.store
+        → 0 < part → part < count_of (object_of g.objects id) → IsMainCopy h.store address (name_of id)
+        → holder_of (cells_of (object_of g.objects id).shape) part ≢ 0
+        → Refers h.store address (seat_of (cells_of (object_of g.objects id).shape)
+        (holder_of (cells_of (object_of g.objects id).shape) part)) }
+    ensures piece { (h : HeapState) (g : Graph) (id part address : ℕ) → Agrees h g → Reaches g id → IsWhole h.store
+        → 0 < part → part < count_of (object_of g.objects id) → IsMainCopy h.store address (name_of id)
+        → Refers h.store (spine_at h.store (cells_of (object_of g.objects id).shape) address part)
+        (seat_of (cells_of (object_of g.objects id).shape) part) }
 {}

@@ -34,4 +34,5 @@ abbrev pub Commits : List Entry → List Entry → Entry → ℕ → List Entry 
 Commits whole part e found whole_after part_after =
     MatchBool (found == length whole)
     ((whole_after ≡ whole ++ e ∷ []) × (part_after ≡ whole_after) × IsPrefix part whole)
-    ((whole_after ≡ whole) × (found ≡ length part_after) × IsPrefix whole part_after × (length whole < length part_after))
+    ((whole_after ≡ whole) × (found ≡ length part_after) × IsPrefix whole part_after
+    × (length whole < length part_after))

@@ -58,10 +58,11 @@ pub record IsCollected (budgets : List ℕ) (used : ℕ) (p : PacerView) : Type 
 
 -- What came of scripts and budgets, at a new heap of these settings: it is sound; each entry of its history is
 -- counted once, as one that a script has done; of no script more is done than it has; where the place word isn't
--- torn, what was done is the fronts of the scripts; and the cycles, quanta and units that led to the heap are those of the
--- budgets used. All is done where nothing is left and the word isn't torn, and then the history is a merge of the
+-- torn, what was done is the fronts of the scripts; and the cycles, quanta and units that led to the heap are those of
+-- the budgets used. All is done where nothing is left and the word isn't torn, and then the history is a merge of the
 -- scripts.
-pub record IsOutcome (settings : HeapSettings) (scripts : List (List Command)) (budgets : List ℕ) (o : Outcome) : Type 0 where
+pub record IsOutcome (settings : HeapSettings) (scripts : List (List Command)) (budgets : List ℕ)
+    (o : Outcome) : Type 0 where
   pub sound : IsSound settings o.recorded.course
   pub counted : length o.recorded.course.history ≡ sum o.done.items
   pub within : AllZip (λ n most. n ≤ most) o.done.items (map length scripts)

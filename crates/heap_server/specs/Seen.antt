@@ -10,7 +10,8 @@ use Rattle.heap_server.specs.Views.{SeatView}
 -- the entries of mutator m, each with its place, in a part of a history that begins at this place
 abbrev pub mine_from : ℕ → List Entry → ℕ → List (ℕ × Entry)
 mine_from place [] m = []
-mine_from place (e ∷ es) m = if nat_eq e.mutator m then (place, e) ∷ mine_from (place + 1) es m else mine_from (place + 1) es m
+mine_from place (e ∷ es) m = if nat_eq e.mutator m then (place, e) ∷ mine_from (place + 1) es m
+    else mine_from (place + 1) es m
 
 -- the entries of mutator m in a history, each with its place
 abbrev pub mine : List Entry → ℕ → List (ℕ × Entry)
@@ -22,7 +23,8 @@ commands_of es = map (λ e. e.1.command) es
 
 -- What was seen goes on to the place of this entry, and ends with it.
 abbrev pub Extends : List Entry → List Entry → ℕ → Entry → Type 0
-Extends seen new place e = (before : List Entry) × IsPrefix seen before × (new ≡ before ++ e ∷ []) × (place ≡ length before)
+Extends seen new place e = (before : List Entry) × IsPrefix seen before × (new ≡ before ++ e ∷ [])
+    × (place ≡ length before)
 
 -- the numbers of faults, which go on from those of refusals
 abbrev pub fault_number : ServerFault → ℕ
@@ -39,7 +41,8 @@ FaultShows (faults.Torn found) seen new = found ≡ length new
 -- longer.
 abbrev pub FaultTells : ServerFault → List Entry → List Entry → List Entry → Type 0
 FaultTells faults.NoMemory history seen new = new ≡ seen
-FaultTells (faults.Torn found) history seen new = (found ≡ length new) × IsPrefix history new × (length history < length new)
+FaultTells (faults.Torn found) history seen new = (found ≡ length new) × IsPrefix history new
+    × (length history < length new)
 
 -- of a history and what was seen one begins the other
 abbrev pub OneBegins : List Entry → List Entry → Type 0

@@ -30,7 +30,15 @@ pub record LockedView : Type 0 where
 
 -- the fields of what lies under the lock, as contracts see them
 abbrev pub locked_of : {N : Type 0} → Inside N → LockedView
-locked_of l = record { course = l.recorded.course; room = l.ready; calls = l.calls.total; begun = l.begun.total; ended = l.ended.total; quanta = l.quanta.total; spent = l.units.total }
+locked_of l = record {
+  course = l.recorded.course;
+  room = l.ready;
+  calls = l.calls.total;
+  begun = l.begun.total;
+  ended = l.ended.total;
+  quanta = l.quanta.total;
+  spent = l.units.total;
+}
 
 -- what the pacer shows where its numbers are the totals of the books
 abbrev pub pacer_of : LockedView → PacerView

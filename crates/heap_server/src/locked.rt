@@ -40,7 +40,8 @@ impl<N: Naming> Model for Seat<N> {
 
     ghost view = { λ s. record { mutator = s.mutator; calls = s.calls.amount; seen = s.front } };
 
-    ghost invariant = { λ s. (s.calls.parts ≡ 1) × (s.calls.amount ≡ s.made) × (s.calls.amount ≤ length (mine s.front s.mutator)) };
+    ghost invariant = { λ s. (s.calls.parts ≡ 1) × (s.calls.amount ≡ s.made)
+        × (s.calls.amount ≤ length (mine s.front s.mutator)) };
 }
 
 impl<N: Naming> Seat<N> {
@@ -75,15 +76,20 @@ impl<N: Naming> Model for Pacer<N> {
 
     ghost Value = { PacerView };
 
-    ghost view = { λ p. record { begun = p.begun.amount; ended = p.ended.amount; quanta = p.quanta.amount; spent = p.units.amount } };
+    ghost view = { λ p. record {
+      begun = p.begun.amount;
+      ended = p.ended.amount;
+      quanta = p.quanta.amount;
+      spent = p.units.amount;
+    } };
 
     ghost invariant = { λ p. (p.begun.parts ≡ 1) × (p.ended.parts ≡ 1) × (p.quanta.parts ≡ 1) × (p.units.parts ≡ 1) };
 }
 
 /// What lies under the lock: a heap with its history, for how many more entries memory is kept ready, and the
-/// books of calls made, cycles begun, cycles ended, quanta done and units spent. The history is always legal and a beginning
-/// of the log that the place word counts, the heap agrees with the graph heap to which it leads, and the books
-/// count the events that led there.
+/// books of calls made, cycles begun, cycles ended, quanta done and units spent. The history is always legal and a
+/// beginning of the log that the place word counts, the heap agrees with the graph heap to which it leads, and the
+/// books count the events that led there.
 #[derive(Drop)]
 pub struct Locked<N: Naming> {
     pub(crate) recorded: Recorded,
@@ -105,7 +111,8 @@ impl<N: Naming> Model for Locked<N> {
 
     ghost view = { locked_of };
 
-    ghost invariant = { λ l. IsKept N.names.settings (locked_of l) × (l.front ≡ l.recorded.course.history) × (l.ready ≤ l.recorded.room) };
+    ghost invariant = { λ l. IsKept N.names.settings (locked_of l) × (l.front ≡ l.recorded.course.history)
+        × (l.ready ≤ l.recorded.room) };
 }
 
 impl<N: Naming> Locked<N> {
@@ -154,15 +161,19 @@ impl<N: Naming> Locked<N> {
         seat: &mut Seat<N>,
         command: Command,
     ) -> Result<Receipt, ServerFault>
-        ensures does { IfOk result (λ r. Does self.old.course (done.Command_done seat.old.mutator command r.entry.reply) self.new.course) }
+        ensures does { IfOk result (λ r. Does self.old.course
+            (done.Command_done seat.old.mutator command r.entry.reply) self.new.course) }
         ensures entry { IfOk result (λ r. (r.entry.mutator ≡ seat.old.mutator) × (r.entry.command ≡ command)) }
         ensures place { IfOk result (λ r. r.place ≡ length self.old.course.history) }
-        ensures seat { OnOk result (seat.new ≡ record seat.old { calls = seat.old.calls + 1; seen = self.new.course.history }) }
+        ensures seat { OnOk result (seat.new
+            ≡ record seat.old { calls = seat.old.calls + 1; seen = self.new.course.history }) }
         ensures legal { OnOk result (IsLegal (opening N.names.settings.limits) seat.new.seen) }
         ensures ends { IfOk result (λ r. Extends seat.old.seen seat.new.seen r.place r.entry) }
-        ensures books { OnOk result (self.new ≡ record self.old { course = self.new.course; room = self.new.room; calls = self.old.calls + 1 }) }
+        ensures books { OnOk result (self.new
+            ≡ record self.old { course = self.new.course; room = self.new.room; calls = self.old.calls + 1 }) }
         ensures seen { IsPrefix seat.old.seen seat.new.seen }
-        ensures err { OnErr result ((self.new ≡ record self.old { room = self.new.room }) × (seat.new ≡ record seat.old { seen = seat.new.seen })) }
+        ensures err { OnErr result ((self.new ≡ record self.old { room = self.new.room })
+            × (seat.new ≡ record seat.old { seen = seat.new.seen })) }
         ensures fault { IfErr result (λ e. FaultTells e self.old.course.history seat.old.seen seat.new.seen) }
         ensures room { IfErr result (λ e. 0 < self.old.room → e ≢ faults.NoMemory) }
         ensures left { self.old.room ≤ self.new.room + 1 }
@@ -188,9 +199,12 @@ impl<N: Naming> Locked<N> {
     pub fn begin(&mut self, pacer: &mut Pacer<N>) -> Result<(), Busy>
         ensures does { Does self.old.course (begin_done result) self.new.course }
         ensures was { pacer.old ≡ pacer_of self.old }
-        ensures begun { OnOk result ((pacer.old.ended ≡ pacer.old.begun) × (pacer.new ≡ record pacer.old { begun = pacer.old.begun + 1 })) }
-        ensures books { OnOk result (self.new ≡ record self.old { course = self.new.course; begun = self.old.begun + 1 }) }
-        ensures busy { OnErr result ((pacer.old.ended ≢ pacer.old.begun) × (self.new ≡ self.old) × (pacer.new ≡ pacer.old)) }
+        ensures begun { OnOk result ((pacer.old.ended ≡ pacer.old.begun)
+            × (pacer.new ≡ record pacer.old { begun = pacer.old.begun + 1 })) }
+        ensures books { OnOk result (self.new
+            ≡ record self.old { course = self.new.course; begun = self.old.begun + 1 }) }
+        ensures busy { OnErr result ((pacer.old.ended ≢ pacer.old.begun) × (self.new ≡ self.old)
+            × (pacer.new ≡ pacer.old)) }
     {
         self.begun.audit(&mut pacer.begun);
         self.ended.audit(&mut pacer.ended);
@@ -207,7 +221,13 @@ impl<N: Naming> Locked<N> {
         ensures was { pacer.old ≡ pacer_of self.old }
         ensures range { IsOk result ↔ IsBudget budget }
         ensures paced { IfOk result (λ s. IsPaced pacer.old budget s pacer.new) }
-        ensures books { OnOk result ((self.new ≡ record self.old { course = self.new.course; ended = self.new.ended; quanta = self.old.quanta + 1; spent = self.new.spent }) × (pacer.new ≡ pacer_of self.new)) }
+        ensures books { OnOk result ((self.new
+            ≡ record self.old {
+              course = self.new.course;
+              ended = self.new.ended;
+              quanta = self.old.quanta + 1;
+              spent = self.new.spent;
+            }) × (pacer.new ≡ pacer_of self.new)) }
         ensures err { OnErr result ((self.new ≡ self.old) × (pacer.new ≡ pacer.old)) }
     {
         self.begun.audit(&mut pacer.begun);

@@ -14,7 +14,21 @@ pub trait Naming {
 }
 
 impl Naming for Brand {
-    ghost names = { record { settings = record { limits = record { mutators = 1; slots = 1; statics = 0; identities = 1; live = 1 }; pages = 1; defrag_below = 0; defrag_pages = 0 }; calls = 0; begun = 0; ended = 0; quanta = 0; units = 0; book = record { number = 0; log_name = 0; cells_name = 0 } } };
+    ghost names = { record {
+      settings =
+          record {
+            limits = record { mutators = 1; slots = 1; statics = 0; identities = 1; live = 1 };
+            pages = 1;
+            defrag_below = 0;
+            defrag_pages = 0;
+          };
+      calls = 0;
+      begun = 0;
+      ended = 0;
+      quanta = 0;
+      units = 0;
+      book = record { number = 0; log_name = 0; cells_name = 0 };
+    } };
 }
 
 /// Names the ledger of calls, which has a part for each mutator.

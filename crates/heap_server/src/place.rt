@@ -214,7 +214,8 @@ impl<N: Naming> Front<N> {
         requires room { at + 1 < 2 ^ 64 }
         requires known { at ≤ length self.old }
         ensures grows { IsPrefix self.old self.new }
-        ensures added { MatchBool (result == at) ((self.new ≡ self.old ++ next.now ∷ []) × (length self.old ≡ at)) (result ≡ length self.new) }
+        ensures added { MatchBool (result == at) ((self.new ≡ self.old ++ next.now ∷ []) × (length self.old ≡ at))
+            (result ≡ length self.new) }
     {
         let mut offer: Offer<Entry, u64, Law, Nothing> = self
             .seen

@@ -94,7 +94,8 @@ fn played<N: Naming + Send + Sync, G: Gate + Sync, R: Threads + Wait + Sync>(
             (used, pacer)
         },
         move || -> Vec<Seat<N>>
-            requires { IsSync R.row × IsSync G.row × IsSend N.row × IsSync N.row × (length scripts.now ≤ vec_len seats) × (seats.items ≡ new_seats N.names.settings.limits.mutators) }
+            requires { IsSync R.row × IsSync G.row × IsSend N.row × IsSync N.row × (length scripts.now ≤ vec_len seats)
+                × (seats.items ≡ new_seats N.names.settings.limits.mutators) }
             ensures { HavePlayed N.names.settings.limits.mutators (map (λ s. s.items) scripts.entry.now) result.items }
         { play_seats(rt, shared, gate, scripts, seats) },
     );

@@ -90,7 +90,8 @@ impl<N: Naming> Server<N> {
         rt: &impl Wait,
     ) -> Result<Receipt, ServerFault>
         ensures entry { IfOk result (λ r. (r.entry.mutator ≡ seat.old.mutator) × (r.entry.command ≡ command)) }
-        ensures counted { OnOk result (seat.new ≡ record seat.old { calls = seat.old.calls + 1; seen = seat.new.seen }) }
+        ensures counted { OnOk result (seat.new
+            ≡ record seat.old { calls = seat.old.calls + 1; seen = seat.new.seen }) }
         ensures legal { OnOk result (IsLegal (opening N.names.settings.limits) seat.new.seen) }
         ensures ends { IfOk result (λ r. Extends seat.old.seen seat.new.seen r.place r.entry) }
         ensures seen { IsPrefix seat.old.seen seat.new.seen }
@@ -113,7 +114,8 @@ impl<N: Naming> Server<N> {
 
     /// Begins a cycle of the collector, unless one is on.
     pub fn begin(&self, pacer: &mut Pacer<N>, rt: &impl Wait) -> Result<(), Busy>
-        ensures begun { OnOk result ((pacer.old.ended ≡ pacer.old.begun) × (pacer.new ≡ record pacer.old { begun = pacer.old.begun + 1 })) }
+        ensures begun { OnOk result ((pacer.old.ended ≡ pacer.old.begun)
+            × (pacer.new ≡ record pacer.old { begun = pacer.old.begun + 1 })) }
         ensures busy { OnErr result ((pacer.old.ended ≢ pacer.old.begun) × (pacer.new ≡ pacer.old)) }
     {
         self.locked.lock(rt).begin(pacer)
@@ -140,8 +142,8 @@ impl<N: Naming> Server<N> {
         self.locked.lock(rt).reserve(calls)
     }
 
-    /// The heap with the history of all calls, the number of the place word, and what was seen of the log by the load that
-    /// found it. All that `new` gave comes back: every seat, in any order, and the pacer. It waits for nobody.
+    /// The heap with the history of all calls, the number of the place word, and what was seen of the log by the load
+    /// that found it. All that `new` gave comes back: every seat, in any order, and the pacer. It waits for nobody.
     pub fn close(self, seats: Vec<Seat<N>>, mut pacer: Pacer<N>) -> (Recorded, u64, Front<N>)
         requires { IsPermutation (mutators_of seats.items) (upto N.names.settings.limits.mutators) }
         ensures sound { IsSound N.names.settings result.0.course }

@@ -1,2 +1,4 @@
 pub mod Report
 pub mod Filling
+pub mod NeededReport
+pub mod LoadReport

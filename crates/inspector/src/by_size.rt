@@ -10,8 +10,8 @@ use machine::Heap;
 use size_classes::{CLASSES, Class, PAGE_WORDS};
 use trace::{Sink, WriteFailed, end_line, put, put_named};
 
-/// Puts the figures of pages at a place, after which there must be room for them, and answers the place after them. What stands
-/// before the place stays.
+/// Puts the figures of pages at a place, after which there must be room for them, and answers the place after them.
+/// What stands before the place stays.
 fn put_figures(out: &mut [u8], at: usize, filling: Filling) -> usize
     requires { at + 135 ≤ length out.old }
     ensures text { take result out.new ≡ take at out.old ++ figures filling }
@@ -97,11 +97,11 @@ fn write_fragmentation<K: Sink>(all: Filling, sink: &mut K) -> Result<(), WriteF
 }
 
 /// Writes how full the size classes are to a sink, in lines that end with LF: of each class that has a page its size in
-/// words, its pages, its held and its free blocks, and how many words are wasted inside held blocks, behind the last cell
-/// of a part, and behind the last block of a page; then the sums of these; last the words of all pages in use, and how
-/// many of them internal fragmentation takes, which is what is wasted so, and external fragmentation, which are the words
-/// of free blocks. It takes no memory. After a fault, which comes only where the sink failed, the sink has taken a
-/// beginning of the report.
+/// words, its pages, its held and its free blocks, and how many words are wasted inside held blocks, behind the last
+/// cell of a part, and behind the last block of a page; then the sums of these; last the words of all pages in use, and
+/// how many of them internal fragmentation takes, which is what is wasted so, and external fragmentation, which are the
+/// words of free blocks. It takes no memory. After a fault, which comes only where the sink failed, the sink has taken
+/// a beginning of the report.
 pub fn report_sizes<K: Sink>(heap: &Heap, sink: &mut K) -> Result<(), WriteFault>
     ensures ok { OnOk result (K.taken sink.new ≡ K.taken sink.old ++ sizes_told heap.now) }
     ensures err { OnErr result (GrowsByPart (K.taken sink.old) (K.taken sink.new) (sizes_told heap.now)) }

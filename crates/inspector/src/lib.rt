@@ -5,6 +5,8 @@ mod by_size;
 mod fault;
 mod filling;
 mod lines;
+pub mod load_kept;
+pub mod pages_needed;
 mod reporting;
 
 pub use by_size::report_sizes;

@@ -4,9 +4,9 @@ use Rattle.std.specs.Option.{unwrap_or}
 use Rattle.size_classes.specs.declared.class.TheConstants.{CLASSES}
 use Rattle.size_classes.specs.Keys.{is_between}
 use Rattle.size_classes.specs.Sizes.{size_of}
-use Rattle.arrivals.specs.declared.load.Load.{Load as LoadTable}
-use Rattle.arrivals.specs.Fitting.{load_in}
-use Rattle.arrivals.specs.Load.{Load}
+use Rattle.sizing.specs.declared.arrivals.load.Load.{Load as LoadTable}
+use Rattle.sizing.specs.Fitting.{load_in}
+use Rattle.sizing.specs.Load.{Load}
 use Rattle.toml.specs.Data.{Data, as_integer, as_table, get_member, Members}
 use Rattle.command_line.specs.declared.toml_table.OpenFault.{OpenFault}
 use Rattle.command_line.specs.declared.toml_table.OpenFault.TheVariants as openings

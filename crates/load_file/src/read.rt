@@ -2,22 +2,22 @@
 ghost use Rattle.std.specs.Prelude.{◌≡◌, pos, IfOk};
 ghost use Rattle.std.specs.Result.{result_err};
 ghost use Rattle.toml.specs.View.{table_view};
-ghost use Rattle.arrivals.specs.Fitting.{load_in};
+ghost use Rattle.sizing.specs.Fitting.{load_in};
 ghost use Rattle.load_file.specs.Document.{gap_fault, gap_of, document_fault, States, IsRead};
 
 use crate::fault::{DocumentFault, LoadFault, Place};
 use crate::row::{row_at, whole_number};
 use crate::unknown::{GAP, has_unknown_key};
-use arrivals::Load;
 use command_line::open_document;
 use size_classes::{CLASSES, Class};
+use sizing::arrivals::Load;
 use std::alloc::Global;
 use toml::Table;
 
 /// The load that a document of these bytes states, or its first fault: it is too long; it isn't TOML; it has a key
-/// that isn't known, in a class's table or outside; the gap is missing, not a whole number, or out of range; then, class
-/// by class in the order of sizes, what stands at its size isn't a table, or a number in it isn't whole or out of range,
-/// live before rate before burst. Where memory is refused before that is known, it is no memory.
+/// that isn't known, in a class's table or outside; the gap is missing, not a whole number, or out of range; then,
+/// class by class in the order of sizes, what stands at its size isn't a table, or a number in it isn't whole or out of
+/// range, live before rate before burst. Where memory is refused before that is known, it is no memory.
 pub fn read_load(alloc: Global, bytes: &[u8]) -> Result<Load, LoadFault>
     ensures { IsRead bytes.now result }
 {

@@ -17,7 +17,8 @@ buffers_by a mutator _ = a.grey.buffers
 
 -- there are as many, and none but a mutator's own has changed
 abbrev pub AreOwn : ℕ → GreySet → GreySet → Type 0
-AreOwn mutator old new = (length new.buffers ≡ length old.buffers) × ((k : ℕ) → k ≢ mutator → buffer_of new k ≡ buffer_of old k)
+AreOwn mutator old new = (length new.buffers ≡ length old.buffers)
+    × ((k : ℕ) → k ≢ mutator → buffer_of new k ≡ buffer_of old k)
 
 -- and of a mutator that leaves, its own alone has what its slots held
 abbrev pub AreBuffersBy : RawHeap → ℕ → Write → GreySet → Type 0

@@ -28,10 +28,13 @@ use Rattle.machine.specs.declared.plan.Write.TheVariants as writes
 -- is room; or a mutator that there is joins or leaves.
 abbrev pub IsPlanned : HeapState → Graph → Change → Write → Type 0
 IsPlanned h g c writes.Nothing = c ≡ changes.Nothing
-IsPlanned h g c (writes.Root cell x) = (id : ℕ) × (c ≡ changes.Root cell id) × (cell < length h.roots) × IsKnown g id × IsMain (seen h) x (name_of id)
-IsPlanned h g c (writes.Ref at x) = (id : ℕ) × (i : ℕ) × (value : ℕ) × (c ≡ changes.Ref id i value) × IsRefPlace h g id i at × IsKnown g value × IsMain (seen h) x (name_of value)
+IsPlanned h g c (writes.Root cell x) = (id : ℕ) × (c ≡ changes.Root cell id) × (cell < length h.roots) × IsKnown g id
+    × IsMain (seen h) x (name_of id)
+IsPlanned h g c (writes.Ref at x) = (id : ℕ) × (i : ℕ) × (value : ℕ) × (c ≡ changes.Ref id i value)
+    × IsRefPlace h g id i at × IsKnown g value × IsMain (seen h) x (name_of value)
 IsPlanned h g c (writes.Word at word) = (id : ℕ) × (i : ℕ) × (c ≡ changes.Word id i word) × IsWordPlace h g id i at
-IsPlanned h g c (writes.New cell shape) = (c ≡ changes.New cell h.next shape) × (cell < length h.roots) × (h.next < 2 ^ 63) × (fits shape ≡ true) × (has_room h.store.pages (needed shape) ≡ true)
+IsPlanned h g c (writes.New cell shape) = (c ≡ changes.New cell h.next shape) × (cell < length h.roots)
+    × (h.next < 2 ^ 63) × (fits shape ≡ true) × (has_room h.store.pages (needed shape) ≡ true)
 IsPlanned h g c (writes.Join m) = (c ≡ changes.Join m) × (m < h.limits.mutators)
 IsPlanned h g c (writes.Leave m) = (c ≡ changes.Leave m) × (m < h.limits.mutators)
 
@@ -53,16 +56,18 @@ Deeds h m c result = (g : Graph) → Agrees h g → PlansBy h g (deed_of (room_f
 abbrev pub CanSettle : HeapState → Result Planned Refusal → Type 0
 CanSettle h planned = (g : Graph) → Agrees h g → (done : Result (Reply × Change) Refusal) × PlansBy h g done planned
 
--- the reply is that of what the graph heap does, where a refusal is a reply; the heap does its change, and agrees with the
--- graph heap after it
-pub record Settles (h : HeapState) (g : Graph) (done : Result (Reply × Change) Refusal) (told : Reply) (after : HeapState) : Type 0 where
+-- the reply is that of what the graph heap does, where a refusal is a reply; the heap does its change, and agrees with
+-- the graph heap after it
+pub record Settles (h : HeapState) (g : Graph) (done : Result (Reply × Change) Refusal) (told : Reply)
+    (after : HeapState) : Type 0 where
   pub reply : told ≡ (settled done).0
   pub change : DoesChange h g (settled done).1 after
   pub agrees : Agrees after (changed g (settled done).1)
 
 -- so it is for each graph heap of which what was planned is a plan
 abbrev pub SettlesEach : HeapState → Result Planned Refusal → Reply → HeapState → Type 0
-SettlesEach h planned reply after = (g : Graph) (done : Result (Reply × Change) Refusal) → Agrees h g → PlansBy h g done planned → Settles h g done reply after
+SettlesEach h planned reply after = (g : Graph) (done : Result (Reply × Change) Refusal) → Agrees h g
+    → PlansBy h g done planned → Settles h g done reply after
 
 -- the write is that of some change, for each graph heap with which the heap agrees
 abbrev pub CanPerform : HeapState → Write → Type 0

@@ -56,10 +56,12 @@ IsWordPlace h g id i at = Reaches g id × IsWordCell h (object_of g.objects id) 
 
 -- a reference cell was found, or the graph heap's refusal
 abbrev pub FindsRef : HeapState → Graph → ℕ → ℕ → Result Cell Refusal → Type 0
-FindsRef h g id i (Ok at) = (ref_at g.objects id i ≡ Ok (slice_index (object_of g.objects id).refs i)) × IsRefPlace h g id i at
+FindsRef h g id i (Ok at) = (ref_at g.objects id i ≡ Ok (slice_index (object_of g.objects id).refs i))
+    × IsRefPlace h g id i at
 FindsRef h g id i (Err e) = ref_at g.objects id i ≡ Err e
 
 -- a word cell was found, or the graph heap's refusal
 abbrev pub FindsWord : HeapState → Graph → ℕ → ℕ → Result Cell Refusal → Type 0
-FindsWord h g id i (Ok at) = (word_at g.objects id i ≡ Ok (slice_index (object_of g.objects id).words i)) × IsWordPlace h g id i at
+FindsWord h g id i (Ok at) = (word_at g.objects id i ≡ Ok (slice_index (object_of g.objects id).words i))
+    × IsWordPlace h g id i at
 FindsWord h g id i (Err e) = word_at g.objects id i ≡ Err e

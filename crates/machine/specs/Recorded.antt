@@ -62,7 +62,8 @@ asked (done.Quantum_refused budget) = events.Quantum budget
 abbrev pub RunsFront : Course → List Event → Course → Result (Unit {0}) NoMemory → Type 0
 RunsFront old es new (Ok all) = (front : List done.Event) × Runs old front new × (es ≡ map asked front)
 RunsFront old es new (Err refused) =
-    (front : List done.Event) × (m : ℕ) × (c : Command) × (rest : List Event) × Runs old front new × (es ≡ map asked front ++ events.Command m c ∷ rest)
+    (front : List done.Event) × (m : ℕ) × (c : Command) × (rest : List Event) × Runs old front new
+    × (es ≡ map asked front ++ events.Command m c ∷ rest)
 
 -- how many of the events are commands
 abbrev pub commands_in : List Event → ℕ
@@ -74,17 +75,20 @@ commands_in (e ∷ es) = commands_in es
 -- page is leaving or receiving.
 abbrev pub EachSweepEnds : Course → Type 0
 EachSweepEnds r =
-    (spent cost : ℕ) (h after : HeapState) → Chain r.heap spent h → Action h cost after → is_sweeping h.phase ≡ true → is_sweeping after.phase ≡ false
+    (spent cost : ℕ) (h after : HeapState) → Chain r.heap spent h → Action h cost after → is_sweeping h.phase ≡ true
+    → is_sweeping after.phase ≡ false
     → IsSwept after (present_of r) (snapshot_of r) × ((k : ℕ) → HasNoMark (page_at after.store.pages k))
 
 -- In idle, and while blocks are moved, within a quantum too, the held objects are exactly those that are kept.
 abbrev pub HoldsKept : Course → Type 0
 HoldsKept r =
-    (spent : ℕ) (h : HeapState) → Chain r.heap spent h → (h.phase ≡ phases.Idle) ⊎ ((place : Moving) × (h.phase ≡ phases.Moving place))
+    (spent : ℕ) (h : HeapState) → Chain r.heap spent h → (h.phase ≡ phases.Idle)
+    ⊎ ((place : Moving) × (h.phase ≡ phases.Moving place))
     → (id : ℕ) → 0 < id → IsHeld h (present_of r) id ↔ IsKept (present_of r) (snapshot_of r) id
 
 -- Behind a cycle that has begun, one of the first quanta of budgets of at least k ends in idle, for any k
 -- from 256 on, whatever comes between them.
 abbrev pub EndsSoon : Course → Type 0
 EndsSoon r =
-    (k : ℕ) (es : List done.Event) (new : Course) → 256 ≤ k → Runs r es new → HaveBudgets k es → most_quanta r.heap k ≤ quanta_in es → OneIsLast es
+    (k : ℕ) (es : List done.Event) (new : Course) → 256 ≤ k → Runs r es new → HaveBudgets k es
+    → most_quanta r.heap k ≤ quanta_in es → OneIsLast es

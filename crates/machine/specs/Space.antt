@@ -24,12 +24,14 @@ pub record SpaceSuffices (config : Config) (es : List Event) : Type 0 where
   pub demand : (d : Demand) → AllKeepTo d (opening_tally (limits_of config)) es → Fits config d → AllHaveRoom es
   pub pace : (p : Pace) → AllKeepPace p (config.collector_ticks * config.rate) (opening_beat (limits_of config)) es
       → FitsIn config p config.pages → AllHaveRoom es
-  pub joint : (blocks : ℕ → ℕ) (live : Lives) → AllKeep (WithinBlocks blocks live) live (opening_season (limits_of config)) es
+  pub joint : (blocks : ℕ → ℕ) (live : Lives)
+      → AllKeep (WithinBlocks blocks live) live (opening_season (limits_of config)) es
       → FitsTogether config blocks → AllHaveRoom es
   pub moving : (live : Lives) → MovesAll config
       → AllKeep (WithinPages config.pages) live (opening_season (limits_of config)) es → AllHaveRoom es
   pub budget : (b : Budget) (live : Lives) → MovesAll config → ((n : ℕ) → pages_of (live n) ≤ b.live)
-      → AllKeep (WithinBudget b) live (opening_season (limits_of config)) es → budget_pages b ≤ config.pages → AllHaveRoom es
+      → AllKeep (WithinBudget b) live (opening_season (limits_of config)) es → budget_pages b ≤ config.pages
+      → AllHaveRoom es
 
 -- a heap of a configuration that was just made, without a history
 pub record IsJustMade (config : Config) (r : Course) : Type 0 where
@@ -39,9 +41,11 @@ pub record IsJustMade (config : Config) (r : Course) : Type 0 where
 
 -- whatever events are done, space suffices for them, where this is a heap of a configuration that was just made
 abbrev pub FindsSpace : Course → Type 0
-FindsSpace r = (config : Config) (es : List Event) (new : Course) → IsJustMade config r → Runs r es new → SpaceSuffices config es
+FindsSpace r = (config : Config) (es : List Event) (new : Course) → IsJustMade config r → Runs r es new
+    → SpaceSuffices config es
 
--- however events led here from a heap that was just made, space sufficed for them, in each configuration of its settings
+-- however events led here from a heap that was just made, space sufficed for them, in each configuration of its
+-- settings
 abbrev pub FoundSpace : Course → Type 0
 FoundSpace r =
     (config : Config) (first : HeapState) (es : List Event) → settings_of r.heap ≡ settings_by config → IsOpening first

@@ -58,9 +58,12 @@ impl Heap {
     /// the heap agrees with it after the step. What the command overwrites is recorded first, while
     /// roots are scanned or parts marked.
     pub fn step(&mut self, mutator: u32, command: Command) -> Reply
-        ensures reply { (g : Graph) → Agrees self.old g → result ≡ reply_of (room_for self.old command) g mutator command }
-        ensures agrees { (g : Graph) → Agrees self.old g → Agrees self.new (next_of (room_for self.old command) g mutator command) }
-        ensures does { (g : Graph) → Agrees self.old g → DoesChange self.old g (change_by (room_for self.old command) g mutator command) self.new }
+        ensures reply { (g : Graph) → Agrees self.old g
+            → result ≡ reply_of (room_for self.old command) g mutator command }
+        ensures agrees { (g : Graph) → Agrees self.old g
+            → Agrees self.new (next_of (room_for self.old command) g mutator command) }
+        ensures does { (g : Graph) → Agrees self.old g
+            → DoesChange self.old g (change_by (room_for self.old command) g mutator command) self.new }
     {
         match command {
             Command::New { dst, shape } => self.make(mutator, dst, shape),

@@ -1,5 +1,5 @@
-//! The laws of a heap with its history, and of single actions of moving. Each function does nothing: its contract is the
-//! law.
+//! The laws of a heap with its history, and of single actions of moving. Each function does nothing: its contract is
+//! the law.
 ghost use Rattle.std.specs.Prelude.{◌≡◌, ◌⊎◌, ℕ, Result};
 ghost use Rattle.graph_heap.specs.declared.command.Command.{Command};
 ghost use Rattle.graph_heap.specs.declared.command.Reply.{Reply};
@@ -20,8 +20,8 @@ ghost use Rattle.machine.specs.Plan.{Steps};
 ghost use Rattle.machine.specs.Recorded.{begin_done, quantum_done};
 ghost use Rattle.machine.specs.Space.{FindsSpace, FoundSpace};
 
-/// All that is promised of a heap with its history, whatever events are done next, is promised where that holds which each
-/// event keeps.
+/// All that is promised of a heap with its history, whatever events are done next, is promised where that holds which
+/// each event keeps.
 pub fn courses_are_promised()
     ensures { (r : Course) → IsCourse r → AlwaysHolds r × FindsSpace r }
 {}
@@ -34,16 +34,19 @@ pub fn space_sufficed()
 /// What a call does to a `Heap` is one event, whatever history led to the heap. So what is promised of a heap with its
 /// history is promised where nobody keeps that history.
 pub fn calls_are_events()
-    ensures command { (r : Course) (m : ℕ) (c : Command) (told : Reply) (after : HeapState) → IsCourse r → Steps r.heap m c told after
+    ensures command { (r : Course) (m : ℕ) (c : Command) (told : Reply) (after : HeapState) → IsCourse r
+        → Steps r.heap m c told after
         → (new : Course) × (new.heap ≡ after) × Does r (Command_done m c told) new }
     ensures begin { (r : Course) (after : HeapState) (result : Result (Unit {0}) Busy) → Begins r.heap after result
         → (new : Course) × (new.heap ≡ after) × Does r (begin_done result) new }
     ensures quantum { (r : Course) (budget : ℕ) (after : HeapState) (result : Result Spent BudgetOutOfRange)
-        → Spends r.heap budget after result → (new : Course) × (new.heap ≡ after) × Does r (quantum_done budget result) new }
+        → Spends r.heap budget after result → (new : Course) × (new.heap ≡ after)
+        × Does r (quantum_done budget result) new }
 {}
 
 /// While blocks are moved, each action leaves all blocks as they are, or makes exactly one main copy an old copy.
 pub fn moves_make_one_old()
     ensures { (h after : HeapState) (cost : ℕ) (present snapshot : Graph) (place : Moving) → Stands h present snapshot
-        → h.phase ≡ phases.Moving place → Action h cost after → KeepsBlocks h.store after.store ⊎ MakesOneOld h.store after.store }
+        → h.phase ≡ phases.Moving place → Action h cost after → KeepsBlocks h.store after.store
+        ⊎ MakesOneOld h.store after.store }
 {}

@@ -108,7 +108,8 @@ impl Recorded {
     #[inline(always)]
     pub fn call(&mut self, mutator: u32, command: Command) -> Result<Receipt, NoMemory>
         ensures entry { IfOk result (λ r. (r.entry.mutator ≡ mutator) × (r.entry.command ≡ command)) }
-        ensures does { IfOk result (λ r. Does self.old.course (done.Command_done mutator command r.entry.reply) self.new.course) }
+        ensures does { IfOk result (λ r. Does self.old.course
+            (done.Command_done mutator command r.entry.reply) self.new.course) }
         ensures place { IfOk result (λ r. r.place ≡ length self.old.course.history) }
         ensures room { 0 < self.old.room → IsOk result }
         ensures left { self.old.room ≤ self.new.room + 1 }

@@ -16,4 +16,6 @@ IsScanning a part cell = (units : ℕ) × IsRawHeap (scanning a part cell units)
 
 -- Actions that cost so much lead from the one place in marking to the other.
 abbrev pub Scans : RawHeap → Scan → RawHeap → Scan → ℕ → Type 0
-Scans old from new to cost = (units : ℕ) → Chain (state_of (scanning old from.part from.cell units)) cost (state_of (scanning new to.part to.cell (units + cost)))
+Scans old from new to cost = (units : ℕ)
+    → Chain (state_of (scanning old from.part from.cell units)) cost
+    (state_of (scanning new to.part to.cell (units + cost)))

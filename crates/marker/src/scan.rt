@@ -102,7 +102,9 @@ fn scan_next(heap: &mut RawHeap, scan: Scan, room: u32) -> Option<Step>
     ensures scans { IfSome result (λ r. Scans heap.old scan heap.new r.scan r.units) }
     ensures count { IfSome result (λ r. (0 < r.units) × (r.units ≤ room)) }
     ensures width { IfSome result (λ r. r.scan.width ≡ (seen (state_of heap.new)).width r.scan.part) }
-    ensures ends { IsNone result → (units : ℕ) → Action (state_of (scanning heap.old scan.part scan.cell units)) 1 (goes_to (state_of (scanning heap.new scan.part scan.cell units)) 1 (phases.Sweeping 0 0)) }
+    ensures ends { IsNone result → (units : ℕ)
+        → Action (state_of (scanning heap.old scan.part scan.cell units)) 1
+        (goes_to (state_of (scanning heap.new scan.part scan.cell units)) 1 (phases.Sweeping 0 0)) }
     ensures buffers { heap.new.grey.buffers ≡ heap.old.grey.buffers }
     ensures same { heap.new ≡ record heap.old { nodes = heap.new.nodes; grey = heap.new.grey } }
 {
@@ -126,7 +128,8 @@ fn scan_cells(heap: &mut RawHeap, part: u64, cell: usize, count: usize)
     requires heap { IsScanning heap.old part cell }
     requires some { part ≢ 0 }
     requires within { cell + count ≤ width_at (node_of heap.old.nodes (part - 1)) }
-    ensures acts { (units : ℕ) → Chain (state_of (scanning heap.old part cell units)) count (state_of (scanning heap.new part (cell + count) (units + count))) }
+    ensures acts { (units : ℕ) → Chain (state_of (scanning heap.old part cell units)) count
+        (state_of (scanning heap.new part (cell + count) (units + count))) }
     ensures width { width_at (node_of heap.new.nodes (part - 1)) ≡ width_at (node_of heap.old.nodes (part - 1)) }
     ensures buffers { heap.new.grey.buffers ≡ heap.old.grey.buffers }
     ensures same { heap.new ≡ record heap.old { nodes = heap.new.nodes; grey = heap.new.grey } }
@@ -146,7 +149,8 @@ fn scan_run(heap: &mut RawHeap, part: u64, cell: usize, most: usize) -> usize
     requires most { 0 < most }
     requires within { cell + most ≤ width_at (node_of heap.old.nodes (part - 1)) }
     ensures count { (0 < result) × (result ≤ most) }
-    ensures acts { (units : ℕ) → Chain (state_of (scanning heap.old part cell units)) result (state_of (scanning heap.new part (cell + result) (units + result))) }
+    ensures acts { (units : ℕ) → Chain (state_of (scanning heap.old part cell units)) result
+        (state_of (scanning heap.new part (cell + result) (units + result))) }
     ensures width { width_at (node_of heap.new.nodes (part - 1)) ≡ width_at (node_of heap.old.nodes (part - 1)) }
     ensures buffers { heap.new.grey.buffers ≡ heap.old.grey.buffers }
     ensures same { heap.new ≡ record heap.old { nodes = heap.new.nodes; grey = heap.new.grey } }
@@ -182,7 +186,8 @@ fn scan_cell(heap: &mut RawHeap, part: u64, cell: usize)
     requires heap { IsScanning heap.old part cell }
     requires some { part ≢ 0 }
     requires left { cell < width_at (node_of heap.old.nodes (part - 1)) }
-    ensures acts { (units : ℕ) → Action (state_of (scanning heap.old part cell units)) 1 (state_of (scanning heap.new part (cell + 1) (units + 1))) }
+    ensures acts { (units : ℕ) → Action (state_of (scanning heap.old part cell units)) 1
+        (state_of (scanning heap.new part (cell + 1) (units + 1))) }
     ensures width { width_at (node_of heap.new.nodes (part - 1)) ≡ width_at (node_of heap.old.nodes (part - 1)) }
     ensures buffers { heap.new.grey.buffers ≡ heap.old.grey.buffers }
     ensures same { heap.new ≡ record heap.old { nodes = heap.new.nodes; grey = heap.new.grey } }

@@ -17,19 +17,19 @@ use Rattle.space.specs.declared.pace.Pace.{Pace as PaceTable}
 use Rattle.space.specs.Pace.{Pace, opening_beat, AllKeepPace}
 use Rattle.space.specs.Fitting.{pace_in}
 use Rattle.space.specs.Room.{AllHaveRoom}
-use Rattle.measure.specs.declared.measured.Measured.{Measured}
-use Rattle.measure.specs.Measured.{IsLeastPace, IsPaceStated}
-use Rattle.measure.specs.Measuring.{RunMeasured}
-use Rattle.arrivals.specs.declared.load.Load.{Load as LoadTable}
-use Rattle.arrivals.specs.declared.keeping.Kept.{Kept}
-use Rattle.arrivals.specs.declared.keeping.Kept.TheVariants.{Keeps, Breaks}
-use Rattle.arrivals.specs.Load.{KeepsLoad, AllLive}
-use Rattle.arrivals.specs.New.{LoadFits}
-use Rattle.arrivals.specs.Fitting.{load_in}
-use Rattle.arrivals.specs.Keeping.{LoadChecked}
-use Rattle.arrivals.proofs.Beats.{pace_lives}
-use Rattle.arrivals.proofs.Roomy.{finds_room}
-use Rattle.load_report.specs.Report.{IsCovered, IsLoadReport}
+use Rattle.sizing.specs.declared.measured.Measured.{Measured}
+use Rattle.sizing.specs.Measured.{IsLeastPace, IsPaceStated}
+use Rattle.sizing.specs.Measuring.{RunMeasured}
+use Rattle.sizing.specs.declared.arrivals.load.Load.{Load as LoadTable}
+use Rattle.sizing.specs.declared.arrivals.keeping.Kept.{Kept}
+use Rattle.sizing.specs.declared.arrivals.keeping.Kept.TheVariants.{Keeps, Breaks}
+use Rattle.sizing.specs.Load.{KeepsLoad, AllLive}
+use Rattle.sizing.specs.New.{LoadFits}
+use Rattle.sizing.specs.Fitting.{load_in}
+use Rattle.sizing.specs.Keeping.{LoadChecked}
+use Rattle.sizing.proofs.arrivals.Beats.{pace_lives}
+use Rattle.sizing.proofs.arrivals.Roomy.{finds_room}
+use Rattle.inspector.specs.LoadReport.{IsCovered, IsLoadReport}
 use Rattle.metronome.specs.Told.{ReadsText, TextMeasured, TextChecked, TellsLoad}
 
 -- what was given of a text that was read to its end is all of it

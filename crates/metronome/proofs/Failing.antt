@@ -11,30 +11,30 @@ use Rattle.trace.specs.declared.version.Version.{Version}
 use Rattle.trace.specs.declared.version.Version.TheVariants.{First, Second}
 use Rattle.trace.specs.GoneOver.{Ends, reads_failed, writes_failed}
 use Rattle.trace.specs.Streams.{Given}
-use Rattle.transcripts.specs.declared.histories.Checked.{Checked}
-use Rattle.transcripts.specs.Histories.{EntriesChecked, HistoryStops}
-use Rattle.transcripts.specs.Scripts.{ReadScripts, AreScripts, ScriptsRead, ScriptStops}
+use Rattle.trace.specs.declared.transcripts.histories.Checked.{Checked}
+use Rattle.trace.specs.Histories.{EntriesChecked, HistoryStops}
+use Rattle.trace.specs.Scripts.{ReadScripts, AreScripts, ScriptsRead, ScriptStops}
 use Rattle.player.specs.declared.style.Style.TheVariants.{Nothing}
 use Rattle.player.specs.Player.{entries_in}
 use Rattle.player.specs.Playing.{Stage, stage, Played, text_written}
 use Rattle.player.proofs.Lines.{ends_otherwise, nothing_written}
-use Rattle.timeline.specs.declared.samples.Samples.{Samples}
-use Rattle.timeline.specs.Taking.{SamplesTaken}
+use Rattle.pictures.specs.declared.timeline.samples.Samples.{Samples}
+use Rattle.pictures.specs.Taking.{SamplesTaken}
 use Rattle.cycles.specs.declared.cycle.Cycles.{Cycles}
 use Rattle.cycles.specs.Taking.{CyclesTaken}
-use Rattle.measure.specs.declared.measured.Measured.{Measured}
-use Rattle.measure.specs.Measuring.{TraceMeasured}
-use Rattle.arrivals.specs.Load.{Load}
-use Rattle.arrivals.specs.declared.keeping.Kept.{Kept}
-use Rattle.arrivals.specs.Metering.{NoEvent}
-use Rattle.arrivals.specs.Keeping.{LoadChecked}
+use Rattle.sizing.specs.declared.measured.Measured.{Measured}
+use Rattle.sizing.specs.Measuring.{TraceMeasured}
+use Rattle.sizing.specs.Load.{Load}
+use Rattle.sizing.specs.declared.arrivals.keeping.Kept.{Kept}
+use Rattle.sizing.specs.Metering.{NoEvent}
+use Rattle.sizing.specs.Keeping.{LoadChecked}
 use Rattle.command_line.specs.declared.fault.ReadFault.{ReadFault}
 use Rattle.command_line.specs.declared.fault.ReadFault.TheVariants as settings
 use Rattle.metronome.specs.declared.fault.RunFault.{RunFault}
 use Rattle.metronome.specs.declared.fault.RunFault.TheVariants.{Write, NoMemory}
-use Rattle.graph_drawing.specs.declared.fault.DrawFault.{DrawFault}
-use Rattle.graph_drawing.specs.declared.fault.DrawFault.TheVariants as drawings
-use Rattle.graph_drawing.specs.Drawn.{writes_failed as graph_writes_failed}
+use Rattle.pictures.specs.declared.graph.fault.DrawFault.{DrawFault}
+use Rattle.pictures.specs.declared.graph.fault.DrawFault.TheVariants as drawings
+use Rattle.pictures.specs.GraphDrawn.{writes_failed as graph_writes_failed}
 use Rattle.metronome.specs.Faults.{of_settings, of_text, of_drawing, IsUnread, failed_reads, failed_writes}
 use Rattle.metronome.specs.Jobs.{finish}
 use Rattle.metronome.proofs.Finishing.{failed_so}

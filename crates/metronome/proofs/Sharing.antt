@@ -3,8 +3,8 @@ use Rattle.std.proofs.Common.{ℕ, List, [], ◌∷◌}
 use Rattle.std.specs.List.{AllZip}
 use Rattle.size_classes.specs.declared.config.Config.{Config}
 use Rattle.quanta.specs.Timetable.{Timetable, with_reserved}
-use Rattle.drawing.specs.declared.share.Share.{Share}
-use Rattle.drawing.specs.Utilisation.{IsShare, AreShares}
+use Rattle.pictures.specs.declared.share.Share.{Share}
+use Rattle.pictures.specs.Utilisation.{IsShare, AreShares}
 
 zip_so : {A B : Type 0} (R S : A → B → Type 0) → ((x : A) (y : B) → R x y → S x y) → (xs : List A) (ys : List B) → AllZip R xs ys → AllZip S xs ys
 zip_so R S f [] [] h = tt

@@ -14,7 +14,8 @@ use Rattle.metronome.specs.declared.fault.RunFault.{RunFault}
 use Rattle.metronome.specs.Jobs.{NotBegun, PlayedUpTo}
 use Rattle.metronome.specs.Told.{ReportTold, NothingTold}
 
--- the text that tells why an object is alive in the graph heap to which a history led, and whether the heap holds a block of it
+-- the text that tells why an object is alive in the graph heap to which a history led, and whether the heap holds a
+-- block of it
 abbrev pub TellsWhy : ℕ → Course → List ℕ → Type 0
 TellsWhy id r text = (held : Bool) × (IsTrue held ↔ HasBlock r.heap.store id) × PathTold (present_of r) id held text
 
@@ -27,4 +28,6 @@ WhyTold id (Err why) r taken result = NothingTold why taken result
 abbrev pub PathFound : ℕ → Option ℕ → Config → Given → Taken → Result Ending RunFault → Type 0
 PathFound id after config given taken result =
     NotBegun given taken result
-    ⊎ ((old : PlayerState) × (new : PlayerState) × (mid : List ℕ) × (how : Result (Unit {0}) TextFault) × IsNew config old × PlayedUpTo after given (stage old taken.before) (stage new mid) how × WhyTold id how new.course (record taken { before = mid }) result)
+    ⊎ ((old : PlayerState) × (new : PlayerState) × (mid : List ℕ) × (how : Result (Unit {0}) TextFault)
+    × IsNew config old × PlayedUpTo after given (stage old taken.before) (stage new mid) how
+    × WhyTold id how new.course (record taken { before = mid }) result)

@@ -21,14 +21,17 @@ abbrev pub JobDone : Job → Config → Given → Taken → Result Ending RunFau
 JobDone (Play settings trace true) config given taken result = TracePlayed Entries config given taken result
 JobDone (Play settings trace false) config given taken result = TracePlayed Replies config given taken result
 JobDone (Check settings history) config given taken result = HistoryChecked config given taken result
-JobDone (Threads settings scripts turns budget) config given taken result = ScriptsRun turns budget config given taken result
+JobDone (Threads settings scripts turns budget) config given taken result =
+    ScriptsRun turns budget config given taken result
 JobDone (Inspect settings trace by after) config given taken result = HeapInspected by after config given taken result
 JobDone (Cycles settings trace false) config given taken result = CyclesTold Columns config given taken result
 JobDone (Cycles settings trace true) config given taken result = CyclesTold Commas config given taken result
 JobDone (Path settings trace id after) config given taken result = PathFound id after config given taken result
 JobDone (Mmu settings trace windows) config given taken result = WindowsMeasured windows.items config given taken result
-JobDone (Draw settings trace picture after) config given taken result = HeapDrawn picture after config given taken result
-JobDone (DrawGraph settings trace after most) config given taken result = GraphShown most after config given taken result
+JobDone (Draw settings trace picture after) config given taken result =
+    HeapDrawn picture after config given taken result
+JobDone (DrawGraph settings trace after most) config given taken result =
+    GraphShown most after config given taken result
 JobDone (DrawTime settings trace) config given taken result = TimeDrawn config given taken result
 JobDone (Pages settings trace Demand) config given taken result = PagesTold false config given taken result
 JobDone (Pages settings trace Pace) config given taken result = PagesTold true config given taken result

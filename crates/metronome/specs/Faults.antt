@@ -2,8 +2,8 @@
 use Rattle.std.specs.Prelude.{ℕ, ◌≡◌, ◌⊎◌, ◌+◌, Result, Err}
 use Rattle.command_line.specs.declared.fault.ReadFault.{ReadFault}
 use Rattle.command_line.specs.declared.fault.ReadFault.TheVariants as settings
-use Rattle.graph_drawing.specs.declared.fault.DrawFault.{DrawFault}
-use Rattle.graph_drawing.specs.declared.fault.DrawFault.TheVariants as drawings
+use Rattle.pictures.specs.declared.graph.fault.DrawFault.{DrawFault}
+use Rattle.pictures.specs.declared.graph.fault.DrawFault.TheVariants as drawings
 use Rattle.load_file.specs.declared.fault.LoadFault.{LoadFault}
 use Rattle.load_file.specs.declared.fault.LoadFault.TheVariants as loads
 use Rattle.trace.specs.declared.fault.TextFault.{TextFault}
@@ -53,4 +53,5 @@ failed_writes _ = 0
 -- a run counts the failed reads of its source; where something else can't be read, its source was asked for nothing
 abbrev pub CountsReads : {S A : Type 0} → (S → ℕ) → S → S → Result A RunFault → Type 0
 CountsReads failures old new result =
-    (failures new ≡ failures old + failed_reads result) ⊎ ((fault : RunFault) × (result ≡ Err fault) × IsUnread fault × (new ≡ old))
+    (failures new ≡ failures old + failed_reads result)
+    ⊎ ((fault : RunFault) × (result ≡ Err fault) × IsUnread fault × (new ≡ old))

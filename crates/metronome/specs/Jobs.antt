@@ -8,10 +8,10 @@ use Rattle.quanta.specs.Timetable.{Timetable}
 use Rattle.trace.specs.declared.fault.TextFault.{TextFault}
 use Rattle.trace.specs.declared.version.Version.{Version}
 use Rattle.trace.specs.Streams.{Given, Taken, GrowsByPart}
-use Rattle.transcripts.specs.declared.histories.Checked.{Checked}
-use Rattle.transcripts.specs.declared.histories.Checked.TheVariants.{Good, Wrong}
-use Rattle.transcripts.specs.Histories.{EntriesChecked}
-use Rattle.transcripts.specs.Scripts.{ReadScripts, ScriptsRead}
+use Rattle.trace.specs.declared.transcripts.histories.Checked.{Checked}
+use Rattle.trace.specs.declared.transcripts.histories.Checked.TheVariants.{Good, Wrong}
+use Rattle.trace.specs.Histories.{EntriesChecked}
+use Rattle.trace.specs.Scripts.{ReadScripts, ScriptsRead}
 use Rattle.heap_server.specs.declared.play.Outcome.{Outcome}
 use Rattle.heap_model.specs.Settings.{settings_by}
 use Rattle.heap_server.specs.Played.{IsOutcome}
@@ -44,7 +44,8 @@ ends_as (Err fault) = Err (of_text fault)
 abbrev pub TracePlayed : Style → Config → Given → Taken → Result Ending RunFault → Type 0
 TracePlayed style config given taken result =
     NotBegun given taken result
-    ⊎ ((old : PlayerState) × (new : PlayerState) × (how : Result (Unit {0}) TextFault) × IsNew config old × Played style given (stage old taken.before) (stage new taken.after) how × (result ≡ ends_as how))
+    ⊎ ((old : PlayerState) × (new : PlayerState) × (how : Result (Unit {0}) TextFault) × IsNew config old
+    × Played style given (stage old taken.before) (stage new taken.after) how × (result ≡ ends_as how))
 
 -- a trace, or its first event lines, played without a line written
 abbrev pub PlayedUpTo : Option ℕ → Given → Stage → Stage → Result (Unit {0}) TextFault → Type 0
@@ -68,7 +69,9 @@ ReportedAfter (Err why) report taken result = (result ≡ Err (of_text why)) × 
 abbrev pub HeapInspected : Report → Option ℕ → Config → Given → Taken → Result Ending RunFault → Type 0
 HeapInspected by after config given taken result =
     NotBegun given taken result
-    ⊎ ((old : PlayerState) × (new : PlayerState) × (mid : List ℕ) × (how : Result (Unit {0}) TextFault) × IsNew config old × PlayedUpTo after given (stage old taken.before) (stage new mid) how × ReportedAfter how (report_by by new.course.heap) (record taken { before = mid }) result)
+    ⊎ ((old : PlayerState) × (new : PlayerState) × (mid : List ℕ) × (how : Result (Unit {0}) TextFault)
+    × IsNew config old × PlayedUpTo after given (stage old taken.before) (stage new mid) how
+    × ReportedAfter how (report_by by new.course.heap) (record taken { before = mid }) result)
 
 -- the line that tells what became of a history, and how the run ends
 abbrev pub told_of : Checked → List ℕ
@@ -84,7 +87,8 @@ verdict (Wrong line) = WrongReply
 abbrev pub ToldAfter : Result Checked TextFault → Taken → Result Ending RunFault → Type 0
 -- the history was checked: its line, or a part of it where a write failed, or nothing for want of memory
 ToldAfter (Ok checked) taken (Ok ending) = (ending ≡ verdict checked) × (taken.after ≡ taken.before ++ told_of checked)
-ToldAfter (Ok checked) taken (Err fault) = ((fault ≡ Write) × GrowsByPart taken.before taken.after (told_of checked)) ⊎ ((fault ≡ NoMemory) × (taken.after ≡ taken.before))
+ToldAfter (Ok checked) taken (Err fault) = ((fault ≡ Write) × GrowsByPart taken.before taken.after (told_of checked))
+    ⊎ ((fault ≡ NoMemory) × (taken.after ≡ taken.before))
 -- a fault ended the check: nothing
 ToldAfter (Err why) taken result = (result ≡ Err (of_text why)) × (taken.after ≡ taken.before)
 
@@ -92,7 +96,8 @@ ToldAfter (Err why) taken result = (result ≡ Err (of_text why)) × (taken.afte
 abbrev pub HistoryChecked : Config → Given → Taken → Result Ending RunFault → Type 0
 HistoryChecked config given taken result =
     NotBegun given taken result
-    ⊎ ((new : Graph) × (how : Result Checked TextFault) × EntriesChecked given (opening (limits_of config)) new how × ToldAfter how taken result)
+    ⊎ ((new : Graph) × (how : Result Checked TextFault) × EntriesChecked given (opening (limits_of config)) new how
+    × ToldAfter how taken result)
 
 -- how a run ends whose scripts and budgets were all done, or not
 abbrev pub finish : Bool → Result Ending RunFault
@@ -102,8 +107,10 @@ finish false = Err NotComplete
 -- The history of a play was written, with the version that the scripts told, or a part of it where a write failed.
 abbrev pub HistoryWritten : Version → Outcome → Taken → Result Ending RunFault → Type 0
 HistoryWritten version outcome taken result =
-    ((result ≡ finish outcome.all) × (taken.after ≡ taken.before ++ text_written Entries version outcome.recorded.course.history))
-    ⊎ ((result ≡ Err Write) × GrowsByPart taken.before taken.after (text_written Entries version outcome.recorded.course.history))
+    ((result ≡ finish outcome.all) × (taken.after ≡ taken.before
+    ++ text_written Entries version outcome.recorded.course.history))
+    ⊎ ((result ≡ Err Write) × GrowsByPart taken.before taken.after
+    (text_written Entries version outcome.recorded.course.history))
 
 -- what came of scripts, as they were read
 abbrev pub RunBehind : ℕ → ℕ → Config → Result ReadScripts TextFault → Taken → Result Ending RunFault → Type 0
@@ -111,19 +118,23 @@ abbrev pub RunBehind : ℕ → ℕ → Config → Result ReadScripts TextFault �
 -- where all was done; or memory was refused, and nothing was
 RunBehind turns budget config (Ok read) taken result =
     ((result ≡ Err NoMemory) × (taken.after ≡ taken.before))
-    ⊎ ((outcome : Outcome) × IsOutcome (settings_by config) (map (λ s. s.items) read.1.items) (replicate turns budget) outcome × HistoryWritten read.0 outcome taken result)
+    ⊎ ((outcome : Outcome) × IsOutcome (settings_by config) (map (λ s. s.items) read.1.items)
+    (replicate turns budget) outcome × HistoryWritten read.0 outcome taken result)
 -- a fault ended the reading: nothing was run or written
 RunBehind turns budget config (Err why) taken result = (result ≡ Err (of_text why)) × (taken.after ≡ taken.before)
 
 -- Scripts were read, run, and their history written.
 abbrev pub ScriptsRun : ℕ → ℕ → Config → Given → Taken → Result Ending RunFault → Type 0
 ScriptsRun turns budget config given taken result =
-    (how : Result ReadScripts TextFault) × ScriptsRead given config.mutators how × RunBehind turns budget config how taken result
+    (how : Result ReadScripts TextFault) × ScriptsRead given config.mutators how
+    × RunBehind turns budget config how taken result
 
 -- what is written of windows after a play
-abbrev pub ToldBehind : Result (Unit {0}) TextFault → Config → Timetable → List ℕ → Taken → Result Ending RunFault → Type 0
+abbrev pub ToldBehind : Result (Unit {0}) TextFault → Config → Timetable → List ℕ → Taken → Result Ending RunFault
+    → Type 0
 -- the play came to its end: a line for each window, or for the first of them
-ToldBehind (Ok all) config t windows taken (Ok ending) = (ending ≡ Done) × AllTold config t windows taken.before taken.after
+ToldBehind (Ok all) config t windows taken (Ok ending) = (ending ≡ Done)
+    × AllTold config t windows taken.before taken.after
 ToldBehind (Ok all) config t windows taken (Err fault) = FirstTold config t windows fault taken.before taken.after
 -- a fault ended the play: nothing
 ToldBehind (Err why) config t windows taken result = (result ≡ Err (of_text why)) × (taken.after ≡ taken.before)
@@ -132,4 +143,6 @@ ToldBehind (Err why) config t windows taken result = (result ≡ Err (of_text wh
 abbrev pub WindowsMeasured : List ℕ → Config → Given → Taken → Result Ending RunFault → Type 0
 WindowsMeasured windows config given taken result =
     NotBegun given taken result
-    ⊎ ((old : PlayerState) × (new : PlayerState) × (mid : List ℕ) × (how : Result (Unit {0}) TextFault) × IsNew config old × Played Nothing given (stage old taken.before) (stage new mid) how × ToldBehind how config new.timetable windows (record taken { before = mid }) result)
+    ⊎ ((old : PlayerState) × (new : PlayerState) × (mid : List ℕ) × (how : Result (Unit {0}) TextFault)
+    × IsNew config old × Played Nothing given (stage old taken.before) (stage new mid) how
+    × ToldBehind how config new.timetable windows (record taken { before = mid }) result)

@@ -18,4 +18,5 @@ LogTold layout (Err why) taken result = NothingTold why taken result
 
 -- A trace was played on a new heap, and the cycles of the run were told.
 abbrev pub CyclesTold : Layout → Config → Given → Taken → Result Ending RunFault → Type 0
-CyclesTold layout config given taken result = (how : Result Cycles TextFault) × CyclesTaken config given how × LogTold layout how taken result
+CyclesTold layout config given taken result = (how : Result Cycles TextFault) × CyclesTaken config given how
+    × LogTold layout how taken result

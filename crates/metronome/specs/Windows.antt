@@ -19,13 +19,18 @@ no_window window = codes "window " ++ (decimal window ++ codes " none\n")
 -- the line of a window of which the mutators have at least so many ticks, with what the schedule promises them, and
 -- their share in thousandths
 abbrev pub window_with : ℕ → ℕ → ℕ → ℕ → List ℕ
-window_with window least bound permille = codes "window " ++ (decimal window ++ (codes " least " ++ (decimal least ++ (codes " bound " ++ (decimal bound ++ (codes " permille " ++ (decimal permille ++ codes "\n")))))))
+window_with window least bound permille = codes "window "
+    ++ (decimal window ++ (codes " least "
+    ++ (decimal least ++ (codes " bound "
+    ++ (decimal bound ++ (codes " permille " ++ (decimal permille ++ codes "\n")))))))
 
 -- the line of a window: what its mutators have at least and what is promised, or that there is no such window
 abbrev pub IsWindowLine : Config → Timetable → ℕ → List ℕ → Type 0
 IsWindowLine config t window line =
     (((window ≡ 0) ⊎ (span_of t < window)) × (line ≡ no_window window))
-    ⊎ ((least : ℕ) × (0 < window) × IsLeast t.intervals (span_of t) window least × (line ≡ window_with window least (bound_of config.collector_ticks config.mutator_ticks window) (1000 * least / window)))
+    ⊎ ((least : ℕ) × (0 < window) × IsLeast t.intervals (span_of t) window least
+    × (line ≡ window_with window least (bound_of config.collector_ticks config.mutator_ticks window)
+    (1000 * least / window)))
 
 -- The line of each window was written.
 pub record AllTold (config : Config) (t : Timetable) (windows taken taken' : List ℕ) : Type 0 where
@@ -34,10 +39,12 @@ pub record AllTold (config : Config) (t : Timetable) (windows taken taken' : Lis
   pub written : taken' ≡ taken ++ concat lines
 
 -- A fault came after the lines of the first windows: memory was refused, or a write failed within these lines.
-pub record FirstTold (config : Config) (t : Timetable) (windows : List ℕ) (fault : RunFault) (taken taken' : List ℕ) : Type 0 where
+pub record FirstTold (config : Config) (t : Timetable) (windows : List ℕ) (fault : RunFault)
+    (taken taken' : List ℕ) : Type 0 where
   pub first : List ℕ
   pub behind : List ℕ
   pub whole : windows ≡ first ++ behind
   pub lines : List (List ℕ)
   pub each : AllZip (IsWindowLine config t) first lines
-  pub written : ((fault ≡ NoMemory) × (taken' ≡ taken ++ concat lines)) ⊎ ((fault ≡ Write) × GrowsByPart taken taken' (concat lines))
+  pub written : ((fault ≡ NoMemory) × (taken' ≡ taken ++ concat lines))
+      ⊎ ((fault ≡ Write) × GrowsByPart taken taken' (concat lines))

@@ -18,7 +18,8 @@ pub fn cycles_job<S: Source, K: Sink>(
     sink: &mut K,
     layout: Layout,
 ) -> Result<Ending, RunFault>
-    ensures done { CyclesTold layout config.now (given_by S.given S.ended source.old source.new) (taken_by K.taken sink.old sink.new) result }
+    ensures done { CyclesTold layout config.now (given_by S.given S.ended source.old source.new)
+        (taken_by K.taken sink.old sink.new) result }
     ensures reads { S.failures source.new ≡ S.failures source.old + failed_reads result }
     ensures writes { K.failures sink.new ≡ K.failures sink.old + failed_writes result }
 {

@@ -7,7 +7,7 @@ ghost use Rattle.metronome.specs.Faults.{failed_reads, failed_writes};
 use crate::fault::{Ending, RunFault};
 use crate::jobs::play_silently;
 use command_line::Picture;
-use drawing::{draw_pages, draw_utilisation};
+use pictures::{draw_pages, draw_utilisation};
 use player::Player;
 use size_classes::Config;
 use std::alloc::Global;
@@ -20,7 +20,9 @@ fn draw<K: Sink>(
     picture: Picture,
     sink: &mut K,
 ) -> Result<(), WriteFailed>
-    ensures drawn { (text : List ℕ) × IsPicture picture config.now player.now text × OnOk result (K.taken sink.new ≡ K.taken sink.old ++ text) × OnErr result (GrowsByPart (K.taken sink.old) (K.taken sink.new) text) }
+    ensures drawn { (text : List ℕ) × IsPicture picture config.now player.now text
+        × OnOk result (K.taken sink.new ≡ K.taken sink.old ++ text)
+        × OnErr result (GrowsByPart (K.taken sink.old) (K.taken sink.new) text) }
     ensures cause { K.failures sink.new ≡ K.failures sink.old + failed result }
 {
     match picture {
@@ -38,7 +40,8 @@ pub fn draw_job<S: Source, K: Sink>(
     picture: Picture,
     after: Option<u32>,
 ) -> Result<Ending, RunFault>
-    ensures done { HeapDrawn picture after config.now (given_by S.given S.ended source.old source.new) (taken_by K.taken sink.old sink.new) result }
+    ensures done { HeapDrawn picture after config.now (given_by S.given S.ended source.old source.new)
+        (taken_by K.taken sink.old sink.new) result }
     ensures reads { S.failures source.new ≡ S.failures source.old + failed_reads result }
     ensures writes { K.failures sink.new ≡ K.failures sink.old + failed_writes result }
 {

@@ -5,10 +5,10 @@ ghost use Rattle.metronome.specs.Faults.{of_settings, of_load, of_text, of_drawi
 ghost use Rattle.metronome.specs.Status.{ending_status, fault_status};
 
 use command_line::ReadFault;
-use graph_drawing::DrawFault;
 use graph_heap::NoMemory;
 use inspector::WriteFault;
 use load_file::{DocumentFault, LoadFault};
+use pictures::graph::DrawFault;
 use size_classes::ConfigFault;
 use std::alloc::{AllocError, AllocFailed};
 use thiserror::Error;

@@ -6,15 +6,15 @@ ghost use Rattle.metronome.specs.Graphed.{GraphShown};
 
 use crate::fault::{Ending, RunFault};
 use crate::jobs::play_silently;
-use graph_drawing::draw_graph;
+use pictures::graph::draw_graph;
 use player::Player;
 use reachability::present;
 use size_classes::Config;
 use std::alloc::Global;
 use trace::{Sink, Source};
 
-/// Plays a trace, or its first event lines, and draws the objects of the graph heap to which its history leads, at most so many,
-/// nearest to the roots first.
+/// Plays a trace, or its first event lines, and draws the objects of the graph heap to which its history leads, at most
+/// so many, nearest to the roots first.
 pub fn graph_job<S: Source, K: Sink>(
     alloc: Global,
     config: &Config,
@@ -23,7 +23,8 @@ pub fn graph_job<S: Source, K: Sink>(
     after: Option<u32>,
     most: u32,
 ) -> Result<Ending, RunFault>
-    ensures done { GraphShown most after config.now (given_by S.given S.ended source.old source.new) (taken_by K.taken sink.old sink.new) result }
+    ensures done { GraphShown most after config.now (given_by S.given S.ended source.old source.new)
+        (taken_by K.taken sink.old sink.new) result }
     ensures reads { S.failures source.new ≡ S.failures source.old + failed_reads result }
     ensures writes { K.failures sink.new ≡ K.failures sink.old + failed_writes result }
 {

@@ -22,8 +22,8 @@ use size_classes::Config;
 use std::alloc::{AllocError, Global};
 use std::sync::Wait;
 use std::thread::Threads;
+use trace::transcripts::{Checked, check_entries, read_scripts};
 use trace::{Sink, Source, TextFault, Version, WriteFailed, end_line, write_all, write_entry};
-use transcripts::{Checked, check_entries, read_scripts};
 
 /// Plays a trace, and writes what the style says of each command.
 pub fn play_job<S: Source, K: Sink>(
@@ -33,7 +33,8 @@ pub fn play_job<S: Source, K: Sink>(
     sink: &mut K,
     style: Style,
 ) -> Result<Ending, RunFault>
-    ensures done { TracePlayed style config.now (given_by S.given S.ended source.old source.new) (taken_by K.taken sink.old sink.new) result }
+    ensures done { TracePlayed style config.now (given_by S.given S.ended source.old source.new)
+        (taken_by K.taken sink.old sink.new) result }
     ensures reads { S.failures source.new ≡ S.failures source.old + failed_reads result }
     ensures writes { K.failures sink.new ≡ K.failures sink.old + failed_writes result }
 {
@@ -69,7 +70,8 @@ pub fn check_job<S: Source, K: Sink>(
     source: &mut S,
     sink: &mut K,
 ) -> Result<Ending, RunFault>
-    ensures done { HistoryChecked config.now (given_by S.given S.ended source.old source.new) (taken_by K.taken sink.old sink.new) result }
+    ensures done { HistoryChecked config.now (given_by S.given S.ended source.old source.new)
+        (taken_by K.taken sink.old sink.new) result }
     ensures reads { S.failures source.new ≡ S.failures source.old + failed_reads result }
     ensures writes { K.failures sink.new ≡ K.failures sink.old + failed_writes result }
 {
@@ -101,7 +103,8 @@ fn run_scripts<T: Threads + Wait + Sync>(
     budget: u32,
 ) -> Result<Outcome, NoMemory>
     requires { length scripts.now ≤ config.now.mutators }
-    ensures { IfOk result (IsOutcome (settings_by config.now) (map (λ s. s.items) scripts.now) (replicate turns budget)) }
+    ensures { IfOk result (IsOutcome (settings_by config.now) (map (λ s. s.items) scripts.now)
+        (replicate turns budget)) }
 {
     let budgets = budgets_of(alloc, turns, budget)?;
     play_threads(rt, alloc, config, scripts, budgets.as_slice(), &OpenGate)
@@ -117,7 +120,8 @@ pub fn threads_job<S: Source, K: Sink, T: Threads + Wait + Sync>(
     turns: u32,
     budget: u32,
 ) -> Result<Ending, RunFault>
-    ensures done { ScriptsRun turns budget config.now (given_by S.given S.ended source.old source.new) (taken_by K.taken sink.old sink.new) result }
+    ensures done { ScriptsRun turns budget config.now (given_by S.given S.ended source.old source.new)
+        (taken_by K.taken sink.old sink.new) result }
     ensures reads { S.failures source.new ≡ S.failures source.old + failed_reads result }
     ensures writes { K.failures sink.new ≡ K.failures sink.old + failed_writes result }
 {
@@ -145,7 +149,8 @@ fn write_history<K: Sink>(
     history: &[Entry],
 ) -> Result<(), WriteFailed>
     ensures ok { OnOk result (K.taken sink.new ≡ K.taken sink.old ++ text_written Entries version history.now) }
-    ensures err { OnErr result (GrowsByPart (K.taken sink.old) (K.taken sink.new) (text_written Entries version history.now)) }
+    ensures err { OnErr result (GrowsByPart (K.taken sink.old) (K.taken sink.new)
+        (text_written Entries version history.now)) }
     ensures cause { K.failures sink.new ≡ K.failures sink.old + failed result }
 {
     write_version(sink, version)?;
@@ -185,7 +190,8 @@ pub(crate) fn play_silently<S: Source, K: Sink>(
     player: &mut Player,
     after: Option<u32>,
 ) -> Result<(), TextFault>
-    ensures played { PlayedUpTo after (given_by S.given S.ended source.old source.new) (stage player.old (K.taken sink.old)) (stage player.new (K.taken sink.new)) result }
+    ensures played { PlayedUpTo after (given_by S.given S.ended source.old source.new)
+        (stage player.old (K.taken sink.old)) (stage player.new (K.taken sink.new)) result }
     ensures reads { S.failures source.new ≡ S.failures source.old + reads_failed result }
     ensures writes { K.failures sink.new ≡ K.failures sink.old + writes_failed result }
 {
@@ -204,7 +210,8 @@ pub fn inspect_job<S: Source, K: Sink>(
     by: Report,
     after: Option<u32>,
 ) -> Result<Ending, RunFault>
-    ensures done { HeapInspected by after config.now (given_by S.given S.ended source.old source.new) (taken_by K.taken sink.old sink.new) result }
+    ensures done { HeapInspected by after config.now (given_by S.given S.ended source.old source.new)
+        (taken_by K.taken sink.old sink.new) result }
     ensures reads { S.failures source.new ≡ S.failures source.old + failed_reads result }
     ensures writes { K.failures sink.new ≡ K.failures sink.old + failed_writes result }
 {
@@ -222,7 +229,8 @@ pub fn mmu_job<S: Source, K: Sink>(
     sink: &mut K,
     windows: &[u64],
 ) -> Result<Ending, RunFault>
-    ensures done { WindowsMeasured windows.now config.now (given_by S.given S.ended source.old source.new) (taken_by K.taken sink.old sink.new) result }
+    ensures done { WindowsMeasured windows.now config.now (given_by S.given S.ended source.old source.new)
+        (taken_by K.taken sink.old sink.new) result }
     ensures reads { S.failures source.new ≡ S.failures source.old + failed_reads result }
     ensures writes { K.failures sink.new ≡ K.failures sink.old + failed_writes result }
 {
@@ -241,7 +249,8 @@ fn write_windows<K: Sink>(
     windows: &[u64],
 ) -> Result<(), RunFault>
     ensures ok { OnOk result (AllTold config.now schedule.now windows.now (K.taken sink.old) (K.taken sink.new)) }
-    ensures err { IfErr result (λ fault. FirstTold config.now schedule.now windows.now fault (K.taken sink.old) (K.taken sink.new)) }
+    ensures err { IfErr result (λ fault. FirstTold config.now schedule.now windows.now fault (K.taken sink.old)
+        (K.taken sink.new)) }
     ensures reads { failed_reads result ≡ 0 }
     ensures writes { K.failures sink.new ≡ K.failures sink.old + failed_writes result }
 {

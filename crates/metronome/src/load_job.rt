@@ -2,17 +2,17 @@
 ghost use Rattle.std.specs.Prelude.{◌≡◌, ◌+◌, IfErr, IfOk};
 ghost use Rattle.trace.specs.GoneOver.{reads_failed};
 ghost use Rattle.trace.specs.Streams.{given_by, taken_by};
-ghost use Rattle.arrivals.specs.Fitting.{load_in};
+ghost use Rattle.sizing.specs.Fitting.{load_in};
 ghost use Rattle.metronome.specs.Faults.{IsUnread, failed_reads, failed_writes, CountsReads};
 ghost use Rattle.metronome.specs.Told.{IsRest, LoadTold, TextMeasured, TextChecked, TextTold};
 
 use crate::fault::{Ending, RunFault};
 use crate::files::{Opener, read_document};
-use arrivals::{Kept, Load, keeps_load};
+use inspector::load_kept::load_report;
 use load_file::read_load;
-use load_report::load_report;
-use measure::{Measured, measure};
 use size_classes::Config;
+use sizing::arrivals::{Kept, Load, keeps_load};
+use sizing::{Measured, measure};
 use std::alloc::Global;
 use trace::{MemorySource, Sink, Source, TextFault, write_all};
 
@@ -64,8 +64,8 @@ fn check_text(config: &Config, load: &Load, text: &[u8]) -> Result<Kept, TextFau
     keeps_load(&mut source, load, config)
 }
 
-/// Plays the trace of a text on a new heap, reads it again, and writes whether it keeps to a load and how many pages the
-/// load needs.
+/// Plays the trace of a text on a new heap, reads it again, and writes whether it keeps to a load and how many pages
+/// the load needs.
 fn tell_text<K: Sink>(
     alloc: Global,
     config: &Config,
@@ -94,7 +94,8 @@ pub fn load_job<O: Opener, S: Source, K: Sink>(
     source: &mut S,
     sink: &mut K,
 ) -> Result<Ending, RunFault>
-    ensures done { LoadTold config.now (given_by S.given S.ended source.old source.new) (taken_by K.taken sink.old sink.new) result }
+    ensures done { LoadTold config.now (given_by S.given S.ended source.old source.new)
+        (taken_by K.taken sink.old sink.new) result }
     ensures reads { CountsReads S.failures source.old source.new result }
     ensures writes { K.failures sink.new ≡ K.failures sink.old + failed_writes result }
 {

@@ -5,9 +5,9 @@ ghost use Rattle.metronome.specs.Faults.{failed_reads, failed_writes};
 ghost use Rattle.metronome.specs.Told.{TellsPages, PagesTold};
 
 use crate::fault::{Ending, RunFault};
-use measure::{Measured, measure};
+use inspector::pages_needed::{Scope, needed_report, pace_report};
 use size_classes::Config;
-use space_report::{Scope, needed_report, pace_report};
+use sizing::{Measured, measure};
 use std::alloc::{AllocError, Global};
 use trace::{Sink, Source, write_all};
 
@@ -32,8 +32,9 @@ fn told(
     }
 }
 
-/// Plays a trace on a new heap, and writes what it needs of each size class and how many pages suffice, in each way. Where those of
-/// the configuration do, no reply of this run was the refusal for want of space, nor is one of any run that needs no more.
+/// Plays a trace on a new heap, and writes what it needs of each size class and how many pages suffice, in each way.
+/// Where those of the configuration do, no reply of this run was the refusal for want of space, nor is one of any run
+/// that needs no more.
 pub fn pages_job<S: Source, K: Sink>(
     alloc: Global,
     config: &Config,
@@ -41,7 +42,8 @@ pub fn pages_job<S: Source, K: Sink>(
     sink: &mut K,
     pace: bool,
 ) -> Result<Ending, RunFault>
-    ensures done { PagesTold pace config.now (given_by S.given S.ended source.old source.new) (taken_by K.taken sink.old sink.new) result }
+    ensures done { PagesTold pace config.now (given_by S.given S.ended source.old source.new)
+        (taken_by K.taken sink.old sink.new) result }
     ensures reads { S.failures source.new ≡ S.failures source.old + failed_reads result }
     ensures writes { K.failures sink.new ≡ K.failures sink.old + failed_writes result }
 {

@@ -57,7 +57,9 @@ impl<S: Source + Drop, W: Write + Drop> ToldSource<S, W> {
         ensures source { self.new.source ≡ self.old.source }
         ensures early { self.old.lines < self.old.half * 2 → self.new ≡ self.old }
         ensures next { self.old.half * 2 ≤ self.old.lines → self.new.half ≡ self.old.half * 2 }
-        ensures told { self.old.half * 2 ≤ self.old.lines → OnOk result (Appends (W.contents self.old.errors) (W.contents self.new.errors) (progress_line (self.old.half * 2))) }
+        ensures told { self.old.half * 2 ≤ self.old.lines
+            → OnOk result (Appends (W.contents self.old.errors) (W.contents self.new.errors)
+            (progress_line (self.old.half * 2))) }
     {
         if self.lines / 2 < self.half {
             return Ok(());

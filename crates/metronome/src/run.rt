@@ -149,8 +149,8 @@ fn files_of<'a>(job: &Job<'a>) -> (&'a str, &'a str) {
     }
 }
 
-/// Does the job of a request, from the source of the other file. Where progress is asked for, the error stream is told of
-/// the lines that are read; nothing else hangs on that.
+/// Does the job of a request, from the source of the other file. Where progress is asked for, the error stream is told
+/// of the lines that are read; nothing else hangs on that.
 fn serve<S: Source + Drop, K: Sink, E: Write, O: Opener, T: Threads + Wait + Sync>(
     host: &Host<O, T>,
     request: &Request,
@@ -160,7 +160,8 @@ fn serve<S: Source + Drop, K: Sink, E: Write, O: Opener, T: Threads + Wait + Syn
     errors: &mut E,
 ) -> Result<Ending, RunFault>
     requires { S.given source ≡ [] }
-    ensures done { (after : S) × JobDone request.now.job config.now (given_by S.given S.ended source after) (taken_by K.taken sink.old sink.new) result × CountsReads S.failures source after result }
+    ensures done { (after : S) × JobDone request.now.job config.now (given_by S.given S.ended source after)
+        (taken_by K.taken sink.old sink.new) result × CountsReads S.failures source after result }
     ensures writes { K.failures sink.new ≡ K.failures sink.old + failed_writes result }
 {
     let job = &request.job;
@@ -180,7 +181,8 @@ fn work<S: Source, K: Sink, O: Opener, T: Threads + Wait + Sync>(
     source: &mut S,
     sink: &mut K,
 ) -> Result<Ending, RunFault>
-    ensures done { JobDone job.now config.now (given_by S.given S.ended source.old source.new) (taken_by K.taken sink.old sink.new) result }
+    ensures done { JobDone job.now config.now (given_by S.given S.ended source.old source.new)
+        (taken_by K.taken sink.old sink.new) result }
     ensures reads { CountsReads S.failures source.old source.new result }
     ensures writes { K.failures sink.new ≡ K.failures sink.old + failed_writes result }
 {

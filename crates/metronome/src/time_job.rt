@@ -5,10 +5,10 @@ ghost use Rattle.metronome.specs.Faults.{failed_reads, failed_writes};
 ghost use Rattle.metronome.specs.OverTime.{scale_of, TimeDrawn};
 
 use crate::fault::{Ending, RunFault};
-use drawing::{Scale, draw_time};
+use pictures::timeline::{Samples, take_samples};
+use pictures::{Scale, draw_time};
 use size_classes::Config;
 use std::alloc::Global;
-use timeline::{Samples, take_samples};
 use trace::{Sink, Source};
 
 /// The scale of a picture of samples.
@@ -30,7 +30,8 @@ pub fn time_job<S: Source, K: Sink>(
     source: &mut S,
     sink: &mut K,
 ) -> Result<Ending, RunFault>
-    ensures done { TimeDrawn config.now (given_by S.given S.ended source.old source.new) (taken_by K.taken sink.old sink.new) result }
+    ensures done { TimeDrawn config.now (given_by S.given S.ended source.old source.new)
+        (taken_by K.taken sink.old sink.new) result }
     ensures reads { S.failures source.new ≡ S.failures source.old + failed_reads result }
     ensures writes { K.failures sink.new ≡ K.failures sink.old + failed_writes result }
 {

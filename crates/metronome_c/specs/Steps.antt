@@ -19,12 +19,14 @@ reply_to h g m c = reply_of (room_for h c) g m c
 
 -- what a heap says of a command that it does: the reply, and the heap after it, of each graph heap with which it agreed
 abbrev pub Does : ℕ → Command → HeapState → Reply → HeapState → Type 0
-Does m c h r k = (g : Graph) → Agrees h g → (r ≡ reply_to h g m c) × Agrees k (next_of (room_for h c) g m c) × DoesChange h g (change_by (room_for h c) g m c) k
+Does m c h r k = (g : Graph) → Agrees h g → (r ≡ reply_to h g m c) × Agrees k (next_of (room_for h c) g m c)
+    × DoesChange h g (change_by (room_for h c) g m c) k
 
 -- The step of one graph heap with which the heap agreed: the answer tells its reply, the heap agrees with it
 -- after the step, and does what the step changes.
 abbrev pub IsStepOf : Graph → HeapState → ℕ → Command → HeapState → Answer → Type 0
-IsStepOf g h m c k a = (a ≡ answer_of (reply_to h g m c)) × Agrees k (next_of (room_for h c) g m c) × DoesChange h g (change_by (room_for h c) g m c) k
+IsStepOf g h m c k a = (a ≡ answer_of (reply_to h g m c)) × Agrees k (next_of (room_for h c) g m c)
+    × DoesChange h g (change_by (room_for h c) g m c) k
 
 -- The step of each. Without a heap there is none, and the answer says why.
 abbrev pub Steps : Result HeapState Status → ℕ → Command → Result HeapState Status → Answer → Type 0

@@ -10,7 +10,8 @@ has_tick tick i = nat_le i.start tick && nat_lt tick i.end
 -- how many of the ticks of a window, from its start on, lie in no interval
 unfoldable pub mutator_ticks : List Interval → ℕ → ℕ → ℕ
 mutator_ticks intervals start zero = 0
-mutator_ticks intervals start (suc window) = mutator_ticks intervals start window + (if list_any (has_tick (start + window)) intervals then 0 else 1)
+mutator_ticks intervals start (suc window) =
+    mutator_ticks intervals start window + (if list_any (has_tick (start + window)) intervals then 0 else 1)
 
 -- the least of these, over all windows of so many ticks within the span
 pub record IsLeast (intervals : List Interval) (span window least : ℕ) : Type 0 where

@@ -31,7 +31,8 @@ impl<'a> Front<'a> {
         requires rising { IsRising self.old.ahead.now }
         requires fits { self.old.passed + covered self.old.ahead.now place < 2 ^ 64 }
         ensures covered { result ≡ self.old.passed + covered self.old.ahead.now place }
-        ensures later { (x : ℕ) → place ≤ x → self.new.passed + covered self.new.ahead.now x ≡ self.old.passed + covered self.old.ahead.now x }
+        ensures later { (x : ℕ) → place ≤ x
+            → self.new.passed + covered self.new.ahead.now x ≡ self.old.passed + covered self.old.ahead.now x }
         ensures rising { IsRising self.new.ahead.now }
     {
         while let Some((first, others)) = self.ahead.split_first() {

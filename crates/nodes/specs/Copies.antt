@@ -16,7 +16,8 @@ HasNoBlockOn s id page = (b : ℕ) → b / PAGE_WORDS ≡ page → is_held s b �
 -- the block at a place of a page isn't such
 abbrev pub HasNoBlockAt : Store → ℕ → ℕ → ℕ → Type 0
 HasNoBlockAt s id page index =
-    IsSomeAnd (page_at s.pages page) (λ p. slice_get p.held index ≡ Some true) → IfSome (page_at s.pages page) (λ p. (node_of s (address_of p.class page index)).identity ≢ id)
+    IsSomeAnd (page_at s.pages page) (λ p. slice_get p.held index ≡ Some true)
+    → IfSome (page_at s.pages page) (λ p. (node_of s (address_of p.class page index)).identity ≢ id)
 
 -- how many numbers below one pass
 unfoldable pub count_below : (ℕ → Bool) → ℕ → ℕ
@@ -37,7 +38,11 @@ is_object s b = is_main s b && ((node_of s b).part == 0)
 
 -- the copies that begin below an address
 abbrev pub copies_below : Store → ℕ → Copies
-copies_below s address = record { objects = count_below (is_object s) address; parts = count_below (is_main s) address; old = count_below (is_old s) address }
+copies_below s address = record {
+  objects = count_below (is_object s) address;
+  parts = count_below (is_main s) address;
+  old = count_below (is_old s) address;
+}
 
 -- all copies
 abbrev pub copies_in : Store → Copies

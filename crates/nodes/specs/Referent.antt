@@ -8,7 +8,10 @@ use Rattle.nodes.specs.declared.nodes.Referent.{Referent}
 abbrev pub referent_of : Store → ℕ → Referent
 referent_of s x =
     if x == 0 then record { identity = 0; reference = 0 }
-    else record { identity = (node_of s (node_of s (x - 1)).forward).identity; reference = (node_of s (x - 1)).forward + 1 }
+    else record {
+      identity = (node_of s (node_of s (x - 1)).forward).identity;
+      reference = (node_of s (x - 1)).forward + 1;
+    }
 
 -- null, or the reference of a held block that forwards to a held one
 abbrev pub CanFollow : Store → ℕ → Type 0

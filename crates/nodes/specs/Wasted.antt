@@ -13,7 +13,8 @@ words_in n = part_words (cells_of n.shape) n.part
 
 -- the words of a held block behind the last cell of its part; none of a free block
 abbrev pub wasted_in : Store → ℕ → Page → ℕ → ℕ
-wasted_in s page p block = if slice_index_or p.held block false then size_of p.class - words_in (node_of s (address_of p.class page block)) else 0
+wasted_in s page p block = if slice_index_or p.held block false
+    then size_of p.class - words_in (node_of s (address_of p.class page block)) else 0
 
 -- those of all blocks of a page; a free page has none
 abbrev pub wasted_of : Store → ℕ → Option Page → ℕ

@@ -209,7 +209,8 @@ impl Nodes {
         requires page { page < length self.old.pages }
         requires receiving { IsSomeAnd (page_at self.old.pages page) (λ p. p.receiving ≡ false) }
         ensures kept { KeepsBlocks self.old self.new }
-        ensures pages { IfSome (page_at self.old.pages page) (λ p. self.new.pages ≡ slice_set self.old.pages page (Some (record p { leaving = true }))) }
+        ensures pages { IfSome (page_at self.old.pages page)
+            (λ p. self.new.pages ≡ slice_set self.old.pages page (Some (record p { leaving = true }))) }
     {
         self.table.leave(page);
     }
@@ -220,8 +221,11 @@ impl Nodes {
     pub fn move_block(&mut self, page: usize, index: usize, to: usize) -> usize
         requires { CanMove self.old.pages page index to }
         ensures free { IsSomeAnd (page_at self.old.pages to) (λ q. IsOpen q result) }
-        ensures moved { IfSome (page_at self.old.pages page) (λ p. MovesBlock self.old self.new (address_of p.class page index) (address_of p.class to result)) }
-        ensures pages { IfSome (page_at self.old.pages to) (λ q. self.new.pages ≡ slice_set self.old.pages to (Some (record (with_held q result true) { receiving = true }))) }
+        ensures moved { IfSome (page_at self.old.pages page)
+            (λ p. MovesBlock self.old self.new (address_of p.class page index) (address_of p.class to result)) }
+        ensures pages { IfSome (page_at self.old.pages to)
+            (λ q. self.new.pages ≡ slice_set self.old.pages to
+            (Some (record (with_held q result true) { receiving = true }))) }
     {
         let size = self.block_size(page);
         let from = address(page, index, size);
@@ -235,8 +239,10 @@ impl Nodes {
     /// The address of a block of a page, by its number there, if it is held.
     pub fn held_block(&self, page: usize, index: usize) -> Option<usize>
         requires { page < length self.now.pages }
-        ensures held { IsSome result ↔ IsSomeAnd (page_at self.now.pages page) (λ p. slice_get p.held index ≡ Some true) }
-        ensures address { IfSome result (λ address. IfSome (page_at self.now.pages page) (λ p. address ≡ address_of p.class page index)) }
+        ensures held { IsSome result ↔ IsSomeAnd (page_at self.now.pages page)
+            (λ p. slice_get p.held index ≡ Some true) }
+        ensures address { IfSome result
+            (λ address. IfSome (page_at self.now.pages page) (λ p. address ≡ address_of p.class page index)) }
         ensures block { IfSome result (λ address. is_held self.now address ≡ true) }
     {
         let class = self.table.class(page)?;
@@ -266,9 +272,11 @@ impl Nodes {
         requires room { cells + 4 ≤ size_of class }
         ensures none { IsNone result ↔ IsNone (page_for self.old.pages class) }
         ensures page { IfSome result (λ address. page_for self.old.pages class ≡ Some (address / 2048)) }
-        ensures taken { IfSome result (λ address. (index : ℕ) × TakesBlock self.old.pages class (address / 2048) index self.new.pages) }
+        ensures taken { IfSome result (λ address. (index : ℕ)
+            × TakesBlock self.old.pages class (address / 2048) index self.new.pages) }
         ensures within { IfSome result (λ address. address ≤ 8388608) }
-        ensures made { IfSome result (λ address. Adds self.old self.new address (new_node address (record { shape = shape; part = part; colour = colour }) identity)) }
+        ensures made { IfSome result (λ address. Adds self.old self.new address
+            (new_node address (record { shape = shape; part = part; colour = colour }) identity)) }
         ensures kept { IsNone result → self.new ≡ self.old }
         ensures links { KeepsLinks self.old self.new }
     {

@@ -10,7 +10,8 @@ free_mark = 18446744073709551615
 
 -- which blocks are held, of so many of a size from a place on
 unfoldable pub flags_at : List ℕ → ℕ → ℕ → ℕ → List Bool
-flags_at words at size blocks = map (λ i. not (slice_index words (at + i * size) == free_mark)) (range_with_len 0 blocks)
+flags_at words at size blocks =
+    map (λ i. not (slice_index words (at + i * size) == free_mark)) (range_with_len 0 blocks)
 
 -- The list from a link on runs through just the blocks with the flag false, each once: it ends where
 -- there is none, and else the link is the address plus one of such a block, and the list from the
@@ -18,7 +19,8 @@ flags_at words at size blocks = map (λ i. not (slice_index words (at + i * size
 abbrev pub RunsFree : List ℕ → ℕ → ℕ → ℕ → List Bool → ℕ → Type 0
 RunsFree words at size zero flags link = (link ≡ 0) × (count_by not flags ≡ 0)
 RunsFree words at size (suc n) flags link =
-    (i : ℕ) × (slice_get flags i ≡ Some false) × (link ≡ at + i * size + 1) × RunsFree words at size n (slice_set flags i true) (slice_index words (at + i * size + 3))
+    (i : ℕ) × (slice_get flags i ≡ Some false) × (link ≡ at + i * size + 1)
+    × RunsFree words at size n (slice_set flags i true) (slice_index words (at + i * size + 3))
 
 -- which blocks of a page of a class are held, by the words from its first on
 abbrev pub flags_of : List ℕ → ℕ → ℕ → List Bool

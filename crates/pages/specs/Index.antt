@@ -49,11 +49,13 @@ abbrev pub class_bit : List BitRow → ℕ → ℕ → ℕ
 class_bit usable class k = slice_index (map (λ r. has_bit r k) usable) class
 
 -- the bits and the numbers are those of the rows
-pub record IsIndex (rows : List (Option PageRecord)) (usable : List BitRow) (free : BitRow) (free_blocks : List ℕ) (free_pages : ℕ) : Type 0 where
+pub record IsIndex (rows : List (Option PageRecord)) (usable : List BitRow) (free : BitRow) (free_blocks : List ℕ)
+    (free_pages : ℕ) : Type 0 where
   pub few : length rows ≤ MOST_PAGES
   pub classes : length usable ≡ CLASSES
   pub counts : length free_blocks ≡ CLASSES
-  pub usable_bits : (class k : ℕ) → class < CLASSES → k < MOST_PAGES → class_bit usable class k ≡ bit (row_usable class (row_at rows k))
+  pub usable_bits : (class k : ℕ) → class < CLASSES → k < MOST_PAGES
+      → class_bit usable class k ≡ bit (row_usable class (row_at rows k))
   pub free_bits : (k : ℕ) → k < length rows → has_bit free k ≡ bit (row_free (row_at rows k))
   pub free_past : (k : ℕ) → k < MOST_PAGES → length rows ≤ k → has_bit free k ≡ 0
   pub blocks_are : (class : ℕ) → class < CLASSES → slice_index free_blocks class ≡ sum_by (row_free_on class) rows

@@ -13,12 +13,16 @@ has_colour words colour address = same_colour colour (header_in (slice_index wor
 -- A look at a block of a page: it stays, where it isn't held or has the colour; else it is given back, and the words of
 -- the blocks that are held then stay.
 pub data LooksAt (colour : Bool) (page index : ℕ) (s : Store) : Store → Type 0 where
-  It_stays : (p : Page) → page_at s.pages page ≡ Some p → index < length p.held → (slice_get p.held index ≡ Some true → has_colour s.words colour (address_of p.class page index) ≡ true)
+  It_stays : (p : Page) → page_at s.pages page ≡ Some p → index < length p.held
+      → (slice_get p.held index ≡ Some true → has_colour s.words colour (address_of p.class page index) ≡ true)
       → LooksAt colour page index s s
-  It_goes : (p : Page) (new : Store) → page_at s.pages page ≡ Some p → slice_get p.held index ≡ Some true → has_colour s.words colour (address_of p.class page index) ≡ false
-      → new.pages ≡ slice_set s.pages page (Some (with_held p index false)) → KeepsHeld new.pages s.words new.words → LooksAt colour page index s new
+  It_goes : (p : Page) (new : Store) → page_at s.pages page ≡ Some p → slice_get p.held index ≡ Some true
+      → has_colour s.words colour (address_of p.class page index) ≡ false
+      → new.pages ≡ slice_set s.pages page (Some (with_held p index false)) → KeepsHeld new.pages s.words new.words
+      → LooksAt colour page index s new
 
 -- looks at so many blocks of a page, from one on, each after the other
 pub data Looks (colour : Bool) (page from : ℕ) (s : Store) : ℕ → Store → Type 0 where
   No_look : Looks colour page from s 0 s
-  Then_one : (n : ℕ) (t u : Store) → Looks colour page from s n t → LooksAt colour page (from + n) t u → Looks colour page from s (n + 1) u
+  Then_one : (n : ℕ) (t u : Store) → Looks colour page from s n t → LooksAt colour page (from + n) t u
+      → Looks colour page from s (n + 1) u

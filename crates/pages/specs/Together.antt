@@ -11,7 +11,12 @@ use Rattle.pages.specs.Index.{row_at}
 
 -- a page, by its record and the words from its first on
 abbrev pub page_by : List ℕ → ℕ → Option PageRecord → Option Page
-page_by words at = option_map (λ r. record { class = r.class; leaving = r.leaving; receiving = r.receiving; held = flags_of words at r.class })
+page_by words at = option_map (λ r. record {
+  class = r.class;
+  leaving = r.leaving;
+  receiving = r.receiving;
+  held = flags_of words at r.class;
+})
 
 -- the pages, by their records and the words
 unfoldable pub pages_in : List (Option PageRecord) → List ℕ → List (Option Page)
@@ -31,8 +36,10 @@ pub record Together (rows : List (Option PageRecord)) (words : List ℕ) : Type 
 -- the words of the blocks that are held stay
 pub record KeepsHeld (pages : List (Option Page)) (old new : List ℕ) : Type 0 where
   pub len : length new ≡ length old
-  pub each : (k : ℕ) (p : Page) (i j : ℕ) → page_at pages k ≡ Some p → slice_get p.held i ≡ Some true → j < size_of p.class
-      → slice_index new (PAGE_WORDS * k + i * size_of p.class + j) ≡ slice_index old (PAGE_WORDS * k + i * size_of p.class + j)
+  pub each : (k : ℕ) (p : Page) (i j : ℕ) → page_at pages k ≡ Some p → slice_get p.held i ≡ Some true
+      → j < size_of p.class
+      → slice_index new (PAGE_WORDS * k + i * size_of p.class + j)
+      ≡ slice_index old (PAGE_WORDS * k + i * size_of p.class + j)
 
 -- what is told by the records alone holds of the pages, with whatever words they go together
 abbrev pub Tells : List (Option PageRecord) → (List (Option Page) → Type 0) → Type 0

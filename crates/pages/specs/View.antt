@@ -5,4 +5,9 @@ use Rattle.pages.specs.declared.view.PageView.{PageView}
 
 -- of a page in use its class, how many of its blocks are held, and its marks; of a free page nothing
 abbrev pub view_of : Option Page → Option PageView
-view_of = option_map (λ p. record { class = p.class; held = count_by (λ b. b) p.held; leaving = p.leaving; receiving = p.receiving })
+view_of = option_map (λ p. record {
+  class = p.class;
+  held = count_by (λ b. b) p.held;
+  leaving = p.leaving;
+  receiving = p.receiving;
+})

@@ -21,8 +21,10 @@ pub fn pop(arena: &mut Arena, page: usize, row: &mut PageRecord) -> usize
     requires chain { IsFreeList arena.old (2048 * page) row.old.class row.old.first row.old.held }
     requires some { row.old.held < blocks_in row.old.class }
     ensures place { result ≡ 2048 * page + index_on row.old.class page result * size_of row.old.class }
-    ensures free { slice_get (flags_of arena.old (2048 * page) row.old.class) (index_on row.old.class page result) ≡ Some false }
-    ensures flags { flags_of arena.new (2048 * page) row.old.class ≡ slice_set (flags_of arena.old (2048 * page) row.old.class) (index_on row.old.class page result) true }
+    ensures free { slice_get (flags_of arena.old (2048 * page) row.old.class) (index_on row.old.class page result)
+        ≡ Some false }
+    ensures flags { flags_of arena.new (2048 * page) row.old.class
+        ≡ slice_set (flags_of arena.old (2048 * page) row.old.class) (index_on row.old.class page result) true }
     ensures chain { IsFreeList arena.new (2048 * page) row.old.class row.new.first (row.old.held + 1) }
     ensures row { row.new ≡ record row.old { first = row.new.first; held = row.old.held + 1 } }
     ensures words { arena.new ≡ slice_set arena.old result result }
@@ -51,11 +53,13 @@ fn push(arena: &mut Arena, page: usize, row: &mut PageRecord, index: usize)
     requires within { 2048 * page + 2048 ≤ length arena.old }
     requires chain { IsFreeList arena.old (2048 * page) row.old.class row.old.first row.old.held }
     requires held { slice_get (flags_of arena.old (2048 * page) row.old.class) index ≡ Some true }
-    ensures flags { flags_of arena.new (2048 * page) row.old.class ≡ slice_set (flags_of arena.old (2048 * page) row.old.class) index false }
+    ensures flags { flags_of arena.new (2048 * page) row.old.class
+        ≡ slice_set (flags_of arena.old (2048 * page) row.old.class) index false }
     ensures chain { IsFreeList arena.new (2048 * page) row.old.class row.new.first (row.old.held - 1) }
     ensures some { 0 < row.old.held }
     ensures row { row.new ≡ record row.old { first = row.new.first; held = row.old.held - 1 } }
-    ensures words { arena.new ≡ slice_set (slice_set arena.old (2048 * page + index * size_of row.old.class) free_mark) (2048 * page + index * size_of row.old.class + 3) row.old.first }
+    ensures words { arena.new ≡ slice_set (slice_set arena.old (2048 * page + index * size_of row.old.class) free_mark)
+        (2048 * page + index * size_of row.old.class + 3) row.old.first }
 {
     let block = 2048 * page + index * row.class.size() as usize;
     link_free(arena, block, row.first);
@@ -69,7 +73,13 @@ pub fn thread(arena: &mut Arena, page: usize, class: Class) -> PageRecord
     requires within { 2048 * page + 2048 ≤ length arena.old }
     ensures flags { flags_of arena.new (2048 * page) class ≡ replicate (blocks_in class) false }
     ensures chain { IsFreeList arena.new (2048 * page) class result.first 0 }
-    ensures row { result ≡ record { class = class; first = result.first; held = 0; leaving = false; receiving = false } }
+    ensures row { result ≡ record {
+      class = class;
+      first = result.first;
+      held = 0;
+      leaving = false;
+      receiving = false;
+    } }
     ensures words { SameOutside arena.old arena.new (2048 * page) }
     ensures known { class < 38 }
 {
@@ -108,8 +118,10 @@ fn stays(arena: &Arena, page: usize, class: Class, index: usize, colour: bool) -
     requires page { page < 4096 }
     requires within { 2048 * page + 2048 ≤ length arena.now }
     requires block { index < blocks_in class }
-    ensures stays { result ≡ true → slice_get (flags_of arena.now (2048 * page) class) index ≡ Some true → has_colour arena.now colour (address_of class page index) ≡ true }
-    ensures goes { result ≡ false → (slice_get (flags_of arena.now (2048 * page) class) index ≡ Some true) × (has_colour arena.now colour (address_of class page index) ≡ false) }
+    ensures stays { result ≡ true → slice_get (flags_of arena.now (2048 * page) class) index ≡ Some true
+        → has_colour arena.now colour (address_of class page index) ≡ true }
+    ensures goes { result ≡ false → (slice_get (flags_of arena.now (2048 * page) class) index ≡ Some true)
+        × (has_colour arena.now colour (address_of class page index) ≡ false) }
 {
     if is_taken(arena, page, class, index) {
         let block = 2048 * page + index * class.size() as usize;
@@ -170,8 +182,10 @@ pub fn sweep(
 pub fn next_held(arena: &Arena, page: usize, class: Class, from: usize) -> Option<usize>
     requires page { page < 4096 }
     requires within { 2048 * page + 2048 ≤ length arena.now }
-    ensures some { IfSome result (λ i. (from ≤ i) × (slice_get (flags_of arena.now (2048 * page) class) i ≡ Some true) × ((k : ℕ) → from ≤ k → k < i → slice_get (flags_of arena.now (2048 * page) class) k ≡ Some false)) }
-    ensures none { IsNone result → (k : ℕ) → from ≤ k → k < blocks_in class → slice_get (flags_of arena.now (2048 * page) class) k ≡ Some false }
+    ensures some { IfSome result (λ i. (from ≤ i) × (slice_get (flags_of arena.now (2048 * page) class) i ≡ Some true)
+        × ((k : ℕ) → from ≤ k → k < i → slice_get (flags_of arena.now (2048 * page) class) k ≡ Some false)) }
+    ensures none { IsNone result → (k : ℕ) → from ≤ k → k < blocks_in class
+        → slice_get (flags_of arena.now (2048 * page) class) k ≡ Some false }
 {
     let blocks = class.blocks_per_page() as usize;
     for i in from..blocks {

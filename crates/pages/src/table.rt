@@ -165,7 +165,8 @@ impl PageTable {
         requires together { Together self.old arena.old }
         requires free { row_at self.old page ≡ None }
         ensures together { Together self.new arena.new }
-        ensures page { pages_in self.new arena.new ≡ slice_set (pages_in self.old arena.old) page (Some (fresh_page class)) }
+        ensures page { pages_in self.new arena.new
+            ≡ slice_set (pages_in self.old arena.old) page (Some (fresh_page class)) }
         ensures len { length self.new ≡ length self.old }
         ensures words { KeepsHeld (pages_in self.old arena.old) arena.old arena.new }
         ensures usable { HasFree class (row_at self.new page) }
@@ -183,8 +184,12 @@ impl PageTable {
         requires usable { HasFree class (row_at self.old page) }
         ensures together { Together self.new arena.new }
         ensures place { result ≡ address_of class page (index_on class page result) }
-        ensures free { IsOpen (page_of_class class (page_at (pages_in self.old arena.old) page)) (index_on class page result) }
-        ensures held { pages_in self.new arena.new ≡ slice_set (pages_in self.old arena.old) page (Some (with_held (page_of_class class (page_at (pages_in self.old arena.old) page)) (index_on class page result) true)) }
+        ensures free { IsOpen (page_of_class class (page_at (pages_in self.old arena.old) page))
+            (index_on class page result) }
+        ensures held { pages_in self.new arena.new
+            ≡ slice_set (pages_in self.old arena.old) page
+            (Some (with_held (page_of_class class (page_at (pages_in self.old arena.old) page))
+            (index_on class page result) true)) }
         ensures words { KeepsHeld (pages_in self.old arena.old) arena.old arena.new }
     {
         let number = class.number();
@@ -206,7 +211,8 @@ impl PageTable {
         requires { Together self.old arena.old }
         ensures together { Together self.new arena.new }
         ensures none { IsNone result ↔ IsNone (page_for (pages_in self.old arena.old) class) }
-        ensures taken { IfSome result (λ block. TakesAt (pages_in self.old arena.old) class block (pages_in self.new arena.new)) }
+        ensures taken { IfSome result (λ block. TakesAt (pages_in self.old arena.old) class block
+            (pages_in self.new arena.new)) }
         ensures words { IfSome result (λ _. KeepsHeld (pages_in self.old arena.old) arena.old arena.new) }
         ensures kept { IsNone result → (self.new ≡ self.old) × (arena.new ≡ arena.old) }
     {
@@ -228,9 +234,11 @@ impl PageTable {
     pub fn sweep(&mut self, arena: &mut Arena, block: Block, count: usize, colour: bool)
         requires together { Together self.old arena.old }
         requires page { block.page < length self.old }
-        requires blocks { IsSomeAnd (page_at (pages_in self.old arena.old) block.page) (λ p. block.index + count ≤ length p.held) }
+        requires blocks { IsSomeAnd (page_at (pages_in self.old arena.old) block.page)
+            (λ p. block.index + count ≤ length p.held) }
         ensures together { Together self.new arena.new }
-        ensures looks { Looks colour block.page block.index (joined self.old arena.old) count (joined self.new arena.new) }
+        ensures looks { Looks colour block.page block.index (joined self.old arena.old) count
+            (joined self.new arena.new) }
     {
         let mut row = self.row(block.page).unwrap();
         sweep(arena, block.page, &mut row, block.index, count, colour);
@@ -245,7 +253,10 @@ impl PageTable {
         requires free { CanReceive (page_at (pages_in self.old arena.old) page) }
         ensures together { Together self.new arena.new }
         ensures open { IsSomeAnd (page_at (pages_in self.old arena.old) page) (λ p. IsOpen p result) }
-        ensures held { IfSome (page_at (pages_in self.old arena.old) page) (λ p. pages_in self.new arena.new ≡ slice_set (pages_in self.old arena.old) page (Some (record (with_held p result true) { receiving = true }))) }
+        ensures held { IfSome (page_at (pages_in self.old arena.old) page)
+            (λ p. pages_in self.new arena.new
+            ≡ slice_set (pages_in self.old arena.old) page
+            (Some (record (with_held p result true) { receiving = true }))) }
         ensures words { KeepsHeld (pages_in self.old arena.old) arena.old arena.new }
     {
         let mut row = self.row(page).unwrap();
@@ -261,7 +272,10 @@ impl PageTable {
         requires page { page < length self.old }
         requires receiving { IsSomeAnd (row_at self.old page) (λ r. r.receiving ≡ false) }
         ensures together { (words : List ℕ) → Together self.old words → Together self.new words }
-        ensures mark { (words : List ℕ) → Together self.old words → IfSome (page_at (pages_in self.old words) page) (λ p. pages_in self.new words ≡ slice_set (pages_in self.old words) page (Some (record p { leaving = true }))) }
+        ensures mark { (words : List ℕ) → Together self.old words
+            → IfSome (page_at (pages_in self.old words) page)
+            (λ p. pages_in self.new words ≡ slice_set (pages_in self.old words) page
+            (Some (record p { leaving = true }))) }
     {
         let mut row = self.row(page).unwrap();
         row.leaving = true;
@@ -274,7 +288,9 @@ impl PageTable {
     pub fn close_page(&mut self, page: usize)
         requires { page < length self.old }
         ensures together { (words : List ℕ) → Together self.old words → Together self.new words }
-        ensures closed { (words : List ℕ) → Together self.old words → pages_in self.new words ≡ slice_set (pages_in self.old words) page (closed (page_at (pages_in self.old words) page)) }
+        ensures closed { (words : List ℕ) → Together self.old words
+            → pages_in self.new words ≡ slice_set (pages_in self.old words) page
+            (closed (page_at (pages_in self.old words) page)) }
     {
         if let Some(mut row) = self.row(page) {
             if row.held == 0 {

@@ -19,4 +19,5 @@ pub record IsNew (config : Config) (p : PlayerState) : Type 0 where
 
 -- whatever events are done, space suffices for them, where the player is a new one of a configuration
 abbrev pub StartsWithSpace : PlayerState → Type 0
-StartsWithSpace p = (config : Config) (es : List Event) (new : Course) → IsNew config p → Runs p.course es new → SpaceSuffices config es
+StartsWithSpace p = (config : Config) (es : List Event) (new : Course)
+    → IsNew config p → Runs p.course es new → SpaceSuffices config es

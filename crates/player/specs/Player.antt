@@ -41,24 +41,31 @@ placed due t = record t {
 
 -- the player once a quantum was done, with its interval
 abbrev pub quantum_behind : PlayerState → ℕ → Phase → Course → PlayerState
-quantum_behind p due phase course = record p { course = course; timetable = behind_quantum phase (placed due p.timetable) }
+quantum_behind p due phase course =
+    record p { course = course; timetable = behind_quantum phase (placed due p.timetable) }
 
 -- Quanta are done, with their intervals, in the order in which they are due below a time.
 pub data QuantaDue (until : ℕ) (p : PlayerState) : List Event → PlayerState → Type 0 where
   None_yet : QuantaDue until p [] p
-  One_more : (es : List Event) (q : PlayerState) (due units : ℕ) (phase : Phase) (course : Course) → QuantaDue until p es q → q.timetable.due ≡ Some due → due < until
-      → Does q.course (Quantum_done q.budget units phase) course → QuantaDue until p (es ++ Quantum_done q.budget units phase ∷ []) (quantum_behind q due phase course)
+  One_more : (es : List Event) (q : PlayerState) (due units : ℕ) (phase : Phase) (course : Course)
+      → QuantaDue until p es q → q.timetable.due ≡ Some due → due < until
+      → Does q.course (Quantum_done q.budget units phase) course
+      → QuantaDue until p (es ++ Quantum_done q.budget units phase ∷ []) (quantum_behind q due phase course)
 
 -- What a line does: the events that are done, and the player after them. A cycle that is on is gone on
 -- with. Ticks are the quanta that are due in them, and then the clock.
 pub data DoesLine (p : PlayerState) : Line → List Event → PlayerState → Type 0 where
   Skips : DoesLine p lines.Skip [] p
-  Commands : (m : ℕ) (c : Command) (reply : Reply) (course : Course) → Does p.course (Command_done m c reply) course → DoesLine p (lines.Command m c) (Command_done m c reply ∷ []) (record p { course = course })
-  Begins : (course : Course) → Does p.course Cycle_begun course → DoesLine p lines.Begin (Cycle_begun ∷ []) (record p { course = course; timetable = started p.timetable })
+  Commands : (m : ℕ) (c : Command) (reply : Reply) (course : Course) → Does p.course (Command_done m c reply) course
+      → DoesLine p (lines.Command m c) (Command_done m c reply ∷ []) (record p { course = course })
+  Begins : (course : Course) → Does p.course Cycle_begun course
+      → DoesLine p lines.Begin (Cycle_begun ∷ []) (record p { course = course; timetable = started p.timetable })
   Goes_on : Does p.course Cycle_on p.course → DoesLine p lines.Begin (Cycle_on ∷ []) p
   Spends : (budget units : ℕ) (phase : Phase) (course : Course) → Does p.course (Quantum_done budget units phase) course
-      → DoesLine p (lines.Quantum budget) (Quantum_done budget units phase ∷ []) (record p { course = course; timetable = behind_quantum phase p.timetable })
-  Ticks : (n : ℕ) (es : List Event) (q : PlayerState) → p.timetable.clock + n ≤ CLOCK_LIMIT → QuantaDue (p.timetable.clock + n) p es q → due_below (p.timetable.clock + n) q.timetable.due ≡ None
+      → DoesLine p (lines.Quantum budget) (Quantum_done budget units phase ∷ [])
+      (record p { course = course; timetable = behind_quantum phase p.timetable })
+  Ticks : (n : ℕ) (es : List Event) (q : PlayerState) → p.timetable.clock + n ≤ CLOCK_LIMIT
+      → QuantaDue (p.timetable.clock + n) p es q → due_below (p.timetable.clock + n) q.timetable.due ≡ None
       → DoesLine p (lines.Tick n) es (record q { timetable = record q.timetable { clock = p.timetable.clock + n } })
 
 -- the budget of a line that has one

@@ -56,7 +56,8 @@ TellsVersionOf style old new = (new.player ≡ old.player) × (new.taken ≡ old
 
 -- What a line does: its events, and what is written of their entries.
 abbrev pub Plays : Style → Line → Stage → List Event → Stage → Type 0
-Plays style line old events new = DoesLine old.player line events new.player × (new.taken ≡ old.taken ++ written_of style (entries_in events))
+Plays style line old events new = DoesLine old.player line events new.player
+    × (new.taken ≡ old.taken ++ written_of style (entries_in events))
 
 -- the text of a line spells a line that does so
 abbrev pub PlaysText : Style → Version → List ℕ → Stage → List Event → Stage → Type 0
@@ -65,12 +66,14 @@ PlaysText style version text old events new = (line : Line) × Spells version te
 -- What a fault at a line of this number is.
 abbrev pub Stops : Style → TextFault → Line → ℕ → Stage → Stage → Type 0
 -- its ticks would pass the clock's limit
-Stops style (At_line k ClockSpent) (lines.Tick n) number old new = (k ≡ number) × (CLOCK_LIMIT < old.player.timetable.clock + n) × (new.player ≡ old.player) × (new.taken ≡ old.taken)
+Stops style (At_line k ClockSpent) (lines.Tick n) number old new = (k ≡ number)
+    × (CLOCK_LIMIT < old.player.timetable.clock + n) × (new.player ≡ old.player) × (new.taken ≡ old.taken)
 -- memory was refused for the command's entry: nothing has changed
 Stops style NoMemory (lines.Command m c) number old new = (new.player ≡ old.player) × (new.taken ≡ old.taken)
 -- memory was refused for the interval of a quantum that is due: those before it are done, and the clock hasn't moved
 Stops style NoMemory (lines.Tick n) number old new =
-    ((es : List Event) × (due : ℕ) × QuantaDue (old.player.timetable.clock + n) old.player es new.player × (new.player.timetable.due ≡ Some due) × (due < old.player.timetable.clock + n)) × (new.taken ≡ old.taken)
+    ((es : List Event) × (due : ℕ) × QuantaDue (old.player.timetable.clock + n) old.player es new.player
+    × (new.player.timetable.due ≡ Some due) × (due < old.player.timetable.clock + n)) × (new.taken ≡ old.taken)
 Stops style fault line number old new = ⊥
 
 -- the same of its text, of which no event may be a spelling, and which then doesn't tell the version
@@ -84,11 +87,13 @@ StopsText style version fault text number old new =
 abbrev pub CutShort : Style → Version → ℕ → List Event → Stage → List ℕ → Stage → Stage → Type 0
 CutShort style version count events mid rest old new =
     GrowsByPart old.taken new.taken (text_written style version (entries_in events))
-    × ((new.player ≡ mid.player) ⊎ NextLine (λ line. StopsText style version NoMemory line (count + 1) mid (stage new.player mid.taken)) rest)
+    × ((new.player ≡ mid.player) ⊎ NextLine
+    (λ line. StopsText style version NoMemory line (count + 1) mid (stage new.player mid.taken)) rest)
 
--- All that the first of these lines wrote is within the text that was taken. The lines behind these, with the rest, are at
--- most a buffer of the input: none but those that waited there were done.
-pub record IsWrittenUpTo (style : Style) (old : Stage) (lines : List (List ℕ)) (events : List Event) (rest taken : List ℕ) : Type 0 where
+-- All that the first of these lines wrote is within the text that was taken. The lines behind these, with the rest, are
+-- at most a buffer of the input: none but those that waited there were done.
+pub record IsWrittenUpTo (style : Style) (old : Stage) (lines : List (List ℕ)) (events : List Event)
+    (rest taken : List ℕ) : Type 0 where
   pub before : List (List ℕ)
   pub behind : List (List ℕ)
   pub version : Version
@@ -102,10 +107,13 @@ pub record IsWrittenUpTo (style : Style) (old : Stage) (lines : List (List ℕ))
   pub few : length (text_of behind) + length rest ≤ 65536
 
 -- What was played of an input: the lines that were done did these events, one after the other, what is
--- written of their entries is written, and it ended so. Where a write failed, mid has all of that text, and the lines of
--- which not all was written waited in a buffer of the input.
-pub record Played (style : Style) (given : Given) (old new : Stage) (result : Result (Unit {0}) TextFault) : Type 0 where
-  pub over : GoneOver (TellsVersionOf style) (PlaysText style) given old (λ version count events mid rest. Ends (StopsText style version) count mid rest given.ended new result ⊎ ((result ≡ Err Write) × CutShort style version count events mid rest old new))
+-- written of their entries is written, and it ended so. Where a write failed, mid has all of that text, and the lines
+-- of which not all was written waited in a buffer of the input.
+pub record Played (style : Style) (given : Given) (old new : Stage)
+    (result : Result (Unit {0}) TextFault) : Type 0 where
+  pub over : GoneOver (TellsVersionOf style) (PlaysText style) given old
+      (λ version count events mid rest. Ends (StopsText style version) count mid rest given.ended new result
+      ⊎ ((result ≡ Err Write) × CutShort style version count events mid rest old new))
   pub runs : Runs old.player.course over.events over.mid.player.course
   pub grows : over.mid.player.course.history ≡ old.player.course.history ++ entries_in over.events
   pub written : over.mid.taken ≡ old.taken ++ text_written style over.version (entries_in over.events)
@@ -122,7 +130,8 @@ says_event line = true
 
 -- the last of the lines, if there is one, is that of an event
 abbrev pub EndAtEvent : List (List ℕ) → Type 0
-EndAtEvent lines = (lines ≡ []) ⊎ ((before : List (List ℕ)) × (last : List ℕ) × (lines ≡ before ++ last ∷ []) × IsTrue (is_event last))
+EndAtEvent lines = (lines ≡ [])
+    ⊎ ((before : List (List ℕ)) × (last : List ℕ) × (lines ≡ before ++ last ∷ []) × IsTrue (is_event last))
 
 -- What was played of an input up to the line of its nth event.
 abbrev pub PlayedFirst : ℕ → Style → Given → Stage → Stage → Result (Unit {0}) TextFault → Type 0
@@ -131,8 +140,11 @@ PlayedFirst n style given old new result =
     ((all : Played style given old new result) × (count_by is_event all.over.lines < n))
     -- the lines end at the nth event: what is played of an input that ends there, unless a write failed after
     -- it. Of what comes after, which wasn't looked at, at most a buffer was read
-    ⊎ ((seen : List ℕ) × (more : List ℕ) × (first : Played style (record given { after = seen; ended = true }) old new result)
-    × (given.after ≡ seen ++ more) × (length more ≤ 65536) × (first.over.rest ≡ []) × (count_by is_event first.over.lines ≡ n) × EndAtEvent first.over.lines × ((result ≡ Ok tt) ⊎ (result ≡ Err Write)))
+    ⊎ ((seen : List ℕ) × (more : List ℕ)
+    × (first : Played style (record given { after = seen; ended = true }) old new result)
+    × (given.after ≡ seen ++ more) × (length more ≤ 65536) × (first.over.rest ≡ [])
+    × (count_by is_event first.over.lines ≡ n) × EndAtEvent first.over.lines
+    × ((result ≡ Ok tt) ⊎ (result ≡ Err Write)))
 
 -- the same, where n may be none: then the whole input is played
 abbrev pub PlayedUpTo : Option ℕ → Style → Given → Stage → Stage → Result (Unit {0}) TextFault → Type 0
@@ -147,10 +159,13 @@ entry_of (Some receipt) = receipt.entry ∷ []
 -- What came of a line of this number, whatever the style and the text before it; and of a line's text, with the
 -- version before it and after it.
 abbrev pub LineDone : Line → ℕ → PlayerState → PlayerState → Result (Option Receipt) TextFault → Type 0
-LineDone line number old new (Ok receipt) = (es : List Event) × DoesLine old line es new × (entries_in es ≡ entry_of receipt)
-LineDone line number old new (Err fault) = (style : Style) (taken : List ℕ) → Stops style fault line number (stage old taken) (stage new taken)
+LineDone line number old new (Ok receipt) = (es : List Event) × DoesLine old line es new
+    × (entries_in es ≡ entry_of receipt)
+LineDone line number old new (Err fault) = (style : Style) (taken : List ℕ)
+    → Stops style fault line number (stage old taken) (stage new taken)
 
 abbrev pub LinePlayed : Style → List ℕ → ℕ → Version → Version → Stage → Stage → Result Bool TextFault → Type 0
 LinePlayed style text number version next old new (Ok event) =
-    (es : List Event) × Goes (TellsVersionOf style) (PlaysText style) number text version old es next new × (event ≡ is_event text)
+    (es : List Event) × Goes (TellsVersionOf style) (PlaysText style) number text version old es next new
+    × (event ≡ is_event text)
 LinePlayed style text number version next old new (Err fault) = StopsText style version fault text number old new

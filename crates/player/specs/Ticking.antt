@@ -17,13 +17,15 @@ Begun old new = (es : List Event) × DoesLine old lines.Begin es new
 -- a quantum of a budget is done; where it ends in idle, the timetable's cycle ends
 abbrev pub Spent : PlayerState → ℕ → PlayerState → Type 0
 Spent old budget new =
-    (units : ℕ) × (phase : Phase) × (course : Course) × Does old.course (Quantum_done budget units phase) course × (new ≡ record old { course = course; timetable = behind_quantum phase old.timetable })
+    (units : ℕ) × (phase : Phase) × (course : Course) × Does old.course (Quantum_done budget units phase) course
+    × (new ≡ record old { course = course; timetable = behind_quantum phase old.timetable })
 
 -- the quantum that is due below a time is done, with its interval; or none is due; or memory was refused
 -- for the interval
 abbrev pub DueDone : ℕ → PlayerState → PlayerState → Result Bool NoMemory → Type 0
 DueDone until old new (Ok true) =
-    (due : ℕ) × (units : ℕ) × (phase : Phase) × (course : Course) × (old.timetable.due ≡ Some due) × (due < until) × Does old.course (Quantum_done old.budget units phase) course × (new ≡ quantum_behind old due phase course)
+    (due : ℕ) × (units : ℕ) × (phase : Phase) × (course : Course) × (old.timetable.due ≡ Some due) × (due < until)
+    × Does old.course (Quantum_done old.budget units phase) course × (new ≡ quantum_behind old due phase course)
 DueDone until old new (Ok false) = (due_below until old.timetable.due ≡ None) × (new ≡ old)
 DueDone until old new (Err refused) = (due : ℕ) × (old.timetable.due ≡ Some due) × (due < until) × (new ≡ old)
 
@@ -33,4 +35,5 @@ abbrev pub Ticked : ℕ → PlayerState → PlayerState → Result (Unit {0}) Ti
 Ticked n old new (Ok passed) = (es : List Event) × DoesLine old (lines.Tick n) es new
 Ticked n old new (Err faults.ClockSpent) = (CLOCK_LIMIT < old.timetable.clock + n) × (new ≡ old)
 Ticked n old new (Err faults.NoMemory) =
-    (es : List Event) × (due : ℕ) × QuantaDue (old.timetable.clock + n) old es new × (new.timetable.due ≡ Some due) × (due < old.timetable.clock + n)
+    (es : List Event) × (due : ℕ) × QuantaDue (old.timetable.clock + n) old es new × (new.timetable.due ≡ Some due)
+    × (due < old.timetable.clock + n)

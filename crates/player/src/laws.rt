@@ -12,5 +12,6 @@ ghost use Rattle.player.specs.Playing.{Stage, Played};
 /// What is played on a new player leaves a heap of which all holds that is promised, and space suffices for its events.
 pub fn plays_are_promised()
     ensures { (config : Config) (style : Style) (given : Given) (old new : Stage) (result : Result (Unit {0}) TextFault)
-        (p : Played style given old new result) → IsNew config old.player → Holds new.player.course × SpaceSuffices config p.over.events }
+        (p : Played style given old new result) → IsNew config old.player → Holds new.player.course
+        × SpaceSuffices config p.over.events }
 {}

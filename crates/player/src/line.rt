@@ -98,7 +98,9 @@ pub fn play_line(
 ) -> Result<bool, TextFault>
     requires { length waiting.old + 256 ≤ 65536 }
     // This is so after whatever was written before.
-    ensures played { (before : List ℕ) → LinePlayed style bytes.now number version.old version.new (stage player.old (before ++ waiting.old)) (stage player.new (before ++ waiting.new)) result }
+    ensures played { (before : List ℕ)
+        → LinePlayed style bytes.now number version.old version.new (stage player.old (before ++ waiting.old))
+        (stage player.new (before ++ waiting.new)) result }
     // No write is in it that could fail, and no read.
     ensures calls { (writes_failed result ≡ 0) × (reads_failed result ≡ 0) }
 {

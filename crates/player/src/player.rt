@@ -119,7 +119,8 @@ impl Player {
     #[inline(always)]
     pub fn call(&mut self, mutator: u32, command: Command) -> Result<Receipt, NoMemory>
         ensures entry { IfOk result (λ r. (r.entry.mutator ≡ mutator) × (r.entry.command ≡ command)) }
-        ensures does { IfOk result (λ r. DoesLine self.old (Line.Command mutator command) (Command_done mutator command r.entry.reply ∷ []) self.new) }
+        ensures does { IfOk result (λ r. DoesLine self.old (Line.Command mutator command)
+            (Command_done mutator command r.entry.reply ∷ []) self.new) }
         ensures err { IfErr result (λ e. self.new ≡ self.old) }
     {
         self.recorded.call(mutator, command)

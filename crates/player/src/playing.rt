@@ -59,9 +59,12 @@ fn play_lines<S: Source, K: Sink>(
     style: Style,
 ) -> Result<(), TextFault>
     requires { waiting.old ≡ [] }
-    ensures played { PlayedUpTo n style (given_by S.given S.ended source.old source.new) (stage player.old (K.taken sink.old)) (stage player.new (K.taken sink.new ++ waiting.new)) result }
+    ensures played { PlayedUpTo n style (given_by S.given S.ended source.old source.new)
+        (stage player.old (K.taken sink.old)) (stage player.new (K.taken sink.new ++ waiting.new)) result }
     // The same where a write of what waits then fails.
-    ensures cut { (taken : List ℕ) → GrowsByPart (K.taken sink.new) taken waiting.new → PlayedUpTo n style (given_by S.given S.ended source.old source.new) (stage player.old (K.taken sink.old)) (stage player.new taken) (Err TextFault.Write) }
+    ensures cut { (taken : List ℕ) → GrowsByPart (K.taken sink.new) taken waiting.new
+        → PlayedUpTo n style (given_by S.given S.ended source.old source.new) (stage player.old (K.taken sink.old))
+        (stage player.new taken) (Err TextFault.Write) }
     ensures none { n ≡ Some 0 → source.new ≡ source.old }
     ensures nothing { 0 < reads_failed result + writes_failed result → waiting.new ≡ [] }
     ensures reads { S.failures source.new ≡ S.failures source.old + reads_failed result }
@@ -93,7 +96,8 @@ fn play_up_to<S: Source, K: Sink>(
     player: &mut Player,
     style: Style,
 ) -> Result<(), TextFault>
-    ensures played { PlayedUpTo n style (given_by S.given S.ended source.old source.new) (stage player.old (K.taken sink.old)) (stage player.new (K.taken sink.new)) result }
+    ensures played { PlayedUpTo n style (given_by S.given S.ended source.old source.new)
+        (stage player.old (K.taken sink.old)) (stage player.new (K.taken sink.new)) result }
     ensures none { n ≡ Some 0 → source.new ≡ source.old }
     ensures reads { S.failures source.new ≡ S.failures source.old + reads_failed result }
     ensures writes { K.failures sink.new ≡ K.failures sink.old + writes_failed result }
@@ -107,15 +111,16 @@ fn play_up_to<S: Source, K: Sink>(
 /// Plays the lines of a source, and writes to a sink what the style says of each command: each line is
 /// done, one after the other, and what was done and written before a fault stands. What is written waits
 /// in a buffer of 65536 bytes, until that has no room for a line, until the source is asked for more, or until the end.
-/// What is left is promised all that is promised of a heap with its history, and space suffices for what is done from a new
-/// player.
+/// What is left is promised all that is promised of a heap with its history, and space suffices for what is done from a
+/// new player.
 pub fn play<S: Source, K: Sink>(
     source: &mut S,
     sink: &mut K,
     player: &mut Player,
     style: Style,
 ) -> Result<(), TextFault>
-    ensures played { Played style (given_by S.given S.ended source.old source.new) (stage player.old (K.taken sink.old)) (stage player.new (K.taken sink.new)) result }
+    ensures played { Played style (given_by S.given S.ended source.old source.new) (stage player.old (K.taken sink.old))
+        (stage player.new (K.taken sink.new)) result }
     ensures reads { S.failures source.new ≡ S.failures source.old + reads_failed result }
     ensures writes { K.failures sink.new ≡ K.failures sink.old + writes_failed result }
     ensures input { reads_failed result ≡ 0 → Stays (S.input source.old) (S.input source.new) }
@@ -136,7 +141,8 @@ pub fn play_first<S: Source, K: Sink>(
     player: &mut Player,
     style: Style,
 ) -> Result<(), TextFault>
-    ensures played { PlayedFirst n style (given_by S.given S.ended source.old source.new) (stage player.old (K.taken sink.old)) (stage player.new (K.taken sink.new)) result }
+    ensures played { PlayedFirst n style (given_by S.given S.ended source.old source.new)
+        (stage player.old (K.taken sink.old)) (stage player.new (K.taken sink.new)) result }
     ensures none { n ≡ 0 → source.new ≡ source.old }
     ensures reads { S.failures source.new ≡ S.failures source.old + reads_failed result }
     ensures writes { K.failures sink.new ≡ K.failures sink.old + writes_failed result }

@@ -1,5 +1,5 @@
-//! What no trace reaches: a tick that is refused memory and goes on, replies of a front of a trace, and of what lies below the
-//! texts of faults, of which the program has its own, and a write of no bytes.
+//! What no trace reaches: a tick that is refused memory and goes on, replies of a front of a trace, and of what lies
+//! below the texts of faults, of which the program has its own, and a write of no bytes.
 use super::*;
 use graph_heap::NoMemory;
 use size_classes::{Config, Settings};

@@ -59,7 +59,9 @@ pub record IsPlacedAt (due : ℕ) (old new : Timetable) : Type 0 where
 pub record IsTimetable (t : Timetable) : Type 0 where
   pub spaced : IsSpaced t.collector_ticks t.mutator_ticks t.intervals
   pub clock : t.clock ≤ CLOCK_LIMIT
-  pub behind : start_after t.mutator_ticks (last_or None t.intervals) ≤ CLOCK_LIMIT + t.collector_ticks + t.mutator_ticks
-  pub due : ForSome t.due (λ due. (start_after t.mutator_ticks (last_or None t.intervals) ≤ due) × (due ≤ CLOCK_LIMIT + t.collector_ticks + t.mutator_ticks))
+  pub behind : start_after t.mutator_ticks (last_or None t.intervals)
+      ≤ CLOCK_LIMIT + t.collector_ticks + t.mutator_ticks
+  pub due : ForSome t.due (λ due. (start_after t.mutator_ticks (last_or None t.intervals) ≤ due)
+      × (due ≤ CLOCK_LIMIT + t.collector_ticks + t.mutator_ticks))
   pub collector_ticks : (1 ≤ t.collector_ticks) × (t.collector_ticks ≤ 1000000)
   pub mutator_ticks : (1 ≤ t.mutator_ticks) × (t.mutator_ticks ≤ 1000000)

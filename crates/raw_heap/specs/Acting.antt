@@ -14,4 +14,5 @@ Acts old room new units = Chain (state_of old) units (state_of new) × (0 < unit
 -- the room.
 abbrev pub ActsIn : RawHeap → ℕ → RawHeap → Option ℕ → Type 0
 ActsIn old room new (Some units) = Acts old room new units
-ActsIn old room new None = (new ≡ old) × ((old.phase ≡ phases.Idle) ⊎ ((cost : ℕ) × NextCosts (state_of old) cost × (room < cost)))
+ActsIn old room new None = (new ≡ old)
+    × ((old.phase ≡ phases.Idle) ⊎ ((cost : ℕ) × NextCosts (state_of old) cost × (room < cost)))

@@ -15,7 +15,8 @@ pub record IsDistance (g : Graph) (id d : ℕ) : Type 0 where
 -- the holder is there, and holds the identity
 abbrev pub Holds : Graph → Holder → ℕ → Type 0
 Holds g (Root place) id = (place < length g.roots) × (slice_index g.roots place ≡ id)
-Holds g (Cell object cell) id = (cell < length (object_of g.objects object).refs) × (slice_index (object_of g.objects object).refs cell ≡ id)
+Holds g (Cell object cell) id = (cell < length (object_of g.objects object).refs)
+    × (slice_index (object_of g.objects object).refs cell ≡ id)
 
 -- a shortest path to the holder's end goes through so many reference cells, with the holder's own
 abbrev pub EndsAt : Graph → Holder → ℕ → Type 0
@@ -48,6 +49,7 @@ AreInOrder found = (k j : ℕ) → k ≤ j → j < length found → (found_at fo
 -- these are the objects that can be reached, each once, nearest to the roots first
 pub record FindsAll (g : Graph) (found : List Found) : Type 0 where
   pub each : (k : ℕ) → k < length found → IsFound g (found_at found k)
-  pub all : (id : ℕ) → Reaches g id → id ≤ length g.objects → (k : ℕ) × (k < length found) × ((found_at found k).id ≡ id)
+  pub all : (id : ℕ) → Reaches g id → id ≤ length g.objects → (k : ℕ) × (k < length found)
+      × ((found_at found k).id ≡ id)
   pub once : AreOnce found
   pub order : AreInOrder found

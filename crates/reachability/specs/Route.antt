@@ -17,7 +17,8 @@ use Rattle.reachability.specs.Search.{IsAt}
 abbrev pub Leads : Graph → ℕ → List Step → ℕ → Type 0
 Leads g from [] id = from ≡ id
 Leads g from (step ∷ steps) id =
-    (from ≡ step.object) × (step.cell < length (object_of g.objects step.object).refs) × Leads g (slice_index (object_of g.objects step.object).refs step.cell) steps id
+    (from ≡ step.object) × (step.cell < length (object_of g.objects step.object).refs)
+    × Leads g (slice_index (object_of g.objects step.object).refs step.cell) steps id
 
 -- a root, and cells that lead from what it holds to the object
 abbrev pub IsPath : Graph → ℕ → Route → Type 0

@@ -19,7 +19,8 @@ findings_in a = record { found = a.found.items; objects = length a.places.items 
 -- the table has the place of each object that was found, from 1, and 0 for the others
 pub record IsIndexed (a : Inside) : Type 0 where
   pub there : (k : ℕ) → k < length a.found.items
-      → IsAmong (length a.places.items) (found_at a.found.items k).id × (slice_index a.places.items ((found_at a.found.items k).id - 1) ≡ k + 1)
+      → IsAmong (length a.places.items) (found_at a.found.items k).id
+      × (slice_index a.places.items ((found_at a.found.items k).id - 1) ≡ k + 1)
   pub here : (n k : ℕ) → n < length a.places.items → slice_index a.places.items n ≡ k + 1
       → (k < length a.found.items) × ((found_at a.found.items k).id ≡ n + 1)
   pub count : count_by (nat_lt 0) a.places.items ≡ length a.found.items
@@ -60,5 +61,7 @@ pub record Adds (cells : List ℕ) (d : ℕ) (holder : ℕ → Holder) (count : 
   pub more : List Found
   pub grows : new.found ≡ old.found ++ more
   pub same : new.objects ≡ old.objects
-  pub all : (i : ℕ) → i < count → IsAmong old.objects (slice_index cells i) → (k : ℕ) × IsAt new.found (slice_index cells i) k
-  pub only : (k : ℕ) → k < length more → IsAmong old.objects (found_at more k).id × IsOneOf cells d holder count (found_at more k)
+  pub all : (i : ℕ) → i < count → IsAmong old.objects (slice_index cells i) → (k : ℕ)
+      × IsAt new.found (slice_index cells i) k
+  pub only : (k : ℕ) → k < length more → IsAmong old.objects (found_at more k).id
+      × IsOneOf cells d holder count (found_at more k)

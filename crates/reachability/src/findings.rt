@@ -55,7 +55,8 @@ impl Search {
         Ok(())
     }
 
-    /// Adds the objects that cells hold, so far from the roots. The cells are those of an object, or else they are the roots.
+    /// Adds the objects that cells hold, so far from the roots. The cells are those of an object, or else they are the
+    /// roots.
     pub(crate) fn add_all(
         &mut self,
         cells: &[u64],

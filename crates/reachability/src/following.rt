@@ -8,7 +8,8 @@ use std::alloc::Global;
 
 /// The graph heap to which a legal history leads, from the one with no object.
 pub fn present(alloc: Global, limits: &Limits, history: &[Entry]) -> Result<Reference, NoMemory>
-    ensures { IfOk result (λ graph. IsLegal (opening limits.now) history.now → graph ≡ after (opening limits.now) history.now) }
+    ensures { IfOk result (λ graph. IsLegal (opening limits.now) history.now
+        → graph ≡ after (opening limits.now) history.now) }
 {
     let mut graph = Reference::new(alloc, limits)?;
     for entry in history {

@@ -6,9 +6,9 @@ use crate::findings::Search;
 use graph_heap::{NoMemory, Reference};
 use std::alloc::Global;
 
-/// The objects of a graph heap that can be reached, each once, nearest to the roots first, with their distances from the
-/// roots: a breadth-first search (Moore, 1959). It looks at each root, and at each reference cell of these objects, once; and
-/// asks for a word for each object that was ever made, reached or not.
+/// The objects of a graph heap that can be reached, each once, nearest to the roots first, with their distances from
+/// the roots: a breadth-first search (Moore, 1959). It looks at each root, and at each reference cell of these objects,
+/// once; and asks for a word for each object that was ever made, reached or not.
 pub fn search(alloc: Global, graph: &Reference) -> Result<Search, NoMemory>
     ensures { IfOk result (λ s. FindsAll graph.now s.found) }
 {

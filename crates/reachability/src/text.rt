@@ -43,7 +43,8 @@ fn step_lines(alloc: Global, steps: &[Step]) -> Result<String, AllocError>
 
 /// The lines of a path.
 fn route_lines(alloc: Global, limits: &Limits, route: &Route) -> Result<String, AllocError>
-    ensures { IfOk result (λ text. route.now.root < root_cells limits.now → IsPathText limits.now route.now (string_bytes text)) }
+    ensures { IfOk result (λ text. route.now.root < root_cells limits.now
+        → IsPathText limits.now route.now (string_bytes text)) }
 {
     let mut text = root_line(alloc, limits, route.root)?;
     text.push_str(step_lines(alloc, route.steps.as_slice())?.as_str())?;
@@ -57,7 +58,8 @@ fn standing_text(
     standing: &Standing,
     held: bool,
 ) -> Result<String, AllocError>
-    ensures { IfOk result (λ text. IsRooted limits.now standing.now → TellsStanding limits.now held standing.now (string_bytes text)) }
+    ensures { IfOk result (λ text. IsRooted limits.now standing.now
+        → TellsStanding limits.now held standing.now (string_bytes text)) }
 {
     match standing {
         Standing::Reached(route) => route_lines(alloc, limits, route),
@@ -67,8 +69,9 @@ fn standing_text(
     }
 }
 
-/// Why an object of a graph heap is alive: a shortest path to it, a line for the root and one for each reference cell; or
-/// that none leads to it, and whether some of its blocks are still held, as the caller says; or that it was never made.
+/// Why an object of a graph heap is alive: a shortest path to it, a line for the root and one for each reference cell;
+/// or that none leads to it, and whether some of its blocks are still held, as the caller says; or that it was never
+/// made.
 pub fn path_text(alloc: Global, graph: &Reference, id: u64, held: bool) -> Result<String, NoMemory>
     ensures { IfOk result (λ text. PathTold graph.now id held (string_bytes text)) }
 {

@@ -18,4 +18,6 @@ shades a reference = records a.phase && not ((seen (state_of a)).marked ((seen (
 -- the buffers after what is overwritten was recorded: a main copy that is shaded is in the mutator's own
 abbrev pub buffers_after : RawHeap → ℕ → ℕ → List (ArrayVec ℕ)
 buffers_after a mutator reference =
-    if shades a reference then (with_buffer a.grey mutator (with_room (buffer_of a.grey mutator) ++ (seen (state_of a)).forward reference ∷ [])).buffers else a.grey.buffers
+    if shades a reference then (with_buffer a.grey mutator
+    (with_room (buffer_of a.grey mutator) ++ (seen (state_of a)).forward reference ∷ [])).buffers
+    else a.grey.buffers

@@ -32,7 +32,8 @@ pub fn take(heap: &mut RawHeap) -> Option<u64>
     requires buffers { in_buffers heap.old.grey.buffers ≡ [] }
     ensures held { IfSome result (λ part. is_held heap.old.nodes (part - 1) ≡ true) }
     ensures none { IsNone result → ((state_of heap.old).grey ≡ []) × (heap.new ≡ heap.old) }
-    ensures taken { IfSome result (λ part. (front : List ℕ) × (back : List ℕ) × ((state_of heap.old).grey ≡ front ++ part ∷ back) × ((state_of heap.new).grey ≡ front ++ back)) }
+    ensures taken { IfSome result (λ part. (front : List ℕ) × (back : List ℕ)
+        × ((state_of heap.old).grey ≡ front ++ part ∷ back) × ((state_of heap.new).grey ≡ front ++ back)) }
     ensures same { heap.new ≡ record heap.old { grey = record heap.old.grey { first = heap.new.grey.first } } }
 {
     let part = heap.grey.first();
@@ -50,7 +51,10 @@ pub fn flush(heap: &mut RawHeap, mutator: u32)
     requires mutator { mutator < length heap.old.grey.buffers }
     ensures grey { grey_in heap.new.nodes heap.new.grey ≡ grey_in heap.old.nodes heap.old.grey }
     ensures links { Relinks heap.old.nodes heap.new.nodes }
-    ensures same { heap.new ≡ record heap.old { nodes = heap.new.nodes; grey = record (with_buffer heap.old.grey mutator []) { first = heap.new.grey.first } } }
+    ensures same { heap.new ≡ record heap.old {
+      nodes = heap.new.nodes;
+      grey = record (with_buffer heap.old.grey mutator []) { first = heap.new.grey.first };
+    } }
 {
     while let Some(part) = heap.grey.pop(mutator) {
         thread(heap, part);
@@ -64,7 +68,13 @@ pub fn make_room(heap: &mut RawHeap, mutator: u32)
     ensures grey { grey_in heap.new.nodes heap.new.grey ≡ grey_in heap.old.nodes heap.old.grey }
     ensures links { Relinks heap.old.nodes heap.new.nodes }
     ensures room { length (buffer_of heap.new.grey mutator) < 64 }
-    ensures same { heap.new ≡ record heap.old { nodes = heap.new.nodes; grey = record (with_buffer heap.old.grey mutator (with_room (buffer_of heap.old.grey mutator))) { first = heap.new.grey.first } } }
+    ensures same { heap.new ≡ record heap.old {
+      nodes = heap.new.nodes;
+      grey = record (with_buffer heap.old.grey mutator (with_room (buffer_of heap.old.grey mutator))) {
+        first =
+            heap.new.grey.first;
+      };
+    } }
 {
     if heap.grey.is_full(mutator) {
         flush(heap, mutator);

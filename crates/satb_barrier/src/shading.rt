@@ -36,7 +36,10 @@ pub fn shade(heap: &mut RawHeap, reference: u64)
     requires grey { AreGrey (state_of heap.old) }
     requires held { reference ≢ 0 → is_held heap.old.nodes (reference - 1) ≡ true }
     ensures shades { Shades (state_of heap.old) reference (state_of heap.new) }
-    ensures same { heap.new ≡ record heap.old { nodes = heap.new.nodes; grey = record heap.old.grey { first = heap.new.grey.first } } }
+    ensures same { heap.new ≡ record heap.old {
+      nodes = heap.new.nodes;
+      grey = record heap.old.grey { first = heap.new.grey.first };
+    } }
 {
     if is_marked(heap, reference) {
         return;

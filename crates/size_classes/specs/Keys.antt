@@ -31,7 +31,11 @@ row_of mutators Pages = record { least = 1; greatest = pos MOST_PAGES; default =
 row_of mutators Mutators = record { least = 1; greatest = pos 64; default = None }
 row_of mutators Slots = record { least = 1; greatest = pos 256; default = None }
 row_of mutators Statics = record { least = 0; greatest = pos 256; default = Some (pos 0) }
-row_of mutators Identities = record { least = 1; greatest = pos 9223372036854775807; default = Some (pos 9223372036854775807) }
+row_of mutators Identities = record {
+  least = 1;
+  greatest = pos 9223372036854775807;
+  default = Some (pos 9223372036854775807);
+}
 row_of mutators DefragBelow = record { least = 0; greatest = pos (MOST_PAGES + 1); default = Some (pos 0) }
 row_of mutators DefragPages = record { least = 0; greatest = pos MOST_PAGES; default = Some (pos 0) }
 row_of mutators CollectorTicks = record { least = 1; greatest = pos 1000000; default = Some (pos 10) }

@@ -12,7 +12,8 @@ is_class class (Some c) = c == class
 -- how many of the first parts of an object of so many cells stand in blocks of a class
 abbrev pub blocks_needed : ℕ → ℕ → ℕ → ℕ
 blocks_needed cells zero class = 0
-blocks_needed cells (suc parts) class = blocks_needed cells parts class + (if is_class class (class_for (part_words cells parts)) then 1 else 0)
+blocks_needed cells (suc parts) class =
+    blocks_needed cells parts class + (if is_class class (class_for (part_words cells parts)) then 1 else 0)
 
 -- how many blocks of a class an object of a shape needs
 abbrev pub needed : Shape → ℕ → ℕ

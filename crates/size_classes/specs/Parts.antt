@@ -17,7 +17,8 @@ pieces_of n = max 1 ((n + (PART_CELLS - 1)) / PART_CELLS)
 
 -- how many spines: the one place where the form is decided
 abbrev pub spines_of : ℕ → ℕ
-spines_of n = if nat_le n PART_CELLS then 0 else if nat_le n (PART_CELLS * PART_CELLS) then 1 else (pieces_of n + (PART_CELLS - 1)) / PART_CELLS + 1
+spines_of n = if nat_le n PART_CELLS then 0 else if nat_le n (PART_CELLS * PART_CELLS) then 1
+    else (pieces_of n + (PART_CELLS - 1)) / PART_CELLS + 1
 
 -- how many parts
 abbrev pub parts_in : ℕ → ℕ
@@ -35,11 +36,14 @@ heads_by k s = if nat_le s 1 then k else s - 1
 
 -- the first of what a part holds, of an object with so many spines
 abbrev pub first_by : ℕ → ℕ → ℕ
-first_by s part = if nat_lt part s then (if part == 0 then 1 else s + PART_CELLS * (part - 1)) else PART_CELLS * (part - s)
+first_by s part = if nat_lt part s then (if part == 0 then 1 else s + PART_CELLS * (part - 1))
+    else PART_CELLS * (part - s)
 
 -- how much a part holds, of so many cells, pieces and spines
 abbrev pub count_by : ℕ → ℕ → ℕ → ℕ → ℕ
-count_by n k s part = if nat_lt part s then (if part == 0 then heads_by k s else min PART_CELLS (k - PART_CELLS * (part - 1))) else min PART_CELLS (n - PART_CELLS * (part - s))
+count_by n k s part = if nat_lt part s
+    then (if part == 0 then heads_by k s else min PART_CELLS (k - PART_CELLS * (part - 1)))
+    else min PART_CELLS (n - PART_CELLS * (part - s))
 
 -- what a part of an object of so many cells holds
 abbrev pub run_of : ℕ → ℕ → Run

@@ -19,15 +19,22 @@ pub fn parts_are_small()
 /// Each part but part 0 is referred to by one cell of an earlier spine, and each cell of a spine refers to
 /// one part. From part 0 each part is at most two steps away.
 pub fn spines_refer()
-    ensures to { (n p : ℕ) → 0 < p → p < parts_in n → (holder_of n p < spines_of n) × (holder_of n p < p) × (seat_of n p < (run_of n (holder_of n p)).count) × ((run_of n (holder_of n p)).first + seat_of n p ≡ p) }
-    ensures from { (n q c : ℕ) → q < spines_of n → c < (run_of n q).count → (q < (run_of n q).first + c) × ((run_of n q).first + c < parts_in n) × (holder_of n ((run_of n q).first + c) ≡ q) × (seat_of n ((run_of n q).first + c) ≡ c) }
-    ensures steps { (n p : ℕ) → 0 < p → p < parts_in n → (holder_of n p ≡ 0) ⊎ ((0 < holder_of n p) × (holder_of n (holder_of n p) ≡ 0)) }
+    ensures to { (n p : ℕ) → 0 < p → p < parts_in n → (holder_of n p < spines_of n) × (holder_of n p < p)
+        × (seat_of n p < (run_of n (holder_of n p)).count) × ((run_of n (holder_of n p)).first + seat_of n p ≡ p) }
+    ensures from { (n q c : ℕ) → q < spines_of n → c < (run_of n q).count → (q < (run_of n q).first + c)
+        × ((run_of n q).first + c < parts_in n) × (holder_of n ((run_of n q).first + c) ≡ q)
+        × (seat_of n ((run_of n q).first + c) ≡ c) }
+    ensures steps { (n p : ℕ) → 0 < p → p < parts_in n → (holder_of n p ≡ 0)
+        ⊎ ((0 < holder_of n p) × (holder_of n (holder_of n p) ≡ 0)) }
 {}
 
 /// Each cell of an object stands in one piece at one place, and each cell of a piece is one of the object.
 pub fn cells_stand()
-    ensures to { (n i : ℕ) → i < n → (part_in n i < parts_in n) × (spines_of n ≤ part_in n i) × (column_in i < (run_of n (part_in n i)).count) × ((run_of n (part_in n i)).first + column_in i ≡ i) }
-    ensures from { (n p c : ℕ) → spines_of n ≤ p → p < parts_in n → c < (run_of n p).count → ((run_of n p).first + c < n) × (part_in n ((run_of n p).first + c) ≡ p) × (column_in ((run_of n p).first + c) ≡ c) }
+    ensures to { (n i : ℕ) → i < n → (part_in n i < parts_in n) × (spines_of n ≤ part_in n i)
+        × (column_in i < (run_of n (part_in n i)).count) × ((run_of n (part_in n i)).first + column_in i ≡ i) }
+    ensures from { (n p c : ℕ) → spines_of n ≤ p → p < parts_in n → c < (run_of n p).count
+        → ((run_of n p).first + c < n) × (part_in n ((run_of n p).first + c) ≡ p)
+        × (column_in ((run_of n p).first + c) ≡ c) }
 {}
 
 /// The words of a page, the size classes, and the cells of a piece of an array.
@@ -46,5 +53,6 @@ pub fn settings_are_bounded()
 
 /// The order in which the keys of a configuration are looked at.
 pub fn keys_are_in_order()
-    ensures { ALL ≡ Pages ∷ Mutators ∷ Slots ∷ Statics ∷ Identities ∷ DefragBelow ∷ DefragPages ∷ CollectorTicks ∷ MutatorTicks ∷ Rate ∷ Live ∷ [] }
+    ensures { ALL ≡ Pages ∷ Mutators ∷ Slots ∷ Statics ∷ Identities ∷ DefragBelow ∷ DefragPages ∷ CollectorTicks
+        ∷ MutatorTicks ∷ Rate ∷ Live ∷ [] }
 {}

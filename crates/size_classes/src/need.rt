@@ -37,7 +37,8 @@ impl Need {
     fn add(&mut self, words: u32, count: u32)
         requires words { words ≤ 256 }
         requires few { (class : ℕ) → class < CLASSES → slice_index self.old class + count < 2 ^ 32 }
-        ensures { (class : ℕ) → class < CLASSES → slice_index self.new class ≡ slice_index self.old class + count * counts_at words class }
+        ensures { (class : ℕ) → class < CLASSES
+            → slice_index self.new class ≡ slice_index self.old class + count * counts_at words class }
     {
         let class = class_of(words).unwrap();
         self.blocks[class.number()] += count;
@@ -46,7 +47,8 @@ impl Need {
     /// What the parts of an object need, one block for each: all pieces but the last and all middle
     /// spines but the last have 256 words.
     pub fn of(parts: &Parts) -> Need
-        ensures { (class : ℕ) → class < CLASSES → slice_index result class ≡ blocks_needed parts.now (parts_in parts.now) class }
+        ensures { (class : ℕ) → class < CLASSES
+            → slice_index result class ≡ blocks_needed parts.now (parts_in parts.now) class }
     {
         let spines = parts.spines();
         let pieces = parts.pieces();

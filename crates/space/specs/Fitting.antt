@@ -11,7 +11,11 @@ use Rattle.space.specs.Space.{space_for}
 
 -- the pace that a table by class states
 abbrev pub pace_in : PaceTable → Pace
-pace_in p = record { live = λ class. slice_index p.live class; busy = λ class. slice_index p.busy class; idle = λ class. slice_index p.idle class }
+pace_in p = record {
+  live = λ class. slice_index p.live class;
+  busy = λ class. slice_index p.busy class;
+  idle = λ class. slice_index p.idle class;
+}
 
 -- how many pages may be left sparse, in a heap of a configuration
 abbrev pub spare_in : Config → ℕ
@@ -25,9 +29,9 @@ Fits c d = space_for d (spare_in c) ≤ c.pages
 abbrev pub below_in : Config → ℕ
 below_in c = if c.defrag_pages == 0 then 0 else c.defrag_below
 
--- the units that roots, marking and sweeping spend at most, in a heap of a configuration with so many pages: one for each
--- root cell and each word; for each page as many as one of the smallest class has blocks, and one; as many blocks once more,
--- and four where phases change
+-- the units that roots, marking and sweeping spend at most, in a heap of a configuration with so many pages: one for
+-- each root cell and each word; for each page as many as one of the smallest class has blocks, and one; as many blocks
+-- once more, and four where phases change
 abbrev pub swept_at : Config → ℕ → ℕ
 swept_at c pages =
     c.mutators * c.slots + c.statics + PAGE_WORDS * pages + (blocks_in 0 + 1) * pages + (blocks_in 0 + 4)
@@ -79,4 +83,5 @@ FitsIn c p pages = pages_needed c p pages ≤ pages
 -- the least number of pages, of those that a configuration may have, in which a pace fits; or it fits in none
 abbrev pub IsLeast : Config → Pace → Option ℕ → Type 0
 IsLeast c p None = (pages : ℕ) → 1 ≤ pages → pages ≤ MOST_PAGES → FitsIn c p pages → ⊥
-IsLeast c p (Some least) = (1 ≤ least) × (least ≤ MOST_PAGES) × FitsIn c p least × ((pages : ℕ) → 1 ≤ pages → pages < least → FitsIn c p pages → ⊥)
+IsLeast c p (Some least) = (1 ≤ least) × (least ≤ MOST_PAGES) × FitsIn c p least
+    × ((pages : ℕ) → 1 ≤ pages → pages < least → FitsIn c p pages → ⊥)

@@ -40,7 +40,11 @@ in_cycle (phases.Moving m) = true
 
 -- where events have come to after one more
 abbrev pub next_beat : Beat → Event → Beat
-next_beat b (Command_done m c reply) = record b { graph = after_entry b.graph (record { mutator = m; command = c; reply = reply }); asked = λ class. b.asked class + asked_for b.graph m c class }
+next_beat b (Command_done m c reply) =
+    record b {
+      graph = after_entry b.graph (record { mutator = m; command = c; reply = reply });
+      asked = λ class. b.asked class + asked_for b.graph m c class;
+    }
 next_beat b Cycle_begun = record b { on = true; asked = λ class. 0 }
 next_beat b Cycle_on = b
 next_beat b (Quantum_done budget units phase) = if b.on then record b { on = in_cycle phase; asked = λ class. 0 } else b
@@ -48,7 +52,8 @@ next_beat b (Quantum_refused budget) = b
 
 -- an event keeps to a pace, with quanta of at least k units
 abbrev pub KeepsPace : Pace → ℕ → Beat → Event → Type 0
-KeepsPace p k b (Command_done m c reply) = (class : ℕ) → class < CLASSES → b.asked class + asked_for b.graph m c class ≤ (if b.on then p.busy class else p.idle class)
+KeepsPace p k b (Command_done m c reply) = (class : ℕ) → class < CLASSES
+    → b.asked class + asked_for b.graph m c class ≤ (if b.on then p.busy class else p.idle class)
 KeepsPace p k b Cycle_begun = LiveWithin b.graph p.live
 KeepsPace p k b Cycle_on = Unit {0}
 KeepsPace p k b (Quantum_done budget units phase) = k ≤ budget

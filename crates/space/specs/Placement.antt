@@ -21,12 +21,14 @@ MayLeave spare most leaving (phases.Roots next) = leaving ≤ spare
 MayLeave spare most leaving (phases.Marking part cell) = leaving ≤ spare
 MayLeave spare most leaving (phases.Sweeping page block) = leaving ≤ spare
 MayLeave spare most leaving (phases.Moving (moves.Pass class page best chosen)) = (leaving ≤ chosen) × (chosen < spare) × (spare ≡ most)
-MayLeave spare most leaving (phases.Moving (moves.Emptying class page block chosen)) = (leaving ≤ chosen) × (chosen ≤ spare) × (spare ≡ most)
+MayLeave spare most leaving (phases.Moving (moves.Emptying class page block chosen)) = (leaving ≤ chosen)
+    × (chosen ≤ spare) × (spare ≡ most)
 
 -- as many pages may be left sparse as a cycle may empty; or none, where so many are free after each sweep that
 -- moving never begins
 abbrev pub MaySpare : HeapState → (ℕ → ℕ) → ℕ → Type 0
-MaySpare h blocks spare = (spare_of h ≡ spare) ⊎ ((spare ≡ 0) × (pages_for blocks 0 CLASSES + h.defrag_below ≤ length h.store.pages))
+MaySpare h blocks spare = (spare_of h ≡ spare)
+    ⊎ ((spare ≡ 0) × (pages_for blocks 0 CLASSES + h.defrag_below ≤ length h.store.pages))
 
 -- no class has more pages than its blocks take, and no more pages are leaving than may be
 pub record HasBoundedPages (h : HeapState) (blocks : ℕ → ℕ) (spare : ℕ) : Type 0 where
@@ -42,16 +44,20 @@ class_in (Some p) = Some p.class
 -- Each held block is one of a part, on a page of the part's class; an old copy is on a leaving page; and no
 -- part has two main copies.
 pub record IsTidy (s : Store) (objects : List Object) : Type 0 where
-  pub class : (b : ℕ) → is_held s b ≡ true → class_for (part_words (cells_of (node_of s b).shape) (node_of s b).part) ≡ class_in (page_at s.pages (b / PAGE_WORDS))
+  pub class : (b : ℕ) → is_held s b ≡ true
+      → class_for (part_words (cells_of (node_of s b).shape) (node_of s b).part)
+      ≡ class_in (page_at s.pages (b / PAGE_WORDS))
   pub part : (b : ℕ) → is_held s b ≡ true → (node_of s b).part < parts_in (cells_of (node_of s b).shape)
   pub given : (b : ℕ) → is_held s b ≡ true → (node_of s b).identity ≤ length objects
   pub shape : (b : ℕ) → is_held s b ≡ true → (node_of s b).shape ≡ (object_of objects (node_of s b).identity).shape
-  pub one : (a b : ℕ) → is_held s a ≡ true → is_held s b ≡ true → (node_of s a).forward ≡ a → (node_of s b).forward ≡ b → (node_of s a).identity ≡ (node_of s b).identity → (node_of s a).part ≡ (node_of s b).part → a ≡ b
+  pub one : (a b : ℕ) → is_held s a ≡ true → is_held s b ≡ true → (node_of s a).forward ≡ a → (node_of s b).forward ≡ b
+      → (node_of s a).identity ≡ (node_of s b).identity → (node_of s a).part ≡ (node_of s b).part → a ≡ b
   pub old : (b : ℕ) → is_held s b ≡ true → ((node_of s b).forward ≡ b) ⊎ (is_leaving (page_at s.pages (b / PAGE_WORDS)) ≡ true)
 
 -- of the identities up to one, only these have a main copy
 abbrev pub KeepsOnly : Store → ℕ → List ℕ → Type 0
-KeepsOnly s base ids = (b : ℕ) → is_held s b ≡ true → (node_of s b).forward ≡ b → (node_of s b).identity ≤ base → contains ids (node_of s b).identity ≡ true
+KeepsOnly s base ids = (b : ℕ) → is_held s b ≡ true → (node_of s b).forward ≡ b
+    → (node_of s b).identity ≤ base → contains ids (node_of s b).identity ≡ true
 
 -- no object goes, and none changes its shape
 pub record KeepsShapes (old new : List Object) : Type 0 where

@@ -33,7 +33,8 @@ is_tracing (phases.Moving m) = false
 
 -- where events have come to after one more
 abbrev pub after_event : Tally → Event → Tally
-after_event t (Command_done m c reply) = record t { graph = after_entry t.graph (record { mutator = m; command = c; reply = reply }) }
+after_event t (Command_done m c reply) =
+    record t { graph = after_entry t.graph (record { mutator = m; command = c; reply = reply }) }
 after_event t Cycle_begun = record t { last = length t.graph.objects }
 after_event t Cycle_on = t
 after_event t (Quantum_done budget units phase) = if is_tracing phase then t else record t { base = t.last }
@@ -42,7 +43,8 @@ after_event t (Quantum_refused budget) = t
 -- An event keeps to a demand. Where a cycle begins, what is live is within it; and at a command, so are the
 -- objects that were allocated since the cycle began whose sweep ended last, with the one that is asked for.
 abbrev pub KeepsTo : Demand → Tally → Event → Type 0
-KeepsTo d t (Command_done m c reply) = (class : ℕ) → class < CLASSES → blocks_of (drop t.base t.graph.objects) class + asked_for t.graph m c class ≤ d.allocated class
+KeepsTo d t (Command_done m c reply) = (class : ℕ) → class < CLASSES
+    → blocks_of (drop t.base t.graph.objects) class + asked_for t.graph m c class ≤ d.allocated class
 KeepsTo d t Cycle_begun = LiveWithin t.graph d.live
 KeepsTo d t Cycle_on = Unit {0}
 KeepsTo d t (Quantum_done budget units phase) = Unit {0}

@@ -19,28 +19,32 @@ ghost use Rattle.space.specs.Room.{asks, AllHaveRoom};
 /// The space bound. In every run of events from an opening heap that keeps to a demand, no new object is
 /// refused for want of space, where there are as many pages as the demand takes.
 pub fn space_suffices()
-    ensures { (h : HeapState) (es : List Event) (new : Course) (d : Demand) → IsOpening h → 0 < length h.store.pages → Runs (opened h) es new → AllKeepTo d (opening_tally h.limits) es
+    ensures { (h : HeapState) (es : List Event) (new : Course) (d : Demand) → IsOpening h → 0 < length h.store.pages
+        → Runs (opened h) es new → AllKeepTo d (opening_tally h.limits) es
         → space_for d (spare_of h) ≤ length h.store.pages → EveryNewFindsRoom es }
 {}
 
 /// Nor is one refused where as many pages stay free beside those that the demand takes as moving begins below: then
 /// no sweep is followed by moving, and no page is left sparse.
 pub fn space_suffices_unmoved()
-    ensures { (h : HeapState) (es : List Event) (new : Course) (d : Demand) → IsOpening h → 0 < length h.store.pages → Runs (opened h) es new → AllKeepTo d (opening_tally h.limits) es
+    ensures { (h : HeapState) (es : List Event) (new : Course) (d : Demand) → IsOpening h → 0 < length h.store.pages
+        → Runs (opened h) es new → AllKeepTo d (opening_tally h.limits) es
         → space_for d 0 + below_of h ≤ length h.store.pages → EveryNewFindsRoom es }
 {}
 
 /// A run that keeps to a pace keeps to a demand. A cycle takes at most so many quanta, so that what is asked
 /// for between them adds up to no more than two cycles' quanta, and the time between two cycles, ask for.
 pub fn paces_are_demands()
-    ensures { (h : HeapState) (es : List Event) (new : Course) (p : Pace) (k : ℕ) → LEAST_BUDGET ≤ k → IsOpening h → 0 < length h.store.pages → Runs (opened h) es new → AllKeepPace p k (opening_beat h.limits) es
+    ensures { (h : HeapState) (es : List Event) (new : Course) (p : Pace) (k : ℕ) → LEAST_BUDGET ≤ k → IsOpening h
+        → 0 < length h.store.pages → Runs (opened h) es new → AllKeepPace p k (opening_beat h.limits) es
         → AllKeepTo (demand_of p (moved_quanta h k)) (opening_tally h.limits) es }
 {}
 
 /// So no new object is refused for want of space in a run that keeps to a pace, where there are as many pages
 /// as the pace takes.
 pub fn space_suffices_at_a_pace()
-    ensures { (h : HeapState) (es : List Event) (new : Course) (p : Pace) (k : ℕ) → LEAST_BUDGET ≤ k → IsOpening h → 0 < length h.store.pages → Runs (opened h) es new → AllKeepPace p k (opening_beat h.limits) es
+    ensures { (h : HeapState) (es : List Event) (new : Course) (p : Pace) (k : ℕ) → LEAST_BUDGET ≤ k → IsOpening h
+        → 0 < length h.store.pages → Runs (opened h) es new → AllKeepPace p k (opening_beat h.limits) es
         → space_for (demand_of p (moved_quanta h k)) (spare_of h) ≤ length h.store.pages → EveryNewFindsRoom es }
 {}
 
@@ -72,8 +76,12 @@ pub fn only_new_needs_room()
 /// In a heap of a configuration, no reply of a run is the refusal for want of space: where the run keeps to a
 /// demand that fits the configuration, or to a pace that fits in its pages.
 pub fn configured_space_suffices()
-    ensures demand { (config : Config) (h : HeapState) (es : List Event) (new : Course) (d : Demand) → 1 ≤ config.pages → IsOpening h → settings_of h ≡ settings_by config → Runs (opened h) es new
+    ensures demand { (config : Config) (h : HeapState) (es : List Event) (new : Course) (d : Demand) → 1 ≤ config.pages
+        → IsOpening h → settings_of h ≡ settings_by config → Runs (opened h) es new
         → AllKeepTo d (opening_tally h.limits) es → Fits config d → AllHaveRoom es }
-    ensures pace { (config : Config) (h : HeapState) (es : List Event) (new : Course) (p : Pace) → 1 ≤ config.pages → LEAST_BUDGET ≤ config.collector_ticks * config.rate → IsOpening h
-        → settings_of h ≡ settings_by config → Runs (opened h) es new → AllKeepPace p (config.collector_ticks * config.rate) (opening_beat h.limits) es → FitsIn config p config.pages → AllHaveRoom es }
+    ensures pace { (config : Config) (h : HeapState) (es : List Event) (new : Course) (p : Pace) → 1 ≤ config.pages
+        → LEAST_BUDGET ≤ config.collector_ticks * config.rate → IsOpening h
+        → settings_of h ≡ settings_by config → Runs (opened h) es new
+        → AllKeepPace p (config.collector_ticks * config.rate) (opening_beat h.limits) es → FitsIn config p config.pages
+        → AllHaveRoom es }
 {}

@@ -22,43 +22,59 @@ ghost use Rattle.space.specs.Placement.{HasBoundedPages, IsTidy, KeepsOnly, Keep
 /// Pages that are within the bound for so many blocks of each class have room for as many blocks as, with
 /// those that are held, are no more.
 pub fn bounded_pages_have_room()
-    ensures { (pages : List (Option Page)) (blocks need : ℕ → ℕ) (spare : ℕ) → ArePages pages → IsBounded pages blocks spare → pages_for blocks spare CLASSES ≤ length pages
-        → ((class : ℕ) → class < CLASSES → main_blocks pages class + need class ≤ blocks class) → has_room pages need ≡ true }
+    ensures { (pages : List (Option Page)) (blocks need : ℕ → ℕ) (spare : ℕ) → ArePages pages
+        → IsBounded pages blocks spare → pages_for blocks spare CLASSES ≤ length pages
+        → ((class : ℕ) → class < CLASSES → main_blocks pages class + need class ≤ blocks class)
+        → has_room pages need ≡ true }
 {}
 
 /// The parts of an object that take their blocks leave pages within the bound, where what is held and what
 /// they need are no more than so many blocks of each class; and so many more blocks are held.
 pub fn taken_blocks_stay_bounded()
-    ensures { (cells : ℕ) (at : ℕ → ℕ) (old : List (Option Page)) (parts : ℕ) (new : List (Option Page)) (blocks : ℕ → ℕ) (spare : ℕ) → ArePages old → IsBounded old blocks spare
-        → ((k : ℕ) → k < CLASSES → main_blocks old k + blocks_needed cells parts k ≤ blocks k) → Takes cells at old parts new
+    ensures { (cells : ℕ) (at : ℕ → ℕ) (old : List (Option Page)) (parts : ℕ) (new : List (Option Page))
+        (blocks : ℕ → ℕ) (spare : ℕ) → ArePages old → IsBounded old blocks spare
+        → ((k : ℕ) → k < CLASSES → main_blocks old k + blocks_needed cells parts k ≤ blocks k)
+        → Takes cells at old parts new
         → IsBounded new blocks spare × ((k : ℕ) → main_blocks new k ≡ main_blocks old k + blocks_needed cells parts k) }
 {}
 
 /// Each action of the collector keeps the pages within their bound.
 pub fn actions_stay_bounded()
-    ensures { (h after : HeapState) (cost : ℕ) (blocks : ℕ → ℕ) (spare : ℕ) → ArePages h.store.pages → AreClosed h.store.pages h.phase → HasBoundedPages h blocks spare → Action h cost after → HasBoundedPages after blocks spare }
+    ensures { (h after : HeapState) (cost : ℕ) (blocks : ℕ → ℕ) (spare : ℕ) → ArePages h.store.pages
+        → AreClosed h.store.pages h.phase → HasBoundedPages h blocks spare → Action h cost after
+        → HasBoundedPages after blocks spare }
 {}
 
 /// Each action of the collector leaves blocks where they should stand, and until the sweep's end no
 /// identity comes back that was gone.
 pub fn actions_stay_tidy()
-    ensures tidy { (h after : HeapState) (cost : ℕ) (present snapshot : Graph) (objects : List Object) → Stands h present snapshot → Action h cost after → IsTidy h.store objects → IsTidy after.store objects }
-    ensures only { (h after : HeapState) (cost base : ℕ) (ids : List ℕ) → Action h cost after → is_tracing after.phase ≡ true → (is_tracing h.phase ≡ true → KeepsOnly h.store base ids) → KeepsOnly after.store base ids }
+    ensures tidy { (h after : HeapState) (cost : ℕ) (present snapshot : Graph) (objects : List Object)
+        → Stands h present snapshot → Action h cost after → IsTidy h.store objects → IsTidy after.store objects }
+    ensures only { (h after : HeapState) (cost base : ℕ) (ids : List ℕ) → Action h cost after
+        → is_tracing after.phase ≡ true → (is_tracing h.phase ≡ true → KeepsOnly h.store base ids)
+        → KeepsOnly after.store base ids }
 {}
 
 /// A command's change leaves blocks where they should stand, no identity comes back that was gone, and the
 /// pages stay within their bound, where what is held and what is asked for are no more than so many blocks of
 /// each class.
 pub fn changes_stay_tidy()
-    ensures tidy { (h after : HeapState) (g : Graph) (c : Change) → h.next ≡ length g.objects + 1 → DoesChange h g c after → IsTidy h.store g.objects → IsTidy after.store (changed g c).objects }
-    ensures only { (h after : HeapState) (g : Graph) (c : Change) (base : ℕ) (ids : List ℕ) → h.next ≡ length g.objects + 1 → base ≤ length g.objects → DoesChange h g c after → KeepsOnly h.store base ids → KeepsOnly after.store base ids }
-    ensures bounded { (h after : HeapState) (g : Graph) (c : Change) (blocks : ℕ → ℕ) (spare : ℕ) → ArePages h.store.pages → ((k : ℕ) → k < CLASSES → main_blocks h.store.pages k + asked_by c k ≤ blocks k) → DoesChange h g c after
+    ensures tidy { (h after : HeapState) (g : Graph) (c : Change) → h.next ≡ length g.objects + 1
+        → DoesChange h g c after → IsTidy h.store g.objects → IsTidy after.store (changed g c).objects }
+    ensures only { (h after : HeapState) (g : Graph) (c : Change) (base : ℕ) (ids : List ℕ)
+        → h.next ≡ length g.objects + 1 → base ≤ length g.objects → DoesChange h g c after → KeepsOnly h.store base ids
+        → KeepsOnly after.store base ids }
+    ensures bounded { (h after : HeapState) (g : Graph) (c : Change) (blocks : ℕ → ℕ) (spare : ℕ)
+        → ArePages h.store.pages → ((k : ℕ) → k < CLASSES → main_blocks h.store.pages k + asked_by c k ≤ blocks k)
+        → DoesChange h g c after
         → HasBoundedPages h blocks spare → HasBoundedPages after blocks spare }
 {}
 
 /// The held blocks of a class, on pages that aren't leaving, are no more than what the identities need that
 /// were kept, and what the objects need that were allocated since.
 pub fn held_blocks_are_few()
-    ensures { (s : Store) (class : ℕ) (objects first : List Object) (ids : List ℕ) → ArePages s.pages → IsTidy s objects → KeepsShapes first objects → KeepsOnly s (length first) ids
-        → main_blocks s.pages class ≤ sum_by (λ id. needed (object_of first id).shape class) ids + blocks_of (drop (length first) objects) class }
+    ensures { (s : Store) (class : ℕ) (objects first : List Object) (ids : List ℕ) → ArePages s.pages → IsTidy s objects
+        → KeepsShapes first objects → KeepsOnly s (length first) ids
+        → main_blocks s.pages class ≤ sum_by (λ id. needed (object_of first id).shape class) ids
+        + blocks_of (drop (length first) objects) class }
 {}

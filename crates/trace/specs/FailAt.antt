@@ -1,4 +1,5 @@
--- A source or sink that fails on purpose: what it passes calls on to, how many calls from now the one that fails is (0 for none), and how often it failed itself.
+-- A source or sink that fails on purpose: what it passes calls on to, how many calls from now the one that fails is (0
+-- for none), and how often it failed itself.
 use Rattle.std.specs.Prelude.{ℕ, if◌then◌else◌}
 use Rattle.trace.specs.declared.fail_at.FailAt.{FailAt}
 

@@ -36,12 +36,15 @@ NextLine Is rest = (line : List ℕ) × (more : List ℕ) × (rest ≡ line ++ 1
 module _ {S E : Type 0} (Tells : S → S → Type 0) (Does : Version → List ℕ → S → List E → S → Type 0) where
   -- what a line of this number does: it tells the version of the next, or it is a line of the version
   abbrev pub Goes : ℕ → List ℕ → Version → S → List E → Version → S → Type 0
-  Goes number line version old events next new = (TellsVersion number line × (next ≡ Second) × (events ≡ []) × Tells old new) ⊎ ((next ≡ version) × Does version line old events new)
+  Goes number line version old events next new =
+      (TellsVersion number line × (next ≡ Second) × (events ≡ []) × Tells old new)
+      ⊎ ((next ≡ version) × Does version line old events new)
 
   -- the lines, one after the other, do these events, and the next is of this version
   pub data LinesDone (old : S) : List (List ℕ) → Version → List E → S → Type 0 where
     No_lines : LinesDone old [] First [] old
-    One_line_more : (lines : List (List ℕ)) (version next : Version) (events more : List E) (line : List ℕ) (mid new : S) → LinesDone old lines version events mid → Goes (length lines + 1) line version mid more next new
+    One_line_more : (lines : List (List ℕ)) (version next : Version) (events more : List E) (line : List ℕ)
+        (mid new : S) → LinesDone old lines version events mid → Goes (length lines + 1) line version mid more next new
         → LinesDone old (lines ++ line ∷ []) next (events ++ more) new
 
   -- What was done of an input: the bytes that it gave are these lines and a rest, and the lines did these
@@ -63,7 +66,8 @@ module _ {S : Type 0} (Stops : TextFault → List ℕ → ℕ → S → S → Ty
   -- all lines of the input are done
   Ends count mid rest ended new (Ok all) = (rest ≡ []) × IsTrue ended × (new ≡ mid)
   -- there is no next line, or the next line comes to the fault
-  Ends count mid rest ended new (Err fault) = (NoLine fault count rest ended × (new ≡ mid)) ⊎ NextLine (λ line. Stops fault line (count + 1) mid new) rest
+  Ends count mid rest ended new (Err fault) = (NoLine fault count rest ended × (new ≡ mid))
+      ⊎ NextLine (λ line. Stops fault line (count + 1) mid new) rest
 
 -- how many reads failed, and how many writes
 abbrev pub reads_failed : {A : Type 0} → Result A TextFault → ℕ

@@ -5,7 +5,11 @@ use Rattle.trace.specs.LineReader.{Lines}
 
 -- the fields of a reader, as what it shows
 abbrev pub lines_in : Inside → Lines
-lines_in a = record { line = slice_range a.buffer a.line_start a.line_end; kept = slice_range a.buffer a.start a.end; number = a.number }
+lines_in a = record {
+  line = slice_range a.buffer a.line_start a.line_end;
+  kept = slice_range a.buffer a.start a.end;
+  number = a.number;
+}
 
 -- the ranges lie in the buffer, and the lines can be counted
 pub record IsHeld (a : Inside) : Type 0 where

@@ -14,3 +14,5 @@ pub mod Standard
 pub mod WriteSink
 pub mod ReadSource
 pub mod FailAt
+pub mod Scripts
+pub mod Histories

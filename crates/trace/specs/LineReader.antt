@@ -10,7 +10,8 @@ pub record Lines : Type 0 where
   pub kept : List ℕ
   pub number : ℕ
 
--- the bytes that were kept and those that came: with a line, the line, its LF and what is kept now; else what is kept now
+-- the bytes that were kept and those that came: with a line, the line, its LF and what is kept now; else what is kept
+-- now
 abbrev pub text_by : Result Bool TextFault → Lines → List ℕ
 text_by (Ok true) new = new.line ++ 10 ∷ new.kept
 text_by (Ok false) new = new.kept

@@ -32,7 +32,8 @@ None >>= f = None
 
 -- the number below 2 ^ bits of which the bytes are the spelling
 unfoldable pub number_in : ℕ → List ℕ → Option ℕ
-number_in bits bytes = if nat_lt (digits_value 10 bytes) (2 ^ bits) && bytes_eq bytes (decimal (digits_value 10 bytes)) then Some (digits_value 10 bytes) else None
+number_in bits bytes = if nat_lt (digits_value 10 bytes) (2 ^ bits) && bytes_eq bytes (decimal (digits_value 10 bytes))
+    then Some (digits_value 10 bytes) else None
 
 -- what stands before the first such byte, and after it
 unfoldable pub cut_at : ℕ → List ℕ → Option (List ℕ × List ℕ)
@@ -116,15 +117,18 @@ unfoldable pub arguments_in : Keyword → List ℕ → Option Command
 arguments_in keywords.New bytes = slot_and_shape_in bytes >>= λ n. Some (commands.New n.0 n.1)
 arguments_in keywords.Load bytes = three_in 32 32 32 bytes >>= λ n. Some (commands.Load n.0 n.1.0 n.1.1)
 arguments_in keywords.Store bytes = three_in 32 32 32 bytes >>= λ n. Some (commands.Store n.0 n.1.0 n.1.1)
-arguments_in keywords.CompareStore bytes = four_in 32 32 32 32 bytes >>= λ n. Some (commands.CompareStore n.0 n.1.0 n.1.1.0 n.1.1.1)
+arguments_in keywords.CompareStore bytes =
+    four_in 32 32 32 32 bytes >>= λ n. Some (commands.CompareStore n.0 n.1.0 n.1.1.0 n.1.1.1)
 arguments_in keywords.Get bytes = two_in 32 32 bytes >>= λ n. Some (commands.Get n.0 n.1)
 arguments_in keywords.Put bytes = three_in 32 32 64 bytes >>= λ n. Some (commands.Put n.0 n.1.0 n.1.1)
-arguments_in keywords.ComparePut bytes = four_in 32 32 64 64 bytes >>= λ n. Some (commands.ComparePut n.0 n.1.0 n.1.1.0 n.1.1.1)
+arguments_in keywords.ComparePut bytes =
+    four_in 32 32 64 64 bytes >>= λ n. Some (commands.ComparePut n.0 n.1.0 n.1.1.0 n.1.1.1)
 arguments_in keywords.Copy bytes = two_in 32 32 bytes >>= λ n. Some (commands.Copy n.0 n.1)
 arguments_in keywords.Clear bytes = number_in 32 bytes >>= λ n. Some (commands.Clear n)
 arguments_in keywords.LoadStatic bytes = two_in 32 32 bytes >>= λ n. Some (commands.LoadStatic n.0 n.1)
 arguments_in keywords.StoreStatic bytes = two_in 32 32 bytes >>= λ n. Some (commands.StoreStatic n.0 n.1)
-arguments_in keywords.CompareStatic bytes = three_in 32 32 32 bytes >>= λ n. Some (commands.CompareStatic n.0 n.1.0 n.1.1)
+arguments_in keywords.CompareStatic bytes =
+    three_in 32 32 32 bytes >>= λ n. Some (commands.CompareStatic n.0 n.1.0 n.1.1)
 arguments_in keywords.Same bytes = two_in 32 32 bytes >>= λ n. Some (commands.Same n.0 n.1)
 arguments_in keywords.Describe bytes = number_in 32 bytes >>= λ n. Some (commands.Describe n)
 
@@ -159,21 +163,25 @@ collector_in bytes = if bytes_eq bytes (codes "begin") then Some lines.Begin els
 -- a line that isn't skipped, by its first byte: a digit, or something else
 abbrev pub event_in : Version → List ℕ → Option Line
 event_in version [] = collector_in []
-event_in version (first ∷ rest) = if nat_le 48 first && nat_le first 57 then mutator_and_command_in version (first ∷ rest) >>= (λ a. Some (lines.Command a.0 a.1)) else collector_in (first ∷ rest)
+event_in version (first ∷ rest) = if nat_le 48 first && nat_le first 57
+    then mutator_and_command_in version (first ∷ rest) >>= (λ a. Some (lines.Command a.0 a.1))
+    else collector_in (first ∷ rest)
 
 unfoldable pub line_in : Version → List ℕ → Option Line
 line_in version bytes = if is_skipped bytes then Some lines.Skip else event_in version bytes
 
 -- a refusal by its number
 abbrev pub all_refusals : List Refusal
-all_refusals = refusals.BadSlot ∷ refusals.NullSlot ∷ refusals.BadIndex ∷ refusals.WrongKind ∷ refusals.TooLarge ∷ refusals.IdentitiesSpent ∷ refusals.NoSpace ∷ refusals.BadStatic ∷ refusals.NotLive ∷ refusals.AlreadyLive ∷ []
+all_refusals = refusals.BadSlot ∷ refusals.NullSlot ∷ refusals.BadIndex ∷ refusals.WrongKind ∷ refusals.TooLarge
+    ∷ refusals.IdentitiesSpent ∷ refusals.NoSpace ∷ refusals.BadStatic ∷ refusals.NotLive ∷ refusals.AlreadyLive ∷ []
 
 unfoldable pub refusal_in : ℕ → Option Refusal
 refusal_in n = find (λ r. refusal_number r == n) all_refusals
 
 -- the words with which replies of several words begin
 abbrev pub all_reply_words : List ReplyWord
-all_reply_words = words.Made ∷ words.Ref ∷ words.Word ∷ words.Kept ∷ words.KeptWord ∷ words.Described ∷ words.Refused ∷ []
+all_reply_words = words.Made ∷ words.Ref ∷ words.Word ∷ words.Kept ∷ words.KeptWord ∷ words.Described ∷ words.Refused
+    ∷ []
 
 unfoldable pub reply_word_in : List ℕ → Option ReplyWord
 reply_word_in word = find (λ w. bytes_eq word (reply_word_text w)) all_reply_words
@@ -209,7 +217,8 @@ reply_in bytes =
 
 -- what stands before the blank at the end
 unfoldable pub before_blank_in : List ℕ → Option (List ℕ)
-before_blank_in bytes = if bytes_eq (drop (length bytes - 1) bytes) (codes " ") then Some (take (length bytes - 1) bytes) else None
+before_blank_in bytes = if bytes_eq (drop (length bytes - 1) bytes) (codes " ")
+    then Some (take (length bytes - 1) bytes) else None
 
 -- what stands before the arrow " => ", and after it
 unfoldable pub arrow_in : List ℕ → Option (List ℕ × List ℕ)
@@ -229,4 +238,5 @@ entry_in version bytes = do
 
 -- a line of a history
 unfoldable pub entry_line_in : Version → List ℕ → Option EntryLine
-entry_line_in version bytes = if is_skipped bytes then Some entry_lines.Skip else (entry_in version bytes >>= λ e. Some (entry_lines.Entry e))
+entry_line_in version bytes = if is_skipped bytes then Some entry_lines.Skip
+    else (entry_in version bytes >>= λ e. Some (entry_lines.Entry e))

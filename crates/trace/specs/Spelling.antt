@@ -99,7 +99,8 @@ abbrev pub CommandFits : Command → Type 0
 CommandFits (commands.New dst shape) = (dst < 2 ^ 32) × ShapeFits shape
 CommandFits (commands.Load dst obj i) = (dst < 2 ^ 32) × (obj < 2 ^ 32) × (i < 2 ^ 32)
 CommandFits (commands.Store obj i src) = (obj < 2 ^ 32) × (i < 2 ^ 32) × (src < 2 ^ 32)
-CommandFits (commands.CompareStore obj i expect new) = (obj < 2 ^ 32) × (i < 2 ^ 32) × (expect < 2 ^ 32) × (new < 2 ^ 32)
+CommandFits (commands.CompareStore obj i expect new) = (obj < 2 ^ 32) × (i < 2 ^ 32) × (expect < 2 ^ 32)
+    × (new < 2 ^ 32)
 CommandFits (commands.Get obj i) = (obj < 2 ^ 32) × (i < 2 ^ 32)
 CommandFits (commands.Put obj i word) = (obj < 2 ^ 32) × (i < 2 ^ 32) × (word < 2 ^ 64)
 CommandFits (commands.ComparePut obj i old new) = (obj < 2 ^ 32) × (i < 2 ^ 32) × (old < 2 ^ 64) × (new < 2 ^ 64)
@@ -127,9 +128,11 @@ is_skipped (first ∷ rest) = first == 35
 -- In a version the bytes are a spelling of the line. All but the skipped lines have one spelling each.
 abbrev pub Spells : Version → List ℕ → Line → Type 0
 Spells version bytes lines.Skip = IsTrue (is_skipped bytes)
-Spells version bytes (lines.Command mutator command) = (bytes ≡ command_line mutator command) × (mutator < 2 ^ 32) × CommandFits command × IsOf command version
+Spells version bytes (lines.Command mutator command) = (bytes ≡ command_line mutator command) × (mutator < 2 ^ 32)
+    × CommandFits command × IsOf command version
 Spells version bytes lines.Begin = bytes ≡ codes "begin"
-Spells version bytes (lines.Quantum budget) = (bytes ≡ codes "quantum " ++ decimal budget) × (256 ≤ budget) × (budget ≤ 1000000)
+Spells version bytes (lines.Quantum budget) = (bytes ≡ codes "quantum " ++ decimal budget) × (256 ≤ budget)
+    × (budget ≤ 1000000)
 Spells version bytes (lines.Tick ticks) = (bytes ≡ codes "tick " ++ decimal ticks) × (1 ≤ ticks) × (ticks ≤ CLOCK_LIMIT)
 
 -- the word with which a reply of several words begins
@@ -176,4 +179,5 @@ ReplyFits (replies.Refused refusal) = Unit {0}
 -- In a version the bytes are a spelling of the line of a history. Each entry has one spelling.
 abbrev pub SpellsEntry : Version → List ℕ → EntryLine → Type 0
 SpellsEntry version bytes entry_lines.Skip = IsTrue (is_skipped bytes)
-SpellsEntry version bytes (entry_lines.Entry e) = (bytes ≡ entry_line e) × (e.mutator < 2 ^ 32) × CommandFits e.command × ReplyFits e.reply × IsOf e.command version
+SpellsEntry version bytes (entry_lines.Entry e) = (bytes ≡ entry_line e) × (e.mutator < 2 ^ 32) × CommandFits e.command
+    × ReplyFits e.reply × IsOf e.command version

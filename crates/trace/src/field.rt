@@ -31,7 +31,8 @@ fn front_digits(bytes: &[u8]) -> (u64, usize)
 fn long_number(bytes: &[u8], n: u64) -> Option<(u64, usize)>
     requires { Row bytes.now n 19 }
     ensures found { IfSome result (λ f. Fronts bytes.now f.0 f.1) }
-    ensures only { (m : ℕ) (rest : List ℕ) → m < 2 ^ 64 → bytes.now ≡ decimal m ++ rest → NoDigitAt rest 0 → result ≡ Some (m, length (decimal m)) }
+    ensures only { (m : ℕ) (rest : List ℕ) → m < 2 ^ 64 → bytes.now ≡ decimal m ++ rest → NoDigitAt rest 0
+        → result ≡ Some (m, length (decimal m)) }
 {
     if bytes[0] == b'0' {
         return None;
@@ -54,7 +55,8 @@ fn front_number(bytes: &[u8]) -> Option<(u64, usize)>
     // What is read stands at the front, as it is spelled.
     ensures found { IfSome result (λ f. Fronts bytes.now f.0 f.1) }
     // What is spelled there is read.
-    ensures only { (m : ℕ) (rest : List ℕ) → m < 2 ^ 64 → bytes.now ≡ decimal m ++ rest → NoDigitAt rest 0 → result ≡ Some (m, length (decimal m)) }
+    ensures only { (m : ℕ) (rest : List ℕ) → m < 2 ^ 64 → bytes.now ≡ decimal m ++ rest → NoDigitAt rest 0
+        → result ≡ Some (m, length (decimal m)) }
 {
     let (n, count) = front_digits(bytes);
     if count == LONG {

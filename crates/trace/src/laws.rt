@@ -4,11 +4,14 @@ ghost use Rattle.trace.specs.Streams.{NoLf, IsLine, Splits};
 
 /// A text has one cutting into lines and a rest without LF.
 pub fn one_cutting()
-    ensures { (text rest rest' : List ℕ) (lines lines' : List (List ℕ)) → Splits text lines rest → Splits text lines' rest' → NoLf rest → NoLf rest' → (lines ≡ lines') × (rest ≡ rest') }
+    ensures { (text rest rest' : List ℕ) (lines lines' : List (List ℕ)) → Splits text lines rest
+        → Splits text lines' rest' → NoLf rest → NoLf rest' → (lines ≡ lines') × (rest ≡ rest') }
 {}
 
 /// A text in lines, with the next line after them; and it has at least as many bytes as lines.
 pub fn one_more_line()
-    ensures more { (text more rest rest' line : List ℕ) (lines : List (List ℕ)) → Splits text lines rest → rest ++ more ≡ line ++ 10 ∷ rest' → IsLine line → Splits (text ++ more) (lines ++ line ∷ []) rest' }
-    ensures few { (text rest : List ℕ) (lines : List (List ℕ)) → Splits text lines rest → length lines + length rest ≤ length text }
+    ensures more { (text more rest rest' line : List ℕ) (lines : List (List ℕ)) → Splits text lines rest → rest
+        ++ more ≡ line ++ 10 ∷ rest' → IsLine line → Splits (text ++ more) (lines ++ line ∷ []) rest' }
+    ensures few { (text rest : List ℕ) (lines : List (List ℕ)) → Splits text lines rest
+        → length lines + length rest ≤ length text }
 {}

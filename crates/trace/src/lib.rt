@@ -18,6 +18,7 @@ pub mod source;
 pub mod standard;
 mod text;
 mod transcript;
+pub mod transcripts;
 mod version;
 pub mod write;
 pub mod write_buffer;

@@ -37,7 +37,8 @@ fn to_front(buffer: &mut [u8], start: usize, end: usize)
 fn read_behind<S: Source>(source: &mut S, buffer: &mut [u8], at: usize) -> Result<usize, ReadFailed>
     requires { at < length buffer.old }
     ensures within { IfOk result (λ n. at + n ≤ length buffer.new) }
-    ensures bytes { IfOk result (λ n. Comes (S.given source.old) (S.given source.new) (take at buffer.old) (take (at + n) buffer.new)) }
+    ensures bytes { IfOk result (λ n. Comes (S.given source.old) (S.given source.new) (take at buffer.old)
+        (take (at + n) buffer.new)) }
     ensures counted { IfOk result (λ n. length (S.given source.new) ≡ length (S.given source.old) + n) }
     ensures given { OnErr result (S.given source.new ≡ S.given source.old) }
     ensures kept { OnErr result (take at buffer.new ≡ take at buffer.old) }
@@ -201,9 +202,11 @@ impl LineReader {
         ensures asked { (source.new ≡ source.old) ⊎ (waiting.new ≡ []) }
         ensures room { result ≡ Ok true → length waiting.new + 256 ≤ 65536 }
         ensures whole { writes_failed result ≡ 0 → K.taken sink.new ++ waiting.new ≡ K.taken sink.old ++ waiting.old }
-        ensures part { result ≡ Err TextFault.Write → GrowsByPart (K.taken sink.old) (K.taken sink.new) waiting.old × (waiting.new ≡ []) }
+        ensures part { result ≡ Err TextFault.Write → GrowsByPart (K.taken sink.old) (K.taken sink.new) waiting.old
+            × (waiting.new ≡ []) }
         ensures grows { length (K.taken sink.old) ≤ length (K.taken sink.new) }
-        ensures hands { writes_failed result ≡ 0 → Hands (given_by S.given S.ended source.old source.new) self.old self.new result }
+        ensures hands { writes_failed result ≡ 0
+            → Hands (given_by S.given S.ended source.old source.new) self.old self.new result }
         ensures behind { self.new.number + length self.new.kept ≤ length (S.given source.new) }
         ensures counted { self.new.number < 2 ^ 64 }
         // Where a write failed, no line was handed out, and nothing was read.

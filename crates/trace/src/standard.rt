@@ -126,7 +126,8 @@ impl<W: Write + Drop> Sink for WriteSink<W> {
         ensures some { IfOk result (λ n. 0 < length bytes.now → 0 < n) }
         ensures cause { sink_failures self.new ≡ sink_failures self.old + failed result }
         // Where the writer shows what it contains, that is what the sink has taken.
-        ensures writer { WriteAppends (W.contents (sink_writer self.old)) (W.contents (sink_writer self.new)) result bytes.now }
+        ensures writer { WriteAppends (W.contents (sink_writer self.old))
+            (W.contents (sink_writer self.new)) result bytes.now }
     {
         match self.writer.write(bytes) {
             Ok(n) if n > 0 || bytes.is_empty() => {

@@ -22,7 +22,8 @@ fn put_one(out: &mut [u8], at: usize, word: &[u8], n: u64) -> usize
 /// Writes a word, and after it two numbers.
 fn put_two(out: &mut [u8], at: usize, word: &[u8], numbers: [u32; 2]) -> usize
     requires { at + length word.now + 42 ≤ length out.old }
-    ensures text { take result out.new ≡ take at out.old ++ (word.now ++ 32 ∷ two (slice_index numbers 0) (slice_index numbers 1)) }
+    ensures text { take result out.new ≡ take at out.old
+        ++ (word.now ++ 32 ∷ two (slice_index numbers 0) (slice_index numbers 1)) }
     ensures place { result ≤ at + length word.now + 42 }
 {
     let [a, b] = numbers;
@@ -33,7 +34,8 @@ fn put_two(out: &mut [u8], at: usize, word: &[u8], numbers: [u32; 2]) -> usize
 /// Writes a word, and after it three numbers.
 fn put_three(out: &mut [u8], at: usize, word: &[u8], numbers: [u32; 3]) -> usize
     requires { at + length word.now + 63 ≤ length out.old }
-    ensures text { take result out.new ≡ take at out.old ++ (word.now ++ 32 ∷ three (slice_index numbers 0) (slice_index numbers 1) (slice_index numbers 2)) }
+    ensures text { take result out.new ≡ take at out.old
+        ++ (word.now ++ 32 ∷ three (slice_index numbers 0) (slice_index numbers 1) (slice_index numbers 2)) }
     ensures place { result ≤ at + length word.now + 63 }
 {
     let [a, b, c] = numbers;
@@ -44,7 +46,9 @@ fn put_three(out: &mut [u8], at: usize, word: &[u8], numbers: [u32; 3]) -> usize
 /// Writes a word, and after it four numbers.
 fn put_four(out: &mut [u8], at: usize, word: &[u8], numbers: [u32; 4]) -> usize
     requires { at + length word.now + 84 ≤ length out.old }
-    ensures text { take result out.new ≡ take at out.old ++ (word.now ++ 32 ∷ four (slice_index numbers 0) (slice_index numbers 1) (slice_index numbers 2) (slice_index numbers 3)) }
+    ensures text { take result out.new ≡ take at out.old
+        ++ (word.now ++ 32 ∷ four (slice_index numbers 0) (slice_index numbers 1) (slice_index numbers 2)
+        (slice_index numbers 3)) }
     ensures place { result ≤ at + length word.now + 84 }
 {
     let [a, b, c, d] = numbers;

@@ -69,7 +69,8 @@ impl Found {
 
     /// The one that was found at a place, from 0, if so many were.
     fn at(&self, place: usize) -> Option<u64>
-        ensures found { IfSome result (λ id. (place < length self.now.ids) × (id ≡ slice_index self.now.ids place) × IsAmong self.now.objects id) }
+        ensures found { IfSome result (λ id. (place < length self.now.ids) × (id ≡ slice_index self.now.ids place)
+            × IsAmong self.now.objects id) }
         ensures none { IsNone result → length self.now.ids ≤ place }
         ensures few { length self.now.ids ≤ self.now.objects }
     {

@@ -13,7 +13,8 @@ use graph_heap::{Command, Refusal, Reply};
 impl Heap {
     /// What `step` would reply to a command of a mutator. The heap stays as it is.
     pub fn answer(&self, mutator: u32, command: &Command) -> Reply
-        ensures { (g : Graph) → Agrees self.now g → result ≡ reply_of (room_for self.now command.now) g mutator command.now }
+        ensures { (g : Graph) → Agrees self.now g
+            → result ≡ reply_of (room_for self.now command.now) g mutator command.now }
     {
         match self.raw.roots.admit(mutator, command.is_join()) {
             Ok(_) => reply_to(self.plan(mutator, command)),

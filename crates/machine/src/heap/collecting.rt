@@ -91,8 +91,8 @@ impl Heap {
     }
 
     /// Spends units of a budget: what mutators recorded goes into the list of grey parts, and then the next
-    /// action is done while its units fit in what is left, until no cycle is on. It never begins a cycle. Refused outside 256 to 1000000 units, and then nothing
-    /// changes.
+    /// action is done while its units fit in what is left, until no cycle is on. It never begins a cycle. Refused
+    /// outside 256 to 1000000 units, and then nothing changes.
     pub fn quantum(&mut self, budget: u32) -> Result<Spent, BudgetOutOfRange>
         ensures spends { Spends self.old budget self.new result }
         ensures ends { IfOk result (λ s. (s.phase ≡ phases.Idle) ⊎ (budget < s.units + 256)) }

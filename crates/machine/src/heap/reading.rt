@@ -78,7 +78,8 @@ impl Heap {
     #[inline(always)]
     pub(super) fn held_in(&self, at: Cell) -> Referent
         requires { (g : Graph) → Agrees self.now g → (id : ℕ) × (i : ℕ) × IsRefPlace self.now g id i at }
-        ensures { (g : Graph) (id i : ℕ) → Agrees self.now g → IsRefPlace self.now g id i at → Names self.now g (slice_index (object_of g.objects id).refs i) result }
+        ensures { (g : Graph) (id i : ℕ) → Agrees self.now g → IsRefPlace self.now g id i at
+            → Names self.now g (slice_index (object_of g.objects id).refs i) result }
     {
         self.raw
             .nodes
@@ -89,7 +90,8 @@ impl Heap {
     #[inline(always)]
     pub(super) fn word_in(&self, at: Cell) -> u64
         requires { (g : Graph) → Agrees self.now g → (id : ℕ) × (i : ℕ) × IsWordPlace self.now g id i at }
-        ensures { (g : Graph) (id i : ℕ) → Agrees self.now g → IsWordPlace self.now g id i at → result ≡ slice_index (object_of g.objects id).words i }
+        ensures { (g : Graph) (id i : ℕ) → Agrees self.now g → IsWordPlace self.now g id i at
+            → result ≡ slice_index (object_of g.objects id).words i }
     {
         self.raw.nodes.cell(at.block, at.index)
     }

@@ -44,8 +44,8 @@ impl Nodes {
         self.table.page(page)
     }
 
-    /// How many words are wasted inside the held blocks of a page: of each block those behind the last cell of its part.
-    /// There are none on a free page, nor where there is no such page.
+    /// How many words are wasted inside the held blocks of a page: of each block those behind the last cell of its
+    /// part. There are none on a free page, nor where there is no such page.
     pub fn wasted_inside(&self, page: usize) -> usize
         ensures wasted { result ≡ wasted_on self.now page }
         ensures within { result ≤ 131072 }

@@ -146,7 +146,8 @@ impl PageTable {
     pub fn is_held(&self, arena: &Arena, block: Block) -> bool
         requires together { Together self.now arena.now }
         requires page { block.page < length self.now }
-        ensures { IsTrue result ↔ IsSomeAnd (page_at (pages_in self.now arena.now) block.page) (λ p. slice_get p.held block.index ≡ Some true) }
+        ensures { IsTrue result ↔ IsSomeAnd (page_at (pages_in self.now arena.now) block.page)
+            (λ p. slice_get p.held block.index ≡ Some true) }
     {
         match self.row(block.page) {
             Some(row) => {

@@ -1,6 +1,6 @@
 use Rattle.std.proofs.Common.{refl, subst}
 use Rattle.quanta.specs.Timetable.{Timetable}
-use Rattle.drawing.specs.Utilisation.{AreShares, utilisation_picture}
+use Rattle.pictures.specs.Utilisation.{AreShares, utilisation_picture}
 use Rattle.metronome.proofs.Sharing.{shares_reserved}
 use Rattle.metronome.proofs.drawing_job.draw.Goals as goal
 

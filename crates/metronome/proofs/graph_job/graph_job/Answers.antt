@@ -5,9 +5,9 @@ use Rattle.heap_model.specs.Event.{present_of}
 use Rattle.heap_model.specs.Settings.{HeapSettings}
 use Rattle.player.specs.Playing.{stage}
 use Rattle.trace.specs.Streams.{given_by}
-use Rattle.graph_drawing.specs.declared.fault.DrawFault.{DrawFault}
-use Rattle.graph_drawing.specs.declared.fault.DrawFault.TheVariants.{NoMemory}
-use Rattle.graph_drawing.specs.Drawn.{GraphDrawn}
+use Rattle.pictures.specs.declared.graph.fault.DrawFault.{DrawFault}
+use Rattle.pictures.specs.declared.graph.fault.DrawFault.TheVariants.{NoMemory}
+use Rattle.pictures.specs.GraphDrawn.{GraphDrawn}
 use Rattle.metronome.specs.declared.fault.RunFault.TheVariants as faults
 use Rattle.metronome.proofs.Finishing.{failed_so}
 use Rattle.metronome.proofs.Failing.{reads_text, writes_text, memory_unread, memory_unwritten, drawing_unread, writes_drawing}

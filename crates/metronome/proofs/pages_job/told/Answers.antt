@@ -1,7 +1,7 @@
 use Rattle.std.proofs.Common.{sym, subst}
 use Rattle.std.specs.Prelude.{IfOk, true, string_bytes}
-use Rattle.space_report.specs.declared.lines.Scope.TheVariants.{Pace as By_pace}
-use Rattle.space_report.specs.Report.{IsPaceReport}
+use Rattle.inspector.specs.declared.pages_needed.lines.Scope.TheVariants.{Pace as By_pace}
+use Rattle.inspector.specs.NeededReport.{IsPaceReport}
 use Rattle.metronome.specs.Told.{TellsPages}
 use Rattle.metronome.proofs.Finishing.{value_so}
 use Rattle.metronome.proofs.pages_job.told.Goals as goal

@@ -1,9 +1,9 @@
 use Rattle.std.proofs.Common.{List, Ok, Err, refl, sym, subst, arith}
 use Rattle.std.specs.Prelude.{Result}
 use Rattle.trace.specs.Streams.{GrowsByPart, given_by}
-use Rattle.drawing.specs.declared.sample.Sample.{Sample}
-use Rattle.drawing.specs.declared.over_time.Scale.{Scale}
-use Rattle.drawing.specs.Samples.{time_picture}
+use Rattle.pictures.specs.declared.sample.Sample.{Sample}
+use Rattle.pictures.specs.declared.over_time.Scale.{Scale}
+use Rattle.pictures.specs.OverTime.{time_picture}
 use Rattle.metronome.specs.declared.fault.Ending.{Ending}
 use Rattle.metronome.specs.declared.fault.RunFault.{RunFault}
 use Rattle.metronome.specs.OverTime.{SamplesDrawn}

@@ -1,5 +1,0 @@
-pub mod Load
-pub mod New
-pub mod Fitting
-pub mod Metering
-pub mod Keeping

@@ -1,8 +1,0 @@
-use Rattle.graph_drawing.proofs.Drawn.{some_slots}
-use Rattle.graph_drawing.proofs.drawing.root_at.Goals as goal
-
-pub nonzero_div-mutator : goal.nonzero_div-mutator
-nonzero_div-mutator c = some_slots c.args.place c.args.limits.now.mutators c.args.limits.now.slots c.if-place-all.true
-
-pub nonzero_rem-slot : goal.nonzero_rem-slot
-nonzero_rem-slot c = some_slots c.args.place c.args.limits.now.mutators c.args.limits.now.slots c.if-place-all.true

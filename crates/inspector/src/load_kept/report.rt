@@ -1,0 +1,45 @@
+//! All that is told of a trace and a load.
+ghost use Rattle.std.specs.Prelude.{IfOk, string_bytes};
+ghost use Rattle.sizing.specs.Fitting.{load_in};
+ghost use Rattle.inspector.specs.LoadReport.{IsNeedReport, IsLoadReport};
+
+use crate::load_kept::covering::{covered_line, is_covered};
+use crate::load_kept::kept_text::kept_line;
+use crate::load_kept::live_text::live_told;
+use crate::pages_needed::{Scope, pace_report};
+use size_classes::Config;
+use sizing::arrivals::{Kept, Load};
+use space::Pace;
+use std::alloc::{AllocError, Global};
+
+/// What is told of the pages that a load needs.
+fn need_report(alloc: Global, config: &Config, load: &Load) -> Result<String, AllocError>
+    ensures { IfOk result (λ text. IsNeedReport config.now (load_in load.now) (string_bytes text)) }
+{
+    let pace = Some(load.pace(config));
+    pace_report(alloc, config, &pace, Scope::Load)
+}
+
+/// What is told of a load in a heap of a configuration, and of a trace: whether the trace keeps to the load, or else
+/// the first line with which it breaks it, and how; of each class of which more blocks were live where a cycle began
+/// than the load has, its size in words and the blocks of both, or without a measured pace that these blocks are too
+/// many; whether the load covers the run, or nothing is promised of it; and what is told of the pages that the load
+/// needs, as of the pace to which it comes.
+pub fn load_report(
+    alloc: Global,
+    config: &Config,
+    load: &Load,
+    kept: Kept,
+    pace: &Option<Pace>,
+) -> Result<String, AllocError>
+    ensures { IfOk result (λ text. IsLoadReport config.now load.now kept pace.now (string_bytes text)) }
+{
+    let covered = covered_line(alloc, is_covered(load, &kept, pace))?;
+    let mut text = kept_line(alloc, kept)?;
+    let live = live_told(alloc, load, pace)?;
+    text.push_str(live.as_str())?;
+    text.push_str(covered.as_str())?;
+    let need = need_report(alloc, config, load)?;
+    text.push_str(need.as_str())?;
+    Ok(text)
+}

@@ -1,0 +1,48 @@
+//! Lines that all that is told shares.
+ghost use Rattle.std.specs.Prelude.{◌≡◌, ◌++◌, IfOk, string_bytes, codes, decimal};
+ghost use Rattle.inspector.specs.NeededReport.{verdict, pages_line, too_many};
+
+use std::alloc::{AllocError, Global};
+
+/// The runs of which it is told whether pages suffice.
+#[derive(Clone, Copy, Debug, PartialEq, Eq)]
+pub enum Scope {
+    /// A run that was measured, and each that needs no more.
+    Demand,
+    /// A run that was measured, and each at its pace.
+    Pace,
+    /// Those that keep to a load, of which no more is live than it has.
+    Load,
+}
+
+/// Whether pages suffice, as it is told: for which runs, or that they may not.
+fn verdict(scope: Scope, suffice: bool) -> &'static str
+    ensures { result.now ≡ verdict scope suffice }
+{
+    match scope {
+        _ if !suffice => ": may not suffice\n",
+        Scope::Demand => ": suffice for this run, and for each that needs no more\n",
+        Scope::Pace => ": suffice for this run, and for each at this pace\n",
+        Scope::Load => ": suffice for the load\n",
+    }
+}
+
+/// How many pages are needed, of how many that there are.
+pub(crate) fn pages_line(
+    alloc: Global,
+    scope: Scope,
+    needed: u128,
+    pages: u32,
+) -> Result<String, AllocError>
+    ensures { IfOk result (λ line. string_bytes line ≡ pages_line scope needed pages) }
+{
+    let verdict = verdict(scope, needed <= u128::from(pages));
+    format!(in alloc; "pages {needed} of {pages}{verdict}")
+}
+
+/// What is told where no table has room for the blocks.
+pub(crate) fn too_many(alloc: Global) -> Result<String, AllocError>
+    ensures { IfOk result (λ line. string_bytes line ≡ too_many) }
+{
+    format!(in alloc; "more blocks than can be counted: no number of pages is known to suffice\n")
+}

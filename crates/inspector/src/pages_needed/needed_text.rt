@@ -1,0 +1,160 @@
+//! What is told of what a run needed.
+ghost use Rattle.std.specs.Prelude.{◌≡◌, ◌<◌, ◌≤◌, IfOk, string_bytes};
+ghost use Rattle.size_classes.specs.declared.class.TheConstants.{CLASSES};
+ghost use Rattle.size_classes.specs.declared.config.TheConstants.{MOST_PAGES};
+ghost use Rattle.inspector.specs.NeededReport.{blocks_line, blocks_lines, still_line, moved_line, gathered_line, budget_line, form_lines};
+ghost use Rattle.inspector.specs.NeededReport.{fewest_pages, keys_line, fewest_line, needed_report, needed_told};
+
+use crate::pages_needed::lines::{Scope, pages_line, too_many};
+use size_classes::{CLASSES, Class, Config, MOST_PAGES};
+use sizing::Needed;
+use space::pages_of_class;
+use std::alloc::{AllocError, Global};
+
+/// The line of a class, or nothing where no block of it is needed.
+fn class_line(alloc: Global, needed: &Needed, number: usize) -> Result<String, AllocError>
+    requires { number < CLASSES }
+    ensures { IfOk result (λ line. string_bytes line ≡ blocks_line needed.now number) }
+{
+    let blocks = needed.together[number];
+    if blocks == 0 {
+        return Ok(String::new(alloc));
+    }
+    let class = Class::new(number as u8);
+    let (size, pages) = (class.size(), pages_of_class(class, u128::from(blocks), 0));
+    format!(in alloc; "size {size} blocks {blocks} pages {pages}\n")
+}
+
+/// The lines of all classes of which blocks are needed.
+fn class_lines(alloc: Global, needed: &Needed) -> Result<String, AllocError>
+    ensures { IfOk result (λ text. string_bytes text ≡ blocks_lines needed.now CLASSES) }
+{
+    let mut text = String::new(alloc);
+    for number in 0..CLASSES {
+        let line = class_line(alloc, needed, number)?;
+        text.push_str(line.as_str())?;
+    }
+    Ok(text)
+}
+
+/// How many pages suffice where blocks are never moved.
+fn still_line(alloc: Global, pages: u128) -> Result<String, AllocError>
+    ensures { IfOk result (λ line. string_bytes line ≡ still_line pages) }
+{
+    format!(in alloc;
+        "without moving {pages}: for each run that needs no more blocks of any size\n"
+    )
+}
+
+/// How many suffice with moving as it is configured.
+fn moved_line(alloc: Global, pages: u128) -> Result<String, AllocError>
+    ensures { IfOk result (λ line. string_bytes line ≡ moved_line pages) }
+{
+    format!(in alloc; "as configured {pages}: for each run that needs no more blocks of any size\n")
+}
+
+/// How many suffice with moving after each sweep.
+fn gathered_line(alloc: Global, pages: u64) -> Result<String, AllocError>
+    ensures { IfOk result (λ line. string_bytes line ≡ gathered_line pages) }
+{
+    format!(in alloc; "moving after each sweep {pages}: for each run that needs no more pages so\n")
+}
+
+/// How many suffice with such moving, whatever the sizes of objects are.
+fn budget_line(alloc: Global, pages: u128, needed: &Needed) -> Result<String, AllocError>
+    ensures { IfOk result (λ line. string_bytes line ≡ budget_line pages needed.now) }
+{
+    let (live, made) = (needed.live, needed.made);
+    format!(in alloc;
+        "whatever the sizes {pages}: moving after each sweep, for each run of at most {live} pages live and {made} made\n"
+    )
+}
+
+/// How many pages suffice in each way.
+fn form_lines(
+    alloc: Global,
+    still: u128,
+    moved: u128,
+    budgeted: u128,
+    needed: &Needed,
+) -> Result<String, AllocError>
+    ensures { IfOk result (λ text. string_bytes text ≡ form_lines still moved budgeted needed.now) }
+{
+    let mut text = still_line(alloc, still)?;
+    let configured = moved_line(alloc, moved)?;
+    text.push_str(configured.as_str())?;
+    let gathered = gathered_line(alloc, needed.gathered)?;
+    text.push_str(gathered.as_str())?;
+    let budget = budget_line(alloc, budgeted, needed)?;
+    text.push_str(budget.as_str())?;
+    Ok(text)
+}
+
+/// The fewest pages of these ways, and at least the one that each heap has.
+fn fewest_pages(still: u128, moved: u128, moving: u128) -> u128
+    ensures { result ≡ fewest_pages still moved moving }
+{
+    still.min(moved).min(moving).max(1)
+}
+
+/// The keys of a configuration to set for so many pages.
+fn keys_line(alloc: Global, still: u128, moved: u128, pages: u128) -> Result<String, AllocError>
+    requires { pages ≤ MOST_PAGES }
+    ensures { IfOk result (λ line. string_bytes line ≡ keys_line still moved pages) }
+{
+    if still <= pages {
+        return format!(in alloc; "fewest {pages}: pages = {pages}, defrag_below = 0\n");
+    }
+    if moved <= pages {
+        return format!(in alloc; "fewest {pages}: pages = {pages}\n");
+    }
+    let below = pages + 1;
+    format!(in alloc;
+        "fewest {pages}: pages = {pages}, defrag_below = {below}, defrag_pages = {pages}\n"
+    )
+}
+
+/// The fewest pages, with the keys to set for them.
+fn fewest_line(alloc: Global, still: u128, moved: u128, pages: u128) -> Result<String, AllocError>
+    ensures { IfOk result (λ line. string_bytes line ≡ fewest_line still moved pages) }
+{
+    if pages > u128::from(MOST_PAGES) {
+        return format!(in alloc; "fewest {pages}: more than a heap may have\n");
+    }
+    keys_line(alloc, still, moved, pages)
+}
+
+/// All lines of what was needed.
+fn needed_lines(alloc: Global, config: &Config, needed: &Needed) -> Result<String, AllocError>
+    ensures { IfOk result (λ text. string_bytes text ≡ needed_report config.now needed.now) }
+{
+    let (still, moved) = (needed.still(), needed.moved(config));
+    let budgeted = needed.budgeted();
+    let moving = u128::from(needed.gathered).min(budgeted);
+    let pages = fewest_pages(still, moved, moving);
+    let mut text = class_lines(alloc, needed)?;
+    let forms = form_lines(alloc, still, moved, budgeted, needed)?;
+    text.push_str(forms.as_str())?;
+    let fewest = fewest_line(alloc, still, moved, pages)?;
+    text.push_str(fewest.as_str())?;
+    let last = pages_line(alloc, Scope::Demand, needed.pages_in(config), config.pages)?;
+    text.push_str(last.as_str())?;
+    Ok(text)
+}
+
+/// What is told of what a run needed: of each class of which blocks are needed its size in words, how many of them
+/// together, and the pages that they take; then how many pages suffice in each way, and for which runs; the fewest of
+/// these, with the keys to set for them; last how many pages the configuration must have, of how many that it has, and
+/// whether they suffice for this run and each that needs no more. Without numbers, that the blocks are too many.
+pub fn needed_report(
+    alloc: Global,
+    config: &Config,
+    needed: &Option<Needed>,
+) -> Result<String, AllocError>
+    ensures { IfOk result (λ text. string_bytes text ≡ needed_told config.now needed.now) }
+{
+    match needed {
+        Some(needed) => needed_lines(alloc, config, needed),
+        None => too_many(alloc),
+    }
+}

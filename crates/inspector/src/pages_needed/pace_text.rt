@@ -1,0 +1,103 @@
+//! What is told of a pace.
+ghost use Rattle.std.specs.Prelude.{◌≡◌, ◌<◌, Some, IfOk, string_bytes};
+ghost use Rattle.size_classes.specs.declared.class.TheConstants.{CLASSES};
+ghost use Rattle.space.specs.Fitting.{pace_in};
+ghost use Rattle.inspector.specs.NeededReport.{pace_line, pace_lines, quanta_line, from_line, least_lines, pace_report, IsPaceReport};
+
+use crate::pages_needed::from::fits_from;
+use crate::pages_needed::lines::{Scope, pages_line, too_many};
+use size_classes::{CLASSES, Class, Config};
+use space::{Pace, least_pages, pace_needs};
+use std::alloc::{AllocError, Global};
+
+/// The line of a class, or nothing where no block of it is needed.
+fn class_line(alloc: Global, pace: &Pace, number: usize) -> Result<String, AllocError>
+    requires { number < CLASSES }
+    ensures { IfOk result (λ line. string_bytes line ≡ pace_line (pace_in pace.now) number) }
+{
+    let (live, busy, idle) = (pace.live[number], pace.busy[number], pace.idle[number]);
+    if live == 0 && busy == 0 && idle == 0 {
+        return Ok(String::new(alloc));
+    }
+    let size = Class::new(number as u8).size();
+    format!(in alloc; "size {size} live {live} busy {busy} idle {idle}\n")
+}
+
+/// The lines of all classes of which blocks are needed.
+fn class_lines(alloc: Global, pace: &Pace) -> Result<String, AllocError>
+    ensures { IfOk result (λ text. string_bytes text ≡ pace_lines (pace_in pace.now) CLASSES) }
+{
+    let mut text = String::new(alloc);
+    for number in 0..CLASSES {
+        let line = class_line(alloc, pace, number)?;
+        text.push_str(line.as_str())?;
+    }
+    Ok(text)
+}
+
+/// With how many quanta of a cycle the pages are reckoned, each of the schedule's units.
+fn quanta_line(alloc: Global, quanta: u64, units: u32) -> Result<String, AllocError>
+    ensures { IfOk result (λ line. string_bytes line ≡ quanta_line quanta units) }
+{
+    format!(in alloc; "quanta {quanta} units {units}\n")
+}
+
+/// From how many pages on each number suffices, or that the most may not.
+fn from_line(alloc: Global, from: Option<u32>) -> Result<String, AllocError>
+    ensures { IfOk result (λ line. string_bytes line ≡ from_line from) }
+{
+    match from {
+        Some(from) => format!(in alloc; "all from {from} to 4096 suffice\n"),
+        None => format!(in alloc; "4096 may not suffice\n"),
+    }
+}
+
+/// The least number of pages that suffices, and from how many on each does; or that none is known.
+fn least_lines(alloc: Global, least: Option<u32>, from: Option<u32>) -> Result<String, AllocError>
+    ensures { IfOk result (λ text. string_bytes text ≡ least_lines least from) }
+{
+    let Some(least) = least else {
+        return format!(in alloc; "no number of pages up to 4096 is known to suffice\n");
+    };
+    let from = from_line(alloc, from)?;
+    format!(in alloc; "least pages {least}\n{from}")
+}
+
+/// All lines of a pace.
+fn lines_with(
+    alloc: Global,
+    config: &Config,
+    pace: &Pace,
+    scope: Scope,
+) -> Result<String, AllocError>
+    ensures { IfOk result (λ text. IsPaceReport scope config.now (Some pace.now) (string_bytes text)) }
+{
+    let needs = pace_needs(config, pace, config.pages);
+    let mut text = class_lines(alloc, pace)?;
+    let cycle = quanta_line(alloc, needs.quanta, config.budget())?;
+    text.push_str(cycle.as_str())?;
+    let pages = pages_line(alloc, scope, needs.pages, config.pages)?;
+    text.push_str(pages.as_str())?;
+    let last = least_lines(alloc, least_pages(config, pace), fits_from(config, pace))?;
+    text.push_str(last.as_str())?;
+    Ok(text)
+}
+
+/// What is told of a pace in a heap of a configuration, with quanta of its schedule's units: of each class of which
+/// blocks are needed its size in words, the blocks of live objects, of what is asked for while a cycle is on up to
+/// the next quantum, and between two cycles; with how many quanta of a cycle the pages are reckoned; how many pages
+/// are needed, of how many that there are, and for which runs they suffice; the least number of pages that does, and
+/// from how many on each does. Without a pace, that the blocks are too many.
+pub fn pace_report(
+    alloc: Global,
+    config: &Config,
+    pace: &Option<Pace>,
+    scope: Scope,
+) -> Result<String, AllocError>
+    ensures { IfOk result (λ text. IsPaceReport scope config.now pace.now (string_bytes text)) }
+{
+    match pace {
+        Some(pace) => lines_with(alloc, config, pace, scope),
+        None => too_many(alloc),
+    }
+}

@@ -1,9 +1,0 @@
-use Rattle.std.proofs.Common.{take}
-use Rattle.space.specs.Demand.{blocks_by}
-use Rattle.measure.specs.Counts.{AreBlocks}
-use Rattle.measure.specs.Meter.{AllFit}
-use Rattle.measure.proofs.meter.Meter.reached.Given as goal
-
--- what the objects so far need
-abbrev pub invariant-loop-id : goal.invariant-loop-id
-invariant-loop-id l = record { sum : AllFit l.self.graph → AreBlocks l.blocks (blocks_by l.self.graph (take l.id-index l.id-items)) }

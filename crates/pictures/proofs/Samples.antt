@@ -1,0 +1,46 @@
+-- What is drawn of samples, one after the other.
+use Rattle.std.proofs.Common.{◌≡◌, ℕ, zero, suc, ◌+◌, ◌-◌, ◌*◌, ◌<◌, List, [], ◌∷◌, ◌++◌, Option, length, drop, get_or, slice_get, ap, ◌∙◌, sym, refl}
+use Rattle.std.proofs.lemmas.List.{drop_more}
+use Rattle.pictures.specs.declared.axis.Axis.{Axis}
+use Rattle.pictures.specs.declared.colour.Colour.{Colour}
+use Rattle.pictures.specs.declared.colour.Colour.TheVariants.{Blue}
+use Rattle.pictures.specs.declared.element.Element.{Element}
+use Rattle.pictures.specs.declared.element.Element.TheVariants.{Rectangle, Veil}
+use Rattle.pictures.specs.declared.over_time.Scale.{Scale}
+use Rattle.pictures.specs.declared.sample.Sample.{Sample}
+use Rattle.pictures.specs.Axes.{step_of, line_x, height_of, axis_number, numbers_from}
+use Rattle.pictures.specs.OverTime.{phase_colour, objects_dash, next_x, sample_marks, samples_from}
+
+-- what is drawn of a sample, in parts
+abbrev pub drawn : Scale → (x width high : ℕ) → Colour → Option ℕ → List Element
+drawn scale x width high colour objects = Veil x (250 - high) width high Blue ∷ Rectangle x 454 width 14 colour ∷ objects_dash x width scale.objects objects
+
+pub marks_are : (scale : Scale) (s : Sample) (end x width high : ℕ) (colour : Colour) (objects : Option ℕ) → x ≡ line_x s.line scale.lines → width ≡ end - line_x s.line scale.lines → high ≡ height_of s.pages_in_use scale.pages
+    → colour ≡ phase_colour s.phase → s.objects ≡ objects → drawn scale x width high colour objects ≡ sample_marks scale s end
+marks_are scale s end x width high colour objects at wide tall is has =
+    rw (at, wide, tall, is) (ap (drawn scale (line_x s.line scale.lines) (end - line_x s.line scale.lines) (height_of s.pages_in_use scale.pages) (phase_colour s.phase)) (sym has))
+
+-- the first item behind some
+get_drop : {A : Type 0} (k : ℕ) (xs : List A) → slice_get (drop k xs) 0 ≡ slice_get xs k
+get_drop zero xs = refl
+get_drop (suc k) [] = refl
+get_drop (suc k) (x ∷ xs) = get_drop k xs
+
+-- the next sample, and those behind it
+pub samples_on : (scale : Scale) (samples : List Sample) (next : Option Sample) (d : Sample) (k : ℕ) → k < length samples → next ≡ slice_get samples (k + 1)
+    → samples_from scale (drop k samples) ≡ sample_marks scale (get_or samples k d) (next_x scale.lines next) ++ samples_from scale (drop (k + 1) samples)
+samples_on scale samples next d k l is =
+    ap (samples_from scale) (drop_more samples k d l)
+    ∙ ap (λ o. sample_marks scale (get_or samples k d) (next_x scale.lines o) ++ samples_from scale (drop (k + 1) samples)) (get_drop (k + 1) samples ∙ sym is)
+
+-- the next number of an axis, and those behind it
+pub numbers_on : (axis : Axis) (greatest count left k : ℕ) → count ≡ suc left
+    → numbers_from axis greatest k count ≡ axis_number axis greatest (k * step_of greatest) ++ numbers_from axis greatest (k + 1) left
+numbers_on axis greatest count left k e = ap (numbers_from axis greatest k) e
+
+-- the same, by the step and by what the number draws
+pub numbers_by : (axis : Axis) (greatest left k step : ℕ) (here : List Element) → left ≡ suc (left - 1) → step ≡ step_of greatest → here ≡ axis_number axis greatest (k * step)
+    → numbers_from axis greatest k left ≡ here ++ numbers_from axis greatest (k + 1) (left - 1)
+numbers_by axis greatest left k step here some is draws =
+    numbers_on axis greatest left (left - 1) k some
+    ∙ ap (λ xs. xs ++ numbers_from axis greatest (k + 1) (left - 1)) (sym (draws ∙ ap (λ s. axis_number axis greatest (k * s)) is))

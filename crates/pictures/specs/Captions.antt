@@ -1,0 +1,74 @@
+-- The words of pictures, as text.
+use Rattle.std.specs.Prelude.{ℕ, List, [], ◌++◌, codes, decimal, if◌then◌else◌, Option, None, Some}
+use Rattle.size_classes.specs.Sizes.{size_of, blocks_in}
+use Rattle.heap_model.specs.declared.phase.Phase.{Phase}
+use Rattle.heap_model.specs.declared.phase.Phase.TheVariants as phases
+use Rattle.pages.specs.declared.view.PageView.{PageView}
+use Rattle.pictures.specs.declared.caption.Words.{Words}
+use Rattle.pictures.specs.declared.caption.Words.TheVariants as words
+use Rattle.pictures.specs.declared.caption.Caption.{Caption}
+use Rattle.pictures.specs.declared.caption.Caption.TheVariants as captions
+
+-- the words of a picture
+abbrev pub words_text : Words → List ℕ
+words_text words.PagesOfTheHeap = codes "Pages of the heap"
+words_text words.PageInUse = codes "page in use"
+words_text words.LeavingPage = codes "leaving page"
+words_text words.ReceivingPage = codes "receiving page"
+words_text words.FreePage = codes "free page"
+words_text words.HeldBlocks = codes "held blocks"
+words_text words.FreeBlocks = codes "free blocks"
+words_text words.NumberOfWords = codes "number: words of a block"
+words_text words.LeastUtilisation = codes "Least share of the mutators"
+words_text words.Measured = codes "least measured"
+words_text words.Promised = codes "promised"
+words_text words.WindowTicks = codes "length of the window in ticks"
+words_text words.MutatorsShare = codes "share of the window"
+words_text words.HeapOverTime = codes "The heap over a run"
+words_text words.PagesInUse = codes "pages in use"
+words_text words.Objects = codes "objects"
+words_text words.LinesOfTrace = codes "lines of the trace"
+words_text words.PhaseName = codes "phase"
+words_text words.Idle = codes "idle"
+words_text words.Roots = codes "roots"
+words_text words.Marking = codes "marking"
+words_text words.Sweeping = codes "sweeping"
+words_text words.Moving = codes "moving"
+
+-- of five values, that of a phase
+abbrev pub by_phase : {A : Type 0} → A → A → A → A → A → Phase → A
+by_phase idle roots marking sweeping moving phases.Idle = idle
+by_phase idle roots marking sweeping moving (phases.Roots next) = roots
+by_phase idle roots marking sweeping moving (phases.Marking part cell) = marking
+by_phase idle roots marking sweeping moving (phases.Sweeping page block) = sweeping
+by_phase idle roots marking sweeping moving (phases.Moving m) = moving
+
+-- the name of a phase
+abbrev pub phase_words : Phase → Words
+phase_words phase = by_phase words.Idle words.Roots words.Marking words.Sweeping words.Moving phase
+
+-- the marks of a page in use
+abbrev pub marks_text : PageView → List ℕ
+marks_text v = (if v.leaving then codes " leaving" else []) ++ (if v.receiving then codes " receiving" else [])
+
+-- the words of a block of a page in use, how many of its blocks are held, of how many, and its marks
+abbrev pub used_text : PageView → List ℕ
+used_text v =
+    codes " size " ++ decimal (size_of v.class) ++ codes " held " ++ decimal v.held
+    ++ codes " of " ++ decimal (blocks_in v.class) ++ marks_text v
+
+-- a page by its number: free, or in use
+abbrev pub page_text : ℕ → Option PageView → List ℕ
+page_text number None = codes "page " ++ decimal number ++ codes " free"
+page_text number (Some v) = codes "page " ++ decimal number ++ used_text v
+
+-- a caption as text
+abbrev pub caption_text : Caption → List ℕ
+caption_text (captions.Words w) = words_text w
+caption_text (captions.Number n) = decimal n
+caption_text (captions.Percent n) = decimal n ++ codes " %"
+caption_text (captions.OldCopies n) = codes "old copies " ++ decimal n
+caption_text (captions.Page number page) = page_text number page
+caption_text (captions.Heap phase units pages free) =
+    codes "phase " ++ words_text phase ++ codes ", units " ++ decimal units ++ codes ", pages " ++ decimal pages
+    ++ codes ", free " ++ decimal free

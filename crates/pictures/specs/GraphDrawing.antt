@@ -1,0 +1,60 @@
+-- What is drawn of a graph heap: the objects nearest to its roots, and the references between them.
+use Rattle.std.specs.Prelude.{ℕ, ◌+◌, ◌-◌, ◌*◌, ◌/◌, ◌%◌, ◌==◌, nat_eq, nat_lt, if◌then◌else◌, List, [], ◌∷◌, ◌++◌, length, map, take, flat_map}
+use Rattle.std.specs.Set.{is_member}
+use Rattle.graph_heap.specs.declared.command.Limits.{Limits}
+use Rattle.graph_heap.specs.Graph.{Graph, object_of}
+use Rattle.reachability.specs.declared.found.Found.{Found}
+use Rattle.pictures.specs.declared.graph.statement.Root.{Root}
+use Rattle.pictures.specs.declared.graph.statement.Root.TheVariants.{Slot, Static}
+use Rattle.pictures.specs.declared.graph.statement.Statement.{Statement}
+use Rattle.pictures.specs.declared.graph.statement.Statement.TheVariants.{Open, Box, Holds, Object, Cell, LeftOut, Close}
+use Rattle.pictures.specs.Statements.{dot_text}
+
+-- the identities of the first objects of those that were found, at most so many
+abbrev pub shown_of : ℕ → List Found → List ℕ
+shown_of most found = map (λ f. f.id) (take most found)
+
+-- what is drawn of each cell of a row by its place, from one on
+abbrev pub each_from : (ℕ → ℕ → List Statement) → ℕ → List ℕ → List Statement
+each_from drawn place [] = []
+each_from drawn place (id ∷ ids) = drawn place id ++ each_from drawn (place + 1) ids
+
+-- the root at a place of the row of roots: the slots of each mutator, and then the statics
+abbrev pub root_at : Limits → ℕ → Root
+root_at l place =
+    if nat_lt place (l.mutators * l.slots) then Slot (place / l.slots) (place % l.slots)
+    else Static (place - l.mutators * l.slots)
+
+-- a root that holds a shown object: its box, and what it holds
+abbrev pub root_drawn : Limits → List ℕ → ℕ → ℕ → List Statement
+root_drawn l shown place id =
+    if is_member nat_eq shown id then Box (root_at l place) ∷ Holds (root_at l place) id ∷ [] else []
+
+-- a reference cell of an object, where it holds a shown object
+abbrev pub cell_drawn : List ℕ → ℕ → ℕ → ℕ → List Statement
+cell_drawn shown from cell id = if is_member nat_eq shown id then Cell from cell id ∷ [] else []
+
+-- an object, and its reference cells
+abbrev pub object_drawn : Graph → List ℕ → ℕ → List Statement
+object_drawn g shown id =
+    Object id (object_of g.objects id).shape ∷ each_from (cell_drawn shown id) 0 (object_of g.objects id).refs
+
+-- objects of those that were found
+abbrev pub objects_drawn : Graph → List ℕ → List Found → List Statement
+objects_drawn g shown objects = flat_map (λ f. object_drawn g shown f.id) objects
+
+-- how many objects aren't drawn, if there are any
+abbrev pub left_out : ℕ → List Statement
+left_out n = if n == 0 then [] else LeftOut n ∷ []
+
+-- of a graph heap at most so many of the objects that were found
+abbrev pub graph_drawn : Graph → ℕ → List Found → List Statement
+graph_drawn g most found =
+    let shown = shown_of most found in
+    (Open ∷ [])
+    ++ (each_from (root_drawn g.limits shown) 0 g.roots
+    ++ (objects_drawn g shown (take most found) ++ (left_out (length found - most) ++ Close ∷ [])))
+
+-- the text of the document
+abbrev pub graph_picture : Graph → ℕ → List Found → List ℕ
+graph_picture g most found = dot_text (graph_drawn g most found)

@@ -1,0 +1,14 @@
+pub mod Axes
+pub mod Captions
+pub mod Elements
+pub mod Frame
+pub mod PageMap
+pub mod Utilisation
+pub mod OverTime
+pub mod Squares
+pub mod Samples
+pub mod Sampler
+pub mod Taking
+pub mod GraphDrawing
+pub mod GraphDrawn
+pub mod Statements

@@ -1,0 +1,87 @@
+-- The picture of a heap over a run, from samples of it.
+use Rattle.std.specs.Prelude.{ℕ, ◌-◌, min, Bool, if◌then◌else◌, List, [], ◌∷◌, ◌++◌, length, take, slice_get, Option, Some, None}
+use Rattle.heap_model.specs.declared.phase.Phase.{Phase}
+use Rattle.heap_model.specs.Pages.{free_pages}
+use Rattle.heap_model.specs.State.{HeapState}
+use Rattle.nodes.specs.Copies.{copies_in}
+use Rattle.pictures.specs.declared.axis.Axis.TheVariants.{Lines, Pages, Objects as Objects_axis}
+use Rattle.pictures.specs.declared.colour.Colour.{Colour}
+use Rattle.pictures.specs.declared.colour.Colour.TheVariants.{Pale, Sky, Blue, Green, Yellow, Orange, Purple}
+use Rattle.pictures.specs.declared.caption.Words.TheVariants.{HeapOverTime, PagesInUse, Objects, LinesOfTrace, PhaseName, Idle, Roots, Marking, Sweeping, Moving}
+use Rattle.pictures.specs.declared.caption.Caption.TheVariants.{Words}
+use Rattle.pictures.specs.declared.element.Anchor.TheVariants.{Start, Middle, End}
+use Rattle.pictures.specs.declared.element.Element.{Element}
+use Rattle.pictures.specs.declared.element.Element.TheVariants.{Rectangle, Veil, Text, Close}
+use Rattle.pictures.specs.declared.sample.Sample.{Sample}
+use Rattle.pictures.specs.declared.over_time.Scale.{Scale}
+use Rattle.pictures.specs.declared.over_time.TheConstants.{MOST_SAMPLES}
+use Rattle.pictures.specs.Axes.{line_x, height_of, axis_numbers}
+use Rattle.pictures.specs.Captions.{by_phase}
+use Rattle.pictures.specs.Elements.{svg_text}
+use Rattle.pictures.specs.Frame.{frame, swatch, meaning}
+
+-- what a heap is like after a line: its phase, its pages in use and, where they are counted, its objects
+abbrev pub sample_of : HeapState → ℕ → Bool → Sample
+sample_of h line counted = record {
+  line = line;
+  phase = h.phase;
+  pages_in_use = length h.store.pages - free_pages h.store.pages;
+  objects = if counted then Some (copies_in h.store).objects else None;
+}
+
+-- the colour of a phase
+abbrev pub phase_colour : Phase → Colour
+phase_colour phase = by_phase Pale Yellow Orange Green Purple phase
+
+-- the objects that were counted, as a dash of this width
+abbrev pub objects_dash : ℕ → ℕ → ℕ → Option ℕ → List Element
+objects_dash x width greatest None = []
+objects_dash x width greatest (Some n) = Rectangle x (439 - height_of n greatest) width 3 Blue ∷ []
+
+-- what is drawn of a sample from its line to an end: its pages in use as a bar, its phase as a band, and its objects
+abbrev pub sample_marks : Scale → Sample → ℕ → List Element
+sample_marks scale s end =
+    let x = line_x s.line scale.lines in
+    let width = end - x in
+    Veil x (250 - height_of s.pages_in_use scale.pages) width (height_of s.pages_in_use scale.pages) Blue
+    ∷ Rectangle x 454 width 14 (phase_colour s.phase)
+    ∷ objects_dash x width scale.objects s.objects
+
+-- where the next sample begins, or, behind the last one, the picture ends
+abbrev pub next_x : ℕ → Option Sample → ℕ
+next_x lines None = 1160
+next_x lines (Some s) = line_x s.line lines
+
+-- samples one beside the other
+abbrev pub samples_from : Scale → List Sample → List Element
+samples_from scale [] = []
+samples_from scale (s ∷ later) =
+    sample_marks scale s (next_x scale.lines (slice_get later 0)) ++ samples_from scale later
+
+-- the numbers of the axes, and the samples
+abbrev pub time_shown : Scale → List Sample → List Element
+time_shown scale samples =
+    axis_numbers Lines scale.lines
+    ++ (axis_numbers Pages scale.pages ++ (axis_numbers Objects_axis scale.objects ++ samples_from scale samples))
+
+-- what stands around the picture of a heap over time
+abbrev pub time_frame : List Element
+time_frame = frame 1200 528 HeapOverTime
+
+-- what the colours mean, and the names of the axes
+abbrev pub time_axes : List Element
+time_axes =
+    swatch 0 Sky ∷ meaning 0 PagesInUse ∷ swatch 1 Blue ∷ meaning 1 Objects ∷ swatch 2 Pale ∷ meaning 2 Idle
+    ∷ swatch 3 Yellow ∷ meaning 3 Roots ∷ swatch 4 Orange ∷ meaning 4 Marking ∷ swatch 5 Green ∷ meaning 5 Sweeping
+    ∷ swatch 6 Purple ∷ meaning 6 Moving
+    ∷ Text 20 86 11 Start (Words PagesInUse) ∷ Text 20 276 11 Start (Words Objects)
+    ∷ Text 72 465 11 End (Words PhaseName) ∷ Text 620 514 11 Middle (Words LinesOfTrace)
+    ∷ []
+
+-- the elements of the picture of a heap over time
+abbrev pub time_chart : Scale → List Sample → List Element
+time_chart scale samples = time_frame ++ (time_axes ++ (time_shown scale samples ++ Close ∷ []))
+
+-- the text of the picture, which has the first samples alone
+abbrev pub time_picture : Scale → List Sample → List ℕ
+time_picture scale samples = svg_text (time_chart scale (take (min (length samples) MOST_SAMPLES) samples))

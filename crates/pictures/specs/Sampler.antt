@@ -1,0 +1,21 @@
+-- What a sampler holds along a run.
+use Rattle.std.specs.Prelude.{◌≡◌, ℕ, ◌+◌, ◌*◌, ◌^◌, ◌<◌, ◌≤◌, List, length}
+use Rattle.pictures.specs.declared.sample.Sample.{Sample}
+use Rattle.pictures.specs.declared.over_time.TheConstants.{MOST_SAMPLES}
+use Rattle.pictures.specs.declared.timeline.sampler.Sampler.{Sampler}
+use Rattle.pictures.specs.Samples.{Moment, AreSamples}
+
+-- These are the samples of moments, of which so many came since the last that was sampled. No less power of two is the
+-- stride of so many moments.
+pub record AreTaken (moments : List Moment) (samples : List Sample) (stride since : ℕ) : Type 0 where
+  pub each : AreSamples moments stride samples
+  pub few : length samples ≤ MOST_SAMPLES
+  pub exponent : ℕ
+  pub power : stride ≡ 2 ^ exponent
+  pub least : (k : ℕ) → k < exponent → MOST_SAMPLES * 2 ^ k < length moments
+  pub short : since < stride
+  pub count : length moments + stride ≡ length samples * stride + since + 1
+
+-- a sampler along these moments
+abbrev pub IsAlong : List Moment → Sampler → Type 0
+IsAlong moments s = AreTaken moments s.samples.items.items s.samples.stride s.since

@@ -1,0 +1,56 @@
+-- Samples of a heap along a run.
+use Rattle.std.specs.Prelude.{◌≡◌, ℕ, ◌+◌, ◌*◌, ◌^◌, ◌<◌, ◌≤◌, max, Bool, true, false, if◌then◌else◌, List, [], ◌∷◌, ◌++◌, length, slice_get, option_map, unwrap_or}
+use Rattle.std.specs.List.{fold}
+use Rattle.heap_model.specs.declared.phase.Phase.{Phase}
+use Rattle.heap_model.specs.declared.phase.Phase.TheVariants as phases
+use Rattle.heap_model.specs.Event.{Event}
+use Rattle.heap_model.specs.State.{HeapState}
+use Rattle.trace.specs.declared.version.Version.{Version}
+use Rattle.trace.specs.GoneOver.{LinesDone, No_lines, One_line_more}
+use Rattle.player.specs.declared.style.Style.TheVariants.{Nothing}
+use Rattle.player.specs.Playing.{Stage, TellsVersionOf, PlaysText, is_event}
+use Rattle.pictures.specs.declared.sample.Sample.{Sample}
+use Rattle.pictures.specs.declared.over_time.TheConstants.{MOST_SAMPLES}
+use Rattle.pictures.specs.OverTime.{sample_of}
+
+-- no cycle is on
+abbrev pub is_idle : Phase → Bool
+is_idle phases.Idle = true
+is_idle phase = false
+
+-- a heap after so many lines
+pub record Moment : Type 0 where
+  pub line : ℕ
+  pub heap : HeapState
+
+-- a heap after so many lines, by both
+abbrev pub moment : ℕ → HeapState → Moment
+moment line heap = record { line = line; heap = heap }
+
+-- a sample of a moment: the objects are counted where no cycle is on
+abbrev pub sampled : Moment → Sample
+sampled m = sample_of m.heap m.line (is_idle m.heap.phase)
+
+-- The moments of lines that were played: the one before them, and the one after each line of an event.
+abbrev pub moments_along : (old : Stage) (lines : List (List ℕ)) (version : Version) (events : List Event) (new : Stage)
+    → LinesDone (TellsVersionOf Nothing) (PlaysText Nothing) old lines version events new → List Moment
+moments_along old lines version events new No_lines = moment 0 old.player.course.heap ∷ []
+moments_along old lines version events new (One_line_more before v next es more line mid after done goes) =
+    moments_along old before v es mid done
+    ++ (if is_event line then moment (length before + 1) after.player.course.heap ∷ [] else [])
+
+-- sample i is of the moment at place i * stride, as far as there are moments
+abbrev pub AreSamples : List Moment → ℕ → List Sample → Type 0
+AreSamples moments stride samples =
+    (i : ℕ) → slice_get samples i ≡ option_map sampled (slice_get moments (i * stride))
+
+-- the most objects of any sample of which they were counted
+abbrev pub greatest_objects : List Sample → ℕ
+greatest_objects samples = fold (λ most s. max most (unwrap_or s.objects 0)) 0 samples
+
+-- The least power of two with which there are at most MOST_SAMPLES samples of so many moments.
+pub record IsStride (moments stride : ℕ) : Type 0 where
+  pub exponent : ℕ
+  pub power : stride ≡ 2 ^ exponent
+  pub enough : moments ≤ MOST_SAMPLES * stride
+  pub least : (k : ℕ) → k < exponent → MOST_SAMPLES * 2 ^ k < moments

@@ -1,0 +1,157 @@
+//! The words that stand in pictures.
+ghost use Rattle.std.specs.Prelude.{◌≡◌, ◌≤◌, ◌+◌, ◌++◌, length, take};
+ghost use Rattle.pictures.specs.Captions.{words_text, marks_text, page_text, caption_text};
+
+use pages::PageView;
+use trace::{put, put_named};
+
+/// Fixed words.
+#[derive(Clone, Copy, Debug, PartialEq, Eq)]
+pub enum Words {
+    PagesOfTheHeap,
+    PageInUse,
+    LeavingPage,
+    ReceivingPage,
+    FreePage,
+    HeldBlocks,
+    FreeBlocks,
+    NumberOfWords,
+    LeastUtilisation,
+    Measured,
+    Promised,
+    WindowTicks,
+    MutatorsShare,
+    HeapOverTime,
+    PagesInUse,
+    Objects,
+    LinesOfTrace,
+    PhaseName,
+    Idle,
+    Roots,
+    Marking,
+    Sweeping,
+    Moving,
+}
+
+impl Words {
+    /// The words as they are written.
+    pub(crate) fn text(self) -> &'static [u8]
+        ensures text { result.now ≡ words_text self }
+        ensures short { length result.now ≤ 40 }
+    {
+        match self {
+            Words::PagesOfTheHeap => b"Pages of the heap",
+            Words::PageInUse => b"page in use",
+            Words::LeavingPage => b"leaving page",
+            Words::ReceivingPage => b"receiving page",
+            Words::FreePage => b"free page",
+            Words::HeldBlocks => b"held blocks",
+            Words::FreeBlocks => b"free blocks",
+            Words::NumberOfWords => b"number: words of a block",
+            Words::LeastUtilisation => b"Least share of the mutators",
+            Words::Measured => b"least measured",
+            Words::Promised => b"promised",
+            Words::WindowTicks => b"length of the window in ticks",
+            Words::MutatorsShare => b"share of the window",
+            Words::HeapOverTime => b"The heap over a run",
+            Words::PagesInUse => b"pages in use",
+            Words::Objects => b"objects",
+            Words::LinesOfTrace => b"lines of the trace",
+            Words::PhaseName => b"phase",
+            Words::Idle => b"idle",
+            Words::Roots => b"roots",
+            Words::Marking => b"marking",
+            Words::Sweeping => b"sweeping",
+            Words::Moving => b"moving",
+        }
+    }
+}
+
+/// Words and numbers that stand at a place of a picture.
+#[derive(Clone, Copy, Debug, PartialEq, Eq)]
+pub enum Caption {
+    /// Words alone.
+    Words(Words),
+    /// A number.
+    Number(u64),
+    /// A share in per cent.
+    Percent(u64),
+    /// How many old copies there are.
+    OldCopies(u64),
+    /// A page, by its number, and what is told of it, if it is in use.
+    Page(u32, Option<PageView>),
+    /// The state of a heap: its phase, the units of work in the cycle that is on, or else in the last
+    /// one, how many pages there are, and how many are free.
+    Heap {
+        phase: Words,
+        units: u64,
+        pages: u64,
+        free: u64,
+    },
+}
+
+/// Puts the marks of a page, and answers the place after them.
+fn put_marks(out: &mut [u8], at: usize, page: PageView) -> usize
+    requires { at + 18 ≤ length out.old }
+    ensures text { take result out.new ≡ take at out.old ++ marks_text page }
+    ensures place { result ≤ at + 18 }
+{
+    let end = if page.leaving {
+        put(out, at, b" leaving")
+    } else {
+        at
+    };
+    if page.receiving {
+        put(out, end, b" receiving")
+    } else {
+        end
+    }
+}
+
+/// Puts what is told of a page, and answers the place after it.
+fn put_page(out: &mut [u8], at: usize, number: u32, page: Option<PageView>) -> usize
+    requires { at + 130 ≤ length out.old }
+    ensures text { take result out.new ≡ take at out.old ++ page_text number page }
+    ensures place { result ≤ at + 130 }
+{
+    let end = put_named(out, at, b"page ", u64::from(number));
+    match page {
+        None => put(out, end, b" free"),
+        Some(page) => {
+            let end = put_named(out, end, b" size ", u64::from(page.class.size()));
+            let end = put_named(out, end, b" held ", page.held as u64);
+            let end = put_named(out, end, b" of ", u64::from(page.class.blocks_per_page()));
+            put_marks(out, end, page)
+        }
+    }
+}
+
+/// Puts a caption at a place of an array, and answers the place after it.
+pub(crate) fn put_caption(out: &mut [u8], at: usize, caption: Caption) -> usize
+    requires { at + 130 ≤ length out.old }
+    ensures text { take result out.new ≡ take at out.old ++ caption_text caption }
+    ensures place { result ≤ at + 130 }
+{
+    match caption {
+        Caption::Words(words) => put(out, at, words.text()),
+        Caption::Number(n) => put_named(out, at, b"", n),
+        Caption::Percent(n) => {
+            let end = put_named(out, at, b"", n);
+            put(out, end, b" %")
+        }
+        Caption::OldCopies(n) => put_named(out, at, b"old copies ", n),
+        Caption::Page(number, page) => put_page(out, at, number, page),
+        Caption::Heap {
+            phase,
+            units,
+            pages,
+            free,
+        } => {
+            let end = put(out, at, b"phase ");
+            let end = put(out, end, phase.text());
+            let end = put_named(out, end, b", units ", units);
+            let end = put_named(out, end, b", pages ", pages);
+            put_named(out, end, b", free ", free)
+        }
+    }
+}

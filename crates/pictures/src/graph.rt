@@ -1,0 +1,8 @@
+//! A graph heap as a DOT document: the objects nearest to its roots, and the references between them.
+mod drawing;
+mod fault;
+mod statement;
+mod writing;
+
+pub use drawing::draw_graph;
+pub use fault::DrawFault;

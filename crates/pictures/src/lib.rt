@@ -1,0 +1,26 @@
+//! Pictures of a heap, as SVG documents in text.
+#![tactic(auto)]
+
+mod axis;
+mod caption;
+mod colour;
+mod element;
+mod frame;
+pub mod graph;
+pub mod laws;
+mod look;
+mod measuring;
+mod over_time;
+mod page_map;
+mod sample;
+mod share;
+mod squares;
+pub mod timeline;
+mod utilisation;
+mod writing;
+
+pub use over_time::{MOST_SAMPLES, Scale, draw_time};
+pub use page_map::draw_pages;
+pub use sample::Sample;
+pub use share::{Share, WINDOWS};
+pub use utilisation::draw_utilisation;

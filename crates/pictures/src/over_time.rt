@@ -1,0 +1,172 @@
+//! The picture of a heap over a run.
+ghost use Rattle.std.specs.Prelude.{◌≡◌, ◌<◌, ◌≤◌, ◌+◌, ◌++◌, length, slice_get, OnOk, OnErr};
+ghost use Rattle.trace.specs.Streams.{GrowsByPart, failed};
+ghost use Rattle.pictures.specs.Elements.{svg_text};
+ghost use Rattle.pictures.specs.OverTime.{next_x, sample_marks, samples_from, time_axes, time_shown, time_chart, time_picture};
+
+use crate::axis::{Axis, height, write_axis, x_of};
+use crate::caption::{Caption, Words};
+use crate::colour::Colour;
+use crate::element::{Anchor, Element};
+use crate::frame::{meaning, swatch, write_head};
+use crate::look::look_of;
+use crate::sample::Sample;
+use crate::writing::{write_close, write_elements};
+use trace::{Sink, WriteFailed};
+
+/// How many samples a picture has at most.
+pub const MOST_SAMPLES: usize = 1000;
+
+/// What the width and the height of a picture stand for: its last line, the most pages, and the most objects.
+#[derive(Clone, Copy, Debug, PartialEq, Eq)]
+pub struct Scale {
+    pub lines: u64,
+    pub pages: u64,
+    pub objects: u64,
+}
+
+/// The sample at a place, if there is one.
+fn item_at(samples: &[Sample], place: usize) -> Option<Sample>
+    ensures { result ≡ slice_get samples.now place }
+{
+    if place < samples.len() {
+        Some(samples[place])
+    } else {
+        None
+    }
+}
+
+/// Where the next sample begins, or, behind the last one, the picture ends.
+fn end_of(scale: &Scale, next: Option<Sample>) -> u32
+    ensures x { result ≡ next_x scale.now.lines next }
+    ensures within { result ≤ 1160 }
+{
+    match next {
+        None => 1160,
+        Some(sample) => x_of(sample.line, scale.lines),
+    }
+}
+
+/// Writes what is drawn of a sample, before the next one.
+fn write_sample<K: Sink>(
+    scale: &Scale,
+    sample: &Sample,
+    next: Option<Sample>,
+    sink: &mut K,
+) -> Result<(), WriteFailed>
+    ensures ok { OnOk result (K.taken sink.new
+        ≡ K.taken sink.old ++ svg_text (sample_marks scale.now sample.now (next_x scale.now.lines next))) }
+    ensures err { OnErr result (GrowsByPart (K.taken sink.old) (K.taken sink.new)
+        (svg_text (sample_marks scale.now sample.now (next_x scale.now.lines next)))) }
+    ensures cause { K.failures sink.new ≡ K.failures sink.old + failed result }
+{
+    let x = x_of(sample.line, scale.lines);
+    let width = end_of(scale, next).saturating_sub(x);
+    let high = height(sample.pages_in_use, scale.pages);
+    let pages = Element::Veil(x, 250 - high, width, high, Colour::Blue);
+    let (_, colour) = look_of(sample.phase);
+    let phase = Element::Rectangle(x, 454, width, 14, colour);
+    match sample.objects {
+        None => write_elements(sink, &[pages, phase]),
+        Some(n) => {
+            let y = 439 - height(n, scale.objects);
+            let objects = Element::Rectangle(x, y, width, 3, Colour::Blue);
+            write_elements(sink, &[pages, phase, objects])
+        }
+    }
+}
+
+/// Writes what is drawn of samples, one beside the other.
+fn write_samples<K: Sink>(
+    scale: &Scale,
+    samples: &[Sample],
+    sink: &mut K,
+) -> Result<(), WriteFailed>
+    ensures ok { OnOk result (K.taken sink.new ≡ K.taken sink.old ++ svg_text (samples_from scale.now samples.now)) }
+    ensures err { OnErr result (GrowsByPart (K.taken sink.old) (K.taken sink.new)
+        (svg_text (samples_from scale.now samples.now))) }
+    ensures cause { K.failures sink.new ≡ K.failures sink.old + failed result }
+{
+    for (place, sample) in samples.iter().enumerate() {
+        write_sample(scale, sample, item_at(samples, place + 1), sink)?;
+    }
+    Ok(())
+}
+
+/// Writes the numbers of the axes, and what is drawn of samples.
+fn write_shown<K: Sink>(scale: &Scale, samples: &[Sample], sink: &mut K) -> Result<(), WriteFailed>
+    ensures ok { OnOk result (K.taken sink.new ≡ K.taken sink.old ++ svg_text (time_shown scale.now samples.now)) }
+    ensures err { OnErr result (GrowsByPart (K.taken sink.old) (K.taken sink.new)
+        (svg_text (time_shown scale.now samples.now))) }
+    ensures cause { K.failures sink.new ≡ K.failures sink.old + failed result }
+{
+    write_axis(Axis::Lines, scale.lines, sink)?;
+    write_axis(Axis::Pages, scale.pages, sink)?;
+    write_axis(Axis::Objects, scale.objects, sink)?;
+    write_samples(scale, samples, sink)
+}
+
+/// What the colours mean, and the names of the axes.
+fn axes() -> [Element; 18]
+    ensures { result ≡ time_axes }
+{
+    [
+        swatch(0, Colour::Sky),
+        meaning(0, Words::PagesInUse),
+        swatch(1, Colour::Blue),
+        meaning(1, Words::Objects),
+        swatch(2, Colour::Pale),
+        meaning(2, Words::Idle),
+        swatch(3, Colour::Yellow),
+        meaning(3, Words::Roots),
+        swatch(4, Colour::Orange),
+        meaning(4, Words::Marking),
+        swatch(5, Colour::Green),
+        meaning(5, Words::Sweeping),
+        swatch(6, Colour::Purple),
+        meaning(6, Words::Moving),
+        Element::Text(20, 86, 11, Anchor::Start, Caption::Words(Words::PagesInUse)),
+        Element::Text(20, 276, 11, Anchor::Start, Caption::Words(Words::Objects)),
+        Element::Text(72, 465, 11, Anchor::End, Caption::Words(Words::PhaseName)),
+        Element::Text(
+            620,
+            514,
+            11,
+            Anchor::Middle,
+            Caption::Words(Words::LinesOfTrace),
+        ),
+    ]
+}
+
+/// Writes the picture of so many samples.
+fn draw_samples<K: Sink>(scale: &Scale, samples: &[Sample], sink: &mut K) -> Result<(), WriteFailed>
+    ensures ok { OnOk result (K.taken sink.new ≡ K.taken sink.old ++ svg_text (time_chart scale.now samples.now)) }
+    ensures err { OnErr result (GrowsByPart (K.taken sink.old) (K.taken sink.new)
+        (svg_text (time_chart scale.now samples.now))) }
+    ensures cause { K.failures sink.new ≡ K.failures sink.old + failed result }
+{
+    write_head(1200, 528, Words::HeapOverTime, &axes(), sink)?;
+    write_shown(scale, samples, sink)?;
+    write_close(sink)
+}
+
+/// Writes the samples of a run to a sink, as an SVG document of lines that end with LF: from left to right the lines of
+/// its trace, from the new heap before line 1 to the last line of the scale. Each sample is drawn from its line to that
+/// of the next: the pages in use as a bar, below it the objects, where they were counted, as a dash, and at the bottom
+/// the phase as a band of colours. The scale says for which numbers of pages and of objects the whole height stands;
+/// what is more is drawn as high, and a line behind the last one of the scale as far. Axes have round numbers. Only the
+/// first MOST_SAMPLES samples are drawn. It takes no memory. After an error, which comes only where the sink failed,
+/// the sink has taken a beginning of the document.
+pub fn draw_time<K: Sink>(
+    scale: &Scale,
+    samples: &[Sample],
+    sink: &mut K,
+) -> Result<(), WriteFailed>
+    ensures ok { OnOk result (K.taken sink.new ≡ K.taken sink.old ++ time_picture scale.now samples.now) }
+    ensures err { OnErr result (GrowsByPart (K.taken sink.old) (K.taken sink.new)
+        (time_picture scale.now samples.now)) }
+    ensures cause { K.failures sink.new ≡ K.failures sink.old + failed result }
+{
+    let count = samples.len().min(MOST_SAMPLES);
+    draw_samples(scale, &samples[..count], sink)
+}

@@ -1,0 +1,8 @@
+//! A trace is played on a new heap, and samples of the heap are taken along the run.
+mod line;
+mod sampler;
+mod samples;
+mod taking;
+
+pub use samples::Samples;
+pub use taking::take_samples;

@@ -1,0 +1,5 @@
+use Rattle.sizing.proofs.Counting.{none_of}
+use Rattle.sizing.proofs.blocks.none.Goals as goal
+
+pub returns : goal.returns
+returns c = λ class l. none_of 38 class

@@ -1,0 +1,21 @@
+-- The load that a table by class states, and when two paces are the same.
+use Rattle.std.specs.Prelude.{◌≡◌, ℕ, ◌<◌, slice_index}
+use Rattle.size_classes.specs.declared.class.TheConstants.{CLASSES}
+use Rattle.space.specs.Pace.{Pace}
+use Rattle.sizing.specs.declared.arrivals.load.Load.{Load as Table}
+use Rattle.sizing.specs.Load.{Load}
+
+-- the load that a table by class states
+abbrev pub load_in : Table → Load
+load_in t = record {
+  live = λ class. slice_index t.live class;
+  rate = λ class. slice_index t.rate class;
+  burst = λ class. slice_index t.burst class;
+  gap = t.gap;
+}
+
+-- two paces state the same of each class
+pub record IsSamePace (p q : Pace) : Type 0 where
+  pub live : (class : ℕ) → class < CLASSES → p.live class ≡ q.live class
+  pub busy : (class : ℕ) → class < CLASSES → p.busy class ≡ q.busy class
+  pub idle : (class : ℕ) → class < CLASSES → p.idle class ≡ q.idle class

@@ -1,0 +1,70 @@
+-- What it is to check that a trace keeps to a load.
+use Rattle.std.specs.Prelude.{◌≡◌, ℕ, ◌+◌, ◌*◌, ◌<◌, Bool, IsTrue, List, [], ◌∷◌, ◌++◌, Result, Ok, Err}
+use Rattle.graph_heap.specs.declared.command.Command.{Command}
+use Rattle.size_classes.specs.declared.class.TheConstants.{CLASSES}
+use Rattle.trace.specs.declared.line.Line.{Line}
+use Rattle.trace.specs.declared.line.Line.TheVariants as lines
+use Rattle.trace.specs.declared.version.Version.{Version}
+use Rattle.trace.specs.declared.fault.TextFault.{TextFault}
+use Rattle.trace.specs.GoneOver.{GoneOver, NextLine, Ends}
+use Rattle.trace.specs.Spelling.{Spells}
+use Rattle.trace.specs.Streams.{Given}
+use Rattle.space.specs.Room.{asks}
+use Rattle.sizing.specs.declared.arrivals.keeping.Breach.{Breach}
+use Rattle.sizing.specs.declared.arrivals.keeping.Breach.TheVariants.{Asks, BeginsLate, SmallQuantum}
+use Rattle.sizing.specs.declared.arrivals.keeping.Kept.{Kept}
+use Rattle.sizing.specs.declared.arrivals.keeping.Kept.TheVariants.{Keeps, Breaks}
+use Rattle.sizing.specs.Load.{Load, clock_after, BeginsOften, KeepsLoad, SaysNothing, SaysLine}
+use Rattle.sizing.specs.Metering.{NoEvent}
+
+-- how many ticks pass in lines
+abbrev pub ticks_in : List Line → ℕ
+ticks_in [] = 0
+ticks_in (line ∷ rest) = clock_after 0 line + ticks_in rest
+
+-- for how many blocks of a class a line asks, and lines ask
+abbrev pub asks_by : ℕ → Line → ℕ
+asks_by class (lines.Command m c) = asks c class
+asks_by class line = 0
+
+-- for how many blocks of a class lines ask
+abbrev pub asked_in : ℕ → List Line → ℕ
+asked_in class [] = 0
+asked_in class (line ∷ rest) = asks_by class line + asked_in class rest
+
+-- A command asks for too much of a class after these lines: from one of them on, or alone, so many blocks are
+-- asked for, with those of the command, that they are more than the rate in the ticks between and the burst.
+abbrev pub AsksTooMuch : Load → List Line → Command → ℕ → Type 0
+AsksTooMuch l said c class =
+    (before : List Line) × (since : List Line) × (said ≡ before ++ since)
+    × (l.rate class * ticks_in since + l.burst class < asked_in class since + asks c class)
+
+-- How a line breaks a load to which the lines before it keep. Of the classes of which a command asks for too
+-- much the first is named; one that asks for too much of none comes too late after the last line `begin`.
+abbrev pub BreaksBy : Load → ℕ → List Line → Line → Breach → Type 0
+BreaksBy l k said (lines.Command m c) (Asks class) =
+    (class < CLASSES) × AsksTooMuch l said c class × ((other : ℕ) → other < class → ¬ AsksTooMuch l said c other)
+BreaksBy l k said (lines.Command m c) BeginsLate =
+    ((class : ℕ) → class < CLASSES → ¬ AsksTooMuch l said c class)
+    × (¬ BeginsOften l.gap 0 (said ++ lines.Command m c ∷ []))
+BreaksBy l k said (lines.Quantum budget) SmallQuantum = budget < k
+BreaksBy l k said line by = ⊥
+
+-- How checking ends.
+abbrev pub CheckEnds : Load → ℕ → Bool → Result Kept TextFault → Version → ℕ → List Line → Unit {0} → List ℕ → Type 0
+-- all lines of the input are read
+CheckEnds l k ended (Ok Keeps) version count said mid rest = (rest ≡ []) × IsTrue ended
+-- the next line breaks the load
+CheckEnds l k ended (Ok (Breaks number by)) version count said mid rest =
+    (number ≡ count + 1)
+    × NextLine (λ bytes. (line : Line) × Spells version bytes line × BreaksBy l k said line by) rest
+CheckEnds l k ended (Err fault) version count said mid rest =
+    Ends (NoEvent version) {A = Kept} count mid rest ended tt (Err fault)
+
+-- What was checked of an input: the lines that are done keep to the load. These are all of its lines, or those
+-- before the line at which checking stopped; where that breaks the load, they don't keep to it with that line.
+pub record LoadChecked (l : Load) (k : ℕ) (given : Given) (result : Result Kept TextFault) : Type 0 where
+  pub over : GoneOver SaysNothing SaysLine given tt (CheckEnds l k given.ended result)
+  pub keeps : KeepsLoad l k over.lines
+  pub breaks : (number : ℕ) (by : Breach) → result ≡ Ok (Breaks number by)
+      → NextLine (λ bytes. ¬ KeepsLoad l k (over.lines ++ bytes ∷ [])) over.rest

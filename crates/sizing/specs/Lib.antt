@@ -1,0 +1,12 @@
+pub mod Counts
+pub mod Season
+pub mod Measured
+pub mod Reckoned
+pub mod Promises
+pub mod Meter
+pub mod Measuring
+pub mod Load
+pub mod New
+pub mod Fitting
+pub mod Metering
+pub mod Keeping

@@ -1,0 +1,81 @@
+-- What it is to measure a trace.
+use Rattle.std.specs.Prelude.{◌≡◌, ℕ, ◌+◌, ◌<◌, List, [], ◌++◌, Result, Ok, Err, length}
+use Rattle.graph_heap.specs.declared.no_memory.NoMemory.{NoMemory}
+use Rattle.size_classes.specs.declared.config.Config.{Config}
+use Rattle.heap_model.specs.State.{HeapState}
+use Rattle.heap_model.specs.Opening.{IsOpening}
+use Rattle.heap_model.specs.Led.{opened}
+use Rattle.heap_model.specs.Event.{Event, Runs}
+use Rattle.quanta.specs.declared.schedule.TheConstants.{CLOCK_LIMIT}
+use Rattle.trace.specs.declared.line.Line.{Line}
+use Rattle.trace.specs.declared.line.Line.TheVariants as lines
+use Rattle.trace.specs.declared.version.Version.{Version}
+use Rattle.trace.specs.declared.fault.TextFault.{TextFault}
+use Rattle.trace.specs.declared.fault.TextFault.TheVariants.{NoMemory as Without_memory}
+use Rattle.trace.specs.GoneOver.{Goes}
+use Rattle.trace.specs.Streams.{Given}
+use Rattle.player.specs.declared.player.TickFault.{TickFault}
+use Rattle.player.specs.declared.player.TickFault.TheVariants as faults
+use Rattle.player.specs.declared.style.Style.TheVariants.{Nothing}
+use Rattle.player.specs.New.{IsNew}
+use Rattle.player.specs.Player.{PlayerState, DoesLine}
+use Rattle.player.specs.Playing.{Stage, stage, TellsVersionOf, PlaysText, Stops, StopsText, Played}
+use Rattle.sizing.specs.declared.measured.Measured.{Measured}
+use Rattle.sizing.specs.declared.run.Run.{Run}
+use Rattle.sizing.specs.Measured.{IsMeasured}
+use Rattle.sizing.specs.Promises.{Promises}
+use Rattle.sizing.specs.Meter.{Measures}
+
+-- An input was played to its end on a new player, this was measured of its events, and so much is promised of them.
+pub record RunMeasured (config : Config) (given : Given) (m : Measured) : Type 0 where
+  pub old : PlayerState
+  pub new : Stage
+  pub played : Played Nothing given (stage old []) new (Ok tt)
+  pub is_new : IsNew config old
+  pub is : IsMeasured old.course.heap.limits played.over.events m
+  pub promises : Promises config played.over.events m
+
+-- The lines of an input are played on a new player, and what they needed is answered; or the fault with which
+-- playing them ends; or memory was refused.
+abbrev pub TraceMeasured : Config → Given → Result Measured TextFault → Type 0
+TraceMeasured config given (Ok m) = RunMeasured config given m
+TraceMeasured config given (Err Without_memory) = Unit {0}
+TraceMeasured config given (Err fault) = (old : PlayerState) × (new : Stage)
+    × Played Nothing given (stage old []) new (Err fault) × IsNew config old
+
+-- the player has done these events from a new heap, and the meter holds what they come to
+pub record IsAt (h : HeapState) (es : List Event) (run : Run) : Type 0 where
+  pub opening : IsOpening h
+  pub pages : 0 < length h.store.pages
+  pub runs : Runs (opened h) es run.player.course
+  pub measures : Measures h.limits es run.player.course run.meter
+
+-- a line is done and measured, or memory was refused
+abbrev pub LineMeasured : Line → Run → Run → Result (Unit {0}) NoMemory → Type 0
+LineMeasured line old new (Ok done) = (h : HeapState) (es : List Event) → IsAt h es old → (more : List Event)
+    × DoesLine old.player line more new.player × IsAt h (es ++ more) new
+LineMeasured line old new (Err refused) = Unit {0}
+
+-- the same of ticks, which may pass the clock's limit
+abbrev pub TicksMeasured : ℕ → Run → Run → Result (Unit {0}) TickFault → Type 0
+TicksMeasured n old new (Ok done) = LineMeasured (lines.Tick n) old new (Ok tt)
+TicksMeasured n old new (Err faults.ClockSpent) = (CLOCK_LIMIT < old.player.timetable.clock + n)
+    × (new.player ≡ old.player)
+TicksMeasured n old new (Err faults.NoMemory) = Unit {0}
+
+-- the same of a line of this number, which may stop with a fault
+abbrev pub EventMeasured : Line → ℕ → Run → Run → Result (Unit {0}) TextFault → Type 0
+EventMeasured line number old new (Ok done) = LineMeasured line old new (Ok tt)
+EventMeasured line number old new (Err Without_memory) = Unit {0}
+EventMeasured line number old new (Err fault) =
+    Stops Nothing fault line number (stage old.player []) (stage new.player [])
+
+-- the same of a line's text, with the version before it and after it
+abbrev pub TextMeasured : List ℕ → ℕ → Version → Version → Run → Run → Result (Unit {0}) TextFault → Type 0
+TextMeasured text number version next old new (Ok done) =
+    (h : HeapState) (es : List Event) → IsAt h es old → (more : List Event)
+    × Goes (TellsVersionOf Nothing) (PlaysText Nothing) number text version (stage old.player []) more next
+    (stage new.player []) × IsAt h (es ++ more) new
+TextMeasured text number version next old new (Err Without_memory) = Unit {0}
+TextMeasured text number version next old new (Err fault) =
+    StopsText Nothing version fault text number (stage old.player []) (stage new.player [])

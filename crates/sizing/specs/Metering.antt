@@ -1,0 +1,74 @@
+-- What lines come to, in one pass.
+use Rattle.std.specs.Prelude.{◌≡◌, ℕ, ◌+◌, ◌-◌, ◌*◌, ◌^◌, ◌<◌, ◌≤◌, ◌⊎◌, min, slice_index, List, [], ◌∷◌, Option, Some, None, Result, Ok, Err}
+use Rattle.size_classes.specs.declared.class.TheConstants.{CLASSES}
+use Rattle.graph_heap.specs.declared.command.Command.{Command}
+use Rattle.trace.specs.declared.line.Line.{Line}
+use Rattle.trace.specs.declared.line.Line.TheVariants as lines
+use Rattle.trace.specs.declared.version.Version.{Version}
+use Rattle.trace.specs.declared.version.Version.TheVariants.{Second}
+use Rattle.trace.specs.declared.fault.TextFault.{TextFault}
+use Rattle.trace.specs.Numbered.{IsNoEvent}
+use Rattle.trace.specs.Spelling.{TellsVersion, Spells}
+use Rattle.space.specs.Room.{asks}
+use Rattle.sizing.specs.declared.arrivals.keeping.Meter.{Meter}
+use Rattle.sizing.specs.declared.arrivals.keeping.Breach.{Breach}
+use Rattle.sizing.specs.declared.arrivals.keeping.Breach.TheVariants.{Asks, BeginsLate, SmallQuantum}
+use Rattle.sizing.specs.Load.{Load, StaysInBucket, BeginsOften, AreBudgets}
+
+-- a line further: the level of a class's bucket, and the ticks since the last line `begin`, as they are counted
+abbrev pub level_after : Load → ℕ → ℕ → Line → ℕ
+level_after l class level (lines.Command m c) = level + asks c class
+level_after l class level (lines.Tick n) = level - l.rate class * n
+level_after l class level line = level
+
+abbrev pub since_after : ℕ → Line → ℕ
+since_after since lines.Begin = 0
+since_after since (lines.Tick n) = min (since + n) (2 ^ 64 - 1)
+since_after since line = since
+
+-- the levels that a meter has
+abbrev pub levels_in : Meter → ℕ → ℕ
+levels_in m class = slice_index m.levels class
+
+-- each bucket of a meter holds no more than the burst
+abbrev pub IsWithin : Load → Meter → Type 0
+IsWithin l m = (class : ℕ) → class < CLASSES → levels_in m class ≤ l.burst class
+
+-- a meter before and after a line
+pub record Meters (l : Load) (old : Meter) (line : Line) (new : Meter) : Type 0 where
+  pub levels : (class : ℕ) → class < CLASSES → levels_in new class ≡ level_after l class (levels_in old class) line
+  pub since : new.since ≡ since_after old.since line
+
+-- from where a meter stands a line keeps to a load, for whatever number of ticks the meter has its count
+pub record KeepsOn (l : Load) (k : ℕ) (m : Meter) (line : Line) : Type 0 where
+  pub stays : StaysInBucket l (levels_in m) (line ∷ [])
+  pub often : (ticks : ℕ) → m.since ≡ min ticks (2 ^ 64 - 1) → BeginsOften l.gap ticks (line ∷ [])
+  pub budget : AreBudgets k (line ∷ [])
+
+-- A command asks for more blocks of a class than its bucket has room for, and for no more of those before it.
+abbrev pub Overflows : Load → Meter → Command → ℕ → Type 0
+Overflows l m c class =
+    (class < CLASSES) × (l.burst class < levels_in m class + asks c class)
+    × ((other : ℕ) → other < class → levels_in m other + asks c other ≤ l.burst other)
+
+-- What came of a line, from one meter to another.
+abbrev pub Metered : Load → ℕ → Meter → Line → Meter → Option Breach → Type 0
+Metered l k old line new None = Meters l old line new × IsWithin l new × KeepsOn l k old line
+Metered l k old (lines.Command m c) new (Some (Asks class)) = Overflows l old c class
+Metered l k old (lines.Command m c) new (Some BeginsLate) =
+    ((class : ℕ) → class < CLASSES → levels_in old class + asks c class ≤ l.burst class) × (l.gap < old.since)
+Metered l k old (lines.Quantum budget) new (Some SmallQuantum) = budget < k
+Metered l k old line new (Some by) = ⊥
+
+-- a fault at a line
+abbrev pub NoEvent : Version → TextFault → List ℕ → ℕ → Unit {0} → Unit {0} → Type 0
+NoEvent version fault text number old new = IsNoEvent version fault text number
+
+-- What came of the text of a line, with the version before it and after it: it tells that of the next, or is
+-- metered.
+abbrev pub TextMetered : Load → ℕ → List ℕ → ℕ → Version → Version → Meter → Meter → Result (Option Breach) TextFault
+    → Type 0
+TextMetered l k text number version next old new (Ok found) =
+    (TellsVersion number text × (next ≡ Second) × (new ≡ old) × (found ≡ None))
+    ⊎ ((next ≡ version) × ((line : Line) × Spells version text line × Metered l k old line new found))
+TextMetered l k text number version next old new (Err fault) = NoEvent version fault text number tt tt

@@ -1,0 +1,41 @@
+-- What is played on a new player.
+use Rattle.std.specs.Prelude.{ℕ, ◌*◌, List, Result}
+use Rattle.heap_model.specs.Event.{Event}
+use Rattle.graph_heap.specs.Graph.{opening}
+use Rattle.size_classes.specs.declared.config.Config.{Config}
+use Rattle.size_classes.specs.Config.{limits_of}
+use Rattle.trace.specs.declared.fault.TextFault.{TextFault}
+use Rattle.trace.specs.declared.version.Version.{Version}
+use Rattle.trace.specs.GoneOver.{LinesDone}
+use Rattle.trace.specs.Streams.{Given, Taken}
+use Rattle.player.specs.declared.style.Style.{Style}
+use Rattle.player.specs.New.{IsNew}
+use Rattle.player.specs.Player.{PlayerState}
+use Rattle.player.specs.Playing.{Stage, stage, TellsVersionOf, PlaysText, Played}
+use Rattle.space.specs.Fitting.{FitsIn}
+use Rattle.space.specs.Room.{AllHaveRoom}
+use Rattle.sizing.specs.Load.{Load, KeepsLoad, AllLive, pace_of}
+
+-- the pace to which a load comes fits in a configuration's pages
+abbrev pub LoadFits : Config → Load → Type 0
+LoadFits config l = FitsIn config (pace_of l config.collector_ticks config.mutator_ticks) config.pages
+
+-- Lines that are played on a new player of a configuration, in a text that keeps to a load, while no more is live than
+-- it has where a cycle begins, get no reply that is the refusal for want of space.
+abbrev pub LoadFindsRoom : Config → Load → Type 0
+LoadFindsRoom config l =
+    (style : Style) (old new : Stage) (text : List (List ℕ)) (version : Version) (es : List Event)
+    → IsNew config old.player → LinesDone (TellsVersionOf style) (PlaysText style) old text version es new
+    → KeepsLoad l (config.collector_ticks * config.rate) text → AllLive l.live (opening (limits_of config)) es
+    → AllHaveRoom es
+
+-- What was played of an input on a new player of a configuration. Where the lines that were done keep to a load
+-- whose pace fits in the configuration's pages, no reply is the refusal for want of space.
+pub record PlayedNew (config : Config) (style : Style) (given : Given) (taken : Taken) (new : PlayerState)
+    (result : Result (Unit {0}) TextFault) : Type 0 where
+  pub old : PlayerState
+  pub is_new : IsNew config old
+  pub played : Played style given (stage old taken.before) (stage new taken.after) result
+  pub room : (l : Load) → KeepsLoad l (config.collector_ticks * config.rate) played.over.lines
+      → AllLive l.live (opening (limits_of config)) played.over.events
+      → LoadFits config l → AllHaveRoom played.over.events

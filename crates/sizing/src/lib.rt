@@ -1,0 +1,18 @@
+//! What a trace needs of each size class: it is played on a new heap, while the graph heap is marked where each
+//! cycle begins, and what is asked for is counted.
+#![tactic(auto)]
+
+pub mod arrivals;
+mod blocks;
+mod measured;
+mod measuring;
+mod meter;
+mod most;
+mod needed;
+mod page_counts;
+mod run;
+mod season;
+
+pub use measured::Measured;
+pub use measuring::measure;
+pub use needed::Needed;

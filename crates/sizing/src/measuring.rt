@@ -1,0 +1,34 @@
+//! Measuring a trace.
+ghost use Rattle.std.specs.Prelude.{◌≡◌, ◌+◌};
+ghost use Rattle.trace.specs.GoneOver.{reads_failed};
+ghost use Rattle.trace.specs.Streams.{Stays, given_by};
+ghost use Rattle.sizing.specs.Measuring.{TraceMeasured};
+
+use crate::measured::Measured;
+use crate::run::{Run, measure_line};
+use size_classes::Config;
+use std::alloc::Global;
+use trace::{LineReader, Source, TextFault, Version};
+
+/// What a trace needs on a new heap of a configuration: its lines are played, one after the other, and nothing
+/// is written. The run keeps to what is answered, and to nothing that is less in some number. Where the configuration
+/// has the pages that it must have (`Needed::pages_in`), or the pace fits `Measured::slowest` of it, no reply of this
+/// run is the refusal for want of space, nor is one of any run that needs no more. A fault is that with which playing
+/// the trace ends; or memory was refused, for that or for the measure.
+pub fn measure<S: Source>(
+    alloc: Global,
+    config: &Config,
+    source: &mut S,
+) -> Result<Measured, TextFault>
+    ensures measured { TraceMeasured config.now (given_by S.given S.ended source.old source.new) result }
+    ensures reads { S.failures source.new ≡ S.failures source.old + reads_failed result }
+    ensures input { reads_failed result ≡ 0 → Stays (S.input source.old) (S.input source.new) }
+{
+    let mut run = Run::new(alloc, config)?;
+    let mut reader = LineReader::new();
+    let mut version = Version::First;
+    while reader.next_line(source)? {
+        measure_line(reader.line(), reader.number(), &mut version, &mut run)?;
+    }
+    Ok(run.meter.measured())
+}

@@ -1,0 +1,219 @@
+//! What events come to, and what they needed at most.
+ghost use Rattle.std.specs.Prelude.{◌≡◌, ◌<◌, ◌≤◌, ◌^◌, ◌↔◌, ◌⊎◌, ℕ, true, false, List, [], ◌∷◌, ◌++◌, length, IfOk, OnOk, IfSome, IsNone, IsTrue};
+ghost use Rattle.graph_heap.specs.declared.command.Limits.{Limits as Bounds};
+ghost use Rattle.graph_heap.specs.Graph.{root_cells};
+ghost use Rattle.size_classes.specs.declared.config.TheConstants.{LEAST_BUDGET};
+ghost use Rattle.graph_heap.specs.History.{IsEntryOf, after_entry};
+ghost use Rattle.graph_heap.specs.Reaching.{AreReached};
+ghost use Rattle.heap_model.specs.Event.{Course, Event, Command_done, Cycle_begun, Enters, Begins, IsCourse};
+ghost use Rattle.heap_model.specs.Led.{opened};
+ghost use Rattle.heap_model.specs.Opening.{IsOpening};
+ghost use Rattle.heap_model.specs.State.{HeapState};
+ghost use Rattle.space.specs.Pace as pace;
+ghost use Rattle.space.specs.Demand.{asked_for, blocks_by};
+ghost use Rattle.sizing.specs.Counts.{AreBlocks, IsTable, HasOver};
+ghost use Rattle.sizing.specs.Meter.{AllFit, Asks, Allocates, Measures, Works};
+ghost use Rattle.sizing.specs.Measured.{IsMeasured};
+
+use crate::blocks::{Blocks, add, needed_by, none, raise, small_table, table};
+use crate::measured::Measured;
+use crate::most::Most;
+use crate::season::Season;
+use graph_heap::{Entry, Limits, NoMemory, Reference};
+use heap_model::phase::Phase;
+use space::Pace;
+use std::alloc::Global;
+
+/// The graph heap to which events lead, what their objects need, and what the events needed at most so far.
+#[derive(Drop)]
+pub struct Meter {
+    graph: Reference,
+    /// Whether a cycle is on.
+    on: bool,
+    season: Season,
+    /// What was asked for since the last beginning, or quantum of a cycle.
+    asked: Blocks,
+    live: Blocks,
+    busy: Blocks,
+    idle: Blocks,
+    most: Most,
+    /// The least budget of a quantum, in units.
+    budget: Option<u32>,
+}
+
+/// Whether a cycle is on.
+fn in_cycle(phase: Phase) -> bool
+    ensures { result ≡ pace.in_cycle phase }
+{
+    !matches!(phase, Phase::Idle)
+}
+
+/// The lesser of budgets, of which there may be only one.
+fn least_of(least: Option<u32>, budget: u32) -> u32
+    ensures { (k : ℕ) → k ≤ result ↔ (IfSome least (λ n. k ≤ n) × (k ≤ budget)) }
+{
+    match least {
+        Some(least) => least.min(budget),
+        None => budget,
+    }
+}
+
+impl Meter {
+    /// Before the first event.
+    pub fn new(alloc: Global, limits: &Limits) -> Result<Meter, NoMemory>
+        ensures { IfOk result (λ m. (h : HeapState) → IsOpening h → h.limits ≡ limits.now
+            → Measures h.limits [] (opened h) m) }
+    {
+        let nothing = none();
+        Ok(Meter {
+            graph: Reference::new(alloc, limits)?,
+            on: false,
+            season: Season::new(),
+            asked: nothing,
+            live: nothing,
+            busy: nothing,
+            idle: nothing,
+            most: Most::new(),
+            budget: None,
+        })
+    }
+
+    /// Whether a cycle is on.
+    pub fn is_on(&self) -> bool
+        ensures { result ≡ self.now.on }
+    {
+        self.on
+    }
+
+    /// The blocks for which a command asks, where nothing but want of space refuses it.
+    fn asked_by(&self, entry: &Entry) -> Blocks
+        ensures { length self.now.graph.roots ≡ root_cells self.now.graph.limits
+            → AreBlocks result (asked_for self.now.graph entry.now.mutator entry.now.command) }
+    {
+        match self.graph.asked_for(entry.mutator, &entry.command) {
+            Some(shape) => needed_by(&shape),
+            None => none(),
+        }
+    }
+
+    /// Notes that these blocks are asked for.
+    fn ask(&mut self, asked: &Blocks)
+        ensures { Asks asked.now self.old self.new }
+    {
+        self.most.ask(&self.season, asked);
+        add(&mut self.asked, asked);
+        if self.on {
+            raise(&mut self.busy, &self.asked);
+        } else {
+            raise(&mut self.idle, &self.asked);
+        }
+    }
+
+    /// Notes that an object is allocated that needs these blocks.
+    fn allocate(&mut self, blocks: &Blocks)
+        ensures { Allocates blocks.now self.old self.new }
+    {
+        self.season.allocate(blocks);
+    }
+
+    /// Does an entry on the graph heap. Answers whether an object was allocated.
+    fn step(&mut self, entry: &Entry) -> Result<bool, NoMemory>
+        ensures stepped { IsEntryOf self.old.graph entry.now
+            → OnOk result (self.new ≡ record self.old { graph = after_entry self.old.graph entry.now }) }
+        ensures grows { IfOk result (λ more. IsTrue more ↔
+            (length self.old.graph.objects < length self.new.graph.objects)) }
+    {
+        let before = self.graph.count();
+        self.graph.accepts(entry)?;
+        Ok(self.graph.count() > before)
+    }
+
+    /// A command is done, and has this entry.
+    pub fn command(&mut self, entry: &Entry) -> Result<(), NoMemory>
+        ensures { OnOk result ((l : Bounds) (es : List Event) (r new : Course) → Measures l es r self.old → IsCourse r
+            → Enters r entry.now.mutator entry.now.command entry.now.reply new
+            → Measures l (es ++ Command_done entry.now.mutator entry.now.command entry.now.reply ∷ []) new self.new) }
+    {
+        let asked = self.asked_by(entry);
+        self.ask(&asked);
+        if self.step(entry)? {
+            self.allocate(&asked);
+        }
+        Ok(())
+    }
+
+    /// The blocks that the objects need that can be reached.
+    fn reached(&self) -> Result<Blocks, NoMemory>
+        ensures { IfOk result (λ blocks. AllFit self.now.graph → (ids : List ℕ) × AreReached self.now.graph ids
+            × AreBlocks blocks (blocks_by self.now.graph ids)) }
+    {
+        let ids = self.graph.reached()?;
+        let mut blocks = none();
+        for id in ids.as_slice() {
+            add(&mut blocks, &needed_by(&self.graph.shape(*id)));
+        }
+        Ok(blocks)
+    }
+
+    /// A cycle is begun.
+    pub fn begun(&mut self) -> Result<(), NoMemory>
+        ensures { OnOk result ((l : Bounds) (es : List Event) (r new : Course) → Measures l es r self.old → IsCourse r
+            → Begins r new → Measures l (es ++ Cycle_begun ∷ []) new self.new) }
+    {
+        let live = self.reached()?;
+        raise(&mut self.live, &live);
+        self.most.begin(&live);
+        self.season.begin(&live);
+        self.asked = none();
+        self.on = true;
+        Ok(())
+    }
+
+    /// Quanta are done, which end in this phase: what was asked for is counted anew while a cycle is on.
+    fn beat(&mut self, phase: Phase)
+        ensures same { self.new ≡ record self.old { on = self.new.on; asked = self.new.asked } }
+        ensures on { self.old.on ≡ true → (self.new.on ≡ pace.in_cycle phase) × AreBlocks self.new.asked (λ class. 0) }
+        ensures off { self.old.on ≡ false → self.new ≡ self.old }
+    {
+        if self.on {
+            self.asked = none();
+            self.on = in_cycle(phase);
+        }
+    }
+
+    /// Quanta of a budget are done, one at least, and the last of them ends in this phase.
+    pub fn quanta(&mut self, budget: u32, phase: Phase)
+        ensures { (l : Bounds) (es quanta : List Event) (r new : Course) → Measures l es r self.old → IsCourse r
+            → Works budget quanta r new → new.heap.phase ≡ phase → Measures l (es ++ quanta) new self.new }
+    {
+        self.season.rest(phase);
+        self.beat(phase);
+        self.budget = Some(least_of(self.budget, budget));
+    }
+
+    /// The pace of the greatest numbers, if it can be stated.
+    fn pace(&self) -> Option<Pace>
+        ensures some { IfSome result (λ p. IsTable (2 ^ 32) p.live self.now.live × IsTable (2 ^ 64) p.busy self.now.busy
+            × IsTable (2 ^ 64) p.idle self.now.idle) }
+        ensures none { IsNone result → HasOver (2 ^ 32) self.now.live ⊎ HasOver (2 ^ 64) self.now.busy
+            ⊎ HasOver (2 ^ 64) self.now.idle }
+    {
+        Some(Pace {
+            live: small_table(&self.live)?,
+            busy: table(&self.busy)?,
+            idle: table(&self.idle)?,
+        })
+    }
+
+    /// What the events needed.
+    pub fn measured(&self) -> Measured
+        requires { IfSome self.now.budget (λ least. LEAST_BUDGET ≤ least) }
+        ensures { (l : Bounds) (es : List Event) (r : Course) → Measures l es r self.now → IsMeasured l es result }
+    {
+        Measured {
+            needed: self.most.needed(),
+            pace: self.pace(),
+            budget: self.budget,
+        }
+    }
+}

@@ -1,0 +1,98 @@
+//! What objects need from one cycle to the next.
+ghost use Rattle.std.specs.Prelude.{◌≡◌, ◌⊎◌, false, true};
+ghost use Rattle.space.specs.Tally as tally;
+ghost use Rattle.sizing.specs.Counts.{AreNone};
+ghost use Rattle.sizing.specs.Season.{AreAllocated, IsBegun, IsSwept};
+
+use crate::blocks::{Blocks, add, none};
+use heap_model::phase::Phase;
+
+/// The blocks of each class that objects need: those live where a cycle began, and those allocated since.
+#[derive(Clone, Copy, Debug, PartialEq, Eq)]
+pub struct Season {
+    /// Whether a cycle is on, and its sweep hasn't ended.
+    pub tracing: bool,
+    /// What was live when the last cycle began.
+    pub live_last: Blocks,
+    /// What was live when that cycle began whose sweep ended last.
+    pub live_base: Blocks,
+    /// Of objects that were allocated since the last cycle began.
+    pub since_last: Blocks,
+    /// Of those since that cycle began whose sweep ended last.
+    pub since_base: Blocks,
+    /// Of those since that sweep ended.
+    pub since_swept: Blocks,
+    /// What was needed up to that sweep's end, since the cycle before began.
+    pub before: Blocks,
+}
+
+/// Whether a cycle is on, and its sweep hasn't ended.
+fn is_tracing(phase: Phase) -> bool
+    ensures { result ≡ tally.is_tracing phase }
+{
+    matches!(
+        phase,
+        Phase::Roots { .. } | Phase::Marking { .. } | Phase::Sweeping { .. }
+    )
+}
+
+impl Season {
+    /// Before the first event.
+    pub fn new() -> Season
+        ensures tracing { result.tracing ≡ false }
+        ensures live { AreNone result.live_last × AreNone result.live_base × AreNone result.before }
+        ensures since { AreNone result.since_last × AreNone result.since_base × AreNone result.since_swept }
+    {
+        let nothing = none();
+        Season {
+            tracing: false,
+            live_last: nothing,
+            live_base: nothing,
+            since_last: nothing,
+            since_base: nothing,
+            since_swept: nothing,
+            before: nothing,
+        }
+    }
+
+    /// An object is allocated that needs these blocks.
+    pub fn allocate(&mut self, blocks: &Blocks)
+        ensures { AreAllocated blocks.now self.old self.new }
+    {
+        add(&mut self.since_last, blocks);
+        add(&mut self.since_base, blocks);
+        add(&mut self.since_swept, blocks);
+    }
+
+    /// A cycle is begun, while so many blocks are live.
+    pub fn begin(&mut self, live: &Blocks)
+        ensures { IsBegun live.now self.old self.new }
+    {
+        self.tracing = true;
+        self.live_last = *live;
+        self.since_last = none();
+    }
+
+    /// The sweep of the last cycle has ended.
+    fn swept(&mut self)
+        ensures { IsSwept self.old self.new }
+    {
+        self.before = self.live_base;
+        add(&mut self.before, &self.since_base);
+        self.tracing = false;
+        self.live_base = self.live_last;
+        self.since_base = self.since_last;
+        self.since_swept = none();
+    }
+
+    /// Quanta are done, which end in this phase: where it isn't tracing, the sweep of the last cycle has ended.
+    pub fn rest(&mut self, phase: Phase)
+        ensures tracing { tally.is_tracing phase ≡ true → self.new ≡ self.old }
+        ensures rested { self.old.tracing ≡ false → self.new ≡ self.old }
+        ensures swept { tally.is_tracing phase ≡ false → self.old.tracing ≡ true → IsSwept self.old self.new }
+    {
+        if self.tracing && !is_tracing(phase) {
+            self.swept();
+        }
+    }
+}

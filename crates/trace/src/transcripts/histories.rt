@@ -1,0 +1,81 @@
+//! Histories, checked against a graph heap.
+ghost use Rattle.std.specs.Prelude.{◌≡◌, ◌+◌};
+ghost use Rattle.trace.specs.GoneOver.{reads_failed};
+ghost use Rattle.trace.specs.Streams.{Stays, given_by};
+ghost use Rattle.trace.specs.Histories.{LineChecked, EntriesChecked};
+
+use crate::{
+    EntryLine, LineFault, LineReader, Source, TextFault, Version, read_entry, tells_version,
+};
+use graph_heap::Reference;
+
+/// What became of a history that was checked.
+#[derive(Clone, Copy, Debug, PartialEq, Eq)]
+pub enum Checked {
+    /// Each entry is a step of the graph heap at its place. There are so many.
+    Good(u64),
+    /// The entry of this line, counted from 1, is the first that isn't.
+    Wrong(u64),
+}
+
+/// What became of one line.
+#[derive(Clone, Copy)]
+enum Outcome {
+    /// It has no entry. It may tell the version.
+    Skipped,
+    /// Its entry is a step, and is done.
+    Done,
+    /// Its entry isn't a step.
+    Wrong,
+}
+
+/// Checks one line, and does its entry if that is a step. Keeps the version of the next.
+fn check_line(
+    bytes: &[u8],
+    number: u64,
+    version: &mut Version,
+    reference: &mut Reference,
+) -> Result<Outcome, TextFault>
+    ensures { LineChecked bytes.now number version.old version.new reference.old reference.new result }
+{
+    if tells_version(number, bytes) {
+        *version = Version::Second;
+        return Ok(Outcome::Skipped);
+    }
+    let Some(line) = read_entry(*version, bytes) else {
+        return Err(TextFault::Line(number, LineFault::NotAnEntry));
+    };
+    let EntryLine::Entry(entry) = line else {
+        return Ok(Outcome::Skipped);
+    };
+    if reference.accepts(&entry)? {
+        Ok(Outcome::Done)
+    } else {
+        Ok(Outcome::Wrong)
+    }
+}
+
+/// Plays the entries of a source's lines, of which the first may tell their version, on a graph heap, from where that
+/// stands: to the source's end, or to the first entry that isn't a step, and then no line after it is looked at. The
+/// graph heap is left as it is after the entries before.
+pub fn check_entries<S: Source>(
+    source: &mut S,
+    reference: &mut Reference,
+) -> Result<Checked, TextFault>
+    ensures checked { EntriesChecked
+        (given_by S.given S.ended source.old source.new) reference.old reference.new result }
+    ensures reads { S.failures source.new ≡ S.failures source.old + reads_failed result }
+    ensures input { reads_failed result ≡ 0 → Stays (S.input source.old) (S.input source.new) }
+{
+    let mut reader = LineReader::new();
+    let mut version = Version::First;
+    let mut good = 0;
+    while reader.next_line(source)? {
+        match check_line(reader.line(), reader.number(), &mut version, reference)? {
+            Outcome::Skipped => {}
+            Outcome::Done => good += 1,
+            Outcome::Wrong => return Ok(Checked::Wrong(reader.number())),
+        }
+    }
+    Ok(Checked::Good(good))
+}

@@ -1,0 +1,100 @@
+//! Scripts: the commands of each mutator.
+ghost use Rattle.std.specs.Prelude.{◌≡◌, ◌+◌, ◌<◌, vec_len, replicate, [], IfOk, IfErr, OnOk};
+ghost use Rattle.trace.specs.GoneOver.{reads_failed};
+ghost use Rattle.trace.specs.Streams.{Stays, given_by};
+ghost use Rattle.trace.specs.Spelling.{Spells};
+ghost use Rattle.trace.specs.Scripts.{line_of, lists_in, one_more, IsOfScripts, ScriptLineIs, LineAdded, ScriptsRead};
+
+use crate::{Line, LineFault, LineReader, Source, TextFault, Version, read_line, tells_version};
+use graph_heap::{Command, Limits, NoMemory};
+use std::alloc::Global;
+
+/// What a line of scripts says: nothing, or a command and whose it is.
+fn script_line(
+    version: Version,
+    bytes: &[u8],
+    mutators: usize,
+) -> Result<Option<(u32, Command)>, LineFault>
+    ensures spells { IfOk result (λ asked. Spells version bytes.now (line_of asked)) }
+    ensures below { IfOk result (λ asked. IsOfScripts mutators (line_of asked)) }
+    ensures refused { IfErr result (λ fault. ScriptLineIs mutators version fault bytes.now) }
+{
+    let Some(line) = read_line(version, bytes) else {
+        return Err(LineFault::NotACommand);
+    };
+    match line {
+        Line::Skip => Ok(None),
+        Line::Command { mutator, command } => {
+            if (mutator as usize) < mutators {
+                Ok(Some((mutator, command)))
+            } else {
+                Err(LineFault::NoSuchMutator)
+            }
+        }
+        _ => Err(LineFault::NotACommand),
+    }
+}
+
+/// Puts a command after those of its mutator.
+fn add(scripts: &mut Vec<Vec<Command>>, mutator: usize, command: Command) -> Result<(), NoMemory>
+    requires { mutator < vec_len scripts.old }
+    ensures ok { OnOk result (lists_in scripts.new ≡ one_more (lists_in scripts.old) mutator command) }
+    ensures len { vec_len scripts.new ≡ vec_len scripts.old }
+{
+    scripts[mutator].push(command)?;
+    Ok(())
+}
+
+/// Does what a line of scripts says. Keeps the version of the next.
+fn add_line(
+    bytes: &[u8],
+    number: u64,
+    version: &mut Version,
+    scripts: &mut Vec<Vec<Command>>,
+) -> Result<(), TextFault>
+    ensures done { LineAdded bytes.now number version.old version.new scripts.old scripts.new result }
+    ensures len { vec_len scripts.new ≡ vec_len scripts.old }
+{
+    if tells_version(number, bytes) {
+        *version = Version::Second;
+        return Ok(());
+    }
+    match script_line(*version, bytes, scripts.len()) {
+        Ok(None) => Ok(()),
+        Ok(Some((mutator, command))) => Ok(add(scripts, mutator as usize, command)?),
+        Err(fault) => Err(TextFault::Line(number, fault)),
+    }
+}
+
+/// So many empty scripts.
+fn empty(alloc: Global, mutators: u32) -> Result<Vec<Vec<Command>>, NoMemory>
+    ensures lists { IfOk result (λ scripts. lists_in scripts ≡ replicate mutators []) }
+    ensures len { IfOk result (λ scripts. vec_len scripts ≡ mutators) }
+{
+    let mut scripts = Vec::with_capacity(alloc, mutators as usize)?;
+    for _ in 0..mutators {
+        scripts.push(Vec::new(alloc))?;
+    }
+    Ok(scripts)
+}
+
+/// Reads the scripts that a source's lines are, to its end: the version, which the first line may tell, and
+/// for each mutator its commands, in the order of their lines.
+pub fn read_scripts<S: Source>(
+    alloc: Global,
+    source: &mut S,
+    limits: &Limits,
+) -> Result<(Version, Vec<Vec<Command>>), TextFault>
+    ensures read { ScriptsRead (given_by S.given S.ended source.old source.new) limits.now.mutators result }
+    ensures len { IfOk result (λ read. vec_len read.1 ≡ limits.now.mutators) }
+    ensures reads { S.failures source.new ≡ S.failures source.old + reads_failed result }
+    ensures input { reads_failed result ≡ 0 → Stays (S.input source.old) (S.input source.new) }
+{
+    let mut scripts = empty(alloc, limits.mutators)?;
+    let mut reader = LineReader::new();
+    let mut version = Version::First;
+    while reader.next_line(source)? {
+        add_line(reader.line(), reader.number(), &mut version, &mut scripts)?;
+    }
+    Ok((version, scripts))
+}

@@ -1,9 +1,0 @@
-//! Transcripts that are read whole: scripts, which are the commands of each mutator, and histories,
-//! whose entries are checked against a graph heap.
-#![tactic(auto)]
-
-mod histories;
-mod scripts;
-
-pub use histories::{Checked, check_entries};
-pub use scripts::read_scripts;

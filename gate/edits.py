@@ -8,6 +8,8 @@ from dataclasses import dataclass, field
 from kit import rt
 
 NAME = re.compile(r"[A-Za-z0-9_-][A-Za-z0-9_.-]*\.edit")
+# A line that `rt` doesn't read: the function, as the prover names it below the crate, whose proof fails with a definition's edit.
+REFUSED_BY = re.compile(r"^refused by: (\S+)$", re.M)
 
 
 @dataclass
@@ -21,6 +23,8 @@ class Edit:
     fault: str = ""
     # what it changes of each: the path, where that begins and ends, and what stands there in its place
     places: list = field(default_factory=list)
+    # the functions that it says refuse it
+    refused_by: tuple = ()
 
     @property
     def name(self):
@@ -55,6 +59,8 @@ def read(crate, file):
         edit.fault = why
         return edit
     edit.texts = texts
+    with open(file, encoding="utf-8") as opened:
+        edit.refused_by = tuple(REFUSED_BY.findall(opened.read()))
     for path, now in texts.items():
         with open(f"{crate.folder}/{path}", encoding="utf-8") as opened:
             edit.places += changed(path, opened.read(), now)

@@ -1,7 +1,8 @@
 """The functions of a source file: their names as the prover prints them, and where their bodies stand."""
+import functools
 import os
 import re
-from dataclasses import dataclass
+from dataclasses import dataclass, replace
 
 # What isn't code: comments, texts and characters.
 HIDDEN = re.compile(
@@ -11,12 +12,14 @@ HEAD = re.compile(r"\b(?:(fn)\s+(\w+)|(mod)\s+(\w+)\s*\{|(impl|trait)\b([^{;]*)\
 # A clause of a contract, up to its brace.
 CLAUSE = re.compile(r"\b(?:(?:requires|ensures)\b\*?\s*\w*|ghost\s+\w+\s*:)\s*$")
 TYPE = re.compile(r"(?:\w+::)*(\w+)")
+DECLARED = re.compile(r"^\s*(?:pub(?:\([a-z]+\))?\s+)?(?:struct|enum|trait)\s+(\w+)", re.M)
 
 
 @dataclass(frozen=True)
 class Function:
     """A function with a body: its path below the crate, or its type's name and its own, since the prover names it below the
-    module of the type; where its body stands; and whether it surely has that name, and is no test's."""
+    module of the type, which stands before them where the crate has another type of that name; where its body stands; and
+    whether it surely has that name, and is no test's."""
 
     path: str
     body: int
@@ -103,25 +106,55 @@ def functions_of(text, path):
     return functions_in(hidden(text), 0, len(text), above, "tests" not in above)
 
 
-def functions_of_file(crate, path):
-    """The functions of a file of a crate's src/, by its path in the crate."""
-    with open(f"{crate.folder}/{path}", encoding="utf-8") as file:
-        return functions_of(file.read(), path)
+def texts_of(folder):
+    """The texts of src/ in a crate's folder, by their paths in it."""
+    texts = {}
+    for at, _, names in os.walk(f"{folder}/src"):
+        for name in names:
+            if name.endswith(".rt"):
+                with open(f"{at}/{name}", encoding="utf-8") as file:
+                    texts[os.path.relpath(f"{at}/{name}", folder)] = file.read()
+    return texts
+
+
+def types_of(texts):
+    """The modules that declare a type, by its name."""
+    found = {}
+    for path, text in texts.items():
+        for name in DECLARED.findall(hidden(text)):
+            found.setdefault(name, []).append(module_of(path))
+    return found
+
+
+@functools.cache
+def functions_below(folder):
+    """The functions of each file of src/ in a crate's folder, by its path in it."""
+    texts = texts_of(folder)
+    types = types_of(texts)
+    return {path: [named_apart(it, module_of(path), types) for it in functions_of(text, path)] for path, text in texts.items()}
+
+
+def named_apart(function, module, types):
+    """The function with the module of its type before its path where two types have that name: the one that is nearest."""
+    name = function.path.partition("::")[0]
+    modules = types.get(name, [])
+    if not name[0].isupper() or len(modules) < 2:
+        return function
+    nearest = max(modules, key=lambda it: len(os.path.commonprefix([it, module])))
+    return replace(function, path="::".join([*nearest, function.path]))
 
 
 def turned_by(edit):
     """The paths of the functions whose bodies an edit turns, where it turns nothing else; else none."""
-    found = []
+    found, functions = [], functions_below(edit.crate.folder)
     for path, start, end, _ in edit.places:
-        here = functions_of_file(edit.crate, path) if path.startswith("src/") else []
+        here = functions.get(path, [])
         found.append(next((it.path for it in here if it.body < start and end < it.end), None))
     return () if None in found else tuple(dict.fromkeys(found))
 
 
 def unturned(crate, turned):
     """The two shortest functions of a crate that are none of these; a law, whose body is empty, shows less."""
-    root = f"{crate.folder}/src"
-    files = [os.path.relpath(f"{at}/{it}", crate.folder) for at, _, names in os.walk(root) for it in names]
-    found = [it for file in files if file.endswith(".rt") for it in functions_of_file(crate, file)]
+    found = [it for functions in functions_below(crate.folder).values() for it in functions]
     fit = [it for it in found if it.is_plain and it.path not in turned and it.end - it.body > len("{\n}")]
     return [it.path for it in sorted(fit, key=lambda it: (it.end - it.body, it.path))[:2]]

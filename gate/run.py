@@ -153,15 +153,14 @@ def made(crates, jobs, anew, proving=None):
     return run
 
 
-def tried(crates, jobs, anew, as_rt_ci=False, proving=None):
+def tried(crates, jobs, anew, proving=None):
     """How many edits of these crates were refused, and how many weren't; it says which."""
     run = made(crates, jobs, anew, proving)
     for crate in crates:
         if run.checks[crate.name]:
             print(f"{crate.name}: {len(run.edits[crate.name])} edits, {run.checks[crate.name]} checks, {run.seconds[crate.name]:.0f} s")
-    good = [verdicts.REFUSED, *((verdicts.NAMES, verdicts.AT_LIMIT, verdicts.BAD) if as_rt_ci else ())]
-    passed = [kind in good for kind, _ in run.found.values()].count(True)
+    passed = [kind for kind, _ in run.found.values()].count(verdicts.REFUSED)
     for name, (kind, _) in run.found.items():
         if kind != verdicts.REFUSED:
-            print(f"{'told' if kind in good else 'FAILED'}: {name}: {kind}")
+            print(f"FAILED: {name}: {kind}")
     return passed, len(run.found) - passed

@@ -88,10 +88,16 @@ CASES = [
     ("leaves_out_what_a_proof_names", "let it = more(x);", "let it = x as u32 + 2;", verdicts.NAMES),
     ("has_another_limit", "6", "9", verdicts.REFUSED),
     ("turns_a_definition", "2 * n", "4 * n", verdicts.REFUSED),
+    ("says_what_refuses_it", "2 * n", "8 * n", verdicts.REFUSED),
+    ("says_what_does_not_refuse_it", "2 * n", "6 * n", verdicts.REFUSED),
+    ("says_what_would_refuse_another", "2 * n", "n * 2", verdicts.NOT_REFUSED),
     ("sums_to_seven_too", "4 + 3", "2 + 5", verdicts.NOT_REFUSED),
     ("has_another_type", "1 - 1", "true", verdicts.BAD),
     ("is_nowhere", "8 + 8", "9 + 9", verdicts.BAD),
 ]
+
+# The functions that edits say refuse them.
+REFUSED_BY = {"says_what_refuses_it": "limit", "says_what_does_not_refuse_it": "seven", "says_what_would_refuse_another": "limit"}
 
 
 def crate_in(room):
@@ -106,6 +112,8 @@ def crate_in(room):
         path = "specs/Limit.antt" if old in SPECS else "src/lib.rt"
         with open(f"{folder}/{name}.edit", "w", encoding="utf-8") as file:
             file.write(f"file: {path}\nold: {old}\nnew: {new}\n")
+            if name in REFUSED_BY:
+                file.write(f"refused by: {REFUSED_BY[name]}\n")
     return rt.rtlib.crates_below(f"{room}/crates")[0]
 
 

@@ -22,8 +22,8 @@ REJECTED = re.compile(r"^(?:\./)?(src/\S+?):(\d+):\d+: error\[", re.M)
 
 @dataclass
 class Trial:
-    """Some edits of a crate, each with the paths of the functions that it turns; one alone, with none, may turn anything. One that
-    leads is made over nothing, and leaves the work that the others begin with."""
+    """Some edits of a crate, each with the paths of the functions that it turns; one alone has those that it says refuse it, or
+    none. One that leads is made over nothing, and leaves the work that the others begin with."""
 
     crate: object
     edits: list
@@ -34,6 +34,11 @@ class Trial:
     def is_whole(self):
         """Whether it takes a check of the whole crate."""
         return self.paths == [()]
+
+    @property
+    def is_named(self):
+        """Whether it asks for the functions that its edit, which turns more than bodies, says refuse it."""
+        return bool(self.edits[0].refused_by) and self.paths == [self.edits[0].refused_by]
 
     @property
     def asked(self):
@@ -62,17 +67,19 @@ def rounds(pairs):
 
 
 def planned(crate, edits, begins=False):
-    """The trials of a crate's edits: no two bodies of one function at once, and what is no function's body alone. Where all are
-    bodies, and nothing is proved that they begin with, the first trial leads, with as many as there are."""
+    """The trials of a crate's edits: no two bodies of one function at once, and what is no function's body alone, over the
+    functions that it says refuse it, or else over the whole crate. Where none takes the whole crate, and nothing is proved that
+    they begin with, the first trial of bodies leads, with as many as there are."""
     pairs = [(it, functions.turned_by(it)) for it in edits]
-    alone = [Trial(crate, [it], [()]) for it, paths in pairs if not paths]
+    named = [Trial(crate, [it], [it.refused_by]) for it, paths in pairs if not paths and it.refused_by]
+    alone = [Trial(crate, [it], [()]) for it, paths in pairs if not paths and not it.refused_by]
     trials = []
     for number, them in enumerate(rounds([it for it in pairs if it[1]])):
         leads = begins and not alone and not number
         size = len(them) if leads else -(-len(them) // -(-len(them) // MOST))
         for at in range(0, len(them), size):
             trials.append(Trial(crate, *map(list, zip(*them[at : at + size])), leads))
-    return trials + alone
+    return trials + named + alone
 
 
 def turned(trial):
@@ -152,11 +159,23 @@ def first_fault(said):
     return next((it for it in lines if "error" in it), lines[-1])[:160]
 
 
+def of_named(trial, said):
+    """What the run came to over the functions that an edit says refuse it: they, or lemmas on which they rest, aren't proved; else
+    it is to be tried over the whole crate."""
+    kind, why = verdicts.verdict(trial.asked, verdicts.told(said))
+    lost = verdicts.refuted(said)
+    if verdicts.ended(said) and (kind == verdicts.REFUSED or lost):
+        return [Result(trial.edits[0], verdicts.REFUSED, why if kind == verdicts.REFUSED else verdicts.clauses(lost))], [], []
+    return [], [Trial(trial.crate, trial.edits, [()])], []
+
+
 def tried(trial, threads=1):
     """What a trial's edits came to, those that are to be tried again, and the unturned functions that aren't proved."""
     if trial.is_whole:
         return [whole(trial)], [], []
     said = ask(trial, [*trial.asked, *functions.unturned(trial.crate, trial.asked)], threads)
+    if trial.is_named:
+        return of_named(trial, said)
     told = verdicts.told(said)
     others = {name: it for name, it in told.items() if not any(verdicts.is_within(name, path) for path in trial.asked)}
     wrong = [name for name, it in others.items() if it.fails_by_itself]

@@ -17,6 +17,8 @@ LINE = re.compile(r"^fn (\S+): (proved|not proved|no proof|could not tell)\b(.*)
 OF_OTHERS = re.compile(r"which (?:is|are) not proved$")
 LEFT = re.compile(r"`search` did not prove ((?:`[^`]+`(?:, )?(?:and )?)+)")
 ERROR = re.compile(r"^(?:\./)?proofs/(\S+?)/\w+\.antt:\d+:\d+: error: (?:`([^`]+)`: )?(.*)$", re.M)
+# An error in a proof, or in a lemma.
+PROOF_ERROR = re.compile(r"^(?:\./)?proofs/\S+\.antt:\d+:\d+: error: (?:`([^`]+)`: )?(.*)$", re.M)
 # A proof names what the edit took away, or rests on a proof that does.
 WENT = re.compile(r"has no field|is not in scope|has no `|was not admitted")
 # The last line of a run that came to its end.
@@ -54,6 +56,11 @@ def told(text):
         left += [goal or "its proof" for goal, why in mine if not WENT.search(why)]
         functions[name] = Function(state, left, [goal or why for goal, why in mine if WENT.search(why)])
     return functions
+
+
+def refuted(text):
+    """The goals and lemmas of which a run said that their proof is none, but for those that name what went."""
+    return [goal or "a proof" for goal, why in PROOF_ERROR.findall(text) if not WENT.search(why)]
 
 
 def ended(text):

@@ -1,5 +1,6 @@
 //! One look of a pass.
 ghost use Rattle.std.specs.Prelude.{◌≡◌, ◌-◌, ◌<◌, ◌≤◌, ◌^◌, length, Some};
+ghost use Rattle.size_classes.specs.declared.class.TheConstants.{CLASSES};
 ghost use Rattle.heap_model.specs.Action.{looked, fewer, is_chosen};
 ghost use Rattle.heap_model.specs.Action.{Action, AtPass};
 ghost use Rattle.heap_model.specs.declared.phase.Phase.TheVariants as phases;
@@ -11,7 +12,7 @@ ghost use Rattle.defrag.specs.Looking.{looked_on};
 use heap_model::phase::{Candidate, Moving, Phase};
 use nodes::Nodes;
 use raw_heap::RawHeap;
-use size_classes::Class;
+use size_classes::{CLASSES, Class};
 
 /// Does the next steps of a pass: looks at the class's next pages before the last, as many as are left or as
 /// there is room for; where none is left, the look at the last one; after the last class the end of moving.
@@ -30,7 +31,7 @@ pub fn pass_next(
     ensures acts { Acts heap.old room heap.new result }
     ensures grey { heap.new.grey ≡ heap.old.grey }
 {
-    if class >= 38 {
+    if class >= CLASSES as u32 {
         heap.go_to(1, Phase::Idle);
         return 1;
     }
@@ -62,7 +63,7 @@ pub fn look_next(
 )
     requires heap { IsRawHeap heap.old }
     requires pass { AtPass (state_of heap.old) class page candidate chosen }
-    requires class { class < 38 }
+    requires class { class < CLASSES }
     requires page { page < length heap.old.nodes.pages }
     requires chosen { chosen < 2 ^ 31 }
     ensures acts { Action (state_of heap.old) 1 (state_of heap.new) }

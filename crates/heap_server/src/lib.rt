@@ -20,6 +20,3 @@ pub use place::{Front, Opened, Place};
 pub use play::{Outcome, play_threads};
 pub use server::Server;
 pub use tally::Tally;
-
-#[cfg(test)]
-mod tests;

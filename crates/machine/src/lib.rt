@@ -13,6 +13,3 @@ pub use event::Event;
 pub use heap::Heap;
 pub use laws::{calls_are_events, courses_are_promised, moves_make_one_old, space_sufficed};
 pub use recorded::{Receipt, Recorded};
-
-#[cfg(test)]
-mod tests;

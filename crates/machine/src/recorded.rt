@@ -25,11 +25,21 @@ use std::marker::Model;
 /// place of the history at which the last cycle began: the history is always legal, the heap agrees
 /// with the graph heap to which it leads, and in idle and moving it holds exactly what is kept. They also
 /// see for how many more entries there is memory.
-#[derive(Drop)]
 pub struct Recorded {
     heap: Heap,
     history: Vec<Entry>,
     place: usize,
+}
+
+impl Drop for Recorded {
+    // One call, as of a heap.
+    fn drop(self) {
+        let Recorded {
+            heap: _,
+            history: _,
+            place: _,
+        } = self;
+    }
 }
 
 impl Model for Recorded {

@@ -14,7 +14,7 @@ use crate::free_list::{pop, sweep, thread};
 use crate::page::{PageRecord, free_on, is_usable};
 use graph_heap::NoMemory;
 use headers::Arena;
-use size_classes::Class;
+use size_classes::{CLASSES, Class};
 use std::alloc::Global;
 use std::marker::Model;
 
@@ -70,8 +70,8 @@ impl PageTable {
         'rows: for _ in 0..pages {
             rows.push(None)?;
         }
-        let mut usable = Vec::with_capacity(alloc, 38)?;
-        'classes: for _ in 0..38u8 {
+        let mut usable = Vec::with_capacity(alloc, CLASSES)?;
+        'classes: for _ in 0..CLASSES as u8 {
             let one = BitRow::new(alloc)?;
             usable.push(one)?;
         }
@@ -79,7 +79,7 @@ impl PageTable {
         for page in 0..pages as usize {
             free.set(page, true);
         }
-        let free_blocks = vec![in alloc; 0; 38]?;
+        let free_blocks = vec![in alloc; 0; CLASSES]?;
         Ok(PageTable {
             rows,
             usable,

@@ -13,6 +13,3 @@ pub use line::{do_line, is_event};
 pub use player::{Player, TickFault};
 pub use playing::{play, play_first};
 pub use style::Style;
-
-#[cfg(test)]
-mod tests;

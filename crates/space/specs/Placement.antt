@@ -20,7 +20,8 @@ MayLeave spare most leaving phases.Idle = leaving ≤ spare
 MayLeave spare most leaving (phases.Roots next) = leaving ≤ spare
 MayLeave spare most leaving (phases.Marking part cell) = leaving ≤ spare
 MayLeave spare most leaving (phases.Sweeping page block) = leaving ≤ spare
-MayLeave spare most leaving (phases.Moving (moves.Pass class page best chosen)) = (leaving ≤ chosen) × (chosen < spare) × (spare ≡ most)
+MayLeave spare most leaving (phases.Moving (moves.Pass class page best chosen)) =
+    (leaving ≤ chosen) × (chosen < spare) × (spare ≡ most)
 MayLeave spare most leaving (phases.Moving (moves.Emptying class page block chosen)) = (leaving ≤ chosen)
     × (chosen ≤ spare) × (spare ≡ most)
 
@@ -52,7 +53,8 @@ pub record IsTidy (s : Store) (objects : List Object) : Type 0 where
   pub shape : (b : ℕ) → is_held s b ≡ true → (node_of s b).shape ≡ (object_of objects (node_of s b).identity).shape
   pub one : (a b : ℕ) → is_held s a ≡ true → is_held s b ≡ true → (node_of s a).forward ≡ a → (node_of s b).forward ≡ b
       → (node_of s a).identity ≡ (node_of s b).identity → (node_of s a).part ≡ (node_of s b).part → a ≡ b
-  pub old : (b : ℕ) → is_held s b ≡ true → ((node_of s b).forward ≡ b) ⊎ (is_leaving (page_at s.pages (b / PAGE_WORDS)) ≡ true)
+  pub old : (b : ℕ) → is_held s b ≡ true
+      → ((node_of s b).forward ≡ b) ⊎ (is_leaving (page_at s.pages (b / PAGE_WORDS)) ≡ true)
 
 -- of the identities up to one, only these have a main copy
 abbrev pub KeepsOnly : Store → ℕ → List ℕ → Type 0

@@ -15,7 +15,7 @@ use crate::free_list::{is_taken, next_held};
 use crate::page;
 use crate::view::PageView;
 use headers::Arena;
-use size_classes::{Class, Need, Parts, class_of};
+use size_classes::{CLASSES, Class, Need, Parts, class_of};
 
 impl PageTable {
     /// How many pages there are.
@@ -62,7 +62,7 @@ impl PageTable {
         ensures { Tells self.now (λ pages. result ≡ has_room pages (λ class. slice_index need.now class)) }
     {
         let mut pages = 0u64;
-        for number in 0..38u8 {
+        for number in 0..CLASSES as u8 {
             let class = Class::new(number);
             pages += self.pages_for(class, need.blocks(class));
         }

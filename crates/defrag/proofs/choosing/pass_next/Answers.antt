@@ -20,13 +20,13 @@ go_to-requires c = let u = units_small c.args.heap.now c.requires.heap in omega 
 pub go_to-requires-2 : goal.go_to-requires-2
 go_to-requires-2 c = let u = units_small c.args.heap.now c.requires.heap in omega arith
 
-pub returns-then-class-ge38-clause-acts : goal.returns-then-class-ge38-clause-acts
-returns-then-class-ge38-clause-acts c =
+pub returns-then-class-clause-acts : goal.returns-then-class-clause-acts
+returns-then-class-clause-acts c =
     let a = c.args.heap.now in
     let most = (subst (IsWithin (state_of a)) c.requires.phase c.requires.heap.heap.stands.within).1 in
     runs_once a c.go_to.new.self c.args.room 1 c.requires.heap
     (subst (λ (x : RawHeap). Action (state_of a) 1 (state_of x)) (sym c.go_to.ensures)
-    (Ends_moving (No_class c.args.page c.args.candidate c.args.chosen (subst (λ z. a.phase ≡ phases.Moving (moves.Pass z c.args.page c.args.candidate c.args.chosen)) (omega (arith, c.if-class-ge38.true, most)) c.requires.phase))))
+    (Ends_moving (No_class c.args.page c.args.candidate c.args.chosen (subst (λ z. a.phase ≡ phases.Moving (moves.Pass z c.args.page c.args.candidate c.args.chosen)) (omega (arith, c.if-class.true, most)) c.requires.phase))))
     c.requires.room
 
 pub returns-then-left-eq0-clause-acts : goal.returns-then-left-eq0-clause-acts
@@ -35,7 +35,7 @@ returns-then-left-eq0-clause-acts c = runs_once c.args.heap.now c.look_next.new.
 pub returns-clause-acts : goal.returns-clause-acts
 returns-clause-acts c =
     let a = c.args.heap.now in let h = state_of a in let n = c.min-count.result in let page = c.args.page in let best = c.args.candidate in
-    let low = c.if-class-ge38.false in let left = c.if-left-eq0.false in let pages = c.pages.ensures.pages in let room = c.requires.room in
+    let low = c.if-class.false in let left = c.if-left-eq0.false in let pages = c.pages.ensures.pages in let room = c.requires.room in
     let few : n ≤ c.saturating_sub-left.result = omega (arith, c.min-count.ensures) in
     let some : 0 < n = omega (arith, c.min-count.ensures, left, room) in
     let found : looked_on a.nodes.pages c.args.class page best n ≡ c.look_on.result =

@@ -2,6 +2,7 @@ use Rattle.std.proofs.Common.{◌≡◌, ℕ, ◌+◌, ◌<◌, ◌++◌, ◌∷
 use Rattle.std.proofs.lemmas.List.{length_push}
 use Rattle.pages.specs.declared.bits.BitRow.{BitRow}
 use Rattle.pages.specs.declared.page.PageRecord.{PageRecord}
+use Rattle.size_classes.specs.declared.class.TheConstants.{CLASSES}
 use Rattle.pages.specs.Index.{class_bit, IsIndex}
 use Rattle.pages.proofs.Indexing.{fresh_book, none_more}
 use Rattle.pages.proofs.table.PageTable.new.Goals as goal
@@ -17,8 +18,8 @@ classes-preserved c =
 pub invariant_of-result : goal.invariant_of-result
 invariant_of-result c =
     let e : c.rows.rows.items ≡ replicate {A = Option PageRecord} c.args.pages None = c.rows.invariant ∙ ap (λ n. replicate {A = Option PageRecord} n None) (omega arith) in
-    let f : c.in_ok-free_blocks.free_blocks.items ≡ replicate 38 0 = search rules in
-    let all : c.classes.counter ≡ 38 = omega arith in
+    let f : c.in_ok-free_blocks.free_blocks.items ≡ replicate CLASSES 0 = search rules in
+    let all : c.classes.counter ≡ CLASSES = omega arith in
     let pages : c.loop-page.page ≡ c.args.pages = omega arith in
     subst (λ (l : List (Option PageRecord)). IsIndex l c.classes.usable.items c.loop-page.free c.in_ok-free_blocks.free_blocks.items c.args.pages) (sym e)
     (subst (λ (l : List ℕ). IsIndex (replicate c.args.pages None) c.classes.usable.items c.loop-page.free l c.args.pages) (sym f)

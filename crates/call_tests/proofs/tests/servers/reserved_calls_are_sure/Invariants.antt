@@ -1,5 +1,5 @@
 use Rattle.heap_server.specs.Opened.{names_of}
-use Rattle.heap_server.proofs.tests.reserved_calls_are_sure.Given as goal
+use Rattle.call_tests.proofs.tests.servers.reserved_calls_are_sure.Given as goal
 
 -- the names of what was just opened
 abbrev pub ghosts-six_calls : goal.ghosts-six_calls

@@ -1,31 +1,24 @@
-//! What no trace reaches: a tick that is refused memory and goes on, replies of a front of a trace, and of what lies
-//! below the texts of faults, of which the program has its own, and a write of no bytes.
+//! A tick that is refused memory and goes on, replies of a front of a trace, texts of faults, of which the program has its
+//! own, and a write of no bytes.
 use super::*;
 use graph_heap::NoMemory;
-use size_classes::{Config, Settings};
-use std::process::Abort;
+use player::{Player, Style, TickFault, play, play_first};
+use std::alloc::AllocGlobal;
 use std::test::Fail;
 use trace::{
     FailAt, LineFault, MemorySink, MemorySource, ReadFailed, Sink, TextFault, WriteFailed,
     WriteSink,
 };
 
-/// Four pages of four classes, and quanta of 260 units.
-const FOUR_PAGES: Settings = Settings {
-    pages: 4,
-    mutators: 2,
-    slots: 4,
-    statics: 1,
-    live: 2,
+/// Quanta of 260 units.
+const SLOW: Settings = Settings {
     rate: 26,
-    ..Settings::DEFAULTS
+    ..FOUR_PAGES
 };
 
+/// A new player.
 fn player(rt: &(impl Abort + AllocGlobal)) -> Result<Player, NoMemory> {
-    let Ok(config) = Config::check(&FOUR_PAGES) else {
-        panic!(rt; "the settings are good");
-    };
-    Player::new(rt.alloc(), &config)
+    Player::new(rt.alloc(), &config_of(rt, &SLOW))
 }
 
 /// The units of the last cycle.

@@ -1,54 +1,18 @@
-//! What no trace reaches: calls that the program doesn't make, memory that is refused in them, texts, and limits.
+//! A heap with its history, and the limits of cycles.
 use super::*;
-use graph_heap::{Command, NoMemory, Reply, Shape};
+use graph_heap::{NoMemory, Reply};
 use heap_model::phase::Phase;
-use size_classes::{Config, Settings};
-use std::process::Abort;
-
-mod memory;
-mod refusing;
-
-const ONE_PAGE: Settings = Settings {
-    slots: 9,
-    ..Settings::DEFAULTS
-};
+use machine::Recorded;
 
 const TWO_SLOTS: Settings = Settings {
     slots: 2,
     ..ONE_PAGE
 };
 
-/// The configuration of settings.
-fn config_of(rt: &impl Abort, settings: &Settings) -> Config {
-    let Ok(config) = Config::check(settings) else {
-        panic!(rt; "the settings are good");
-    };
-    config
-}
-
-/// A heap with its history, of such settings.
-fn recorded(rt: &(impl Abort + AllocGlobal), settings: &Settings) -> Result<Recorded, NoMemory> {
-    Recorded::new(rt.alloc(), &config_of(rt, settings))
-}
-
-/// A request for a plain object.
-fn plain(dst: u32, refs: u32, words: u32) -> Command {
-    let shape = Shape::Plain { refs, words };
-    Command::New { dst, shape }
-}
-
-/// A command of mutator 0.
-fn called(command: Command) -> Event {
-    Event::Command {
-        mutator: 0,
-        command,
-    }
-}
-
 /// An object is made behind the sweep, and is kept.
 #[test]
 fn events_are_done_in_their_order(rt: HostRuntime) -> Result<(), NoMemory> {
-    let mut heap = recorded(&rt, &TWO_SLOTS)?;
+    let mut heap = Recorded::new(rt.alloc(), &config_of(&rt, &TWO_SLOTS))?;
     let put = Command::Put {
         obj: 0,
         i: 0,

@@ -4,6 +4,7 @@ ghost use Rattle.std.specs.Prelude.{◌≡◌, ◌<◌, ◌≤◌};
 
 use super::*;
 use graph_heap::NoMemory;
+use heap_server::{Gate, play_threads};
 use std::sync::atomic::{AtomicU64, Ordering};
 use std::thread;
 

@@ -1,17 +1,11 @@
 //! What the collector is refused, and that nothing changes then.
-
 use super::*;
-use std::alloc::AllocError;
+use graph_heap::{NoMemory, Reply, Shape};
+use heap_model::phase::Phase;
+use machine::{BudgetOutOfRange, Busy, Heap, Spent};
+use std::alloc::{AllocError, AllocGlobal};
 use std::fmt::Display;
 use std::test::Fail;
-
-const MANY_SLOTS: Settings = Settings {
-    pages: 4,
-    mutators: 2,
-    live: 2,
-    slots: 256,
-    ..ONE_PAGE
-};
 
 /// The heap is in this phase, has spent so many units, and slot 0 holds its one object.
 fn unchanged(rt: &impl Abort, heap: &mut Heap, phase: Phase, units: u64) {

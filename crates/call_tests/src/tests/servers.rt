@@ -1,18 +1,108 @@
-//! Objects that fill pages, and a cycle, through one seat and the pacer.
+//! Servers, called from one thread: calls for which room is reserved; objects that fill pages, and a cycle, through one seat
+//! and the pacer.
 ghost use Rattle.std.specs.Prelude.{◌≡◌};
 ghost use Rattle.heap_server.specs.Opened.{names_of};
 
 use super::*;
+use graph_heap::{Refusal, Reply, Shape};
+use heap_model::phase::Phase;
+use heap_server::{Naming, Opening, Pacer, Seat, Server, ServerFault};
 use machine::{BudgetOutOfRange, Busy, Spent};
+use std::alloc::{AllocGlobal, Global};
+use std::marker::Brand;
+use std::sync::Wait;
 
-const ONE_PAGE: Settings = Settings {
-    pages: 1,
-    mutators: 1,
-    slots: 9,
-    statics: 0,
-    live: 1,
-    ..FOUR_PAGES
+/// Makes an object, puts it into the static if that is empty, and loads what the static holds.
+const RACE: [Command; 3] = [
+    Command::New {
+        dst: 0,
+        shape: Shape::Plain { refs: 0, words: 0 },
+    },
+    Command::CompareStatic {
+        k: 0,
+        expect: 1,
+        new: 0,
+    },
+    Command::LoadStatic { dst: 1, k: 0 },
+];
+
+/// The reply to a command from a seat, which is entered at this place.
+fn call<N: Naming, R: Wait + Abort>(
+    rt: &R,
+    server: &Server<N>,
+    seat: &mut Seat<N>,
+    place: usize,
+    command: Command,
+) -> Result<Reply, ServerFault> {
+    let receipt = server.call(seat, command, rt)?;
+    assert!(rt; receipt.place() == place);
+    assert!(rt; receipt.entry().mutator == seat.mutator() && receipt.entry().command == command);
+    Ok(receipt.entry().reply)
+}
+
+/// Reserves room for six calls, and makes them: a race for the static, from each of two seats.
+fn six_calls<N: Naming, R: Wait + Abort + AllocGlobal>(
+    rt: &R,
+    opening: Opening,
+) -> Result<(), ServerFault>
+    requires names { names_of opening ≡ N.names }
+{
+    let (server, mut seats, _pacer) = Server::<N>::new(rt.alloc(), opening)?;
+    server.reserve_history(6, rt)?;
+    for number in 0..3usize {
+        for seat in &mut seats {
+            let place = number * 2 + seat.mutator() as usize;
+            let command = RACE[number];
+            assert!(rt; seat.made() == number as u64);
+            assert!(rt; call(rt, &server, seat, place, command).is_ok());
+        }
+    }
+    Ok(())
+}
+
+#[test]
+fn reserved_calls_are_sure(rt: HostRuntime) -> Result<(), ServerFault> {
+    let config = config_of(&rt, &FOUR_PAGES);
+    six_calls::<Brand, _>(&rt, Opening::new(&config))
+}
+
+const LOAD: Command = Command::Load {
+    dst: 0,
+    obj: 0,
+    i: 0,
 };
+
+const COPY: Command = Command::Copy { dst: 1, src: 0 };
+
+const SAME: Command = Command::Same { a: 0, b: 1 };
+
+/// Three calls of one seat, which the other sees, and one of the other, which the first sees.
+fn seats_see<N: Naming, R: Wait + Abort + AllocGlobal>(
+    rt: &R,
+    opening: Opening,
+) -> Result<(), ServerFault>
+    requires names { names_of opening ≡ N.names }
+{
+    let (server, mut seats, _pacer) = Server::<N>::new(rt.alloc(), opening)?;
+    let (Some(mut second), Some(mut first)) = (seats.pop(), seats.pop()) else {
+        panic!(rt; "there are two seats");
+    };
+    assert!(rt; server.place_now(&mut first) == 0);
+    assert!(rt; call(rt, &server, &mut second, 0, plain(0, 0, 0))? == Reply::Made(1));
+    assert!(rt; call(rt, &server, &mut second, 1, COPY)? == Reply::Done);
+    assert!(rt; call(rt, &server, &mut second, 2, SAME)? == Reply::Is(true));
+    assert!(rt; server.place_now(&mut first) == 3);
+    assert!(rt; call(rt, &server, &mut first, 3, LOAD)? == Reply::Refused(Refusal::NullSlot));
+    assert!(rt; server.place_now(&mut second) == 4);
+    Ok(())
+}
+
+#[test]
+fn each_seat_sees_the_other(rt: HostRuntime) -> Result<(), ServerFault> {
+    let config = config_of(&rt, &FOUR_PAGES);
+    assert!(&rt; ServerFault::NoMemory.number() == 9 && ServerFault::Torn(5).number() == 10);
+    seats_see::<Brand, _>(&rt, Opening::new(&config))
+}
 
 /// Blocks are moved where fewer than four pages are free, so after each sweep.
 const SPARSE: Settings = Settings {

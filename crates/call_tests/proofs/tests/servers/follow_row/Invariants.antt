@@ -1,5 +1,5 @@
 use Rattle.heap_server.specs.Opened.{names_of}
-use Rattle.heap_server.proofs.tests.rows.follow_row.Given as goal
+use Rattle.call_tests.proofs.tests.servers.follow_row.Given as goal
 
 -- the names of what was just opened
 abbrev pub ghosts-follow : goal.ghosts-follow

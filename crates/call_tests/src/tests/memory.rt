@@ -1,7 +1,8 @@
 //! Heaps where memory may be refused: it is said so, and nothing has changed then.
-
 use super::*;
-use graph_heap::{Entry, Reference};
+use graph_heap::{Entry, NoMemory, Reference, Reply};
+use machine::Recorded;
+use std::alloc::AllocGlobal;
 
 /// The slow heap does a command and accepts another, or says that memory was refused and does it when asked again.
 #[test]
@@ -27,6 +28,11 @@ fn of_a_slow_heap(rt: HostRuntime) -> Result<(), NoMemory> {
     Ok(())
 }
 
+/// A page with its history.
+fn recorded(rt: &(impl Abort + AllocGlobal)) -> Result<Recorded, NoMemory> {
+    Recorded::new(rt.alloc(), &config_of(rt, &ONE_PAGE))
+}
+
 /// The reply to a command of mutator 0.
 fn told(heap: &mut Recorded, command: Command) -> Result<Reply, NoMemory> {
     Ok(heap.call(0, command)?.entry().reply)
@@ -35,7 +41,7 @@ fn told(heap: &mut Recorded, command: Command) -> Result<Reply, NoMemory> {
 /// Calls for which room was made are all done.
 #[test]
 fn of_reserved_calls(rt: HostRuntime) -> Result<(), NoMemory> {
-    let mut heap = recorded(&rt, &ONE_PAGE)?;
+    let mut heap = recorded(&rt)?;
     heap.reserve(40)?;
     for k in 0..40usize {
         assert!(&rt; told(&mut heap, Command::Clear { dst: 0 }).is_ok(), "{k}");
@@ -46,7 +52,7 @@ fn of_reserved_calls(rt: HostRuntime) -> Result<(), NoMemory> {
 /// A call that is refused memory leaves history and heap, and is done when it is asked again.
 #[test]
 fn of_calls(rt: HostRuntime) -> Result<(), NoMemory> {
-    let mut heap = recorded(&rt, &ONE_PAGE)?;
+    let mut heap = recorded(&rt)?;
     for k in 0..40usize {
         let made = Reply::Made(k as u64 + 1);
         let Ok(reply) = told(&mut heap, plain(0, 0, 0)) else {

@@ -12,6 +12,7 @@ HEAD = re.compile(r"\b(?:(fn)\s+(\w+)|(mod)\s+(\w+)\s*\{|(impl|trait)\b([^{;]*)\
 # A clause of a contract, up to its brace.
 CLAUSE = re.compile(r"\b(?:(?:requires|ensures)\b\*?\s*\w*|ghost\s+\w+\s*:)\s*$")
 TYPE = re.compile(r"(?:\w+::)*(\w+)")
+# Where a type is declared.
 DECLARED = re.compile(r"^\s*(?:pub(?:\([a-z]+\))?\s+)?(?:struct|enum|trait)\s+(\w+)", re.M)
 
 

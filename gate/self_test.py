@@ -70,11 +70,27 @@ pub fn seven() -> u32
 """
 SPECS = "use Prim.Native.Nat.{ℕ, ◌*◌}\n\nabbrev pub limit_of : ℕ → ℕ\nlimit_of n = 2 * n\n"
 ANSWERS = "use Rattle.told.proofs.named.Goals as goal\n\npub returns : goal.returns\nreturns c = c.more-it.ensures\n"
+LEMMA = """-- The limit of three.
+use Rattle.std.proofs.Common.{◌≡◌, refl}
+use Rattle.told.specs.Limit.{limit_of}
+
+pub of_three : 6 ≡ limit_of 3
+of_three = refl
+"""
+CITES = """use Rattle.told.proofs.Limits.{of_three}
+use Rattle.told.proofs.limit.Goals as goal
+
+pub returns : goal.returns
+returns c = record { value = of_three }
+"""
 FILES = {
     "crates.txt": "told:\n",
     "crates/told/src/lib.rt": LIB,
     "crates/told/specs/Lib.antt": "pub mod Limit\n",
     "crates/told/specs/Limit.antt": SPECS,
+    "crates/told/proofs/Lib.antt": "pub mod Limits\n",
+    "crates/told/proofs/Limits.antt": LEMMA,
+    "crates/told/proofs/limit/Answers.antt": CITES,
     "crates/told/proofs/named/Answers.antt": ANSWERS,
 }
 # An edit's name, what it turns into what, and what it is to come to. Those of one function go into several rounds.
@@ -91,13 +107,19 @@ CASES = [
     ("says_what_refuses_it", "2 * n", "8 * n", verdicts.REFUSED),
     ("says_what_does_not_refuse_it", "2 * n", "6 * n", verdicts.REFUSED),
     ("says_what_would_refuse_another", "2 * n", "n * 2", verdicts.NOT_REFUSED),
+    ("says_what_refuses_what_cannot_be_read", "2 * n", "2 * m", verdicts.BAD),
     ("sums_to_seven_too", "4 + 3", "2 + 5", verdicts.NOT_REFUSED),
     ("has_another_type", "1 - 1", "true", verdicts.BAD),
     ("is_nowhere", "8 + 8", "9 + 9", verdicts.BAD),
 ]
 
 # The functions that edits say refuse them.
-REFUSED_BY = {"says_what_refuses_it": "limit", "says_what_does_not_refuse_it": "seven", "says_what_would_refuse_another": "limit"}
+REFUSED_BY = {
+    "says_what_refuses_it": "limit",
+    "says_what_does_not_refuse_it": "seven",
+    "says_what_would_refuse_another": "limit",
+    "says_what_refuses_what_cannot_be_read": "limit",
+}
 
 
 def crate_in(room):

@@ -160,12 +160,14 @@ def first_fault(said):
 
 
 def of_named(trial, said):
-    """What the run came to over the functions that an edit says refuse it: they, or lemmas on which they rest, aren't proved; else
-    it is to be tried over the whole crate."""
+    """What the run came to over the functions that an edit says refuse it: they, or lemmas on which they rest, aren't proved; else,
+    or where the edited text can't be read, it is to be tried over the whole crate."""
+    edit = trial.edits[0]
     kind, why = verdicts.verdict(trial.asked, verdicts.told(said))
     lost = verdicts.refuted(said)
-    if verdicts.ended(said) and (kind == verdicts.REFUSED or lost):
-        return [Result(trial.edits[0], verdicts.REFUSED, why if kind == verdicts.REFUSED else verdicts.clauses(lost))], [], []
+    reads = verdicts.ended(said) and not any(rt.unread(line, edit.texts) for line in said.split("\n"))
+    if reads and (kind == verdicts.REFUSED or lost):
+        return [Result(edit, verdicts.REFUSED, why if kind == verdicts.REFUSED else verdicts.clauses(lost))], [], []
     return [], [Trial(trial.crate, trial.edits, [()])], []
 
 

@@ -1,5 +1,5 @@
-//! Servers, called from one thread: calls for which room is reserved; objects that fill pages, and a cycle, through one seat
-//! and the pacer.
+//! Servers, called from one thread: calls for which room is reserved; what each of two seats sees of the other's calls; objects
+//! that fill pages, and a cycle, through one seat and the pacer.
 ghost use Rattle.std.specs.Prelude.{◌≡◌};
 ghost use Rattle.heap_server.specs.Opened.{names_of};
 

@@ -128,10 +128,15 @@ def types_of(texts):
 
 
 @functools.cache
+def types_below(folder):
+    """The modules that declare a type in a crate's folder, by its name."""
+    return types_of(texts_of(folder))
+
+
+@functools.cache
 def functions_below(folder):
     """The functions of each file of src/ in a crate's folder, by its path in it."""
-    texts = texts_of(folder)
-    types = types_of(texts)
+    texts, types = texts_of(folder), types_below(folder)
     return {path: [named_apart(it, module_of(path), types) for it in functions_of(text, path)] for path, text in texts.items()}
 
 
@@ -143,6 +148,13 @@ def named_apart(function, module, types):
         return function
     nearest = max(modules, key=lambda it: len(os.path.commonprefix([it, module])))
     return replace(function, path="::".join([*nearest, function.path]))
+
+
+def proofs_of(folder, path):
+    """The folder, in a crate's folder, that holds the proofs of the function with this path; None where its type isn't of the crate."""
+    name = path.partition("::")[0]
+    modules = types_below(folder).get(name, []) if name[0].isupper() else [[]]
+    return "/".join(["proofs", *modules[0], *path.split("::")]) if modules else None
 
 
 def turned_by(edit):

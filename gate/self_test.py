@@ -68,7 +68,7 @@ pub fn seven() -> u32
     4 + 3
 }
 """
-SPECS = "use Prim.Native.Nat.{ℕ, ◌*◌}\n\nabbrev pub limit_of : ℕ → ℕ\nlimit_of n = 2 * n\n"
+SPECS = "use Prim.Native.Nat.{ℕ, ◌+◌, ◌*◌}\n\nabbrev pub limit_of : ℕ → ℕ\nlimit_of n = 2 * n\n"
 ANSWERS = "use Rattle.told.proofs.named.Goals as goal\n\npub returns : goal.returns\nreturns c = c.more-it.ensures\n"
 LEMMA = """-- The limit of three.
 use Rattle.std.proofs.Common.{◌≡◌, refl}
@@ -107,6 +107,7 @@ CASES = [
     ("says_what_refuses_it", "2 * n", "8 * n", verdicts.REFUSED),
     ("says_what_does_not_refuse_it", "2 * n", "6 * n", verdicts.REFUSED),
     ("says_what_would_refuse_another", "2 * n", "n * 2", verdicts.NOT_REFUSED),
+    ("says_what_has_no_answers", "2 * n", "n + n", verdicts.NOT_REFUSED),
     ("says_what_refuses_what_cannot_be_read", "2 * n", "2 * m", verdicts.BAD),
     ("sums_to_seven_too", "4 + 3", "2 + 5", verdicts.NOT_REFUSED),
     ("has_another_type", "1 - 1", "true", verdicts.BAD),
@@ -118,6 +119,7 @@ REFUSED_BY = {
     "says_what_refuses_it": "limit",
     "says_what_does_not_refuse_it": "seven",
     "says_what_would_refuse_another": "limit",
+    "says_what_has_no_answers": "seven",
     "says_what_refuses_what_cannot_be_read": "limit",
 }
 

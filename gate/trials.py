@@ -1,7 +1,9 @@
 """The trials: bodies of several functions turned at once in a copy of their crate, or one edit by itself."""
+import copy
 import itertools
 import os
 import re
+import shutil
 import signal
 import tempfile
 from dataclasses import dataclass
@@ -12,6 +14,9 @@ from kit import rt
 
 # How many bodies are turned at once, at most: more would leave threads without work at a run's end.
 MOST = 16
+
+# Answers that hold a fault: where a function's don't, and it isn't proved, the prover runs once more to offer some.
+FAULTY = f"use Rattle.std.proofs.Common.{{ℕ}}\n\n{verdicts.FAULT} : ℕ\n{verdicts.FAULT} = ℕ\n"
 
 # What `rt` writes before why an edit came to what it did.
 LABEL = re.compile(r"^must-fail \S+: (?:refused, as it must be|NOT REFUSED|BAD EDIT|NOT TRIED)[: ]*")
@@ -108,12 +113,31 @@ def over_nothing(crate, call):
     return call(folder)
 
 
+def unanswered(trial):
+    """The folders of proofs of the functions that a trial turns or says to refuse it, and for which nothing is written."""
+    folder = trial.crate.folder
+    found = {it for path in trial.asked if (it := functions.proofs_of(folder, path))}
+    return [it for it in found if not any(os.path.exists(f"{folder}/{it}/{name}.antt") for name in ("Answers", "Proof"))]
+
+
+def checked(trial, flags, kept):
+    """What the prover says of the crate with all of a trial's edits, and with faulty answers where none are written."""
+    crate, faulty = copy.copy(trial.crate), unanswered(trial)
+    with tempfile.TemporaryDirectory(prefix="wrong-bodies-") as crate.folder:
+        for part in rt.rtlib.PARTS:
+            if os.path.isdir(f"{trial.crate.folder}/{part}"):
+                shutil.copytree(f"{trial.crate.folder}/{part}", f"{crate.folder}/{part}")
+        for folder in faulty:
+            os.makedirs(f"{crate.folder}/{folder}", exist_ok=True)
+        return rt.checked(crate, turned(trial) | {f"{it}/Answers.antt": FAULTY for it in faulty}, flags, kept)
+
+
 def ask(trial, asked, threads):
     """What the prover says of some functions of the crate with all of a trial's edits."""
     flags = ["--jobs", str(threads), *[word for it in asked for word in ("--only", it)]]
     over = over_nothing if trial.leads else over_kept
     for _ in range(2):
-        ran = over(trial.crate, lambda kept: rt.checked(trial.crate, turned(trial), flags, kept))
+        ran = over(trial.crate, lambda kept: checked(trial, flags, kept))
         # (killed, most likely for memory)
         if ran.returncode != -signal.SIGKILL:
             break

@@ -13,6 +13,10 @@ UNTURNED = "ISN'T PROVED, though no edit turned it"
 # A try with others says nothing of the edit, so it is tried by itself.
 UNSETTLED = "unsettled"
 
+# The declaration that faulty answers hold.
+FAULT = "holds_a_fault"
+# What of a function's search failed, which the prover tells above the function's line.
+UNMET = re.compile(r"^note: src/\S+: .*(?:not proved|no proof).*\(`([^`]+)`\)", re.M)
 LINE = re.compile(r"^fn (\S+): (proved|not proved|no proof|could not tell)\b(.*)$", re.M)
 OF_OTHERS = re.compile(r"which (?:is|are) not proved$")
 LEFT = re.compile(r"`search` did not prove ((?:`[^`]+`(?:, )?(?:and )?)+)")
@@ -46,13 +50,15 @@ def folder_of(name):
 
 def told(text):
     """What a run said of each function, by its name as it is printed."""
-    errors, functions = {}, {}
+    errors, functions, above = {}, {}, 0
     for folder, goal, why in ERROR.findall(text):
         errors.setdefault(folder, []).append((goal, why))
-    for name, state, rest in LINE.findall(text):
+    for line in LINE.finditer(text):
+        name, state, rest = line.groups()
         own = "; ".join(it for it in rest.split("; ") if not OF_OTHERS.search(it))
         left = [goal for found in LEFT.findall(own) for goal in re.findall(r"`([^`]+)`", found)]
-        mine = errors.get(folder_of(name), [])
+        left += UNMET.findall(text, above, line.start())
+        mine, above = [it for it in errors.get(folder_of(name), []) if it[0] != FAULT], line.end()
         left += [goal or "its proof" for goal, why in mine if not WENT.search(why)]
         functions[name] = Function(state, left, [goal or why for goal, why in mine if WENT.search(why)])
     return functions
@@ -60,7 +66,7 @@ def told(text):
 
 def refuted(text):
     """The goals and lemmas of which a run said that their proof is none, but for those that name what went."""
-    return [goal or "a proof" for goal, why in PROOF_ERROR.findall(text) if not WENT.search(why)]
+    return [goal or "a proof" for goal, why in PROOF_ERROR.findall(text) if goal != FAULT and not WENT.search(why)]
 
 
 def ended(text):

@@ -1,2 +1,3 @@
 mod Figures
 pub mod Linking
+pub mod Stepping

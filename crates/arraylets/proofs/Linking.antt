@@ -1,5 +1,5 @@
 -- Parts made, each linked into its spine.
-use Rattle.std.proofs.Common.{◌≡◌, ◌≢◌, ◌⊎◌, inl, inr, ℕ, ◌+◌, ◌-◌, ◌/◌, ◌<◌, ◌≤◌, Bool, true, false, length, get_or, ap, ◌∙◌, sym, subst, arith, refl, length-set, ◌==◌, if◌then◌else◌}
+use Rattle.std.proofs.Common.{◌≡◌, ◌≢◌, ◌⊎◌, inl, inr, ℕ, ◌+◌, ◌/◌, ◌<◌, ◌≤◌, Bool, true, false, length, get_or, ap, ◌∙◌, sym, subst, arith, refl, length-set, ◌==◌, if◌then◌else◌}
 use Rattle.std.specs.Prelude.{List, Option, Some, None, IsSome, IsNone, IfSome, ◌↔◌}
 use Rattle.std.proofs.lemmas.List.{length-replicate}
 use Rattle.std.proofs.Math.Nat.{eq-zero-or-pos}
@@ -14,7 +14,7 @@ use Rattle.heap_model.specs.Store.{Store, is_held, node_of, Writes, Adds}
 use Rattle.heap_model.specs.Pages.{Page, TakesBlock}
 use Rattle.heap_model.specs.Taking.{Takes, Nothing_taken, Part_taken}
 use Rattle.heap_model.specs.Header.{ShapeFits}
-use Rattle.heap_model.specs.Making.{Making, MakesObject, Nothing_made, Part_made}
+use Rattle.heap_model.specs.Making.{made, Making, MakesObject, Nothing_made, Part_made}
 use Rattle.heap_model.proofs.Seen.{held_pages}
 use Rattle.nodes.specs.Links.{KeepsLinks}
 use Rattle.arraylets.specs.Made.{MakesPart}
@@ -93,8 +93,16 @@ module _ (s t : Store) (shape : Shape) (part address : ℕ) (node : Node) (added
       let l : seat_of (cells_of shape) part < length (node_of t (get_or spines (holder_of (cells_of shape) part) 0)).cells = subst (λ n. seat_of (cells_of shape) part < n) (sym e) (spine_before shape part f some below).2 in
       subst (λ k. cell < length (node_of t (get_or spines k 0)).cells) (sym es) (subst (λ c. c < length (node_of t (get_or spines (holder_of (cells_of shape) part) 0)).cells) (sym ec) l)
 
+-- the part is written where the spine has it
+pub written_by : (s t : Store) (shape : Shape) (part : ℕ) (spines : List ℕ) (spine cell address : ℕ) → spine ≡ holder_of (cells_of shape) part → cell ≡ seat_of (cells_of shape) part
+    → Writes s t (get_or spines spine 0) (with_cell (node_of s (get_or spines spine 0)) cell (address + 1))
+    → Writes s t (get_or spines (holder_of (cells_of shape) part) 0) (with_cell (node_of s (get_or spines (holder_of (cells_of shape) part) 0)) (seat_of (cells_of shape) part) (address + 1))
+written_by s t shape part spines spine cell address es ec w =
+    subst (λ k. Writes s t (get_or spines k 0) (with_cell (node_of s (get_or spines k 0)) (seat_of (cells_of shape) part) (address + 1))) es
+    (subst (λ i. Writes s t (get_or spines spine 0) (with_cell (node_of s (get_or spines spine 0)) i (address + 1))) ec w)
+
 -- one part is made
-module _ (old new : Store) (shape : Shape) (colour : Bool) (id : ℕ) (spines : ℕ → ℕ) (part address : ℕ) (w : MakesPart old shape colour id spines part address new) where
+module _ (old new : Store) (shape : Shape) (colour : Bool) (id : ℕ) (spines : ℕ → ℕ) (part address : ℕ) (w : MakesPart old (made shape colour id) spines part address new) where
   abbrev Stands : Store → ℕ → ℕ → Type 0
   Stands s b k = (is_held s b ≡ true) × (length (node_of s b).cells ≡ part_cells (cells_of shape) k)
 
@@ -127,7 +135,7 @@ module _ (old : Store) (shape : Shape) (colour : Bool) (id : ℕ) (at at' : ℕ 
   abbrev spine_of : ℕ → ℕ
   spine_of part = holder_of (cells_of shape) part
 
-  making_at : (parts : ℕ) (new : Store) → parts ≤ parts_in (cells_of shape) → ((p : ℕ) → p < parts → at p ≡ at' p) → Making old shape colour id at parts new → Making old shape colour id at' parts new
+  making_at : (parts : ℕ) (new : Store) → parts ≤ parts_in (cells_of shape) → ((p : ℕ) → p < parts → at p ≡ at' p) → Making old (made shape colour id) at parts new → Making old (made shape colour id) at' parts new
   making_at parts new few same Nothing_made = Nothing_made
   making_at parts new few same (Part_made k s t u m a none some) =
       Part_made k s t u (making_at k s (omega arith) (λ p l. same p (omega arith)) m)
@@ -146,7 +154,7 @@ taking_at cells at at' old parts new same (Part_taken part class index s t takes
 pub record Made (old : Store) (shape : Shape) (colour : Bool) (id : ℕ) (spines : List ℕ) (parts : ℕ) (new : Store) : Type 0 where
   pub at : ℕ → ℕ
   pub known : (p : ℕ) → p < parts → p < 64 → get_or spines p 0 ≡ at p
-  pub making : Making old shape colour id at parts new
+  pub making : Making old (made shape colour id) at parts new
   pub takes : Takes (cells_of shape) at old.pages parts new.pages
   pub stands : (p : ℕ) → p < parts → (is_held new (at p) ≡ true) × (length (node_of new (at p)).cells ≡ part_cells (cells_of shape) p)
   pub held : (b : ℕ) → is_held old b ≡ true → is_held new b ≡ true
@@ -171,7 +179,7 @@ module _ (old s t : Store) (shape : Shape) (colour : Bool) (id : ℕ) (spines sp
       let e = m.known (holder_of (cells_of shape) part) q.0 q.1 in
       subst (λ b. (is_held s b ≡ true) × (length (node_of s b).cells ≡ part_cells (cells_of shape) (holder_of (cells_of shape) part))) (sym e) (m.stands (holder_of (cells_of shape) part) q.0)
 
-  module _ (w : MakesPart s shape colour id (λ p. get_or spines p 0) part address t)
+  module _ (w : MakesPart s (made shape colour id) (λ p. get_or spines p 0) part address t)
       (taken : (class : ℕ) × (index : ℕ) × (class_for (part_words (cells_of shape) part) ≡ Some class) × TakesBlock s.pages class (address / 2048) index t.pages)
       (here : part < 64 → get_or spines' part 0 ≡ address) (others : (p : ℕ) → p ≢ part → get_or spines' p 0 ≡ get_or spines p 0) where
     abbrev at' : ℕ → ℕ
@@ -226,7 +234,7 @@ pub all_made : (old new : Store) (shape : Shape) (colour : Bool) (id : ℕ) (spi
 all_made old new shape colour id spines parts m e some = (
   m.at,
   sym (m.known 0 some (omega arith)),
-  subst (λ n. Making old shape colour id m.at n new) e m.making,
+  subst (λ n. Making old (made shape colour id) m.at n new) e m.making,
   subst (λ n. Takes (cells_of shape) m.at old.pages n new.pages) e m.takes,
 )
 
@@ -238,6 +246,6 @@ pub one_made : (s t : Store) (address : ℕ) (shape : Shape) (colour : Bool) (id
 one_made s t address shape colour id one added taken = (
   λ p. address,
   refl,
-  subst (λ n. Making s shape colour id (λ p. address) n t) (sym one) (Part_made 0 s t t Nothing_made added (λ e. refl) (λ l. absurd (omega arith))),
+  subst (λ n. Making s (made shape colour id) (λ p. address) n t) (sym one) (Part_made 0 s t t Nothing_made added (λ e. refl) (λ l. absurd (omega arith))),
   subst (λ n. Takes (cells_of shape) (λ p. address) s.pages n t.pages) (sym one) (Part_taken 0 taken.0 taken.1 s.pages t.pages Nothing_taken taken.2 taken.3),
 )

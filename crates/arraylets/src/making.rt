@@ -9,7 +9,7 @@ ghost use Rattle.heap_model.specs.Block.{new_node};
 ghost use Rattle.heap_model.specs.Pages.{has_room, TakesBlock};
 ghost use Rattle.heap_model.specs.Room.{needed_from};
 ghost use Rattle.heap_model.specs.Store.{Store, is_held, node_of, Adds};
-ghost use Rattle.heap_model.specs.Making.{MakesObject};
+ghost use Rattle.heap_model.specs.Making.{made, MakesObject};
 ghost use Rattle.heap_model.specs.Taking.{Takes};
 ghost use Rattle.nodes.specs.Links.{KeepsLinks};
 ghost use Rattle.arraylets.specs.Made.{MakesPart};
@@ -73,7 +73,8 @@ fn make_linked(
     requires cells { 0 < part → length
         (node_of nodes.old (slice_index spines.now (holder_of (cells_of shape) part))).cells
         ≡ part_cells (cells_of shape) (holder_of (cells_of shape) part) }
-    ensures made { MakesPart nodes.old shape colour identity (λ p. slice_index spines.now p) part result nodes.new }
+    ensures made { MakesPart nodes.old (made shape colour identity) (λ p. slice_index spines.now p) part result
+        nodes.new }
     ensures taken { (class : ℕ) × (index : ℕ) × (class_for (part_words (cells_of shape) part) ≡ Some class)
         × TakesBlock nodes.old.pages class (result / 2048) index nodes.new.pages }
     ensures room { has_room nodes.new.pages (needed_from (cells_of shape) (part + 1) (parts_in (cells_of shape)))

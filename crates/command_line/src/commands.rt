@@ -1,171 +1,274 @@
-//! The command line as `clap` reads it.
+//! The command line as `clap` reads it: a row for each subcommand, and for each of its arguments.
 use clap::{Arg, ArgAction, Command, value_parser};
 use std::alloc::{AllocError, Global};
 
-/// The program, with its subcommands.
-pub fn program<'a>(alloc: Global) -> Result<Command<'a>, AllocError> {
-    Command::new(alloc, "metronome")
-        .about("A real-time garbage-collected heap: plays, checks and measures its traces")
-        .version("1.0")
-        .subcommand_required(true)
-        .subcommand(play(alloc)?)?
-        .subcommand(check(alloc)?)?
-        .subcommand(threads(alloc)?)?
-        .subcommand(inspect(alloc)?)?
-        .subcommand(cycles(alloc)?)?
-        .subcommand(path(alloc)?)?
-        .subcommand(mmu(alloc)?)?
-        .subcommand(draw(alloc)?)?
-        .subcommand(pages(alloc)?)
+/// How an argument is given.
+#[derive(Clone, Copy)]
+enum Form {
+    /// A word in its place, which is needed.
+    Place,
+    /// A number in its place, which is needed.
+    Number,
+    /// One number or more in their places, which are needed.
+    Numbers,
+    /// The name alone.
+    Flag,
+    /// The name and a word, which help calls by this one.
+    Word(&'static str),
+    /// The same, which is needed.
+    Needed(&'static str),
+    /// The name and a word, which help calls by the first of these, or else the second.
+    WordOr(&'static str, &'static str),
+    /// The name and a number, which help calls by this word.
+    Figure(&'static str),
+    /// The name and a number, which help calls by the first of these words, or else the second.
+    FigureOr(&'static str, &'static str),
 }
 
-/// A file that a subcommand needs.
-fn file<'a>(alloc: Global, name: &'a str, help: &'a str) -> Arg<'a> {
-    Arg::new(alloc, name).required(true).help(help)
-}
-
-fn config<'a>(alloc: Global) -> Arg<'a> {
-    file(alloc, "CONFIG", "The configuration, in TOML")
-}
-
-fn trace<'a>(alloc: Global) -> Arg<'a> {
-    file(alloc, "TRACE", "The trace, or - for standard input")
-}
-
-/// A number that may be given after a name.
-fn number<'a>(alloc: Global, name: &'a str, value: &'a str, help: &'a str) -> Arg<'a> {
-    Arg::new(alloc, name)
-        .long(name)
-        .value_name(value)
-        .value_parser(value_parser!(u32))
-        .help(help)
-}
-
-/// A word that may be given or not.
-fn flag<'a>(alloc: Global, name: &'a str, help: &'a str) -> Arg<'a> {
-    Arg::new(alloc, name)
-        .long(name)
-        .action(ArgAction::SetTrue)
-        .help(help)
-}
-
-/// Whether the progress is told, which each subcommand may be asked for.
-fn progress<'a>(alloc: Global) -> Arg<'a> {
-    let help = "Tell on standard error how many lines were read";
-    flag(alloc, "progress", help)
+/// An argument.
+#[derive(Clone, Copy)]
+struct Given {
+    name: &'static str,
+    form: Form,
+    help: &'static str,
 }
 
 /// A subcommand that goes over a file.
-fn over<'a>(
-    alloc: Global,
-    name: &'a str,
-    about: &'a str,
-    file: Arg<'a>,
-) -> Result<Command<'a>, AllocError> {
-    Command::new(alloc, name)
-        .about(about)
-        .arg(config(alloc))?
-        .arg(file)?
-        .arg(progress(alloc))
+#[derive(Clone, Copy)]
+struct Subcommand {
+    name: &'static str,
+    about: &'static str,
+    file: Given,
+    more: &'static [Given],
 }
 
-/// A subcommand that plays a trace.
-fn playing<'a>(alloc: Global, name: &'a str, about: &'a str) -> Result<Command<'a>, AllocError> {
-    over(alloc, name, about, trace(alloc))
-}
+const CONFIG: Given = Given {
+    name: "CONFIG",
+    form: Form::Place,
+    help: "The configuration, in TOML",
+};
 
-fn play<'a>(alloc: Global) -> Result<Command<'a>, AllocError> {
-    let help = "Write the entry of each command, and not its reply alone";
-    let history = flag(alloc, "history", help);
-    playing(alloc, "play", "Play a trace and write its replies")?.arg(history)
-}
+const TRACE: Given = Given {
+    name: "TRACE",
+    form: Form::Place,
+    help: "The trace, or - for standard input",
+};
 
-fn check<'a>(alloc: Global) -> Result<Command<'a>, AllocError> {
-    let history = file(alloc, "HISTORY", "The history, or - for standard input");
-    over(alloc, "check", "Check the replies of a history", history)
-}
-
-fn threads<'a>(alloc: Global) -> Result<Command<'a>, AllocError> {
-    let budget = "Units of each quantum, 256 to 1000000";
-    turning(alloc)?.arg(number(alloc, "budget", "B", budget).default_value("256"))
-}
-
-/// The subcommand on scripts, with its number of quanta.
-fn turning<'a>(alloc: Global) -> Result<Command<'a>, AllocError> {
-    let turns = "Quanta of the collector, 0 to 10000";
-    scripting(alloc)?.arg(number(alloc, "turns", "N", turns).default_value("100"))
-}
-
-/// The subcommand on scripts.
-fn scripting<'a>(alloc: Global) -> Result<Command<'a>, AllocError> {
-    let about = "Run scripts on threads and write their history";
-    let scripts = file(alloc, "SCRIPTS", "The scripts, or - for standard input");
-    over(alloc, "threads", about, scripts)
-}
+/// Whether the progress is told, which each subcommand may be asked for.
+const PROGRESS: Given = Given {
+    name: "progress",
+    form: Form::Flag,
+    help: "Tell on standard error how many lines were read",
+};
 
 /// How many event lines are played, if not all.
-fn after<'a>(alloc: Global) -> Arg<'a> {
-    number(alloc, "after", "N", "Play the first N event lines only")
+const AFTER: Given = Given {
+    name: "after",
+    form: Form::Figure("N"),
+    help: "Play the first N event lines only",
+};
+
+const PLAY: Subcommand = Subcommand {
+    name: "play",
+    about: "Play a trace and write its replies",
+    file: TRACE,
+    more: &[Given {
+        name: "history",
+        form: Form::Flag,
+        help: "Write the entry of each command, and not its reply alone",
+    }],
+};
+
+const CHECK: Subcommand = Subcommand {
+    name: "check",
+    about: "Check the replies of a history",
+    file: Given {
+        name: "HISTORY",
+        form: Form::Place,
+        help: "The history, or - for standard input",
+    },
+    more: &[],
+};
+
+const THREADS: Subcommand = Subcommand {
+    name: "threads",
+    about: "Run scripts on threads and write their history",
+    file: Given {
+        name: "SCRIPTS",
+        form: Form::Place,
+        help: "The scripts, or - for standard input",
+    },
+    more: &[
+        Given {
+            name: "turns",
+            form: Form::FigureOr("N", "100"),
+            help: "Quanta of the collector, 0 to 10000",
+        },
+        Given {
+            name: "budget",
+            form: Form::FigureOr("B", "256"),
+            help: "Units of each quantum, 256 to 1000000",
+        },
+    ],
+};
+
+const INSPECT: Subcommand = Subcommand {
+    name: "inspect",
+    about: "Play a trace and report the heap",
+    file: TRACE,
+    more: &[
+        Given {
+            name: "by",
+            form: Form::WordOr("PART", "page"),
+            help: "By what to report: page or size",
+        },
+        AFTER,
+    ],
+};
+
+const CYCLES: Subcommand = Subcommand {
+    name: "cycles",
+    about: "Play a trace and tell of each cycle",
+    file: TRACE,
+    more: &[Given {
+        name: "csv",
+        form: Form::Flag,
+        help: "Write commas between the figures",
+    }],
+};
+
+const PATH: Subcommand = Subcommand {
+    name: "path",
+    about: "Play a trace and tell why an object is alive",
+    file: TRACE,
+    more: &[
+        Given {
+            name: "ID",
+            form: Form::Number,
+            help: "The identity of the object, as the replies name it",
+        },
+        AFTER,
+    ],
+};
+
+const MMU: Subcommand = Subcommand {
+    name: "mmu",
+    about: "Play a trace and write the least that mutators have of windows",
+    file: TRACE,
+    more: &[Given {
+        name: "WINDOW",
+        form: Form::Numbers,
+        help: "Windows, each of 1 to 1099511627776 ticks",
+    }],
+};
+
+const DRAW: Subcommand = Subcommand {
+    name: "draw",
+    about: "Play a trace and draw a picture",
+    file: TRACE,
+    more: &[
+        Given {
+            name: "as",
+            form: Form::Needed("PICTURE"),
+            help: "The picture: graph, pages, time or utilisation",
+        },
+        AFTER,
+        Given {
+            name: "most",
+            form: Form::Figure("N"),
+            help: "Draw at most N objects of a graph, 500 if not said",
+        },
+    ],
+};
+
+const PAGES: Subcommand = Subcommand {
+    name: "pages",
+    about: "Play a trace and tell how many pages suffice for it",
+    file: TRACE,
+    more: &[
+        Given {
+            name: "pace",
+            form: Form::Flag,
+            help: "Tell what the pace needs, whenever its cycles begin",
+        },
+        Given {
+            name: "load",
+            form: Form::Word("FILE"),
+            help: "Tell what the load in this file needs, in TOML, and whether the trace keeps to it",
+        },
+    ],
+};
+
+/// In the order of help.
+const SUBCOMMANDS: [Subcommand; 9] = [
+    PLAY, CHECK, THREADS, INSPECT, CYCLES, PATH, MMU, DRAW, PAGES,
+];
+
+/// The program, with its subcommands.
+pub fn program<'a>(alloc: Global) -> Result<Command<'a>, AllocError> {
+    let mut command = Command::new(alloc, "metronome")
+        .about("A real-time garbage-collected heap: plays, checks and measures its traces")
+        .version("1.0")
+        .subcommand_required(true);
+    for row in &SUBCOMMANDS {
+        command = command.subcommand(command_of(alloc, row)?)?;
+    }
+    Ok(command)
 }
 
-fn inspect<'a>(alloc: Global) -> Result<Command<'a>, AllocError> {
-    let by = Arg::new(alloc, "by")
-        .long("by")
-        .value_name("PART")
-        .default_value("page")
-        .help("By what to report: page or size");
-    playing(alloc, "inspect", "Play a trace and report the heap")?
-        .arg(by)?
-        .arg(after(alloc))
+/// A subcommand, with its arguments.
+fn command_of<'a>(alloc: Global, row: &Subcommand) -> Result<Command<'a>, AllocError> {
+    let first = [CONFIG, row.file, PROGRESS];
+    let command = Command::new(alloc, row.name).about(row.about);
+    with_arguments(alloc, with_arguments(alloc, command, &first)?, row.more)
 }
 
-fn cycles<'a>(alloc: Global) -> Result<Command<'a>, AllocError> {
-    let csv = flag(alloc, "csv", "Write commas between the figures");
-    playing(alloc, "cycles", "Play a trace and tell of each cycle")?.arg(csv)
+/// A command with more arguments.
+fn with_arguments<'a>(
+    alloc: Global,
+    command: Command<'a>,
+    rows: &[Given],
+) -> Result<Command<'a>, AllocError> {
+    let mut command = command;
+    for row in rows {
+        command = command.arg(argument(alloc, row))?;
+    }
+    Ok(command)
 }
 
-fn path<'a>(alloc: Global) -> Result<Command<'a>, AllocError> {
-    let id = Arg::new(alloc, "ID")
-        .required(true)
-        .value_parser(value_parser!(u64))
-        .help("The identity of the object, as the replies name it");
-    let about = "Play a trace and tell why an object is alive";
-    playing(alloc, "path", about)?.arg(id)?.arg(after(alloc))
+/// An argument, with its help.
+fn argument<'a>(alloc: Global, row: &Given) -> Arg<'a> {
+    formed(Arg::new(alloc, row.name).help(row.help), row.name, row.form)
 }
 
-fn mmu<'a>(alloc: Global) -> Result<Command<'a>, AllocError> {
-    let windows = Arg::new(alloc, "WINDOW")
-        .required(true)
+/// An argument that is given in its form.
+fn formed<'a>(arg: Arg<'a>, name: &'static str, form: Form) -> Arg<'a> {
+    match form {
+        Form::Place => arg.required(true),
+        Form::Number => arg.required(true).value_parser(value_parser!(u64)),
+        Form::Numbers => numbers(arg),
+        Form::Flag => arg.long(name).action(ArgAction::SetTrue),
+        Form::Word(value) => word(arg, name, value),
+        Form::Needed(value) => word(arg, name, value).required(true),
+        Form::WordOr(value, default) => word(arg, name, value).default_value(default),
+        Form::Figure(value) => figure(arg, name, value),
+        Form::FigureOr(value, default) => figure(arg, name, value).default_value(default),
+    }
+}
+
+/// Numbers in their places.
+fn numbers<'a>(arg: Arg<'a>) -> Arg<'a> {
+    arg.required(true)
         .num_args(1..)
         .value_parser(value_parser!(u64))
-        .help("Windows, each of 1 to 1099511627776 ticks");
-    let about = "Play a trace and write the least that mutators have of windows";
-    playing(alloc, "mmu", about)?.arg(windows)
 }
 
-fn draw<'a>(alloc: Global) -> Result<Command<'a>, AllocError> {
-    let picture = Arg::new(alloc, "as")
-        .long("as")
-        .value_name("PICTURE")
-        .required(true)
-        .help("The picture: graph, pages, time or utilisation");
-    let most = "Draw at most N objects of a graph, 500 if not said";
-    playing(alloc, "draw", "Play a trace and draw a picture")?
-        .arg(picture)?
-        .arg(after(alloc))?
-        .arg(number(alloc, "most", "N", most))
+/// A word after the argument's name.
+fn word<'a>(arg: Arg<'a>, name: &'static str, value: &'static str) -> Arg<'a> {
+    arg.long(name).value_name(value)
 }
 
-fn pages<'a>(alloc: Global) -> Result<Command<'a>, AllocError> {
-    let help = "Tell what the pace needs, whenever its cycles begin";
-    let pace = flag(alloc, "pace", help);
-    let about = "Play a trace and tell how many pages suffice for it";
-    playing(alloc, "pages", about)?.arg(pace)?.arg(load(alloc))
-}
-
-/// The file of a load.
-fn load<'a>(alloc: Global) -> Arg<'a> {
-    Arg::new(alloc, "load").long("load").value_name("FILE").help(
-        "Tell what the load in this file needs, in TOML, and whether the trace keeps to it",
-    )
+/// A number after the argument's name.
+fn figure<'a>(arg: Arg<'a>, name: &'static str, value: &'static str) -> Arg<'a> {
+    word(arg, name, value).value_parser(value_parser!(u32))
 }

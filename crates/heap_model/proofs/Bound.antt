@@ -6,7 +6,7 @@ use Rattle.heap_model.specs.State.{HeapState}
 use Rattle.heap_model.specs.Action.{Chain, Nothing_done, Then}
 use Rattle.heap_model.specs.Spent.{cycle_limit}
 use Rattle.heap_model.specs.Settings.{HeapSettings}
-use Rattle.heap_model.specs.Bound.{AreQuanta, most_quanta, OneEnds}
+use Rattle.heap_model.specs.Bound.{Quantum, AreQuanta, most_quanta, OneEnds}
 use Rattle.heap_model.proofs.Settings.{action_rest}
 use Rattle.heap_model.proofs.Marks.{action_count}
 use Rattle.heap_model.proofs.Turns.{chain_units}
@@ -40,7 +40,16 @@ too_much limit d units some l m =
 pub at_least : (k budget spent : ℕ) → k ≤ budget → budget < spent + 256 → k - 255 ≤ spent
 at_least k budget spent l m = omega arith
 
-module _ (h : HeapState) (k count : ℕ) (before after : ℕ → HeapState) (budget spent : ℕ → ℕ) (w : AreQuanta h k count before after budget spent) where
+module _ (h : HeapState) (k count : ℕ) (quanta : ℕ → Quantum) (w : AreQuanta h k count quanta) where
+  abbrev before : ℕ → HeapState
+  before i = (quanta i).before
+
+  abbrev after : ℕ → HeapState
+  after i = (quanta i).after
+
+  abbrev spent : ℕ → ℕ
+  spent i = (quanta i).spent
+
   -- the units before a quantum, and what may be spent
   at_first : ((before 0).units ≡ 0) × (cycle_limit (before 0) ≡ cycle_limit h)
   at_first = (w.first.units, w.first.limit)
@@ -48,25 +57,25 @@ module _ (h : HeapState) (k count : ℕ) (before after : ℕ → HeapState) (bud
   -- a quantum that doesn't end in idle
   after_turn : (i : ℕ) → i < count → ((after i).phase ≡ phases.Idle) ⊎ ((k - 255 ≤ spent i) × ((after i).units ≡ (before i).units + spent i))
   after_turn i l =
-      let s = w.stands i l in
-      let t = w.turn i l in
+      let s = (w.each i l).stands in
+      let t = (w.each i l).turn in
       let v = stands_chain (before i) (after i) (spent i) s.0 s.1 s.2 t.chain in
-      elim (turn_left (before i) (after i) (budget i) (spent i) v.pages t) [
+      elim (turn_left (before i) (after i) (quanta i).budget (spent i) v.pages t) [
         | inl e ↦ inl e
-        | inr m ↦ inr (at_least k (budget i) (spent i) (w.enough i l) m, chain_units (before i) (after i) (spent i) t.chain)
+        | inr m ↦ inr (at_least k (quanta i).budget (spent i) (w.each i l).enough m, chain_units (before i) (after i) (spent i) t.chain)
       ]
 
   -- what may be spent stays
   limit_stays : (i : ℕ) → i < count → cycle_limit (after i) ≡ cycle_limit h
-  limit_stays zero l = chain_limit (before 0) (after 0) (spent 0) (w.turn 0 l).chain ∙ at_first.1
+  limit_stays zero l = chain_limit (before 0) (after 0) (spent 0) (w.each 0 l).turn.chain ∙ at_first.1
   limit_stays (suc i) l =
       let m : i + 1 < count = omega arith in
       let e : suc i ≡ i + 1 = omega arith in
       subst (λ z. cycle_limit (after z) ≡ cycle_limit h) (sym e)
-      (chain_limit (before (i + 1)) (after (i + 1)) (spent (i + 1)) (w.turn (i + 1) m).chain ∙ (w.next i m).limit ∙ limit_stays i (omega arith))
+      (chain_limit (before (i + 1)) (after (i + 1)) (spent (i + 1)) (w.each (i + 1) m).turn.chain ∙ (w.next i m).limit ∙ limit_stays i (omega arith))
 
   -- the units after the first quanta, if none of them ended in idle
-  spent_by : (i : ℕ) → i < count → OneEnds (i + 1) after ⊎ ((i + 1) * (k - 255) ≤ (after i).units)
+  spent_by : (i : ℕ) → i < count → OneEnds (i + 1) quanta ⊎ ((i + 1) * (k - 255) ≤ (after i).units)
   spent_by zero l = elim (after_turn 0 l) [
     | inl e ↦ inl (0, omega arith, e)
     | inr m ↦ inr (spent_more 0 (k - 255) (before 0).units (after 0).units (spent 0) (omega arith) m.1 m.0)
@@ -74,7 +83,7 @@ module _ (h : HeapState) (k count : ℕ) (before after : ℕ → HeapState) (bud
   spent_by (suc i) l =
       let m : i + 1 < count = omega arith in
       let e : suc i ≡ i + 1 = omega arith in
-      subst (λ z. OneEnds (z + 1) after ⊎ ((z + 1) * (k - 255) ≤ (after z).units)) (sym e)
+      subst (λ z. OneEnds (z + 1) quanta ⊎ ((z + 1) * (k - 255) ≤ (after z).units)) (sym e)
       (elim (spent_by i (omega arith)) [
         | inl o ↦ inl (o.0, (let n = o.1 in omega arith), o.2)
         | inr n ↦ elim (after_turn (i + 1) m) [
@@ -83,18 +92,19 @@ module _ (h : HeapState) (k count : ℕ) (before after : ℕ → HeapState) (bud
         ]
       ])
 
-pub quanta_end : (h : HeapState) (k : ℕ) (before after : ℕ → HeapState) (budget spent : ℕ → ℕ) → 256 ≤ k → AreQuanta h k (most_quanta h k) before after budget spent → OneEnds (most_quanta h k) after
-quanta_end h k before after budget spent l w =
+pub quanta_end : (h : HeapState) (k : ℕ) (quanta : ℕ → Quantum) → 256 ≤ k → AreQuanta h k (most_quanta h k) quanta → OneEnds (most_quanta h k) quanta
+quanta_end h k quanta l w =
     let last = cycle_limit h / (k - 255) in
     let m : last < last + 1 = omega arith in
-    elim (spent_by h k (last + 1) before after budget spent w last m) [
+    let q = quanta last in
+    elim (spent_by h k (last + 1) quanta w last m) [
       | inl o ↦ o
       | inr n ↦ absurd (
-          let s = w.stands last m in
-          let t = w.turn last m in
-          let v = stands_chain (before last) (after last) (spent last) s.0 s.1 s.2 t.chain in
-          let b = stands_limit (after last) s.0 s.1 v in
-          let e = limit_stays h k (last + 1) before after budget spent w last m in
-          let c : (after last).units ≤ cycle_limit h = subst (λ z. (after last).units ≤ z) e b in
-          too_much (cycle_limit h) (k - 255) (after last).units (omega arith) n c)
+          let each = w.each last m in
+          let s = each.stands in
+          let v = stands_chain q.before q.after q.spent s.0 s.1 s.2 each.turn.chain in
+          let b = stands_limit q.after s.0 s.1 v in
+          let e = limit_stays h k (last + 1) quanta w last m in
+          let c : q.after.units ≤ cycle_limit h = subst (λ z. q.after.units ≤ z) e b in
+          too_much (cycle_limit h) (k - 255) q.after.units (omega arith) n c)
     ]

@@ -7,7 +7,7 @@ use Rattle.graph_heap.specs.Graph.{Graph, first_slot}
 use Rattle.size_classes.specs.Parts.{cells_of, parts_in}
 use Rattle.heap_model.specs.Store.{Store, is_held}
 use Rattle.heap_model.specs.State.{HeapState}
-use Rattle.heap_model.specs.Making.{Making, Nothing_made, Part_made}
+use Rattle.heap_model.specs.Making.{made, Making, Nothing_made, Part_made}
 use Rattle.heap_model.specs.Change.{DoesChange, Does_nothing, Does_root, Does_ref, Does_word, Does_new, Does_join, Does_leave, Clears, Clears_none, Clears_next}
 use Rattle.heap_model.specs.Left.{LeavesCycle}
 use Rattle.heap_model.proofs.Seen.{held_pages}
@@ -25,7 +25,7 @@ adds_held s t a b free same held = by_here (b == a) refl
     by_here true e = let here : b ≡ a = same_number b a e in absurd (let z : false ≡ true = sym free ∙ sym (ap (is_held s) here) ∙ held in cc)
     by_here false e = let ne : b ≢ a = grind arith in same b ne ∙ held
 
-making_held : (old : Store) (shape : Shape) (colour : Bool) (id : ℕ) (at : ℕ → ℕ) (k : ℕ) (new : Store) → Making old shape colour id at k new → (b : ℕ) → is_held old b ≡ true → is_held new b ≡ true
+making_held : (old : Store) (shape : Shape) (colour : Bool) (id : ℕ) (at : ℕ → ℕ) (k : ℕ) (new : Store) → Making old (made shape colour id) at k new → (b : ℕ) → is_held old b ≡ true → is_held new b ≡ true
 making_held old shape colour id at k new Nothing_made b held = held
 making_held old shape colour id at k new (Part_made part s t u making w none some) b held =
     let x = adds_held s t (at part) b w.free w.same (making_held old shape colour id at part s making b held) in

@@ -16,7 +16,7 @@ use Rattle.heap_model.specs.Cut.{count_of, width_by, width_in, width_of, words_b
 use Rattle.heap_model.proofs.Cut.{holder_at, seat_at, holder_below}
 use Rattle.heap_model.specs.State.{HeapState, seen, width_at, same_colour}
 use Rattle.heap_model.specs.Agreement.{IsWhole}
-use Rattle.heap_model.specs.Making.{Making, Nothing_made, Part_made, MakesObject}
+use Rattle.heap_model.specs.Making.{made, Making, Nothing_made, Part_made, MakesObject}
 use Rattle.heap_model.proofs.Same.{SameBlocks}
 use Rattle.heap_model.proofs.Parts.{Parts, Makes, link_by, parts_of}
 use Rattle.heap_model.proofs.Edits.{set_cell}
@@ -145,7 +145,7 @@ whole_add s t a header id w k b l = by_here (b == a) refl
         let l' : is_held s b ≡ true = sym (w.same b ne) ∙ l in
         subst (λ (z : Node). length z.cells ≡ part_cells (cells_of z.shape) z.part) (sym (w.others b l')) (k b l')
 
-pub making_whole : (old : Store) (shape : Shape) (colour : Bool) (id : ℕ) (at : ℕ → ℕ) (k : ℕ) (new : Store) → Making old shape colour id at k new → IsWhole old → IsWhole new
+pub making_whole : (old : Store) (shape : Shape) (colour : Bool) (id : ℕ) (at : ℕ → ℕ) (k : ℕ) (new : Store) → Making old (made shape colour id) at k new → IsWhole old → IsWhole new
 making_whole old shape colour id at k new Nothing_made w = w
 making_whole old shape colour id at k new (Part_made part s t u m a none some) w =
     let x = whole_add s t (at part) _ id a (making_whole old shape colour id at part s m w) in
@@ -203,7 +203,7 @@ same_set : (h1 h2 : Heap) (x i y : ℕ) → SameBlocks h1 h2 → SameBlocks (set
 same_set h1 h2 x i y e = other_cells h1 h2 _ _ e (λ z k b d. ap (λ v. if (z == x) && (k == i) then y else v) (e.says.cell z k b d))
 
 pub making_first : (h : HeapState) (shape : Shape) (at : ℕ → ℕ) (k : ℕ) (new : Store) → fits shape ≡ true → IsWhole h.store → k ≤ parts_in (cells_of shape)
-    → Making h.store shape h.sense h.next at k new → MakesFirst (seen h) (parts_of shape) (reference at) k (seen (record h { store = new }))
+    → Making h.store (made shape h.sense h.next) at k new → MakesFirst (seen h) (parts_of shape) (reference at) k (seen (record h { store = new }))
 making_first h shape at k new f whole few Nothing_made = first_none (seen h) (parts_of shape) (reference at)
 making_first h shape at k new f whole few (Part_made part s t u m a none some) =
     let ps = parts_of shape in

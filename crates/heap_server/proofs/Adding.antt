@@ -6,8 +6,8 @@ use mathlib.Core.List.{IsPrefix}
 use prog.Atomic.{either}
 use Rattle.logbook.specs.Pages.{Cell, cell, keeps, no_nib, step, Moves, Goes}
 use Rattle.graph_heap.specs.declared.command.Entry.{Entry}
-use Rattle.heap_server.specs.Place.{IsLength, Adds}
-use Rattle.heap_server.proofs.Fronts.{prefix_whole}
+use Rattle.heap_server.specs.Place.{IsLength, Adds, Commits}
+use Rattle.heap_server.proofs.Fronts.{prefix_whole, prefix_trans, prefix_length}
 
 abbrev pub shown : List Entry → List Entry
 shown log = []
@@ -64,3 +64,30 @@ done_from A B n m on false is h = absurd (grind (arith, nat_tests))
 -- where the number was found
 pub where_done : (A B : Type 0) (n m : ℕ) → n ≡ m → MatchBool (n == m) A B → A
 where_done A B n m on h = done_from A B n m on (n == m) refl h
+
+told_from : (A B : Type 0) (n m : ℕ) → n ≡ m → (b : Bool) → (n == m) ≡ b → A → MatchBool b A B
+told_from A B n m on true is a = a
+told_from A B n m on false is a = absurd (grind (arith, nat_tests))
+
+other_from : (A B : Type 0) (n m : ℕ) → n ≢ m → (b : Bool) → (n == m) ≡ b → B → MatchBool b A B
+other_from A B n m off true is b = absurd (off (grind (arith, nat_tests)))
+other_from A B n m off false is b = b
+
+-- A front that knows the whole log and one that knows a part are both known. Where the number found is the length of
+-- the whole, the entry was added to it, and all is known.
+pub commits_whole : (whole part known after : List Entry) (e : Entry) (found at : ℕ) → at ≡ length whole → IsPrefix whole known → IsPrefix part known
+    → MatchBool (found == at) ((after ≡ known ++ e ∷ []) × (length known ≡ at)) (found ≡ length after) → found ≡ at → Commits whole part e found after after
+commits_whole whole part known after e found at long w p added here =
+    let t = where_done _ _ found at here added in
+    let len = t.1 in
+    let same : whole ≡ known = prefix_whole whole known w (omega arith) in
+    told_from _ _ found (length whole) (here ∙ long) _ refl (t.0 ∙ ap (λ (h : List Entry). h ++ e ∷ []) (sym same), refl, subst (IsPrefix part) (sym same) p)
+
+-- Where another number was found the log is longer.
+pub commits_longer : (whole part known after : List Entry) (e : Entry) (found at : ℕ) → at ≡ length whole → IsPrefix whole known → IsPrefix known after
+    → MatchBool (found == at) ((after ≡ known ++ e ∷ []) × (length known ≡ at)) (found ≡ length after) → found ≢ at → Commits whole part e found whole after
+commits_longer whole part known after e found at long w grows added off =
+    let is : found ≡ length after = where_torn _ _ found at off added in
+    let begins = prefix_trans whole known after w grows in
+    let most = prefix_length whole after begins in
+    other_from _ _ found (length whole) (λ same. off (same ∙ sym long)) _ refl (refl, is, begins, omega (arith, most, is, long, off))

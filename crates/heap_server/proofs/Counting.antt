@@ -1,6 +1,7 @@
 -- How many seats there are.
-use Rattle.std.proofs.Common.{◌≡◌, ℕ, zero, suc, List, [], ◌∷◌, ◌++◌, length, slice_set, slice_index_or, refl, sym, ap, ◌∙◌, arith, length-append}
+use Rattle.std.proofs.Common.{◌≡◌, ℕ, zero, suc, ◌+◌, List, [], ◌∷◌, ◌++◌, length, slice_set, slice_index_or, refl, sym, ap, ◌∙◌, arith, add-one, length-append}
 use Rattle.std.proofs.lemmas.List.{length-map, map-append}
+use Rattle.graph_heap.specs.declared.command.Entry.{Entry}
 use Rattle.heap_server.specs.Views.{SeatView}
 use Rattle.heap_server.specs.Seats.{new_seats, upto, mutators_of}
 
@@ -23,3 +24,9 @@ pub mutators_of-set : (seats : List SeatView) (i : ℕ) (s d : SeatView) → s.m
 mutators_of-set [] i s d same = refl
 mutators_of-set (x ∷ seats) zero s d same = ap (λ (m : ℕ). m ∷ mutators_of seats) same
 mutators_of-set (x ∷ seats) (suc i) s d same = ap (λ (ms : List ℕ). x.mutator ∷ ms) (mutators_of-set seats i s d same)
+
+-- the seat of the next mutator
+pub new_seats-more : (m calls : ℕ) (seen : List Entry) (seats more : List SeatView) → seats ≡ new_seats m → calls ≡ 0 → seen ≡ [] → more ≡ seats ++ record { mutator = m; calls = calls; seen = seen } ∷ [] → more ≡ new_seats (m + 1)
+new_seats-more m calls seen seats more all none unseen is =
+    is ∙ (ap (λ (w : List SeatView). w ++ record { mutator = m; calls = calls; seen = seen } ∷ []) all
+    ∙ (ap (λ (n : ℕ). new_seats m ++ record { mutator = m; calls = n; seen = seen } ∷ []) none ∙ ap (λ (h : List Entry). new_seats m ++ record { mutator = m; calls = 0; seen = h } ∷ []) unseen ∙ ap new_seats (sym (add-one m))))

@@ -79,3 +79,8 @@ opening_kept settings v mutators o some history place is calls begun ended quant
       led = led;
       cycles = omega arith;
     }
+
+-- making room leaves what is kept
+pub reserve_kept : (settings : HeapSettings) (v : LockedView) (course : Course) (room : ℕ) → IsKept settings v → course ≡ v.course → IsKept settings (record v { course = course; room = room })
+reserve_kept settings v course room k same =
+    subst (λ (r : Course). IsKept settings (record v { course = r; room = room })) (sym same) (record { some = k.some; sound = k.sound; counted = k.counted; led = k.led; cycles = k.cycles })

@@ -9,3 +9,4 @@ pub mod Parts
 pub mod Fronted
 pub mod Settling
 pub mod Collecting
+pub mod Booking

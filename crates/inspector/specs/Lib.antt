@@ -2,3 +2,10 @@ pub mod Report
 pub mod Filling
 pub mod NeededReport
 pub mod LoadReport
+pub mod Steps
+pub mod Made
+pub mod Cycles
+pub mod Log
+pub mod Watching
+pub mod Taking
+pub mod Text

@@ -2,6 +2,7 @@
 #![tactic(auto)]
 
 mod by_size;
+mod cycles;
 mod fault;
 mod filling;
 mod lines;
@@ -10,5 +11,6 @@ pub mod pages_needed;
 mod reporting;
 
 pub use by_size::report_sizes;
+pub use cycles::{Cycle, Cycles, Layout, Sweep, cycles_text, take_cycles};
 pub use fault::WriteFault;
 pub use reporting::report;

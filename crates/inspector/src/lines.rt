@@ -4,7 +4,7 @@ ghost use Rattle.heap_model.specs.Pages.{page_at};
 ghost use Rattle.pages.specs.View.{view_of};
 ghost use Rattle.nodes.specs.Copies.{copies_in};
 ghost use Rattle.trace.specs.Streams.{GrowsByPart, failed, text_of};
-ghost use Rattle.inspector.specs.Report.{phase_name, phase_line, units_line, two_named, pages_line, page_line, lines_on, roots_line, copies_line};
+ghost use Rattle.inspector.specs.Report.{phase_name, phase_line, units_line, two_named, pages_line, page_line, lines_on, roots_line, copies_line, head_lines, tail_lines};
 
 use heap_model::phase::Phase;
 use machine::Heap;
@@ -27,7 +27,7 @@ fn name(phase: Phase) -> &'static [u8]
 }
 
 /// Writes the phase.
-pub(crate) fn write_phase<K: Sink>(heap: &Heap, sink: &mut K) -> Result<(), WriteFailed>
+fn write_phase<K: Sink>(heap: &Heap, sink: &mut K) -> Result<(), WriteFailed>
     ensures ok { OnOk result (K.taken sink.new ≡ K.taken sink.old ++ (phase_line heap.now ++ 10 ∷ [])) }
     ensures err { OnErr result (GrowsByPart (K.taken sink.old) (K.taken sink.new) (phase_line heap.now ++ 10 ∷ [])) }
     ensures cause { K.failures sink.new ≡ K.failures sink.old + failed result }
@@ -39,7 +39,7 @@ pub(crate) fn write_phase<K: Sink>(heap: &Heap, sink: &mut K) -> Result<(), Writ
 }
 
 /// Writes the units of work that were spent since the last cycle began.
-pub(crate) fn write_units<K: Sink>(heap: &Heap, sink: &mut K) -> Result<(), WriteFailed>
+fn write_units<K: Sink>(heap: &Heap, sink: &mut K) -> Result<(), WriteFailed>
     ensures ok { OnOk result (K.taken sink.new ≡ K.taken sink.old ++ (units_line heap.now ++ 10 ∷ [])) }
     ensures err { OnErr result (GrowsByPart (K.taken sink.old) (K.taken sink.new) (units_line heap.now ++ 10 ∷ [])) }
     ensures cause { K.failures sink.new ≡ K.failures sink.old + failed result }
@@ -70,7 +70,7 @@ fn write_two<K: Sink>(
 }
 
 /// Writes how many pages there are, and how many are free.
-pub(crate) fn write_pages<K: Sink>(heap: &Heap, sink: &mut K) -> Result<(), WriteFailed>
+fn write_pages<K: Sink>(heap: &Heap, sink: &mut K) -> Result<(), WriteFailed>
     ensures ok { OnOk result (K.taken sink.new ≡ K.taken sink.old ++ (pages_line heap.now ++ 10 ∷ [])) }
     ensures err { OnErr result (GrowsByPart (K.taken sink.old) (K.taken sink.new) (pages_line heap.now ++ 10 ∷ [])) }
     ensures cause { K.failures sink.new ≡ K.failures sink.old + failed result }
@@ -79,7 +79,7 @@ pub(crate) fn write_pages<K: Sink>(heap: &Heap, sink: &mut K) -> Result<(), Writ
 }
 
 /// Writes how many root cells there are, and how many aren't null.
-pub(crate) fn write_roots<K: Sink>(heap: &Heap, sink: &mut K) -> Result<(), WriteFailed>
+fn write_roots<K: Sink>(heap: &Heap, sink: &mut K) -> Result<(), WriteFailed>
     ensures ok { OnOk result (K.taken sink.new ≡ K.taken sink.old ++ (roots_line heap.now ++ 10 ∷ [])) }
     ensures err { OnErr result (GrowsByPart (K.taken sink.old) (K.taken sink.new) (roots_line heap.now ++ 10 ∷ [])) }
     ensures cause { K.failures sink.new ≡ K.failures sink.old + failed result }
@@ -139,7 +139,7 @@ fn put_copies(out: &mut [u8; 256], copies: Copies) -> usize
 }
 
 /// Writes how many objects, parts and old copies there are.
-pub(crate) fn write_copies<K: Sink>(heap: &Heap, sink: &mut K) -> Result<(), WriteFailed>
+fn write_copies<K: Sink>(heap: &Heap, sink: &mut K) -> Result<(), WriteFailed>
     ensures ok { OnOk result (K.taken sink.new
         ≡ K.taken sink.old ++ (copies_line (copies_in heap.now.store) ++ 10 ∷ [])) }
     ensures err { OnErr result (GrowsByPart (K.taken sink.old) (K.taken sink.new)
@@ -149,4 +149,25 @@ pub(crate) fn write_copies<K: Sink>(heap: &Heap, sink: &mut K) -> Result<(), Wri
     let mut out = [0; 256];
     let end = put_copies(&mut out, heap.copies());
     end_line(sink, &mut out, end)
+}
+
+/// Writes the lines before those of the pages in use.
+pub(crate) fn write_head<K: Sink>(heap: &Heap, sink: &mut K) -> Result<(), WriteFailed>
+    ensures ok { OnOk result (K.taken sink.new ≡ K.taken sink.old ++ text_of (head_lines heap.now)) }
+    ensures err { OnErr result (GrowsByPart (K.taken sink.old) (K.taken sink.new) (text_of (head_lines heap.now))) }
+    ensures cause { K.failures sink.new ≡ K.failures sink.old + failed result }
+{
+    write_phase(heap, sink)?;
+    write_units(heap, sink)?;
+    write_pages(heap, sink)
+}
+
+/// Writes the lines after those of the pages in use.
+pub(crate) fn write_tail<K: Sink>(heap: &Heap, sink: &mut K) -> Result<(), WriteFailed>
+    ensures ok { OnOk result (K.taken sink.new ≡ K.taken sink.old ++ text_of (tail_lines heap.now)) }
+    ensures err { OnErr result (GrowsByPart (K.taken sink.old) (K.taken sink.new) (text_of (tail_lines heap.now))) }
+    ensures cause { K.failures sink.new ≡ K.failures sink.old + failed result }
+{
+    write_roots(heap, sink)?;
+    write_copies(heap, sink)
 }

@@ -1,23 +1,12 @@
 //! The whole report.
 ghost use Rattle.std.specs.Prelude.{◌≡◌, ◌+◌, ◌++◌, OnOk, OnErr};
 ghost use Rattle.trace.specs.Streams.{GrowsByPart, failed, text_of};
-ghost use Rattle.inspector.specs.Report.{head_lines, page_lines, tail_lines, report_of};
+ghost use Rattle.inspector.specs.Report.{page_lines, report_of};
 
 use crate::fault::WriteFault;
-use crate::lines::{write_copies, write_page, write_pages, write_phase, write_roots, write_units};
+use crate::lines::{write_head, write_page, write_tail};
 use machine::Heap;
 use trace::{Sink, WriteFailed};
-
-/// Writes the lines before those of the pages in use.
-fn write_head<K: Sink>(heap: &Heap, sink: &mut K) -> Result<(), WriteFailed>
-    ensures ok { OnOk result (K.taken sink.new ≡ K.taken sink.old ++ text_of (head_lines heap.now)) }
-    ensures err { OnErr result (GrowsByPart (K.taken sink.old) (K.taken sink.new) (text_of (head_lines heap.now))) }
-    ensures cause { K.failures sink.new ≡ K.failures sink.old + failed result }
-{
-    write_phase(heap, sink)?;
-    write_units(heap, sink)?;
-    write_pages(heap, sink)
-}
 
 /// Writes a line for each page in use, in rising number.
 fn write_page_lines<K: Sink>(heap: &Heap, sink: &mut K) -> Result<(), WriteFailed>
@@ -30,16 +19,6 @@ fn write_page_lines<K: Sink>(heap: &Heap, sink: &mut K) -> Result<(), WriteFaile
         write_page(heap, page, sink)?;
     }
     Ok(())
-}
-
-/// Writes the lines after those of the pages in use.
-fn write_tail<K: Sink>(heap: &Heap, sink: &mut K) -> Result<(), WriteFailed>
-    ensures ok { OnOk result (K.taken sink.new ≡ K.taken sink.old ++ text_of (tail_lines heap.now)) }
-    ensures err { OnErr result (GrowsByPart (K.taken sink.old) (K.taken sink.new) (text_of (tail_lines heap.now))) }
-    ensures cause { K.failures sink.new ≡ K.failures sink.old + failed result }
-{
-    write_roots(heap, sink)?;
-    write_copies(heap, sink)
 }
 
 /// Writes what the heap and its collector are like to a sink, in lines that end with LF: the phase, the

@@ -12,7 +12,7 @@ use Rattle.trace.specs.Streams.{Given}
 use Rattle.player.specs.declared.style.Style.TheVariants.{Nothing}
 use Rattle.player.specs.New.{IsNew}
 use Rattle.player.specs.Playing.{Stage, Played, PlayedFirst}
-use Rattle.metronome.specs.Jobs.{PlayedUpTo}
+use Rattle.metronome.specs.Behind.{PlayedUpTo}
 
 -- a play that came to its end ran its events
 played_runs : (given : Given) (old new : Stage) → Played Nothing given old new (Ok tt) → (es : List Event) × Runs old.player.course es new.player.course

@@ -5,11 +5,13 @@ use Rattle.std.specs.Result.{IsErrAnd}
 use Rattle.graph_heap.specs.Graph.{Graph}
 use Rattle.graph_heap.specs.declared.command.Entry.{Entry}
 use Rattle.size_classes.specs.declared.config.Config.{Config as Settings}
+use Rattle.trace.proofs.GoingOver.{reached_by}
 use Rattle.trace.specs.declared.fault.TextFault.{TextFault}
 use Rattle.trace.specs.declared.fault.TextFault.TheVariants as texts
 use Rattle.trace.specs.declared.version.Version.{Version}
 use Rattle.trace.specs.declared.version.Version.TheVariants.{First, Second}
-use Rattle.trace.specs.GoneOver.{Ends, reads_failed, writes_failed}
+use Rattle.trace.specs.GoneOver.{Reached, Ends, reads_failed, writes_failed}
+use Rattle.trace.specs.TextLine.{Text}
 use Rattle.trace.specs.Streams.{Given}
 use Rattle.trace.specs.declared.transcripts.histories.Checked.{Checked}
 use Rattle.trace.specs.Histories.{EntriesChecked, HistoryStops}
@@ -20,8 +22,8 @@ use Rattle.player.specs.Playing.{Stage, stage, Played, text_written}
 use Rattle.player.proofs.Lines.{ends_otherwise, nothing_written}
 use Rattle.pictures.specs.declared.timeline.samples.Samples.{Samples}
 use Rattle.pictures.specs.Taking.{SamplesTaken}
-use Rattle.cycles.specs.declared.cycle.Cycles.{Cycles}
-use Rattle.cycles.specs.Taking.{CyclesTaken}
+use Rattle.inspector.specs.declared.cycles.cycle.Cycles.{Cycles}
+use Rattle.inspector.specs.Taking.{CyclesTaken}
 use Rattle.sizing.specs.declared.measured.Measured.{Measured}
 use Rattle.sizing.specs.Measuring.{TraceMeasured}
 use Rattle.sizing.specs.Load.{Load}
@@ -137,23 +139,22 @@ unwritten : {A : Type 0} (how : Result A TextFault) → (how ≡ Err texts.Write
 unwritten (Err texts.Write) never = absurd (never refl)
 unwritten how never = refl
 
-ends_unwritten : {S : Type 0} (Stops : TextFault → List ℕ → ℕ → S → S → Type 0) → ((text : List ℕ) (number : ℕ) (old new : S) → Stops texts.Write text number old new → ⊥) → (count : ℕ) (mid : S) (rest : List ℕ) (ended : Bool) (new : S)
-    → Ends Stops {A = Unit {0}} count mid rest ended new (Err texts.Write) → ⊥
-ends_unwritten Stops never count mid rest ended new (inl none) = none.0
-ends_unwritten Stops never count mid rest ended new (inr (text, more, whole, line, stops)) = never text (count + 1) mid new stops
+ends_unwritten : {S E : Type 0} (Stops : TextFault → Text → S → S → Type 0) → ((text : Text) (old new : S) → Stops texts.Write text old new → ⊥) → (reached : Reached S E) (ended : Bool) (new : S) → Ends Stops {A = Unit {0}} reached ended new (Err texts.Write) → ⊥
+ends_unwritten Stops never reached ended new (inl none) = none.0
+ends_unwritten Stops never reached ended new (inr (line, more, whole, is, stops)) = never _ reached.state new stops
 
 pub checked_unwritten : (given : Given) (old new : Graph) (how : Result Checked TextFault) → EntriesChecked given old new how → writes_failed how ≡ 0
 checked_unwritten given old new how w =
-    unwritten how (λ e. (let v = subst (EntriesChecked given old new) e w in ends_unwritten (HistoryStops v.over.version) (λ text number g k stops. stops) (length v.over.lines) v.over.mid v.over.rest given.ended new v.over.ends))
+    unwritten how (λ e. (let v = subst (EntriesChecked given old new) e w in ends_unwritten HistoryStops (λ text g k stops. stops) (reached_by v.over) given.ended new v.over.ends))
 
 pub scripts_unwritten : (given : Given) (mutators : ℕ) (how : Result ReadScripts TextFault) → ScriptsRead given mutators how → writes_failed how ≡ 0
 scripts_unwritten given mutators how (inl none) = ap writes_failed none.0
 scripts_unwritten given mutators how (inr w) =
-    unwritten how (λ e. (let v = subst (AreScripts given mutators) e w in ends_unwritten (ScriptStops mutators v.over.version) (λ text number g k stops. stops) (length v.over.lines) v.over.mid v.over.rest given.ended tt v.over.ends))
+    unwritten how (λ e. (let v = subst (AreScripts given mutators) e w in ends_unwritten (ScriptStops mutators) (λ text g k stops. stops) (reached_by v.over) given.ended tt v.over.ends))
 
 pub load_unwritten : (l : Load) (k : ℕ) (given : Given) (how : Result Kept TextFault) → LoadChecked l k given how → writes_failed how ≡ 0
 load_unwritten l k given how w =
-    unwritten how (λ e. (let v = subst (LoadChecked l k given) e w in ends_unwritten (NoEvent v.over.version) (λ text number g m stops. (let z = stops.0 in cc)) (length v.over.lines) v.over.mid v.over.rest given.ended tt v.over.ends))
+    unwritten how (λ e. (let v = subst (LoadChecked l k given) e w in ends_unwritten NoEvent (λ text g m stops. (let z = stops.0 in cc)) (reached_by v.over) given.ended tt v.over.ends))
 
 -- where nothing is written no write fails
 nothing_told : (version : Version) (entries : List Entry) → text_written Nothing version entries ≡ []
@@ -167,7 +168,7 @@ cut_of_nothing version entries n few =
 
 nothing_cut : (given : Given) (old new : Stage) → Played Nothing given old new (Err texts.Write) → ⊥
 nothing_cut given old new p = elim p.over.ends [
-  | inl e ↦ ends_otherwise Nothing p.over.version (length p.over.lines) p.over.mid p.over.rest given.ended new (Err texts.Write) e refl
+  | inl e ↦ ends_otherwise Nothing (reached_by p.over) given.ended new (Err texts.Write) e refl
   | inr w ↦ cut_of_nothing p.over.version (entries_in p.over.events) w.1.0.0 w.1.0.1
 ]
 

@@ -1,5 +1,5 @@
 -- What the job of a command line reads and writes.
-use Rattle.std.specs.Prelude.{true, false, Result}
+use Rattle.std.specs.Prelude.{true, false, None, Result}
 use Rattle.size_classes.specs.declared.config.Config.{Config}
 use Rattle.trace.specs.Streams.{Given, Taken}
 use Rattle.command_line.specs.declared.job.Job.{Job}
@@ -8,31 +8,30 @@ use Rattle.command_line.specs.declared.job.Job.TheVariants.{Play, Check, Threads
 use Rattle.player.specs.declared.style.Style.TheVariants.{Replies, Entries}
 use Rattle.metronome.specs.declared.fault.Ending.{Ending}
 use Rattle.metronome.specs.declared.fault.RunFault.{RunFault}
-use Rattle.metronome.specs.Jobs.{TracePlayed, HistoryChecked, ScriptsRun, HeapInspected, WindowsMeasured}
-use Rattle.cycles.specs.declared.text.Layout.TheVariants.{Columns, Commas}
+use Rattle.metronome.specs.Jobs.{TracePlayed, HistoryChecked, ScriptsRun}
+use Rattle.inspector.specs.declared.cycles.text.Layout.TheVariants.{Columns, Commas}
 use Rattle.metronome.specs.Logged.{CyclesTold}
-use Rattle.metronome.specs.Alive.{PathFound}
-use Rattle.metronome.specs.Drawn.{HeapDrawn}
-use Rattle.metronome.specs.Graphed.{GraphShown}
 use Rattle.metronome.specs.OverTime.{TimeDrawn}
-use Rattle.metronome.specs.Told.{PagesTold, LoadTold}
+use Rattle.metronome.specs.Told.{ReportTold, PagesTold, LoadTold}
+use Rattle.metronome.specs.Behind.{AfterPlay}
+use Rattle.metronome.specs.Telling.{report_by, ReportWritten, PictureDrawn, GraphTold, TellsWhy, WindowsTold}
 
+-- what a job does: of some, what it tells of a player behind its play
 abbrev pub JobDone : Job → Config → Given → Taken → Result Ending RunFault → Type 0
-JobDone (Play settings trace true) config given taken result = TracePlayed Entries config given taken result
-JobDone (Play settings trace false) config given taken result = TracePlayed Replies config given taken result
-JobDone (Check settings history) config given taken result = HistoryChecked config given taken result
-JobDone (Threads settings scripts turns budget) config given taken result =
-    ScriptsRun turns budget config given taken result
-JobDone (Inspect settings trace by after) config given taken result = HeapInspected by after config given taken result
-JobDone (Cycles settings trace false) config given taken result = CyclesTold Columns config given taken result
-JobDone (Cycles settings trace true) config given taken result = CyclesTold Commas config given taken result
-JobDone (Path settings trace id after) config given taken result = PathFound id after config given taken result
-JobDone (Mmu settings trace windows) config given taken result = WindowsMeasured windows.items config given taken result
-JobDone (Draw settings trace picture after) config given taken result =
-    HeapDrawn picture after config given taken result
-JobDone (DrawGraph settings trace after most) config given taken result =
-    GraphShown most after config given taken result
-JobDone (DrawTime settings trace) config given taken result = TimeDrawn config given taken result
-JobDone (Pages settings trace Demand) config given taken result = PagesTold false config given taken result
-JobDone (Pages settings trace Pace) config given taken result = PagesTold true config given taken result
-JobDone (Pages settings trace (Load file)) config given taken result = LoadTold config given taken result
+JobDone (Play settings trace true) config = TracePlayed Entries config
+JobDone (Play settings trace false) config = TracePlayed Replies config
+JobDone (Check settings history) config = HistoryChecked config
+JobDone (Threads settings scripts turns budget) config = ScriptsRun turns budget config
+JobDone (Inspect settings trace by after) config =
+    AfterPlay (λ p. ReportWritten (report_by by p.course.heap)) after config
+JobDone (Cycles settings trace false) config = CyclesTold Columns config
+JobDone (Cycles settings trace true) config = CyclesTold Commas config
+JobDone (Path settings trace id after) config = AfterPlay (λ p. ReportTold (TellsWhy id p.course)) after config
+JobDone (Mmu settings trace windows) config =
+    AfterPlay (λ p. WindowsTold config p.timetable windows.items) None config
+JobDone (Draw settings trace picture after) config = AfterPlay (PictureDrawn picture config) after config
+JobDone (DrawGraph settings trace after most) config = AfterPlay (λ p. GraphTold most p.course) after config
+JobDone (DrawTime settings trace) config = TimeDrawn config
+JobDone (Pages settings trace Demand) config = PagesTold false config
+JobDone (Pages settings trace Pace) config = PagesTold true config
+JobDone (Pages settings trace (Load file)) config = LoadTold config

@@ -4,8 +4,8 @@ use Rattle.command_line.specs.declared.fault.ReadFault.{ReadFault}
 use Rattle.command_line.specs.declared.fault.ReadFault.TheVariants as settings
 use Rattle.pictures.specs.declared.graph.fault.DrawFault.{DrawFault}
 use Rattle.pictures.specs.declared.graph.fault.DrawFault.TheVariants as drawings
-use Rattle.load_file.specs.declared.fault.LoadFault.{LoadFault}
-use Rattle.load_file.specs.declared.fault.LoadFault.TheVariants as loads
+use Rattle.sizing.specs.declared.load_file.fault.LoadFault.{LoadFault}
+use Rattle.sizing.specs.declared.load_file.fault.LoadFault.TheVariants as loads
 use Rattle.trace.specs.declared.fault.TextFault.{TextFault}
 use Rattle.trace.specs.declared.fault.TextFault.TheVariants as texts
 use Rattle.metronome.specs.declared.fault.RunFault.{RunFault}

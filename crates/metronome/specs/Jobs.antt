@@ -1,10 +1,8 @@
 -- What each subcommand reads and writes.
-use Rattle.std.specs.Prelude.{◌≡◌, ℕ, Bool, true, false, ◌⊎◌, List, [], ◌∷◌, ◌++◌, map, replicate, Option, Some, None, Result, Ok, Err, codes, decimal}
+use Rattle.std.specs.Prelude.{◌≡◌, ℕ, Bool, true, false, ◌⊎◌, List, [], ◌∷◌, ◌++◌, map, replicate, Result, Ok, Err, codes, decimal}
 use Rattle.size_classes.specs.declared.config.Config.{Config}
 use Rattle.size_classes.specs.Config.{limits_of}
 use Rattle.graph_heap.specs.Graph.{Graph, opening}
-use Rattle.heap_model.specs.State.{HeapState}
-use Rattle.quanta.specs.Timetable.{Timetable}
 use Rattle.trace.specs.declared.fault.TextFault.{TextFault}
 use Rattle.trace.specs.declared.version.Version.{Version}
 use Rattle.trace.specs.Streams.{Given, Taken, GrowsByPart}
@@ -16,20 +14,15 @@ use Rattle.heap_server.specs.declared.play.Outcome.{Outcome}
 use Rattle.heap_model.specs.Settings.{settings_by}
 use Rattle.heap_server.specs.Played.{IsOutcome}
 use Rattle.player.specs.declared.style.Style.{Style}
-use Rattle.player.specs.declared.style.Style.TheVariants.{Entries, Nothing}
+use Rattle.player.specs.declared.style.Style.TheVariants.{Entries}
 use Rattle.player.specs.New.{IsNew}
 use Rattle.player.specs.Player.{PlayerState}
-use Rattle.player.specs.Playing.{Stage, stage, Played, PlayedFirst, text_written}
-use Rattle.command_line.specs.declared.job.Report.{Report}
-use Rattle.command_line.specs.declared.job.Report.TheVariants as reports
-use Rattle.inspector.specs.Filling.{sizes_told}
-use Rattle.inspector.specs.Report.{report_of}
+use Rattle.player.specs.Playing.{stage, Played, text_written}
 use Rattle.metronome.specs.declared.fault.Ending.{Ending}
 use Rattle.metronome.specs.declared.fault.Ending.TheVariants.{Done, WrongReply}
 use Rattle.metronome.specs.declared.fault.RunFault.{RunFault}
 use Rattle.metronome.specs.declared.fault.RunFault.TheVariants.{Write, NoMemory, NotComplete}
 use Rattle.metronome.specs.Faults.{of_text}
-use Rattle.metronome.specs.Windows.{AllTold, FirstTold}
 
 -- Memory was refused before anything was read or written.
 abbrev pub NotBegun : Given → Taken → Result Ending RunFault → Type 0
@@ -46,32 +39,6 @@ TracePlayed style config given taken result =
     NotBegun given taken result
     ⊎ ((old : PlayerState) × (new : PlayerState) × (how : Result (Unit {0}) TextFault) × IsNew config old
     × Played style given (stage old taken.before) (stage new taken.after) how × (result ≡ ends_as how))
-
--- a trace, or its first event lines, played without a line written
-abbrev pub PlayedUpTo : Option ℕ → Given → Stage → Stage → Result (Unit {0}) TextFault → Type 0
-PlayedUpTo None given old new how = Played Nothing given old new how
-PlayedUpTo (Some events) given old new how = PlayedFirst events Nothing given old new how
-
--- the text of a report of a heap: page by page, or by size class
-abbrev pub report_by : Report → HeapState → List ℕ
-report_by reports.Pages h = report_of h
-report_by reports.Sizes h = sizes_told h
-
--- what is written of a heap after a play
-abbrev pub ReportedAfter : Result (Unit {0}) TextFault → List ℕ → Taken → Result Ending RunFault → Type 0
--- the play came to its end: the report, or a part of it where a write failed
-ReportedAfter (Ok all) report taken (Ok ending) = (ending ≡ Done) × (taken.after ≡ taken.before ++ report)
-ReportedAfter (Ok all) report taken (Err fault) = (fault ≡ Write) × GrowsByPart taken.before taken.after report
--- a fault ended the play: nothing
-ReportedAfter (Err why) report taken result = (result ≡ Err (of_text why)) × (taken.after ≡ taken.before)
-
--- A new player played a trace, or its first event lines, and a report of its heap was written.
-abbrev pub HeapInspected : Report → Option ℕ → Config → Given → Taken → Result Ending RunFault → Type 0
-HeapInspected by after config given taken result =
-    NotBegun given taken result
-    ⊎ ((old : PlayerState) × (new : PlayerState) × (mid : List ℕ) × (how : Result (Unit {0}) TextFault)
-    × IsNew config old × PlayedUpTo after given (stage old taken.before) (stage new mid) how
-    × ReportedAfter how (report_by by new.course.heap) (record taken { before = mid }) result)
 
 -- the line that tells what became of a history, and how the run ends
 abbrev pub told_of : Checked → List ℕ
@@ -128,21 +95,3 @@ abbrev pub ScriptsRun : ℕ → ℕ → Config → Given → Taken → Result En
 ScriptsRun turns budget config given taken result =
     (how : Result ReadScripts TextFault) × ScriptsRead given config.mutators how
     × RunBehind turns budget config how taken result
-
--- what is written of windows after a play
-abbrev pub ToldBehind : Result (Unit {0}) TextFault → Config → Timetable → List ℕ → Taken → Result Ending RunFault
-    → Type 0
--- the play came to its end: a line for each window, or for the first of them
-ToldBehind (Ok all) config t windows taken (Ok ending) = (ending ≡ Done)
-    × AllTold config t windows taken.before taken.after
-ToldBehind (Ok all) config t windows taken (Err fault) = FirstTold config t windows fault taken.before taken.after
--- a fault ended the play: nothing
-ToldBehind (Err why) config t windows taken result = (result ≡ Err (of_text why)) × (taken.after ≡ taken.before)
-
--- A new player played a trace, and a line for each window was written.
-abbrev pub WindowsMeasured : List ℕ → Config → Given → Taken → Result Ending RunFault → Type 0
-WindowsMeasured windows config given taken result =
-    NotBegun given taken result
-    ⊎ ((old : PlayerState) × (new : PlayerState) × (mid : List ℕ) × (how : Result (Unit {0}) TextFault)
-    × IsNew config old × Played Nothing given (stage old taken.before) (stage new mid) how
-    × ToldBehind how config new.timetable windows (record taken { before = mid }) result)

@@ -2,11 +2,10 @@ pub mod Faults
 pub mod Jobs
 pub mod Status
 pub mod Windows
-pub mod Drawn
-pub mod Graphed
 pub mod Told
+pub mod Behind
+pub mod Telling
 pub mod OverTime
 pub mod Progress
 pub mod Logged
-pub mod Alive
 pub mod Done

@@ -3,10 +3,10 @@ use Rattle.std.specs.Prelude.{◌≡◌, Result, Ok, Err}
 use Rattle.size_classes.specs.declared.config.Config.{Config}
 use Rattle.trace.specs.declared.fault.TextFault.{TextFault}
 use Rattle.trace.specs.Streams.{Given, Taken}
-use Rattle.cycles.specs.declared.cycle.Cycles.{Cycles}
-use Rattle.cycles.specs.declared.text.Layout.{Layout}
-use Rattle.cycles.specs.Taking.{CyclesTaken}
-use Rattle.cycles.specs.Text.{cycles_told}
+use Rattle.inspector.specs.declared.cycles.cycle.Cycles.{Cycles}
+use Rattle.inspector.specs.declared.cycles.text.Layout.{Layout}
+use Rattle.inspector.specs.Taking.{CyclesTaken}
+use Rattle.inspector.specs.Text.{cycles_told}
 use Rattle.metronome.specs.declared.fault.Ending.{Ending}
 use Rattle.metronome.specs.declared.fault.RunFault.{RunFault}
 use Rattle.metronome.specs.Told.{ReportTold, NothingTold}

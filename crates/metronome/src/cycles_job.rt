@@ -5,7 +5,7 @@ ghost use Rattle.metronome.specs.Faults.{failed_reads, failed_writes};
 ghost use Rattle.metronome.specs.Logged.{CyclesTold};
 
 use crate::fault::{Ending, RunFault};
-use cycles::{Layout, cycles_text, take_cycles};
+use inspector::{Layout, cycles_text, take_cycles};
 use size_classes::Config;
 use std::alloc::Global;
 use trace::{Sink, Source, write_all};

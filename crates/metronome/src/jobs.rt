@@ -1,29 +1,23 @@
 //! What each subcommand does, from a source to a sink. Each ends in a failed read or write exactly where one failed.
-ghost use Rattle.std.specs.Prelude.{◌≡◌, ◌+◌, ◌≤◌, ◌++◌, length, map, replicate, IfOk, IfErr, OnOk, OnErr, string_bytes};
+ghost use Rattle.std.specs.Prelude.{◌≡◌, ◌+◌, ◌≤◌, ◌++◌, length, map, replicate, IfOk, OnOk, OnErr, string_bytes};
 ghost use Rattle.heap_model.specs.Settings.{settings_by};
-ghost use Rattle.trace.specs.GoneOver.{reads_failed, writes_failed};
 ghost use Rattle.trace.specs.Streams.{failed, GrowsByPart, given_by, taken_by};
 ghost use Rattle.player.specs.declared.style.Style.TheVariants.{Entries};
-ghost use Rattle.player.specs.Playing.{stage, written_of, written_version, text_written};
+ghost use Rattle.player.specs.Playing.{written_of, written_version, text_written};
 ghost use Rattle.heap_server.specs.Played.{IsOutcome};
 ghost use Rattle.metronome.specs.Faults.{failed_reads, failed_writes};
-ghost use Rattle.metronome.specs.Jobs.{TracePlayed, PlayedUpTo, HeapInspected, HistoryChecked, ScriptsRun, WindowsMeasured, verdict, told_of, finish};
-ghost use Rattle.metronome.specs.Windows.{IsWindowLine, AllTold, FirstTold};
+ghost use Rattle.metronome.specs.Jobs.{TracePlayed, HistoryChecked, ScriptsRun, verdict, told_of, finish};
 
 use crate::fault::{Ending, RunFault};
-use crate::reports::write_report;
-use command_line::Report;
 use graph_heap::{Command, Entry, NoMemory, Reference};
 use heap_server::{OpenGate, Outcome, play_threads};
-use mmu_report::{bound, least_mutator, permille};
-use player::{Player, Style, play, play_first};
-use quanta::Schedule;
+use player::{Player, Style, play};
 use size_classes::Config;
 use std::alloc::{AllocError, Global};
 use std::sync::Wait;
 use std::thread::Threads;
 use trace::transcripts::{Checked, check_entries, read_scripts};
-use trace::{Sink, Source, TextFault, Version, WriteFailed, end_line, write_all, write_entry};
+use trace::{Sink, Source, Version, WriteFailed, end_line, write_all, write_entry};
 
 /// Plays a trace, and writes what the style says of each command.
 pub fn play_job<S: Source, K: Sink>(
@@ -181,100 +175,4 @@ fn write_entries<K: Sink>(sink: &mut K, history: &[Entry]) -> Result<(), WriteFa
         end_line(sink, &mut out, end)?;
     }
     Ok(())
-}
-
-/// Plays a trace, or its first event lines, and writes nothing.
-pub(crate) fn play_silently<S: Source, K: Sink>(
-    source: &mut S,
-    sink: &mut K,
-    player: &mut Player,
-    after: Option<u32>,
-) -> Result<(), TextFault>
-    ensures played { PlayedUpTo after (given_by S.given S.ended source.old source.new)
-        (stage player.old (K.taken sink.old)) (stage player.new (K.taken sink.new)) result }
-    ensures reads { S.failures source.new ≡ S.failures source.old + reads_failed result }
-    ensures writes { K.failures sink.new ≡ K.failures sink.old + writes_failed result }
-{
-    match after {
-        None => play(source, sink, player, Style::Nothing),
-        Some(events) => play_first(events, source, sink, player, Style::Nothing),
-    }
-}
-
-/// Plays a trace, or its first event lines, and writes a report of the heap.
-pub fn inspect_job<S: Source, K: Sink>(
-    alloc: Global,
-    config: &Config,
-    source: &mut S,
-    sink: &mut K,
-    by: Report,
-    after: Option<u32>,
-) -> Result<Ending, RunFault>
-    ensures done { HeapInspected by after config.now (given_by S.given S.ended source.old source.new)
-        (taken_by K.taken sink.old sink.new) result }
-    ensures reads { S.failures source.new ≡ S.failures source.old + failed_reads result }
-    ensures writes { K.failures sink.new ≡ K.failures sink.old + failed_writes result }
-{
-    let mut player = Player::new(alloc, config)?;
-    play_silently(source, sink, &mut player, after)?;
-    write_report(player.recorded().heap(), by, sink)?;
-    Ok(Ending::Done)
-}
-
-/// Plays a trace, and writes a line for each window.
-pub fn mmu_job<S: Source, K: Sink>(
-    alloc: Global,
-    config: &Config,
-    source: &mut S,
-    sink: &mut K,
-    windows: &[u64],
-) -> Result<Ending, RunFault>
-    ensures done { WindowsMeasured windows.now config.now (given_by S.given S.ended source.old source.new)
-        (taken_by K.taken sink.old sink.new) result }
-    ensures reads { S.failures source.new ≡ S.failures source.old + failed_reads result }
-    ensures writes { K.failures sink.new ≡ K.failures sink.old + failed_writes result }
-{
-    let mut player = Player::new(alloc, config)?;
-    play(source, sink, &mut player, Style::Nothing)?;
-    write_windows(alloc, config, player.schedule(), sink, windows)?;
-    Ok(Ending::Done)
-}
-
-/// Writes a line for each window.
-fn write_windows<K: Sink>(
-    alloc: Global,
-    config: &Config,
-    schedule: &Schedule,
-    sink: &mut K,
-    windows: &[u64],
-) -> Result<(), RunFault>
-    ensures ok { OnOk result (AllTold config.now schedule.now windows.now (K.taken sink.old) (K.taken sink.new)) }
-    ensures err { IfErr result (λ fault. FirstTold config.now schedule.now windows.now fault (K.taken sink.old)
-        (K.taken sink.new)) }
-    ensures reads { failed_reads result ≡ 0 }
-    ensures writes { K.failures sink.new ≡ K.failures sink.old + failed_writes result }
-{
-    for window in windows {
-        let line = window_line(alloc, config, schedule, *window)?;
-        write_all(sink, line.as_bytes())?;
-    }
-    Ok(())
-}
-
-/// What is told of a window: the least that the mutators had of any, what the schedule promises, and the
-/// share in thousandths; or none, where no window of so many ticks has passed.
-fn window_line(
-    alloc: Global,
-    config: &Config,
-    schedule: &Schedule,
-    window: u64,
-) -> Result<String, AllocError>
-    ensures { IfOk result (λ line. IsWindowLine config.now schedule.now window (string_bytes line)) }
-{
-    let Some(least) = least_mutator(schedule.intervals(), schedule.span(), window) else {
-        return format!(in alloc; "window {window} none\n");
-    };
-    let bound = bound(config.collector_ticks, config.mutator_ticks, window);
-    let permille = permille(least, window);
-    format!(in alloc; "window {window} least {least} bound {bound} permille {permille}\n")
 }

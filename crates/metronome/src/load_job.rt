@@ -9,10 +9,9 @@ ghost use Rattle.metronome.specs.Told.{IsRest, LoadTold, TextMeasured, TextCheck
 use crate::fault::{Ending, RunFault};
 use crate::files::{Opener, read_document};
 use inspector::load_kept::load_report;
-use load_file::read_load;
 use size_classes::Config;
 use sizing::arrivals::{Kept, Load, keeps_load};
-use sizing::{Measured, measure};
+use sizing::{Measured, measure, read_load};
 use std::alloc::Global;
 use trace::{MemorySource, Sink, Source, TextFault, write_all};
 

@@ -1,17 +1,14 @@
 //! The program: plays, checks, runs and inspects heaps, as its words ask.
 #![tactic(auto)]
 
+mod behind;
 mod cycles_job;
-mod drawing_job;
 mod fault;
 mod files;
-mod graph_job;
 mod jobs;
 mod load_job;
 mod pages_job;
-mod path_job;
 mod progress;
-mod reports;
 mod run;
 mod time_job;
 

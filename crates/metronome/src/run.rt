@@ -7,19 +7,17 @@ ghost use Rattle.metronome.specs.Done.{JobDone};
 ghost use Rattle.metronome.specs.Faults.{failed_writes, CountsReads};
 ghost use Rattle.metronome.specs.Status.{status_of};
 
+use crate::behind::{Telling, after_play};
 use crate::cycles_job::cycles_job;
-use crate::drawing_job::draw_job;
 use crate::fault::{Ending, RunFault};
 use crate::files::{Opener, open_file, read_document};
-use crate::graph_job::graph_job;
-use crate::jobs::{check_job, inspect_job, mmu_job, play_job, threads_job};
+use crate::jobs::{check_job, play_job, threads_job};
 use crate::load_job::load_job;
 use crate::pages_job::pages_job;
-use crate::path_job::path_job;
 use crate::progress::ToldSource;
 use crate::time_job::time_job;
 use command_line::{Job, Request, Sizing, WordsFault, read_config, read_words};
-use cycles::Layout;
+use inspector::Layout;
 use player::Style;
 use size_classes::Config;
 use std::alloc::Global;
@@ -194,18 +192,26 @@ fn work<S: Source, K: Sink, O: Opener, T: Threads + Wait + Sync>(
         Job::Threads { turns, budget, .. } => {
             threads_job(host.rt, alloc, config, source, sink, *turns, *budget)
         }
-        Job::Inspect { by, after, .. } => inspect_job(alloc, config, source, sink, *by, *after),
+        Job::Inspect { by, after, .. } => {
+            after_play(alloc, config, source, sink, *after, Telling::Report(*by))
+        }
         Job::Cycles { csv: false, .. } => {
             cycles_job(alloc, config, source, sink, Layout::Columns)
         }
         Job::Cycles { csv: true, .. } => cycles_job(alloc, config, source, sink, Layout::Commas),
-        Job::Path { id, after, .. } => path_job(alloc, config, source, sink, *id, *after),
-        Job::Mmu { windows, .. } => mmu_job(alloc, config, source, sink, windows.as_slice()),
+        Job::Path { id, after, .. } => {
+            after_play(alloc, config, source, sink, *after, Telling::Path(*id))
+        }
+        Job::Mmu { windows, .. } => {
+            let telling = Telling::Windows(windows.as_slice());
+            after_play(alloc, config, source, sink, None, telling)
+        }
         Job::Draw { picture, after, .. } => {
-            draw_job(alloc, config, source, sink, *picture, *after)
+            let telling = Telling::Picture(*picture);
+            after_play(alloc, config, source, sink, *after, telling)
         }
         Job::DrawGraph { after, most, .. } => {
-            graph_job(alloc, config, source, sink, *after, *most)
+            after_play(alloc, config, source, sink, *after, Telling::Graph(*most))
         }
         Job::DrawTime { .. } => time_job(alloc, config, source, sink),
         Job::Pages {

@@ -1,6 +1,6 @@
 -- What is drawn of samples, one after the other.
-use Rattle.std.proofs.Common.{◌≡◌, ℕ, zero, suc, ◌+◌, ◌-◌, ◌*◌, ◌<◌, List, [], ◌∷◌, ◌++◌, Option, length, drop, get_or, slice_get, ap, ◌∙◌, sym, refl}
-use Rattle.std.proofs.lemmas.List.{drop_more}
+use Rattle.std.proofs.Common.{◌≡◌, ◌≤◌, ◌⊎◌, inl, inr, set, subst, arith, ℕ, zero, suc, ◌+◌, ◌-◌, ◌*◌, ◌<◌, List, [], ◌∷◌, ◌++◌, Option, Some, length, drop, get_or, slice_get, ap, ◌∙◌, sym, refl}
+use Rattle.std.proofs.lemmas.List.{drop_more, get_or-set_same, get_or-set_other}
 use Rattle.pictures.specs.declared.axis.Axis.{Axis}
 use Rattle.pictures.specs.declared.colour.Colour.{Colour}
 use Rattle.pictures.specs.declared.colour.Colour.TheVariants.{Blue}
@@ -19,6 +19,12 @@ pub marks_are : (scale : Scale) (s : Sample) (end x width high : ℕ) (colour : 
     → colour ≡ phase_colour s.phase → s.objects ≡ objects → drawn scale x width high colour objects ≡ sample_marks scale s end
 marks_are scale s end x width high colour objects at wide tall is has =
     rw (at, wide, tall, is) (ap (drawn scale (line_x s.line scale.lines) (end - line_x s.line scale.lines) (height_of s.pages_in_use scale.pages) (phase_colour s.phase)) (sym has))
+
+pub marked_some : (Part : List Element → Type 0) (scale : Scale) (s : Sample) (end x width high : ℕ) (colour : Colour) (n dash : ℕ) → Part (Veil x (250 - high) width high Blue ∷ Rectangle x 454 width 14 colour ∷ Rectangle x (439 - dash) width 3 Blue ∷ [])
+    → x ≡ line_x s.line scale.lines → width ≡ end - line_x s.line scale.lines → high ≡ height_of s.pages_in_use scale.pages → colour ≡ phase_colour s.phase → s.objects ≡ Some n → dash ≡ height_of n scale.objects → Part (sample_marks scale s end)
+marked_some Part scale s end x width high colour n dash p at wide tall is has dashed =
+    subst Part (marks_are scale s end x width high colour (Some n) at wide tall is has)
+    (subst (λ h. Part (Veil x (250 - high) width high Blue ∷ Rectangle x 454 width 14 colour ∷ Rectangle x (439 - h) width 3 Blue ∷ [])) dashed p)
 
 -- the first item behind some
 get_drop : {A : Type 0} (k : ℕ) (xs : List A) → slice_get (drop k xs) 0 ≡ slice_get xs k
@@ -44,3 +50,18 @@ pub numbers_by : (axis : Axis) (greatest left k step : ℕ) (here : List Element
 numbers_by axis greatest left k step here some is draws =
     numbers_on axis greatest left (left - 1) k some
     ∙ ap (λ xs. xs ++ numbers_from axis greatest (k + 1) (left - 1)) (sym (draws ∙ ap (λ s. axis_number axis greatest (k * s)) is))
+
+less_or_at : (a b : ℕ) → a < b + 1 → (a < b) ⊎ (a ≡ b)
+less_or_at a b h = grind arith
+
+-- one place more has every second sample
+pub evens_on : (xs ys : List Sample) (n : ℕ) (v : Sample) → n < length xs → ((k : ℕ) (d : Sample) → k < n → get_or xs k d ≡ get_or ys (2 * k) d) → ((d : Sample) → v ≡ get_or ys (2 * n) d)
+    → (k : ℕ) (d : Sample) → k < n + 1 → get_or (set xs n v) k d ≡ get_or ys (2 * k) d
+evens_on xs ys n v within before is k d l = elim (less_or_at k n l) [
+  | inl less ↦ get_or-set_other xs n k v d (λ e. omega (arith, e, less)) ∙ before k d less
+  | inr e ↦ subst (λ i. get_or (set xs n v) i d ≡ get_or ys (2 * i) d) (sym e) (get_or-set_same xs n v d within ∙ is d)
+]
+
+-- and those behind it have their own
+pub evens_rest : (xs ys : List Sample) (n : ℕ) (v : Sample) → ((k : ℕ) (d : Sample) → n ≤ k → get_or xs k d ≡ get_or ys k d) → (k : ℕ) (d : Sample) → n + 1 ≤ k → get_or (set xs n v) k d ≡ get_or ys k d
+evens_rest xs ys n v rest k d l = get_or-set_other xs n k v d (λ e. omega (arith, e, l)) ∙ rest k d (omega (arith, l))

@@ -1,5 +1,5 @@
 pub mod Document
 pub mod Drawn
 pub mod Joined
-pub mod Parts
+pub mod Statements
 pub mod Shown

@@ -3,7 +3,7 @@ use Rattle.std.specs.Prelude.{ℕ, ◌+◌, ◌-◌, ◌*◌, ◌/◌, ◌%◌, 
 use Rattle.std.specs.Set.{is_member}
 use Rattle.graph_heap.specs.declared.command.Limits.{Limits}
 use Rattle.graph_heap.specs.Graph.{Graph, object_of}
-use Rattle.reachability.specs.declared.found.Found.{Found}
+use Rattle.pictures.specs.declared.reachability.found.Found.{Found}
 use Rattle.pictures.specs.declared.graph.statement.Root.{Root}
 use Rattle.pictures.specs.declared.graph.statement.Root.TheVariants.{Slot, Static}
 use Rattle.pictures.specs.declared.graph.statement.Statement.{Statement}

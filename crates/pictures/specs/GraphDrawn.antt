@@ -2,8 +2,8 @@
 use Rattle.std.specs.Prelude.{◌≡◌, ℕ, List, ◌++◌, Result, Ok, Err}
 use Rattle.trace.specs.Streams.{Taken, GrowsByPart}
 use Rattle.graph_heap.specs.Graph.{Graph}
-use Rattle.reachability.specs.declared.found.Found.{Found}
-use Rattle.reachability.specs.Distance.{FindsAll}
+use Rattle.pictures.specs.declared.reachability.found.Found.{Found}
+use Rattle.pictures.specs.Distance.{FindsAll}
 use Rattle.pictures.specs.declared.graph.fault.DrawFault.{DrawFault}
 use Rattle.pictures.specs.declared.graph.fault.DrawFault.TheVariants.{Write, NoMemory}
 use Rattle.pictures.specs.GraphDrawing.{graph_picture}

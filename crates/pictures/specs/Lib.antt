@@ -12,3 +12,7 @@ pub mod Taking
 pub mod GraphDrawing
 pub mod GraphDrawn
 pub mod Statements
+pub mod Distance
+pub mod Search
+pub mod Route
+pub mod Text

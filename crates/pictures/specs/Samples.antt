@@ -35,7 +35,7 @@ sampled m = sample_of m.heap m.line (is_idle m.heap.phase)
 abbrev pub moments_along : (old : Stage) (lines : List (List ℕ)) (version : Version) (events : List Event) (new : Stage)
     → LinesDone (TellsVersionOf Nothing) (PlaysText Nothing) old lines version events new → List Moment
 moments_along old lines version events new No_lines = moment 0 old.player.course.heap ∷ []
-moments_along old lines version events new (One_line_more before v next es more line mid after done goes) =
+moments_along old lines version events new (One_line_more before v next es more line mid after done goes follows) =
     moments_along old before v es mid done
     ++ (if is_event line then moment (length before + 1) after.player.course.heap ∷ [] else [])
 

@@ -12,6 +12,7 @@ mod look;
 mod measuring;
 mod over_time;
 mod page_map;
+mod reachability;
 mod sample;
 mod share;
 mod squares;
@@ -21,6 +22,9 @@ mod writing;
 
 pub use over_time::{MOST_SAMPLES, Scale, draw_time};
 pub use page_map::draw_pages;
+pub use reachability::{
+    Found, Holder, Route, Search, Standing, Step, path_text, present, search, shortest_path,
+};
 pub use sample::Sample;
 pub use share::{Share, WINDOWS};
 pub use utilisation::draw_utilisation;

@@ -9,10 +9,11 @@ use Rattle.trace.specs.declared.fault.LineFault.TheVariants.{TooLong, NotEnded, 
 use Rattle.trace.specs.declared.fault.TextFault.{TextFault}
 use Rattle.trace.specs.declared.fault.TextFault.TheVariants.{Line as At_line, Read, Write, NoMemory}
 use Rattle.trace.specs.declared.version.Version.{Version}
-use Rattle.trace.specs.GoneOver.{LinesDone, GoneOver, NextLine, Ends, writes_failed}
+use Rattle.trace.specs.GoneOver.{Reached, NextThere, LinesDone, GoneOver, Ends, writes_failed}
 use Rattle.trace.specs.LineReader.{Lines}
 use Rattle.trace.specs.Streams.{Given, GrowsByPart}
-use Rattle.trace.proofs.GoingOver.{SoFar}
+use Rattle.trace.specs.TextLine.{Text}
+use Rattle.trace.proofs.GoingOver.{SoFar, reached_by}
 use Rattle.player.specs.declared.style.Style.{Style}
 use Rattle.player.specs.Player.{PlayerState, entries_in}
 use Rattle.player.specs.Playing.{Stage, stage, TellsVersionOf, PlaysText, Stops, StopsText, IsWrittenUpTo, Played, PlayedUpTo, text_written}
@@ -70,36 +71,38 @@ left style NoMemory (lines.Quantum b) number mid new s = elim s [ ]
 left style NoMemory (lines.Tick n) number mid new s = (s.1, inr (s.0, refl))
 
 -- and of its text
-pub stops_taken : (style : Style) (version : Version) (fault : TextFault) (text : List ℕ) (number : ℕ) (mid new : Stage) → StopsText style version fault text number mid new → new.taken ≡ mid.taken
-stops_taken style version fault text number mid new (inl none) = ap (λ (s : Stage). s.taken) none.1
-stops_taken style version fault text number mid new (inr (line, spells, stops)) = (left style fault line number mid new stops).0
+pub stops_taken : (style : Style) (fault : TextFault) (text : Text) (mid new : Stage) → StopsText style fault text mid new → new.taken ≡ mid.taken
+stops_taken style fault text mid new (inl none) = ap (λ (s : Stage). s.taken) none.1
+stops_taken style fault text mid new (inr (line, spells, stops)) = (left style fault line text.number mid new stops).0
+
+-- the next line, for which memory is refused
+abbrev Refused : Style → Reached Stage Event → Stage → Type 0
+Refused style reached new = NextThere reached (λ text. StopsText style NoMemory text reached.state (stage new.player reached.state.taken))
 
 -- the same of an end
-abbrev pub LeftBehind : Style → Version → ℕ → Stage → List ℕ → Stage → Type 0
-LeftBehind style version count mid rest new =
-    (new.taken ≡ mid.taken) × ((new.player ≡ mid.player) ⊎ NextLine (λ line. StopsText style version NoMemory line (count + 1) mid (stage new.player mid.taken)) rest)
+abbrev pub LeftBehind : Style → Reached Stage Event → Stage → Type 0
+LeftBehind style reached new = (new.taken ≡ reached.state.taken) × ((new.player ≡ reached.state.player) ⊎ Refused style reached new)
 
-same_left : (style : Style) (version : Version) (count : ℕ) (mid : Stage) (rest : List ℕ) (new : Stage) → new ≡ mid → LeftBehind style version count mid rest new
-same_left style version count mid rest new e = (ap (λ (s : Stage). s.taken) e, inl (ap (λ (s : Stage). s.player) e))
+same_left : (style : Style) (reached : Reached Stage Event) (new : Stage) → new ≡ reached.state → LeftBehind style reached new
+same_left style reached new e = (ap (λ (s : Stage). s.taken) e, inl (ap (λ (s : Stage). s.player) e))
 
-at_line : (style : Style) (version : Version) (count : ℕ) (mid : Stage) (rest text more : List ℕ) (line : Line) (new : Stage) → (NextLine (λ l. StopsText style version NoMemory l (count + 1) mid (stage new.player mid.taken)) rest → LeftBehind style version count mid rest new)
-    → (Stops style NoMemory line (count + 1) mid (stage new.player mid.taken) → NextLine (λ l. StopsText style version NoMemory l (count + 1) mid (stage new.player mid.taken)) rest) → Left style line (count + 1) mid new → LeftBehind style version count mid rest new
-at_line style version count mid rest text more line new all next (e, inl same) = (e, inl same)
-at_line style version count mid rest text more line new all next (e, inr stops) = (e, inr (next stops))
+at_line : (style : Style) (reached : Reached Stage Event) (line : Line) (number : ℕ) (new : Stage) → (Stops style NoMemory line number reached.state (stage new.player reached.state.taken) → Refused style reached new) → Left style line number reached.state new → LeftBehind style reached new
+at_line style reached line number new next (e, inl same) = (e, inl same)
+at_line style reached line number new next (e, inr stops) = (e, inr (next stops))
 
-pub left_behind : (style : Style) (version : Version) (count : ℕ) (mid : Stage) (rest : List ℕ) (ended : Bool) (new : Stage) (result : Result (Unit {0}) TextFault) → Ends (StopsText style version) count mid rest ended new result → LeftBehind style version count mid rest new
-left_behind style version count mid rest ended new (Ok all) e = same_left style version count mid rest new e.2
-left_behind style version count mid rest ended new (Err fault) (inl e) = same_left style version count mid rest new e.1
-left_behind style version count mid rest ended new (Err fault) (inr (text, more, whole, is, inl none)) = same_left style version count mid rest new none.1
-left_behind style version count mid rest ended new (Err fault) (inr (text, more, whole, is, inr (line, spells, stops))) =
-    at_line style version count mid rest text more line new (λ next. ((left style fault line (count + 1) mid new stops).0, inr next)) (λ s. (text, more, whole, is, inr (line, spells, s))) (left style fault line (count + 1) mid new stops)
+pub left_behind : (style : Style) (reached : Reached Stage Event) (ended : Bool) (new : Stage) (result : Result (Unit {0}) TextFault) → Ends (StopsText style) reached ended new result → LeftBehind style reached new
+left_behind style reached ended new (Ok all) e = same_left style reached new e.2
+left_behind style reached ended new (Err fault) (inl e) = same_left style reached new e.1
+left_behind style reached ended new (Err fault) (inr (text, more, whole, is, inl none)) = same_left style reached new none.1
+left_behind style reached ended new (Err fault) (inr (text, more, whole, is, inr (line, spells, stops))) =
+    at_line style reached line (length reached.lines + 1) new (λ s. (text, more, whole, is, inr (line, spells, s))) (left style fault line (length reached.lines + 1) reached.state new stops)
 
 -- a write of what waits failed after the end
 module _ (style : Style) (given : Given) (old : Stage) (player : PlayerState) (taken taken' waiting : List ℕ) (ended : Result (Unit {0}) TextFault) (low : length old.taken ≤ length taken) (grows : GrowsByPart taken taken' waiting) where
-  abbrev pub cut : (over : GoneOver (TellsVersionOf style) (PlaysText style) given old (λ version count events mid rest. Ends (StopsText style version) count mid rest given.ended (stage player (taken ++ waiting)) ended)) → IsWrittenUpTo style old over.lines over.events over.rest taken'
+  abbrev pub cut : (over : GoneOver (TellsVersionOf style) (PlaysText style) given old (λ reached. Ends (StopsText style) reached given.ended (stage player (taken ++ waiting)) ended)) → IsWrittenUpTo style old over.lines over.events over.rest taken'
       → Played style given old (stage player taken') (Err Write)
   cut over behind =
-      let l = left_behind style over.version (length over.lines) over.mid over.rest given.ended (stage player (taken ++ waiting)) ended over.ends in
+      let l = left_behind style (reached_by over) given.ended (stage player (taken ++ waiting)) ended over.ends in
       let text = lines_written style old over.mid over.lines over.version over.events over.done in
       played style given old (stage player taken') (Err Write) (record {
         lines = over.lines;
@@ -119,28 +122,28 @@ closed_up_to most style given old player taken taken' waiting ended result (inl 
 closed_up_to most style given old player taken taken' waiting ended result (inr (grows, is)) p short = rw is (short grows)
 
 -- the lines so far, of whose text a part is written
-abbrev pub cut_after : (style : Style) (given : Given) (old : Stage) (player : PlayerState) (taken waiting : List ℕ) (reader : Lines) (version : Version) (so : SoFar (TellsVersionOf style) (PlaysText style) given old (stage player (taken ++ waiting)) reader version) (taken' : List ℕ) → length old.taken ≤ length taken
+abbrev pub cut_after : (style : Style) (given : Given) (old : Stage) (player : PlayerState) (taken waiting : List ℕ) (reader : Lines) (so : SoFar (TellsVersionOf style) (PlaysText style) given old (stage player (taken ++ waiting)) reader) (taken' : List ℕ) → length old.taken ≤ length taken
     → GrowsByPart taken taken' waiting → IsWrittenUpTo style old so.lines so.events reader.kept taken' → Played style given old (stage player taken') (Err Write)
-cut_after style given old player taken waiting reader version so taken' low g behind =
+cut_after style given old player taken waiting reader so taken' low g behind =
     let mid = stage player (taken ++ waiting) in
     played style given old (stage player taken') (Err Write) (record {
       lines = so.lines;
-      version = version;
+      version = reader.next;
       events = so.events;
       mid = mid;
       rest = reader.kept;
       read = so.read;
       done = so.done;
-      ends = inr (refl, (part_of old.taken (text_written style version (entries_in so.events)) taken taken' waiting (lines_written style old mid so.lines version so.events so.done) low g, inl refl));
+      ends = inr (refl, (part_of old.taken (text_written style reader.next (entries_in so.events)) taken taken' waiting (lines_written style old mid so.lines reader.next so.events so.done) low g, inl refl));
     }) (λ _. behind)
 
 -- the lines so far, where the same text is written or waits
-abbrev pub moved : (style : Style) {given : Given} {old : Stage} {player : PlayerState} {reader : Lines} {version : Version} (taken taken' : List ℕ) (so : SoFar (TellsVersionOf style) (PlaysText style) given old (stage player taken) reader version) → taken' ≡ taken
-    → SoFar (TellsVersionOf style) (PlaysText style) given old (stage player taken') reader version
-moved style {given} {old} {player} {reader} {version} taken taken' so e = record {
+abbrev pub moved : (style : Style) {given : Given} {old : Stage} {player : PlayerState} {reader : Lines} (taken taken' : List ℕ) (so : SoFar (TellsVersionOf style) (PlaysText style) given old (stage player taken) reader) → taken' ≡ taken
+    → SoFar (TellsVersionOf style) (PlaysText style) given old (stage player taken') reader
+moved style {given} {old} {player} {reader} taken taken' so e = record {
   lines = so.lines;
   events = so.events;
   read = so.read;
-  done = subst (λ t. LinesDone (TellsVersionOf style) (PlaysText style) old so.lines version so.events (stage player t)) (sym e) so.done;
+  done = subst (λ t. LinesDone (TellsVersionOf style) (PlaysText style) old so.lines reader.next so.events (stage player t)) (sym e) so.done;
   counted = so.counted;
 }

@@ -12,7 +12,8 @@ use Rattle.trace.specs.declared.version.Version.{Version}
 use Rattle.graph_heap.specs.declared.command.Command.{Command}
 use Rattle.machine.specs.declared.recorded.Receipt.{Receipt}
 use Rattle.trace.specs.Numbered.{LineRead}
-use Rattle.trace.specs.Spelling.{version_line, TellsVersion, Spells, is_skipped}
+use Rattle.trace.specs.Spelling.{version_line, Spells, is_skipped}
+use Rattle.trace.specs.TextLine.{Text, IsVersionLine}
 use Rattle.trace.specs.Streams.{Given, GrowsByPart, text_of}
 use Rattle.trace.specs.declared.fault.TextFault.{TextFault}
 use Rattle.trace.specs.declared.fault.TextFault.TheVariants.{Write}
@@ -53,32 +54,32 @@ line_read text version (lines.Quantum budget) spells only = event_read text vers
 line_read text version (lines.Tick n) spells only = event_read text version (lines.Tick n) spells only refl
 
 -- what comes of the text of a line that was read and done
-pub went : (style : Style) (text taken taken' : List ℕ) (number : ℕ) (version next : Version) (line : Line) (old new : PlayerState) (receipt : Option Receipt) (event : Bool) → LineRead text number version next (Ok (Some line)) → LineDone line number old new (Ok receipt)
-    → taken' ≡ taken ++ written_of style (entry_of receipt) → event ≡ says_event line → LinePlayed style text number version next (stage old taken) (stage new taken') (Ok event)
-went style text taken taken' number version next line old new receipt event read done written is =
-    (done.0, inr (read.0, (line, read.1, (done.1, written ∙ ap (λ t. taken ++ written_of style t) (sym done.2)))), is ∙ line_read text version line read.1 read.2)
+pub went : (style : Style) (text : Text) (taken taken' : List ℕ) (line : Line) (old new : PlayerState) (receipt : Option Receipt) (event : Bool) → LineRead text (Ok (Some line)) → LineDone line text.number old new (Ok receipt)
+    → taken' ≡ taken ++ written_of style (entry_of receipt) → event ≡ says_event line → LinePlayed style text (stage old taken) (stage new taken') (Ok event)
+went style text taken taken' line old new receipt event read done written is =
+    (done.0, inr (read.0, (line, read.1, (done.1, written ∙ ap (λ t. taken ++ written_of style t) (sym done.2)))), is ∙ line_read text.bytes text.version line read.1 read.2)
 
 -- the same of a line that is no command, of which nothing is written
-pub went_on : (style : Style) (text taken : List ℕ) (number : ℕ) (version next : Version) (line : Line) (old new : PlayerState) (receipt : Option Receipt) (event : Bool) → LineRead text number version next (Ok (Some line)) → LineDone line number old new (Ok receipt)
-    → ((m : ℕ) (c : Command) → line ≢ lines.Command m c) → event ≡ says_event line → LinePlayed style text number version next (stage old taken) (stage new taken) (Ok event)
-went_on style text taken number version next line old new receipt event read done other is =
+pub went_on : (style : Style) (text : Text) (taken : List ℕ) (line : Line) (old new : PlayerState) (receipt : Option Receipt) (event : Bool) → LineRead text (Ok (Some line)) → LineDone line text.number old new (Ok receipt)
+    → ((m : ℕ) (c : Command) → line ≢ lines.Command m c) → event ≡ says_event line → LinePlayed style text (stage old taken) (stage new taken) (Ok event)
+went_on style text taken line old new receipt event read done other is =
     let none = sym (enters_nothing old line done.0 new done.1 other) ∙ done.2 in
-    went style text taken taken number version next line old new receipt event read done (sym (append-nil taken) ∙ ap (λ t. taken ++ written_of style t) none) is
+    went style text taken taken line old new receipt event read done (sym (append-nil taken) ∙ ap (λ t. taken ++ written_of style t) none) is
 
-pub told_read : (number : ℕ) (text : List ℕ) → TellsVersion number text → false ≡ is_event text
-told_read number text told = sym (ap is_event told.1)
+pub told_read : (text : Text) → IsVersionLine text → false ≡ is_event text.bytes
+told_read text told = sym (ap is_event told.1)
 
 pub count_more : (ls : List (List ℕ)) (line : List ℕ) (event : Bool) → event ≡ is_event line → count_by is_event (ls ++ line ∷ []) ≡ count_by is_event ls + cond event 1 0
 count_more ls line event e = sum_by_push (λ (l : List ℕ). cond (is_event l) 1 0) ls line ∙ ap (λ b. count_by is_event ls + cond b 1 0) (sym e)
 
 -- none is left: the input is cut after the lines
-pub first_done : {style : Style} {given : Given} {old new : Stage} {reader : Lines} {version : Version} (so : SoFar (TellsVersionOf style) (PlaysText style) given old new reader version) (n : ℕ) → count_by is_event so.lines ≡ n → EndAtEvent so.lines → PlayedFirst n style given old new (Ok tt)
-first_done {style} {given} {old} {new} {reader} {version} so n count end = inr (
+pub first_done : {style : Style} {given : Given} {old new : Stage} {reader : Lines} (so : SoFar (TellsVersionOf style) (PlaysText style) given old new reader) (n : ℕ) → count_by is_event so.lines ≡ n → EndAtEvent so.lines → PlayedFirst n style given old new (Ok tt)
+first_done {style} {given} {old} {new} {reader} so n count end = inr (
   given.before ++ text_of so.lines,
   reader.kept,
   played style (record given { after = given.before ++ text_of so.lines; ended = true }) old new (Ok tt) (record {
     lines = so.lines;
-    version = version;
+    version = reader.next;
     events = so.events;
     mid = new;
     rest = [];
@@ -133,21 +134,21 @@ up_to None p few = p
 up_to (Some n) p few = inl (p, few n refl)
 
 -- and once none is
-pub none_left : (style : Style) {given : Given} {old new : Stage} {reader : Lines} {version : Version} (so : SoFar (TellsVersionOf style) (PlaysText style) given old new reader version) (most left : Option ℕ) → AreLeft most (count_by is_event so.lines) left → left ≡ Some 0 → EndAtEvent so.lines
+pub none_left : (style : Style) {given : Given} {old new : Stage} {reader : Lines} (so : SoFar (TellsVersionOf style) (PlaysText style) given old new reader) (most left : Option ℕ) → AreLeft most (count_by is_event so.lines) left → left ≡ Some 0 → EndAtEvent so.lines
     → PlayedUpTo most style given old new (Ok tt)
 none_left style so None left are none end = absurd (cc)
 none_left style so (Some n) left are none end = first_done so n (let sum = are.2 in omega (arith, sum, same_Some are.0 0 (sym are.1 ∙ none))) end
 
 -- the same where a write of what waits then fails
-pub first_cut : {style : Style} {given : Given} {old : Stage} {player : PlayerState} {reader : Lines} {version : Version} (taken taken' waiting : List ℕ) (so : SoFar (TellsVersionOf style) (PlaysText style) given old (stage player (taken ++ waiting)) reader version) (n : ℕ) → count_by is_event so.lines ≡ n → EndAtEvent so.lines
+pub first_cut : {style : Style} {given : Given} {old : Stage} {player : PlayerState} {reader : Lines} (taken taken' waiting : List ℕ) (so : SoFar (TellsVersionOf style) (PlaysText style) given old (stage player (taken ++ waiting)) reader) (n : ℕ) → count_by is_event so.lines ≡ n → EndAtEvent so.lines
     → length old.taken ≤ length taken → GrowsByPart taken taken' waiting → IsWrittenUpTo style old so.lines so.events [] taken' → PlayedFirst n style given old (stage player taken') (Err Write)
-first_cut {style} {given} {old} {player} {reader} {version} taken taken' waiting so n count end low grows behind = inr (
+first_cut {style} {given} {old} {player} {reader} taken taken' waiting so n count end low grows behind = inr (
   given.before ++ text_of so.lines,
   reader.kept,
   cut style (record given { after = given.before ++ text_of so.lines; ended = true }) old player taken taken' waiting (Ok tt) low grows
       (record {
         lines = so.lines;
-        version = version;
+        version = reader.next;
         events = so.events;
         mid = stage player (taken ++ waiting);
         rest = [];
@@ -164,7 +165,7 @@ first_cut {style} {given} {old} {player} {reader} {version} taken taken' waiting
   inr refl,
 )
 
-pub none_cut : {style : Style} {given : Given} {old : Stage} {player : PlayerState} {reader : Lines} {version : Version} (taken taken' waiting : List ℕ) (so : SoFar (TellsVersionOf style) (PlaysText style) given old (stage player (taken ++ waiting)) reader version) (most left : Option ℕ) → AreLeft most (count_by is_event so.lines) left → left ≡ Some 0 → EndAtEvent so.lines
+pub none_cut : {style : Style} {given : Given} {old : Stage} {player : PlayerState} {reader : Lines} (taken taken' waiting : List ℕ) (so : SoFar (TellsVersionOf style) (PlaysText style) given old (stage player (taken ++ waiting)) reader) (most left : Option ℕ) → AreLeft most (count_by is_event so.lines) left → left ≡ Some 0 → EndAtEvent so.lines
     → length old.taken ≤ length taken → GrowsByPart taken taken' waiting → IsWrittenUpTo style old so.lines so.events [] taken' → PlayedUpTo most style given old (stage player taken') (Err Write)
 none_cut taken taken' waiting so None left are none end low grows behind = absurd (cc)
 none_cut taken taken' waiting so (Some n) left are none end low grows behind = first_cut taken taken' waiting so n (let sum = are.2 in omega (arith, sum, same_Some are.0 0 (sym are.1 ∙ none))) end low grows behind

@@ -12,7 +12,8 @@ use Rattle.trace.specs.declared.fault.TextFault.{TextFault}
 use Rattle.trace.specs.declared.fault.TextFault.TheVariants.{Line as At_line, Read, Write, NoMemory}
 use Rattle.trace.specs.declared.version.Version.{Version}
 use Rattle.trace.specs.declared.version.Version.TheVariants.{Second}
-use Rattle.trace.specs.GoneOver.{LinesDone, No_lines, One_line_more, GoneOver, Ends}
+use Rattle.trace.specs.GoneOver.{Reached, LinesDone, No_lines, One_line_more, GoneOver, Ends}
+use Rattle.trace.proofs.GoingOver.{next_told, next_same, reached_by}
 use Rattle.trace.specs.Streams.{Given}
 use Rattle.player.specs.Player.{PlayerState, QuantaDue, None_yet, One_more, DoesLine, Skips, Commands, Begins, Goes_on, Spends, Ticks, entries_in}
 use Rattle.player.specs.declared.style.Style.{Style}
@@ -51,10 +52,10 @@ line_runs p line es q (Ticks n fs r small w none) = due_runs (p.timetable.clock 
 
 pub lines_run : (style : Style) (old new : Stage) (ls : List (List ℕ)) (version : Version) (es : List Event) → LinesDone (TellsVersionOf style) (PlaysText style) old ls version es new → Runs old.player.course es new.player.course
 lines_run style old new ls version es No_lines = refl
-lines_run style old new ls version es (One_line_more ls' before version' es' more text mid new' d (inl told)) =
-    let e : es' ≡ es' ++ more = sym (append-nil es') ∙ ap (λ l. es' ++ l) (sym told.2) in
-    subst (λ l. Runs old.player.course l new'.player.course) e (subst (λ (p : PlayerState). Runs old.player.course es' p.course) (sym told.3.0) (lines_run style old mid ls' before es' d))
-lines_run style old new ls version es (One_line_more ls' before version' es' more text mid new' d (inr does)) =
+lines_run style old new ls version es (One_line_more ls' before version' es' more text mid new' d (inl told) next) =
+    let e : es' ≡ es' ++ more = sym (append-nil es') ∙ ap (λ l. es' ++ l) (sym told.1) in
+    subst (λ l. Runs old.player.course l new'.player.course) e (subst (λ (p : PlayerState). Runs old.player.course es' p.course) (sym told.2.0) (lines_run style old mid ls' before es' d))
+lines_run style old new ls version es (One_line_more ls' before version' es' more text mid new' d (inr does) next) =
     runs_then es' more old.player.course mid.player.course new'.player.course (lines_run style old mid ls' before es' d) (line_runs mid.player does.1.0 more new'.player does.1.2.0)
 
 -- the history grows by the entries
@@ -77,7 +78,7 @@ written_more style version taken taken' taken'' es fs old new =
 -- before the first line nothing is done
 none_done : (style : Style) (old new : Stage) (ls : List (List ℕ)) (version : Version) (es : List Event) → LinesDone (TellsVersionOf style) (PlaysText style) old ls version es new → length ls ≡ 0 → (es ≡ []) × (new.taken ≡ old.taken)
 none_done style old new ls version es No_lines none = (refl, refl)
-none_done style old new ls version es (One_line_more ls' before version' es' more text mid new' d goes) none = absurd (omega (arith, none, length-append ls' (text ∷ [])))
+none_done style old new ls version es (One_line_more ls' before version' es' more text mid new' d goes next) none = absurd (omega (arith, none, length-append ls' (text ∷ [])))
 
 -- the line that tells the version is written first
 told_written : (style : Style) (version : Version) (taken taken' taken'' : List ℕ) (es : List Event) → version ≡ Second → es ≡ [] → taken' ≡ taken → taken'' ≡ taken' ++ written_version Second style → taken'' ≡ taken ++ text_written style version (entries_in es)
@@ -88,29 +89,29 @@ told_written style version taken taken' taken'' es is none same new =
 -- what is written of the lines
 pub lines_written : (style : Style) (old new : Stage) (ls : List (List ℕ)) (version : Version) (es : List Event) → LinesDone (TellsVersionOf style) (PlaysText style) old ls version es new → new.taken ≡ old.taken ++ text_written style version (entries_in es)
 lines_written style old new ls version es No_lines = sym (append-nil old.taken)
-lines_written style old new ls version es (One_line_more ls' before version' es' more text mid new' d (inl told)) =
+lines_written style old new ls version es (One_line_more ls' before version' es' more text mid new' d (inl told) next) =
     let n = none_done style old mid ls' before es' d (omega (arith, told.0.0)) in
-    told_written style version' old.taken mid.taken new'.taken (es' ++ more) told.1 (ap (λ l. l ++ more) n.0 ∙ told.2) n.1 told.3.1
-lines_written style old new ls version es (One_line_more ls' before version' es' more text mid new' d (inr does)) =
-    subst (λ v. new'.taken ≡ old.taken ++ text_written style v (entries_in (es' ++ more))) (sym does.0)
+    told_written style version' old.taken mid.taken new'.taken (es' ++ more) (next_told _ version' next told.0) (ap (λ l. l ++ more) n.0 ∙ told.1) n.1 told.2.1
+lines_written style old new ls version es (One_line_more ls' before version' es' more text mid new' d (inr does) next) =
+    subst (λ v. new'.taken ≡ old.taken ++ text_written style v (entries_in (es' ++ more))) (sym (next_same _ version' next does.0))
     (written_more style before old.taken mid.taken new'.taken es' more (lines_written style old mid ls' before es' d) does.1.2.1)
 
 -- what is played
-abbrev pub played : (style : Style) (given : Given) (old new : Stage) (result : Result (Unit {0}) TextFault) (over : GoneOver (TellsVersionOf style) (PlaysText style) given old (λ version count events mid rest. Ends (StopsText style version) count mid rest given.ended new result ⊎ ((result ≡ Err Write) × CutShort style version count events mid rest old new)))
+abbrev pub played : (style : Style) (given : Given) (old new : Stage) (result : Result (Unit {0}) TextFault) (over : GoneOver (TellsVersionOf style) (PlaysText style) given old (λ reached. Ends (StopsText style) reached given.ended new result ⊎ ((result ≡ Err Write) × CutShort style reached old new)))
     → (result ≡ Err Write → IsWrittenUpTo style old over.lines over.events over.rest new.taken) → Played style given old new result
 played style given old new result over behind =
     let runs = lines_run style old over.mid over.lines over.version over.events over.done in
     record { over = over; runs = runs; grows = history_grows over.events old.player.course over.mid.player.course runs; written = lines_written style old over.mid over.lines over.version over.events over.done; behind = behind }
 
 -- no line ends in a failed write
-pub ends_otherwise : (style : Style) (version : Version) (count : ℕ) (mid : Stage) (rest : List ℕ) (ended : Bool) (new : Stage) (result : Result (Unit {0}) TextFault) → Ends (StopsText style version) count mid rest ended new result → result ≡ Err Write → ⊥
-ends_otherwise style version count mid rest ended new (Ok all) e is = cc
-ends_otherwise style version count mid rest ended new (Err (At_line k f)) e is = cc
-ends_otherwise style version count mid rest ended new (Err Read) e is = cc
-ends_otherwise style version count mid rest ended new (Err NoMemory) e is = cc
-ends_otherwise style version count mid rest ended new (Err Write) (inl e) is = e.0
-ends_otherwise style version count mid rest ended new (Err Write) (inr (text, more, whole, line, inl none)) is = let z = none.0.0 in cc
-ends_otherwise style version count mid rest ended new (Err Write) (inr (text, more, whole, line, inr (l, spells, stops))) is = stops
+pub ends_otherwise : (style : Style) (reached : Reached Stage Event) (ended : Bool) (new : Stage) (result : Result (Unit {0}) TextFault) → Ends (StopsText style) reached ended new result → result ≡ Err Write → ⊥
+ends_otherwise style reached ended new (Ok all) e is = cc
+ends_otherwise style reached ended new (Err (At_line k f)) e is = cc
+ends_otherwise style reached ended new (Err Read) e is = cc
+ends_otherwise style reached ended new (Err NoMemory) e is = cc
+ends_otherwise style reached ended new (Err Write) (inl e) is = e.0
+ends_otherwise style reached ended new (Err Write) (inr (text, more, whole, line, inl none)) is = let z = none.0.0 in cc
+ends_otherwise style reached ended new (Err Write) (inr (text, more, whole, line, inr (l, spells, stops))) is = stops
 
 -- only commands make entries
 pub enters_nothing : (p : PlayerState) (line : Line) (es : List Event) (q : PlayerState) → DoesLine p line es q → ((m : ℕ) (c : Command) → line ≢ lines.Command m c) → entries_in es ≡ []
@@ -129,10 +130,10 @@ pub ticks_enter_nothing : (p q : PlayerState) (n : ℕ) (es : List Event) → Do
 ticks_enter_nothing p q n es d = enters_nothing p (lines.Tick n) es q d (λ m c e. cc)
 
 -- an end is an end where no write fails
-abbrev pub ends_so : {style : Style} {given : Given} {old new : Stage} {result : Result (Unit {0}) TextFault} → GoneOver (TellsVersionOf style) (PlaysText style) given old (λ version count events mid rest. Ends (StopsText style version) count mid rest given.ended new result) → Played style given old new result
+abbrev pub ends_so : {style : Style} {given : Given} {old new : Stage} {result : Result (Unit {0}) TextFault} → GoneOver (TellsVersionOf style) (PlaysText style) given old (λ reached. Ends (StopsText style) reached given.ended new result) → Played style given old new result
 ends_so {style} {given} {old} {new} {result} over =
     played style given old new result (record { lines = over.lines; version = over.version; events = over.events; mid = over.mid; rest = over.rest; read = over.read; done = over.done; ends = inl over.ends })
-    (λ is. absurd (ends_otherwise style over.version (length over.lines) over.mid over.rest given.ended new result over.ends is))
+    (λ is. absurd (ends_otherwise style (reached_by over) given.ended new result over.ends is))
 
 -- nothing is written of entries
 pub nothing_written : (entries : List Entry) → written_of Nothing entries ≡ []

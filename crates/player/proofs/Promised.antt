@@ -17,7 +17,7 @@ use Rattle.trace.specs.declared.fault.TextFault.{TextFault}
 use Rattle.trace.specs.declared.fault.TextFault.TheVariants.{NoMemory}
 use Rattle.trace.specs.declared.line.Line.{Line}
 use Rattle.trace.specs.declared.line.Line.TheVariants as lines
-use Rattle.trace.specs.declared.version.Version.{Version}
+use Rattle.trace.specs.GoneOver.{Reached}
 use Rattle.trace.specs.Streams.{Given}
 use Rattle.player.specs.declared.style.Style.{Style}
 use Rattle.player.specs.New.{IsNew, StartsWithSpace}
@@ -41,23 +41,21 @@ stop_reached style lines.Begin number mid new s = elim s [ ]
 stop_reached style (lines.Quantum b) number mid new s = elim s [ ]
 stop_reached style (lines.Tick n) number mid new s = (s.0.0, due_runs (mid.player.timetable.clock + n) mid.player s.0.0 new.player s.0.2)
 
-left_reached : (style : Style) (version : Version) (count : ℕ) (mid : Stage) (rest : List ℕ) (new : Stage) → LeftBehind style version count mid rest new → Reaches mid.player new.player
-left_reached style version count mid rest new (e, inl same) = same_reached mid.player new.player same
-left_reached style version count mid rest new (e, inr (text, more, whole, is, inl none)) = same_reached mid.player new.player (ap (λ (s : Stage). s.player) none.1)
-left_reached style version count mid rest new (e, inr (text, more, whole, is, inr (line, spells, stops))) = stop_reached style line (count + 1) mid (stage new.player mid.taken) stops
+left_reached : (style : Style) (reached : Reached Stage Event) (new : Stage) → LeftBehind style reached new → Reaches reached.state.player new.player
+left_reached style reached new (e, inl same) = same_reached reached.state.player new.player same
+left_reached style reached new (e, inr (text, more, whole, is, inl none)) = same_reached reached.state.player new.player (ap (λ (s : Stage). s.player) none.1)
+left_reached style reached new (e, inr (text, more, whole, is, inr (line, spells, stops))) = stop_reached style line (length reached.lines + 1) reached.state (stage new.player reached.state.taken) stops
 
 -- where a write failed, what is left is the same
-abbrev Cut : Style → Version → ℕ → Stage → List ℕ → Stage → Type 0
-Cut style version count mid rest new = LeftBehind style version count mid rest (stage new.player mid.taken)
-
 play_reaches : (style : Style) (given : Given) (old new : Stage) (result : Result (Unit {0}) TextFault) → Played style given old new result → Reaches old.player new.player
 play_reaches style given old new result p =
     let o = p.over in
-    let behind : Cut style o.version (length o.lines) o.mid o.rest new = elim o.ends [
-      | inl e ↦ (refl, (left_behind style o.version (length o.lines) o.mid o.rest given.ended new result e).1)
+    let here : Reached Stage Event = record { lines = o.lines; version = o.version; events = o.events; state = o.mid; rest = o.rest } in
+    let behind : LeftBehind style here (stage new.player o.mid.taken) = elim o.ends [
+      | inl e ↦ (refl, (left_behind style here given.ended new result e).1)
       | inr w ↦ (refl, w.1.1)
     ] in
-    let last = left_reached style o.version (length o.lines) o.mid o.rest (stage new.player o.mid.taken) behind in
+    let last = left_reached style here (stage new.player o.mid.taken) behind in
     (o.events ++ last.0, runs_then o.events last.0 old.player.course o.mid.player.course new.player.course p.runs last.1)
 
 up_to_reaches : (most : Option ℕ) (style : Style) (given : Given) (old new : Stage) (result : Result (Unit {0}) TextFault) → PlayedUpTo most style given old new result → Reaches old.player new.player

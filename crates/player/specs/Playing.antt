@@ -10,10 +10,11 @@ use Rattle.trace.specs.declared.fault.TextFault.{TextFault}
 use Rattle.trace.specs.declared.fault.TextFault.TheVariants.{Line as At_line, Write, NoMemory}
 use Rattle.trace.specs.declared.version.Version.{Version}
 use Rattle.trace.specs.declared.version.Version.TheVariants.{Second}
-use Rattle.trace.specs.GoneOver.{Goes, LinesDone, GoneOver, NextLine, Ends}
+use Rattle.trace.specs.GoneOver.{Reached, NextThere, Goes, LinesDone, GoneOver, Ends}
 use Rattle.trace.specs.Numbered.{IsNoEvent}
 use Rattle.trace.specs.Spelling.{version_line, Spells, is_skipped, reply_text, entry_line}
 use Rattle.trace.specs.Streams.{Given, GrowsByPart, text_of}
+use Rattle.trace.specs.TextLine.{Text}
 use Rattle.heap_model.specs.Event.{Event, Runs}
 use Rattle.quanta.specs.declared.schedule.TheConstants.{CLOCK_LIMIT}
 use Rattle.machine.specs.declared.recorded.Receipt.{Receipt}
@@ -77,18 +78,18 @@ Stops style NoMemory (lines.Tick n) number old new =
 Stops style fault line number old new = ⊥
 
 -- the same of its text, of which no event may be a spelling, and which then doesn't tell the version
-abbrev pub StopsText : Style → Version → TextFault → List ℕ → ℕ → Stage → Stage → Type 0
-StopsText style version fault text number old new =
-    (IsNoEvent version fault text number × (new ≡ old))
-    ⊎ ((line : Line) × Spells version text line × Stops style fault line number old new)
+abbrev pub StopsText : Style → TextFault → Text → Stage → Stage → Type 0
+StopsText style fault text old new =
+    (IsNoEvent fault text × (new ≡ old))
+    ⊎ ((line : Line) × Spells text.version text.bytes line × Stops style fault line text.number old new)
 
--- A write failed: after these lines no further one was done, or memory was refused for the next, too. Of their
+-- A write failed: after the lines done no further one was, or memory was refused for the next, too. Of their
 -- text, which ends with that of the last command, a beginning was written, and not all of it.
-abbrev pub CutShort : Style → Version → ℕ → List Event → Stage → List ℕ → Stage → Stage → Type 0
-CutShort style version count events mid rest old new =
-    GrowsByPart old.taken new.taken (text_written style version (entries_in events))
-    × ((new.player ≡ mid.player) ⊎ NextLine
-    (λ line. StopsText style version NoMemory line (count + 1) mid (stage new.player mid.taken)) rest)
+abbrev pub CutShort : Style → Reached Stage Event → Stage → Stage → Type 0
+CutShort style reached old new =
+    GrowsByPart old.taken new.taken (text_written style reached.version (entries_in reached.events))
+    × ((new.player ≡ reached.state.player) ⊎ NextThere reached
+    (λ text. StopsText style NoMemory text reached.state (stage new.player reached.state.taken)))
 
 -- All that the first of these lines wrote is within the text that was taken. The lines behind these, with the rest, are
 -- at most a buffer of the input: none but those that waited there were done.
@@ -112,8 +113,8 @@ pub record IsWrittenUpTo (style : Style) (old : Stage) (lines : List (List ℕ))
 pub record Played (style : Style) (given : Given) (old new : Stage)
     (result : Result (Unit {0}) TextFault) : Type 0 where
   pub over : GoneOver (TellsVersionOf style) (PlaysText style) given old
-      (λ version count events mid rest. Ends (StopsText style version) count mid rest given.ended new result
-      ⊎ ((result ≡ Err Write) × CutShort style version count events mid rest old new))
+      (λ reached. Ends (StopsText style) reached given.ended new result
+      ⊎ ((result ≡ Err Write) × CutShort style reached old new))
   pub runs : Runs old.player.course over.events over.mid.player.course
   pub grows : over.mid.player.course.history ≡ old.player.course.history ++ entries_in over.events
   pub written : over.mid.taken ≡ old.taken ++ text_written style over.version (entries_in over.events)
@@ -156,16 +157,14 @@ abbrev pub entry_of : Option Receipt → List Entry
 entry_of None = []
 entry_of (Some receipt) = receipt.entry ∷ []
 
--- What came of a line of this number, whatever the style and the text before it; and of a line's text, with the
--- version before it and after it.
+-- What came of a line of this number, whatever the style and the text before it; and of a line's text.
 abbrev pub LineDone : Line → ℕ → PlayerState → PlayerState → Result (Option Receipt) TextFault → Type 0
 LineDone line number old new (Ok receipt) = (es : List Event) × DoesLine old line es new
     × (entries_in es ≡ entry_of receipt)
 LineDone line number old new (Err fault) = (style : Style) (taken : List ℕ)
     → Stops style fault line number (stage old taken) (stage new taken)
 
-abbrev pub LinePlayed : Style → List ℕ → ℕ → Version → Version → Stage → Stage → Result Bool TextFault → Type 0
-LinePlayed style text number version next old new (Ok event) =
-    (es : List Event) × Goes (TellsVersionOf style) (PlaysText style) number text version old es next new
-    × (event ≡ is_event text)
-LinePlayed style text number version next old new (Err fault) = StopsText style version fault text number old new
+abbrev pub LinePlayed : Style → Text → Stage → Stage → Result Bool TextFault → Type 0
+LinePlayed style text old new (Ok event) =
+    (es : List Event) × Goes (TellsVersionOf style) (PlaysText style) text old es new × (event ≡ is_event text.bytes)
+LinePlayed style text old new (Err fault) = StopsText style fault text old new

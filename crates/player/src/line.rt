@@ -1,6 +1,7 @@
 //! One line of a trace.
 ghost use Rattle.std.specs.Prelude.{◌≡◌, ℕ, ◌+◌, ◌≤◌, ◌++◌, List, length};
 ghost use Rattle.trace.specs.GoneOver.{reads_failed, writes_failed};
+ghost use Rattle.trace.specs.TextLine.{text_in};
 ghost use Rattle.trace.specs.declared.version.Version.TheVariants as versions;
 ghost use Rattle.player.specs.Player.{HasBudget};
 ghost use Rattle.player.specs.declared.style.Style.TheVariants as styles;
@@ -10,7 +11,7 @@ use crate::player::Player;
 use crate::style::Style;
 use graph_heap::Entry;
 use machine::Receipt;
-use trace::{Line, TextFault, Version, WriteBuffer, read_numbered, version_line, write_entry};
+use trace::{Line, TextFault, TextLine, WriteBuffer, read_numbered, version_line, write_entry};
 
 /// Adds the line of an entry to what waits. It stands apart so that its 256 bytes aren't cleared for each reply.
 #[inline(never)]
@@ -86,12 +87,10 @@ pub fn is_event(line: Line) -> bool
 }
 
 /// Does a line, and adds what is written of it to what waits, where there must be room for a line.
-/// Answers whether it is that of an event. Keeps the version of the next.
+/// Answers whether it is that of an event.
 #[inline(never)]
 pub fn play_line(
-    bytes: &[u8],
-    number: u64,
-    version: &mut Version,
+    text: TextLine,
     waiting: &mut WriteBuffer,
     player: &mut Player,
     style: Style,
@@ -99,12 +98,12 @@ pub fn play_line(
     requires { length waiting.old + 256 ≤ 65536 }
     // This is so after whatever was written before.
     ensures played { (before : List ℕ)
-        → LinePlayed style bytes.now number version.old version.new (stage player.old (before ++ waiting.old))
+        → LinePlayed style (text_in text.entry) (stage player.old (before ++ waiting.old))
         (stage player.new (before ++ waiting.new)) result }
     // No write is in it that could fail, and no read.
     ensures calls { (writes_failed result ≡ 0) × (reads_failed result ≡ 0) }
 {
-    let Some(line) = read_numbered(bytes, number, version)? else {
+    let Some(line) = read_numbered(text)? else {
         add_version(waiting, style);
         return Ok(false);
     };
@@ -113,6 +112,6 @@ pub fn play_line(
         add_line(waiting, style, receipt.entry());
         return Ok(true);
     }
-    do_line(line, number, player)?;
+    do_line(line, text.number, player)?;
     Ok(is_event(line))
 }

@@ -10,7 +10,7 @@ ghost use Rattle.player.specs.Closing.{Closes};
 use crate::line::play_line;
 use crate::player::Player;
 use crate::style::Style;
-use trace::{LineReader, Sink, Source, TextFault, Version, WriteBuffer};
+use trace::{LineReader, Sink, Source, TextFault, WriteBuffer};
 
 /// Writes what waits once lines have come to an end. Where that fails, it is what the play ends with.
 fn close<K: Sink>(
@@ -72,17 +72,9 @@ fn play_lines<S: Source, K: Sink>(
     ensures input { reads_failed result ≡ 0 → Stays (S.input source.old) (S.input source.new) }
 {
     let mut reader = LineReader::new();
-    let mut version = Version::First;
     let mut left = n;
     while is_any_left(left) && reader.next_line_once_written(waiting, source, sink)? {
-        let is_event = play_line(
-            reader.line(),
-            reader.number(),
-            &mut version,
-            waiting,
-            player,
-            style,
-        )?;
+        let is_event = play_line(reader.text(), waiting, player, style)?;
         left = left_after(left, is_event);
     }
     Ok(())

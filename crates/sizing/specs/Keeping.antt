@@ -1,12 +1,11 @@
 -- What it is to check that a trace keeps to a load.
-use Rattle.std.specs.Prelude.{◌≡◌, ℕ, ◌+◌, ◌*◌, ◌<◌, Bool, IsTrue, List, [], ◌∷◌, ◌++◌, Result, Ok, Err}
+use Rattle.std.specs.Prelude.{◌≡◌, ℕ, ◌+◌, ◌*◌, ◌<◌, Bool, IsTrue, List, [], ◌∷◌, ◌++◌, length, Result, Ok, Err}
 use Rattle.graph_heap.specs.declared.command.Command.{Command}
 use Rattle.size_classes.specs.declared.class.TheConstants.{CLASSES}
 use Rattle.trace.specs.declared.line.Line.{Line}
 use Rattle.trace.specs.declared.line.Line.TheVariants as lines
-use Rattle.trace.specs.declared.version.Version.{Version}
 use Rattle.trace.specs.declared.fault.TextFault.{TextFault}
-use Rattle.trace.specs.GoneOver.{GoneOver, NextLine, Ends}
+use Rattle.trace.specs.GoneOver.{Reached, NextLine, NextThere, GoneOver, Ends}
 use Rattle.trace.specs.Spelling.{Spells}
 use Rattle.trace.specs.Streams.{Given}
 use Rattle.space.specs.Room.{asks}
@@ -51,15 +50,15 @@ BreaksBy l k said (lines.Quantum budget) SmallQuantum = budget < k
 BreaksBy l k said line by = ⊥
 
 -- How checking ends.
-abbrev pub CheckEnds : Load → ℕ → Bool → Result Kept TextFault → Version → ℕ → List Line → Unit {0} → List ℕ → Type 0
+abbrev pub CheckEnds : Load → ℕ → Bool → Result Kept TextFault → Reached (Unit {0}) Line → Type 0
 -- all lines of the input are read
-CheckEnds l k ended (Ok Keeps) version count said mid rest = (rest ≡ []) × IsTrue ended
+CheckEnds l k ended (Ok Keeps) reached = (reached.rest ≡ []) × IsTrue ended
 -- the next line breaks the load
-CheckEnds l k ended (Ok (Breaks number by)) version count said mid rest =
-    (number ≡ count + 1)
-    × NextLine (λ bytes. (line : Line) × Spells version bytes line × BreaksBy l k said line by) rest
-CheckEnds l k ended (Err fault) version count said mid rest =
-    Ends (NoEvent version) {A = Kept} count mid rest ended tt (Err fault)
+CheckEnds l k ended (Ok (Breaks number by)) reached =
+    (number ≡ length reached.lines + 1)
+    × NextThere reached (λ text. (line : Line) × Spells text.version text.bytes line
+    × BreaksBy l k reached.events line by)
+CheckEnds l k ended (Err fault) reached = Ends NoEvent {A = Kept} reached ended tt (Err fault)
 
 -- What was checked of an input: the lines that are done keep to the load. These are all of its lines, or those
 -- before the line at which checking stopped; where that breaks the load, they don't keep to it with that line.

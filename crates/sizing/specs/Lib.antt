@@ -10,3 +10,5 @@ pub mod New
 pub mod Fitting
 pub mod Metering
 pub mod Keeping
+pub mod Document
+pub mod Keys

@@ -9,11 +9,11 @@ use Rattle.heap_model.specs.Event.{Event, Runs}
 use Rattle.quanta.specs.declared.schedule.TheConstants.{CLOCK_LIMIT}
 use Rattle.trace.specs.declared.line.Line.{Line}
 use Rattle.trace.specs.declared.line.Line.TheVariants as lines
-use Rattle.trace.specs.declared.version.Version.{Version}
 use Rattle.trace.specs.declared.fault.TextFault.{TextFault}
 use Rattle.trace.specs.declared.fault.TextFault.TheVariants.{NoMemory as Without_memory}
 use Rattle.trace.specs.GoneOver.{Goes}
 use Rattle.trace.specs.Streams.{Given}
+use Rattle.trace.specs.TextLine.{Text}
 use Rattle.player.specs.declared.player.TickFault.{TickFault}
 use Rattle.player.specs.declared.player.TickFault.TheVariants as faults
 use Rattle.player.specs.declared.style.Style.TheVariants.{Nothing}
@@ -70,12 +70,11 @@ EventMeasured line number old new (Err Without_memory) = Unit {0}
 EventMeasured line number old new (Err fault) =
     Stops Nothing fault line number (stage old.player []) (stage new.player [])
 
--- the same of a line's text, with the version before it and after it
-abbrev pub TextMeasured : List ℕ → ℕ → Version → Version → Run → Run → Result (Unit {0}) TextFault → Type 0
-TextMeasured text number version next old new (Ok done) =
+-- the same of a line's text
+abbrev pub TextMeasured : Text → Run → Run → Result (Unit {0}) TextFault → Type 0
+TextMeasured text old new (Ok done) =
     (h : HeapState) (es : List Event) → IsAt h es old → (more : List Event)
-    × Goes (TellsVersionOf Nothing) (PlaysText Nothing) number text version (stage old.player []) more next
-    (stage new.player []) × IsAt h (es ++ more) new
-TextMeasured text number version next old new (Err Without_memory) = Unit {0}
-TextMeasured text number version next old new (Err fault) =
-    StopsText Nothing version fault text number (stage old.player []) (stage new.player [])
+    × Goes (TellsVersionOf Nothing) (PlaysText Nothing) text (stage old.player []) more (stage new.player [])
+    × IsAt h (es ++ more) new
+TextMeasured text old new (Err Without_memory) = Unit {0}
+TextMeasured text old new (Err fault) = StopsText Nothing fault text (stage old.player []) (stage new.player [])

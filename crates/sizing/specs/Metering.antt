@@ -4,11 +4,10 @@ use Rattle.size_classes.specs.declared.class.TheConstants.{CLASSES}
 use Rattle.graph_heap.specs.declared.command.Command.{Command}
 use Rattle.trace.specs.declared.line.Line.{Line}
 use Rattle.trace.specs.declared.line.Line.TheVariants as lines
-use Rattle.trace.specs.declared.version.Version.{Version}
-use Rattle.trace.specs.declared.version.Version.TheVariants.{Second}
 use Rattle.trace.specs.declared.fault.TextFault.{TextFault}
 use Rattle.trace.specs.Numbered.{IsNoEvent}
-use Rattle.trace.specs.Spelling.{TellsVersion, Spells}
+use Rattle.trace.specs.Spelling.{Spells}
+use Rattle.trace.specs.TextLine.{Text, IsVersionLine}
 use Rattle.space.specs.Room.{asks}
 use Rattle.sizing.specs.declared.arrivals.keeping.Meter.{Meter}
 use Rattle.sizing.specs.declared.arrivals.keeping.Breach.{Breach}
@@ -61,14 +60,13 @@ Metered l k old (lines.Quantum budget) new (Some SmallQuantum) = budget < k
 Metered l k old line new (Some by) = ⊥
 
 -- a fault at a line
-abbrev pub NoEvent : Version → TextFault → List ℕ → ℕ → Unit {0} → Unit {0} → Type 0
-NoEvent version fault text number old new = IsNoEvent version fault text number
+abbrev pub NoEvent : TextFault → Text → Unit {0} → Unit {0} → Type 0
+NoEvent fault text old new = IsNoEvent fault text
 
--- What came of the text of a line, with the version before it and after it: it tells that of the next, or is
--- metered.
-abbrev pub TextMetered : Load → ℕ → List ℕ → ℕ → Version → Version → Meter → Meter → Result (Option Breach) TextFault
-    → Type 0
-TextMetered l k text number version next old new (Ok found) =
-    (TellsVersion number text × (next ≡ Second) × (new ≡ old) × (found ≡ None))
-    ⊎ ((next ≡ version) × ((line : Line) × Spells version text line × Metered l k old line new found))
-TextMetered l k text number version next old new (Err fault) = NoEvent version fault text number tt tt
+-- What came of the text of a line: it tells the version of those after it, or is metered.
+abbrev pub TextMetered : Load → ℕ → Text → Meter → Meter → Result (Option Breach) TextFault → Type 0
+TextMetered l k text old new (Ok found) =
+    (IsVersionLine text × (new ≡ old) × (found ≡ None))
+    ⊎ ((¬ IsVersionLine text)
+    × ((line : Line) × Spells text.version text.bytes line × Metered l k old line new found))
+TextMetered l k text old new (Err fault) = NoEvent fault text tt tt

@@ -4,6 +4,7 @@
 
 pub mod arrivals;
 mod blocks;
+mod load_file;
 mod measured;
 mod measuring;
 mod meter;
@@ -13,6 +14,7 @@ mod page_counts;
 mod run;
 mod season;
 
+pub use load_file::{DocumentFault, Field, LoadFault, Place, fields_are_in_order, read_load};
 pub use measured::Measured;
 pub use measuring::measure;
 pub use needed::Needed;

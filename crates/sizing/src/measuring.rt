@@ -8,7 +8,7 @@ use crate::measured::Measured;
 use crate::run::{Run, measure_line};
 use size_classes::Config;
 use std::alloc::Global;
-use trace::{LineReader, Source, TextFault, Version};
+use trace::{LineReader, Source, TextFault};
 
 /// What a trace needs on a new heap of a configuration: its lines are played, one after the other, and nothing
 /// is written. The run keeps to what is answered, and to nothing that is less in some number. Where the configuration
@@ -26,9 +26,8 @@ pub fn measure<S: Source>(
 {
     let mut run = Run::new(alloc, config)?;
     let mut reader = LineReader::new();
-    let mut version = Version::First;
     while reader.next_line(source)? {
-        measure_line(reader.line(), reader.number(), &mut version, &mut run)?;
+        measure_line(reader.text(), &mut run)?;
     }
     Ok(run.meter.measured())
 }

@@ -16,7 +16,7 @@ use Rattle.heap_model.specs.Pages.{Page, ArePages, page_at, first_of, is_usable,
 use Rattle.heap_model.specs.Store.{Store, is_held, node_of}
 use Rattle.heap_model.specs.Collector.{contains}
 use Rattle.heap_model.specs.State.{HeapState, is_leaving}
-use Rattle.heap_model.specs.Making.{Making, Nothing_made, Part_made, MakesObject}
+use Rattle.heap_model.specs.Making.{made, Making, Nothing_made, Part_made, MakesObject}
 use Rattle.heap_model.specs.Taking.{Takes, Nothing_taken, Part_taken}
 use Rattle.heap_model.specs.Placed.{KeepsPages}
 use Rattle.heap_model.specs.Change.{Records, Records_nothing, Records_main, Clears, Clears_none, Clears_next, DoesChange, Does_nothing, Does_root, Does_ref, Does_word, Does_new, Does_join, Does_leave}
@@ -98,7 +98,7 @@ was_more : (old s t : Store) (at : ℕ → ℕ) (k n id : ℕ) (shape : Shape) (
 was_more old s t at k n id shape b l h (inl w) = inl (w.0, head_then (node_of t b) (node_of s b) (node_of old b) h w.1)
 was_more old s t at k n id shape b l h (inr w) = inr (w.0, (let x = w.1 in omega arith), w.2, made_head (node_of t b) (node_of s b) at w.0 id shape h w.3)
 
-pub made_blocks : (old : Store) (shape : Shape) (colour : Bool) (id : ℕ) (at : ℕ → ℕ) (k : ℕ) (new : Store) → Making old shape colour id at k new → (b : ℕ) → is_held new b ≡ true → WasOrMade old new at k id shape b
+pub made_blocks : (old : Store) (shape : Shape) (colour : Bool) (id : ℕ) (at : ℕ → ℕ) (k : ℕ) (new : Store) → Making old (made shape colour id) at k new → (b : ℕ) → is_held new b ≡ true → WasOrMade old new at k id shape b
 made_blocks old shape colour id at k new Nothing_made b held = inl (held, same_head (node_of old b))
 made_blocks old shape colour id at k new (Part_made part s t u m a first linked) b held = by_part (zero_or part) (λ l. by_here (b == at part) refl (λ x. made_blocks old shape colour id at part s m b x) l)
   where

@@ -3,10 +3,11 @@ use Rattle.std.proofs.Common.{Bool, true, false, ◌≡◌, ℕ, ◌+◌, ◌≤
 use Rattle.std.specs.Prelude.{IsTrue, Ok, Err, Option, Some, None}
 use Rattle.trace.specs.declared.fault.TextFault.{TextFault}
 use Rattle.trace.specs.declared.version.Version.{Version}
-use Rattle.trace.specs.declared.version.Version.TheVariants.{First}
-use Rattle.trace.specs.GoneOver.{LinesRead, Goes, LinesDone, No_lines, One_line_more, GoneOver, NoLine, NextLine, Ends}
-use Rattle.trace.specs.LineReader.{Lines, lines_by, Hands}
+use Rattle.trace.specs.GoneOver.{LinesRead, Reached, NextThere, Goes, LinesDone, No_lines, One_line_more, GoneOver, NoLine, Ends}
+use Rattle.trace.specs.LineReader.{Lines, no_lines, lines_by, Hands}
 use Rattle.trace.specs.Streams.{Given, IsLine, Comes, Stays, text_of}
+use Rattle.trace.specs.TextLine.{Text, text_after, IsVersionLine, IsNextVersion}
+use Rattle.trace.specs.declared.version.Version.TheVariants.{Second}
 use Rattle.trace.proofs.Cutting.{one_more}
 
 -- what is known of an input stays
@@ -44,17 +45,21 @@ line_more given after kept kept' line ended lines r comes is small = record {
   small = omega (arith, small, length-append line (10 ∷ kept'));
 }
 
+-- where going over lines came to
+abbrev pub reached_by : {S E : Type 0} {Tells : S → S → Type 0} {Does : Version → List ℕ → S → List E → S → Type 0} {given : Given} {old : S} {End : Reached S E → Type 0} → GoneOver Tells Does given old End → Reached S E
+reached_by over = record { lines = over.lines; version = over.version; events = over.events; state = over.mid; rest = over.rest }
+
 module _ {S E : Type 0} (Tells : S → S → Type 0) (Does : Version → List ℕ → S → List E → S → Type 0) where
-  -- the lines so far, with what the reader keeps of the bytes after them, and the version of the next
-  pub record SoFar (given : Given) (old new : S) (reader : Lines) (version : Version) : Type 0 where
+  -- the lines so far, with what the reader keeps of the bytes after them
+  pub record SoFar (given : Given) (old new : S) (reader : Lines) : Type 0 where
     pub lines : List (List ℕ)
     pub events : List E
     pub read : LinesRead given lines reader.kept
-    pub done : LinesDone Tells Does old lines version events new
-    pub counted : reader.number ≡ length lines
+    pub done : LinesDone Tells Does old lines reader.next events new
+    pub counted : reader.text.number ≡ length lines
 
   -- before the first line
-  abbrev pub at_first : (given : List ℕ) (ended : Bool) (old : S) → SoFar (record { before = given; after = given; ended = ended }) old old (record { line = []; kept = []; number = 0 }) First
+  abbrev pub at_first : (given : List ℕ) (ended : Bool) (old : S) → SoFar (record { before = given; after = given; ended = ended }) old old no_lines
   at_first given ended old = record {
     lines = [];
     events = [];
@@ -64,20 +69,39 @@ module _ {S E : Type 0} (Tells : S → S → Type 0) (Does : Version → List �
   }
 
 -- a line has the next number
-pub one_line : (number : ℕ) (next : Lines) (b : Bool) → b ≡ true → next.number ≡ number + lines_by (Ok b) → next.number ≡ number + 1
-one_line number next b is e = subst (λ t. next.number ≡ number + lines_by (Ok t)) is e
+pub one_line : (number : ℕ) (next : Lines) (b : Bool) → b ≡ true → next.text.number ≡ number + lines_by (Ok b) → next.text.number ≡ number + 1
+one_line number next b is e = subst (λ t. next.text.number ≡ number + lines_by (Ok t)) is e
 
-module _ {S E : Type 0} {Tells : S → S → Type 0} {Does : Version → List ℕ → S → List E → S → Type 0} {given : Given} {old mid : S} {reader : Lines} {version : Version} (so : SoFar Tells Does given old mid reader version) (next : Lines) where
+-- a line by its number and its version
+pub text_is : (text : Text) (lines : List (List ℕ)) (version : Version) → text.number ≡ length lines + 1 → text.version ≡ version → text ≡ text_after lines version text.bytes
+text_is text lines version number is =
+    ap (λ n. record { bytes = text.bytes; number = n; version = text.version }) number
+    ∙ ap (λ v. record { bytes = text.bytes; number = length lines + 1; version = v }) is
+
+-- the version of the next line
+pub next_told : (text : Text) (next : Version) → IsNextVersion text next → IsVersionLine text → next ≡ Second
+next_told text next (inl n) is = n.1
+next_told text next (inr n) is = absurd (n.0 is)
+
+pub next_same : (text : Text) (next : Version) → IsNextVersion text next → (¬ IsVersionLine text) → next ≡ text.version
+next_same text next (inl n) other = absurd (other n.0)
+next_same text next (inr n) other = n.1
+
+module _ {S E : Type 0} {Tells : S → S → Type 0} {Does : Version → List ℕ → S → List E → S → Type 0} {given : Given} {old mid : S} {reader : Lines} (so : SoFar Tells Does given old mid reader) (next : Lines) where
   -- the next call of the reader, after which its source has given these bytes
   abbrev call : List ℕ → Bool → Given
   call after ended = record { before = given.after; after = after; ended = ended }
 
+  -- where the lines so far came to, with a rest
+  abbrev reached : List ℕ → Reached S E
+  reached rest = record { lines = so.lines; version = reader.next; events = so.events; state = mid; rest = rest }
+
   -- it ends after the lines so far
-  abbrev ends_after : (after rest : List ℕ) (ended : Bool) (End : Version → ℕ → List E → S → List ℕ → Type 0) → Comes given.after after reader.kept rest → length rest ≤ 65536 → End version (length so.lines) so.events mid rest
+  abbrev ends_after : (after rest : List ℕ) (ended : Bool) (End : Reached S E → Type 0) → Comes given.after after reader.kept rest → length rest ≤ 65536 → End (reached rest)
       → GoneOver Tells Does (later given after ended) old End
   ends_after after rest ended End comes small end = record {
     lines = so.lines;
-    version = version;
+    version = reader.next;
     events = so.events;
     mid = mid;
     rest = rest;
@@ -88,45 +112,50 @@ module _ {S E : Type 0} {Tells : S → S → Type 0} {Does : Version → List �
 
   module _ (after : List ℕ) (ended : Bool) where
     -- there is no next line
-    abbrev pub ends_without : (A : Type 0) (Stops : Version → TextFault → List ℕ → ℕ → S → S → Type 0) (fault : TextFault) → Hands (call after ended) reader next (Err fault)
-        → GoneOver Tells Does (later given after ended) old (λ v count events m rest. Ends (Stops v) {A = A} count m rest ended mid (Err fault))
+    abbrev pub ends_without : (A : Type 0) (Stops : TextFault → Text → S → S → Type 0) (fault : TextFault) → Hands (call after ended) reader next (Err fault)
+        → GoneOver Tells Does (later given after ended) old (λ r. Ends Stops {A = A} r ended mid (Err fault))
     ends_without A Stops fault h =
-        let same : next.number ≡ length so.lines = omega (arith, h.number, so.counted) in
+        let same : next.text.number ≡ length so.lines = omega (arith, h.number, so.counted) in
         ends_after after next.kept ended _ h.text h.small (inl (subst (λ n. NoLine fault n next.kept ended) same h.says, refl))
 
     module _ (b : Bool) (h : Hands (call after ended) reader next (Ok b)) where
       -- the input has ended
-      abbrev pub ends_over : b ≡ false → (End : Version → ℕ → List E → S → List ℕ → Type 0) → ((rest : List ℕ) → (rest ≡ []) × IsTrue ended → End version (length so.lines) so.events mid rest)
+      abbrev pub ends_over : b ≡ false → (End : Reached S E → Type 0) → ((rest : List ℕ) → (rest ≡ []) × IsTrue ended → End (reached rest))
           → GoneOver Tells Does (later given after ended) old End
       ends_over is End so_it_ends =
           let e = subst (λ t. Hands (call after ended) reader next (Ok t)) is h in
           ends_after after next.kept ended End e.text e.small (so_it_ends next.kept e.says)
 
-      module _ (is : b ≡ true) (line : List ℕ) (same : line ≡ next.line) where
+      module _ (is : b ≡ true) (text : Text) (same : text ≡ next.text) where
         abbrev e : Hands (call after ended) reader next (Ok true)
         e = subst (λ t. Hands (call after ended) reader next (Ok t)) is h
 
+        -- the line that was handed out is the next one
+        abbrev is_next : next.text ≡ text_after so.lines reader.next next.text.bytes
+        is_next = text_is next.text so.lines reader.next (omega (arith, e.number, so.counted)) e.versions.0
+
         -- it ends at the next line
-        abbrev pub ends_in : (P : List ℕ → Type 0) → P line → (End : Version → ℕ → List E → S → List ℕ → Type 0)
-            → (next.number ≡ length so.lines + 1 → (rest : List ℕ) → NextLine P rest → End version (length so.lines) so.events mid rest) → GoneOver Tells Does (later given after ended) old End
+        abbrev pub ends_in : (P : Text → Type 0) → P text → (End : Reached S E → Type 0)
+            → (text.number ≡ length so.lines + 1 → (rest : List ℕ) → NextThere (reached rest) P → End (reached rest)) → GoneOver Tells Does (later given after ended) old End
         ends_in P this End so_it_ends =
-            let count : next.number ≡ length so.lines + 1 = omega (arith, e.number, so.counted) in
-            let rest = next.line ++ 10 ∷ next.kept in
-            ends_after after rest ended End e.text e.small (so_it_ends count rest (next.line, next.kept, refl, e.says, subst P same this))
+            let count : text.number ≡ length so.lines + 1 = ap (λ (t : Text). t.number) same ∙ omega (arith, e.number, so.counted) in
+            let rest = next.text.bytes ++ 10 ∷ next.kept in
+            ends_after after rest ended End e.text e.small (so_it_ends count rest (next.text.bytes, next.kept, refl, e.says, subst P (same ∙ is_next) this))
 
         -- the next line comes to a fault
-        abbrev pub ends_at : (A : Type 0) (Stops : Version → TextFault → List ℕ → ℕ → S → S → Type 0) (fault : TextFault) (number : ℕ) (new : S) → number ≡ next.number → Stops version fault line number mid new
-            → GoneOver Tells Does (later given after ended) old (λ v count events m rest. Ends (Stops v) {A = A} count m rest ended new (Err fault))
-        ends_at A Stops fault number new at stops =
-            ends_in (λ l. Stops version fault l number mid new) stops _ (λ count rest is_next. inr (subst (λ n. NextLine (λ l. Stops version fault l n mid new) rest) (at ∙ count) is_next))
+        abbrev pub ends_at : (A : Type 0) (Stops : TextFault → Text → S → S → Type 0) (fault : TextFault) (new : S) → Stops fault text mid new
+            → GoneOver Tells Does (later given after ended) old (λ r. Ends Stops {A = A} r ended new (Err fault))
+        ends_at A Stops fault new stops =
+            ends_in (λ t. Stops fault t mid new) stops _ (λ count rest there. inr there)
 
         -- a line more is done
-        abbrev pub goes_on : (new : S) (following : Version) (events : List E) (number : ℕ) → number ≡ next.number → Goes Tells Does number line version mid events following new
-            → SoFar Tells Does (later given after ended) old new next following
-        goes_on new following events number at goes = record {
-          lines = so.lines ++ next.line ∷ [];
+        abbrev pub goes_on : (new : S) (events : List E) → Goes Tells Does text mid events new → SoFar Tells Does (later given after ended) old new next
+        goes_on new events goes = record {
+          lines = so.lines ++ next.text.bytes ∷ [];
           events = so.events ++ events;
-          read = line_more given after reader.kept next.kept next.line ended so.lines so.read e.text e.says e.small;
-          done = One_line_more so.lines version following so.events events next.line mid new so.done (subst (λ n. Goes Tells Does n next.line version mid events following new) (omega (arith, at, e.number, so.counted)) (subst (λ l. Goes Tells Does number l version mid events following new) same goes));
-          counted = omega (arith, e.number, so.counted, length-append so.lines (next.line ∷ []));
+          read = line_more given after reader.kept next.kept next.text.bytes ended so.lines so.read e.text e.says e.small;
+          done = One_line_more so.lines reader.next next.next so.events events next.text.bytes mid new so.done
+              (subst (λ t. Goes Tells Does t mid events new) (same ∙ is_next) goes)
+              (subst (λ t. IsNextVersion t next.next) is_next e.versions.1);
+          counted = omega (arith, e.number, so.counted, length-append so.lines (next.text.bytes ∷ []));
         }

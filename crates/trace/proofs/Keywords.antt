@@ -1,8 +1,8 @@
 -- The keyword at the front.
 use Rattle.std.proofs.Common.{◌≡◌, ℕ, List, [], ◌∷◌, ◌++◌, Option, None, Some, append_assoc, ◌∙◌, refl}
 use Rattle.std.specs.Prelude.{codes}
-use Rattle.trace.specs.declared.keyword.Keyword.{Keyword}
-use Rattle.trace.specs.declared.keyword.Keyword.TheVariants as keywords
+use Rattle.trace.specs.declared.commands.Keyword.{Keyword}
+use Rattle.trace.specs.declared.commands.Keyword.TheVariants as keywords
 use Rattle.trace.specs.Spelling.{keyword_text}
 use Rattle.trace.specs.Reading.{after_in, found_or, keywords_by, first_keyword_in, front_keyword_in}
 use Rattle.trace.proofs.Exact.{told, after_in-Some}

@@ -7,8 +7,8 @@ use Rattle.graph_heap.specs.declared.command.Shape.{Shape}
 use Rattle.graph_heap.specs.declared.command.Shape.TheVariants.{Plain, RefArray, WordArray}
 use Rattle.graph_heap.specs.declared.command.Command.{Command}
 use Rattle.graph_heap.specs.declared.command.Command.TheVariants as commands
-use Rattle.trace.specs.declared.keyword.Keyword.{Keyword}
-use Rattle.trace.specs.declared.keyword.Keyword.TheVariants as keywords
+use Rattle.trace.specs.declared.commands.Keyword.{Keyword}
+use Rattle.trace.specs.declared.commands.Keyword.TheVariants as keywords
 use Rattle.trace.specs.declared.version.Version.{Version}
 use Rattle.trace.specs.declared.version.Version.TheVariants.{First, Second}
 use Rattle.trace.specs.Spelling.{shape_text, keyword_text, command_text, command_line, ShapeFits, CommandFits, IsOf}

@@ -4,9 +4,9 @@ use Rattle.trace.specs.declared.fault.LineFault.TheVariants.{TooLong, NotEnded}
 use Rattle.trace.specs.declared.fault.TextFault.{TextFault}
 use Rattle.trace.specs.declared.fault.TextFault.TheVariants.{Line as At_line, Read, Write, NoMemory}
 use Rattle.trace.specs.declared.version.Version.{Version}
-use Rattle.trace.specs.declared.version.Version.TheVariants.{First, Second}
-use Rattle.trace.specs.Spelling.{TellsVersion}
+use Rattle.trace.specs.declared.version.Version.TheVariants.{First}
 use Rattle.trace.specs.Streams.{Given, IsLine, NoLf, Splits}
+use Rattle.trace.specs.TextLine.{Text, text_after, IsVersionLine, IsNextVersion}
 
 -- The bytes that a source gave are these lines and a rest, of at most a buffer.
 pub record LinesRead (given : Given) (lines : List (List ℕ)) (rest : List ℕ) : Type 0 where
@@ -31,25 +31,39 @@ NoLine NoMemory count rest ended = ⊥
 abbrev pub NextLine : (List ℕ → Type 0) → List ℕ → Type 0
 NextLine Is rest = (line : List ℕ) × (more : List ℕ) × (rest ≡ line ++ 10 ∷ more) × IsLine line × Is line
 
+-- Where going over lines came to: these lines are done, with these events, and lead to a state. The next line would be
+-- of this version, and the rest isn't done.
+pub record Reached (S E : Type 0) : Type 0 where
+  pub lines : List (List ℕ)
+  pub version : Version
+  pub events : List E
+  pub state : S
+  pub rest : List ℕ
+
+-- the next line there, of which this holds
+abbrev pub NextThere : {S E : Type 0} → Reached S E → (Text → Type 0) → Type 0
+NextThere reached Is = NextLine (λ line. Is (text_after reached.lines reached.version line)) reached.rest
+
 -- Tells old new: what the line that tells the version does to a state. Does version line old events new: what
 -- a line of a version does to a state, and the events of it.
 module _ {S E : Type 0} (Tells : S → S → Type 0) (Does : Version → List ℕ → S → List E → S → Type 0) where
-  -- what a line of this number does: it tells the version of the next, or it is a line of the version
-  abbrev pub Goes : ℕ → List ℕ → Version → S → List E → Version → S → Type 0
-  Goes number line version old events next new =
-      (TellsVersion number line × (next ≡ Second) × (events ≡ []) × Tells old new)
-      ⊎ ((next ≡ version) × Does version line old events new)
+  -- what a line does: it tells the version of those after it, or it is a line of its version
+  abbrev pub Goes : Text → S → List E → S → Type 0
+  Goes text old events new =
+      (IsVersionLine text × (events ≡ []) × Tells old new)
+      ⊎ ((¬ IsVersionLine text) × Does text.version text.bytes old events new)
 
   -- the lines, one after the other, do these events, and the next is of this version
   pub data LinesDone (old : S) : List (List ℕ) → Version → List E → S → Type 0 where
     No_lines : LinesDone old [] First [] old
     One_line_more : (lines : List (List ℕ)) (version next : Version) (events more : List E) (line : List ℕ)
-        (mid new : S) → LinesDone old lines version events mid → Goes (length lines + 1) line version mid more next new
+        (mid new : S) → LinesDone old lines version events mid → Goes (text_after lines version line) mid more new
+        → IsNextVersion (text_after lines version line) next
         → LinesDone old (lines ++ line ∷ []) next (events ++ more) new
 
   -- What was done of an input: the bytes that it gave are these lines and a rest, and the lines did these
-  -- events. Ends says what the version, the number of lines, the events, the state after them and the rest are.
-  pub record GoneOver (given : Given) (old : S) (Ends : Version → ℕ → List E → S → List ℕ → Type 0) : Type 0 where
+  -- events. Ends says how it came to where it is.
+  pub record GoneOver (given : Given) (old : S) (Ends : Reached S E → Type 0) : Type 0 where
     pub lines : List (List ℕ)
     pub version : Version
     pub events : List E
@@ -57,17 +71,18 @@ module _ {S E : Type 0} (Tells : S → S → Type 0) (Does : Version → List �
     pub rest : List ℕ
     pub read : LinesRead given lines rest
     pub done : LinesDone old lines version events mid
-    pub ends : Ends version (length lines) events mid rest
+    pub ends : Ends (record { lines = lines; version = version; events = events; state = mid; rest = rest })
 
--- Stops fault line number old new: at the line of this number, a fault comes, and leaves this state.
-module _ {S : Type 0} (Stops : TextFault → List ℕ → ℕ → S → S → Type 0) where
-  -- How going over lines ends: so many are done and lead to a state, and this rest isn't.
-  abbrev pub Ends : {A : Type 0} → ℕ → S → List ℕ → Bool → S → Result A TextFault → Type 0
+-- Stops fault text old new: at the line, a fault comes, and leaves this state.
+module _ {S E : Type 0} (Stops : TextFault → Text → S → S → Type 0) where
+  -- How going over lines ends, with this state.
+  abbrev pub Ends : {A : Type 0} → Reached S E → Bool → S → Result A TextFault → Type 0
   -- all lines of the input are done
-  Ends count mid rest ended new (Ok all) = (rest ≡ []) × IsTrue ended × (new ≡ mid)
+  Ends reached ended new (Ok all) = (reached.rest ≡ []) × IsTrue ended × (new ≡ reached.state)
   -- there is no next line, or the next line comes to the fault
-  Ends count mid rest ended new (Err fault) = (NoLine fault count rest ended × (new ≡ mid))
-      ⊎ NextLine (λ line. Stops fault line (count + 1) mid new) rest
+  Ends reached ended new (Err fault) =
+      (NoLine fault (length reached.lines) reached.rest ended × (new ≡ reached.state))
+      ⊎ NextThere reached (λ text. Stops fault text reached.state new)
 
 -- how many reads failed, and how many writes
 abbrev pub reads_failed : {A : Type 0} → Result A TextFault → ℕ

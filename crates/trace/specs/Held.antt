@@ -6,9 +6,13 @@ use Rattle.trace.specs.LineReader.{Lines}
 -- the fields of a reader, as what it shows
 abbrev pub lines_in : Inside → Lines
 lines_in a = record {
-  line = slice_range a.buffer a.line_start a.line_end;
+  text = record {
+    bytes = slice_range a.buffer a.line_start a.line_end;
+    number = a.number;
+    version = a.version;
+  };
   kept = slice_range a.buffer a.start a.end;
-  number = a.number;
+  next = a.next;
 }
 
 -- the ranges lie in the buffer, and the lines can be counted

@@ -2,6 +2,7 @@ pub mod Spelling
 pub mod Numbers
 pub mod Reading
 pub mod Streams
+pub mod TextLine
 pub mod Numbered
 pub mod GoneOver
 pub mod LineReader

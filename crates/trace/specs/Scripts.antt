@@ -10,10 +10,10 @@ use Rattle.trace.specs.declared.fault.TextFault.TheVariants.{Line as At_line, No
 use Rattle.trace.specs.declared.line.Line.{Line}
 use Rattle.trace.specs.declared.line.Line.TheVariants as lines
 use Rattle.trace.specs.declared.version.Version.{Version}
-use Rattle.trace.specs.declared.version.Version.TheVariants.{Second}
 use Rattle.trace.specs.GoneOver.{GoneOver, Ends}
-use Rattle.trace.specs.Spelling.{TellsVersion, Spells, is_skipped}
+use Rattle.trace.specs.Spelling.{Spells, is_skipped}
 use Rattle.trace.specs.Streams.{Given}
+use Rattle.trace.specs.TextLine.{Text, IsVersionLine}
 
 -- A line of scripts is skipped, or is a command of one of so many mutators.
 abbrev pub IsOfScripts : ℕ → Line → Type 0
@@ -58,11 +58,11 @@ abbrev pub IsCommand : ℕ → Version → List ℕ → Type 0
 IsCommand mutators version text = (m : ℕ) × (c : Command) × Spells version text (lines.Command m c) × (m < mutators)
 
 -- a fault at a line: the line doesn't tell the version and is refused, or memory was at a command
-abbrev pub ScriptStops : ℕ → Version → TextFault → List ℕ → ℕ → Unit {0} → Unit {0} → Type 0
-ScriptStops mutators version (At_line k fault) text number old new = (k ≡ number)
-    × ScriptLineIs mutators version fault text × (¬ TellsVersion number text)
-ScriptStops mutators version NoMemory text number old new = IsCommand mutators version text
-ScriptStops mutators version fault text number old new = ⊥
+abbrev pub ScriptStops : ℕ → TextFault → Text → Unit {0} → Unit {0} → Type 0
+ScriptStops mutators (At_line k fault) text old new = (k ≡ text.number)
+    × ScriptLineIs mutators text.version fault text.bytes × (¬ IsVersionLine text)
+ScriptStops mutators NoMemory text old new = IsCommand mutators text.version text.bytes
+ScriptStops mutators fault text old new = ⊥
 
 -- what is answered of scripts: their version, and the commands of each mutator
 abbrev pub ReadScripts : Type 0
@@ -71,7 +71,7 @@ ReadScripts = Version × Vec (Vec Command Global) Global
 -- Scripts of so many mutators, as the lines of an input are.
 pub record AreScripts (given : Given) (mutators : ℕ) (result : Result ReadScripts TextFault) : Type 0 where
   pub over : GoneOver AsksNothing (DoesScript mutators) given tt
-      (λ version count spelled mid rest. Ends (ScriptStops mutators version) count mid rest given.ended tt result)
+      (λ reached. Ends (ScriptStops mutators) reached given.ended tt result)
   pub are : IfOk result (λ read. (read.0 ≡ over.version) × (lists_in read.1 ≡ scripts_of mutators over.events))
 
 -- What was read of an input; or memory was refused before anything was read.
@@ -93,12 +93,12 @@ abbrev pub with_line : List (List Command) → Line → List (List Command)
 with_line scripts (lines.Command m c) = one_more scripts m c
 with_line scripts line = scripts
 
--- What came of one line, with the version before it and after it: it tells that of the next, or asks for
--- something.
-abbrev pub LineAdded : List ℕ → ℕ → Version → Version → Vec (Vec Command Global) Global
-    → Vec (Vec Command Global) Global → Result (Unit {0}) TextFault → Type 0
-LineAdded text number version next old new (Ok done) =
-    (TellsVersion number text × (next ≡ Second) × (lists_in new ≡ lists_in old))
-    ⊎ ((next ≡ version) × ((line : Line) × DoesScript (vec_len old) version text tt (line ∷ []) tt
+-- What came of one line: it tells the version of those after it, or asks for something.
+abbrev pub LineAdded : Text → Vec (Vec Command Global) Global → Vec (Vec Command Global) Global
+    → Result (Unit {0}) TextFault → Type 0
+LineAdded text old new (Ok done) =
+    (IsVersionLine text × (lists_in new ≡ lists_in old))
+    ⊎ ((¬ IsVersionLine text) × ((line : Line)
+    × DoesScript (vec_len old) text.version text.bytes tt (line ∷ []) tt
     × (lists_in new ≡ with_line (lists_in old) line)))
-LineAdded text number version next old new (Err fault) = ScriptStops (vec_len old) version fault text number tt tt
+LineAdded text old new (Err fault) = ScriptStops (vec_len old) fault text tt tt

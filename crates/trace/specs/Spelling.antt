@@ -12,8 +12,8 @@ use Rattle.graph_heap.specs.Refusal.{refusal_number}
 use Rattle.quanta.specs.declared.schedule.TheConstants.{CLOCK_LIMIT}
 use Rattle.trace.specs.declared.entry.EntryLine.{EntryLine}
 use Rattle.trace.specs.declared.entry.EntryLine.TheVariants as entry_lines
-use Rattle.trace.specs.declared.keyword.Keyword.{Keyword}
-use Rattle.trace.specs.declared.keyword.Keyword.TheVariants as keywords
+use Rattle.trace.specs.declared.commands.Keyword.{Keyword}
+use Rattle.trace.specs.declared.commands.Keyword.TheVariants as keywords
 use Rattle.trace.specs.declared.replies.ReplyWord.{ReplyWord}
 use Rattle.trace.specs.declared.replies.ReplyWord.TheVariants as words
 use Rattle.trace.specs.declared.line.Line.{Line}

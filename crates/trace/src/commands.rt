@@ -1,11 +1,151 @@
-//! Reading commands.
-ghost use Rattle.std.specs.Prelude.{◌≡◌};
+//! Commands as text: the words with which they begin, reading, and writing.
+ghost use Rattle.std.specs.Prelude.{◌≡◌, ◌≤◌, ◌+◌, ◌∷◌, [], ◌++◌, codes, get_or, length, option_map, take};
+ghost use Rattle.trace.specs.Spelling.{keyword_text, command_text};
+ghost use Rattle.trace.specs.Reading.{after_in, comparing, first_keyword_in, front_keyword_in, keywords_by};
 ghost use Rattle.trace.specs.Reading.{shape_in, slot_and_shape_in, arguments_in, bare_in, command_in, mutator_and_command_in};
 
 use crate::field::{after, field, four, number, numbers_and_word, numbers_and_words, three, two};
-use crate::keyword::Keyword;
+use crate::text::{put, put_named};
 use crate::version::Version;
+use crate::write::{put_four, put_one, put_shape, put_three, put_two};
 use graph_heap::{Command, Shape};
+
+/// The kind of a command.
+#[derive(Clone, Copy, Debug, PartialEq, Eq)]
+pub(crate) enum Keyword {
+    New,
+    Load,
+    Store,
+    CompareStore,
+    Get,
+    Put,
+    ComparePut,
+    Copy,
+    Clear,
+    LoadStatic,
+    StoreStatic,
+    CompareStatic,
+    Same,
+    Describe,
+}
+
+/// The byte at a place, or 0 where there is none.
+#[inline(always)]
+fn byte(bytes: &[u8], i: usize) -> u8
+    ensures { result ≡ get_or bytes.now i 0 }
+{
+    if i < bytes.len() { bytes[i] } else { 0 }
+}
+
+impl Keyword {
+    /// The word.
+    pub(crate) fn text(self) -> &'static [u8]
+        ensures { result.now ≡ keyword_text self }
+    {
+        match self {
+            Keyword::New => b"new",
+            Keyword::Load => b"load",
+            Keyword::Store => b"store",
+            Keyword::CompareStore => b"cas",
+            Keyword::Get => b"get",
+            Keyword::Put => b"put",
+            Keyword::ComparePut => b"casput",
+            Keyword::Copy => b"copy",
+            Keyword::Clear => b"clear",
+            Keyword::LoadStatic => b"loadstatic",
+            Keyword::StoreStatic => b"storestatic",
+            Keyword::CompareStatic => b"casstatic",
+            Keyword::Same => b"same",
+            Keyword::Describe => b"describe",
+        }
+    }
+
+    /// What stands after the word and a blank, where the bytes begin with them. Each kind compares with a constant.
+    #[inline(always)]
+    fn strip(self, bytes: &[u8]) -> Option<&[u8]>
+        ensures { option_map (λ b. b.now) result ≡ after_in (keyword_text self ++ codes " ") bytes.now }
+    {
+        match self {
+            Keyword::New => after(b"new ", bytes),
+            Keyword::Load => after(b"load ", bytes),
+            Keyword::Store => after(b"store ", bytes),
+            Keyword::CompareStore => after(b"cas ", bytes),
+            Keyword::Get => after(b"get ", bytes),
+            Keyword::Put => after(b"put ", bytes),
+            Keyword::ComparePut => after(b"casput ", bytes),
+            Keyword::Copy => after(b"copy ", bytes),
+            Keyword::Clear => after(b"clear ", bytes),
+            Keyword::LoadStatic => after(b"loadstatic ", bytes),
+            Keyword::StoreStatic => after(b"storestatic ", bytes),
+            Keyword::CompareStatic => after(b"casstatic ", bytes),
+            Keyword::Same => after(b"same ", bytes),
+            Keyword::Describe => after(b"describe ", bytes),
+        }
+    }
+
+    /// The kind with what stands after its word and a blank, where the bytes begin with them.
+    #[tactic(auto, unfolding(crate::specs::Reading::first_keyword_in))]
+    #[inline(always)]
+    fn one(self, bytes: &[u8]) -> Option<(Keyword, &[u8])>
+        ensures { option_map (λ c. (c.0, c.1.now)) result ≡ first_keyword_in (self ∷ []) bytes.now }
+    {
+        let rest = self.strip(bytes)?;
+        Some((self, rest))
+    }
+
+    /// The same of two kinds.
+    #[tactic(auto, unfolding(crate::specs::Reading::first_keyword_in))]
+    #[inline(always)]
+    fn either(self, other: Keyword, bytes: &[u8]) -> Option<(Keyword, &[u8])>
+        ensures { option_map (λ c. (c.0, c.1.now)) result ≡ first_keyword_in (self ∷ other ∷ []) bytes.now }
+    {
+        match self.strip(bytes) {
+            Some(rest) => Some((self, rest)),
+            None => other.one(bytes),
+        }
+    }
+
+    /// The kind of those that compare.
+    #[tactic(auto, unfolding(crate::specs::Reading::first_keyword_in))]
+    #[inline(always)]
+    fn comparing(bytes: &[u8]) -> Option<(Keyword, &[u8])>
+        ensures { option_map (λ c. (c.0, c.1.now)) result ≡ first_keyword_in comparing bytes.now }
+    {
+        match Keyword::CompareStore.strip(bytes) {
+            Some(rest) => Some((Keyword::CompareStore, rest)),
+            None => Keyword::ComparePut.either(Keyword::CompareStatic, bytes),
+        }
+    }
+
+    /// The kind, of those whose words begin with these two bytes.
+    #[tactic(auto, unfolding(crate::specs::Reading::keywords_by))]
+    #[inline(always)]
+    fn beginning(first: u8, second: u8, bytes: &[u8]) -> Option<(Keyword, &[u8])>
+        ensures { option_map (λ c. (c.0, c.1.now)) result ≡ first_keyword_in (keywords_by first second) bytes.now }
+    {
+        match (first, second) {
+            (b'n', _) => Keyword::New.one(bytes),
+            (b'g', _) => Keyword::Get.one(bytes),
+            (b'p', _) => Keyword::Put.one(bytes),
+            (b'd', _) => Keyword::Describe.one(bytes),
+            (b'l', _) => Keyword::Load.either(Keyword::LoadStatic, bytes),
+            (b's', b'a') => Keyword::Same.one(bytes),
+            (b's', _) => Keyword::Store.either(Keyword::StoreStatic, bytes),
+            (_, b'o') => Keyword::Copy.one(bytes),
+            (_, b'l') => Keyword::Clear.one(bytes),
+            _ => Keyword::comparing(bytes),
+        }
+    }
+
+    /// The kind whose word the bytes begin with, and what stands after it and a blank.
+    #[tactic(auto, unfolding(crate::specs::Reading::front_keyword_in))]
+    #[inline(always)]
+    pub(crate) fn front(bytes: &[u8]) -> Option<(Keyword, &[u8])>
+        ensures { option_map (λ c. (c.0, c.1.now)) result ≡ front_keyword_in bytes.now }
+    {
+        Keyword::beginning(byte(bytes, 0), byte(bytes, 1), bytes)
+    }
+}
 
 /// A shape.
 #[tactic(auto, unfolding(crate::specs::Reading::shape_in))]
@@ -122,4 +262,58 @@ pub(crate) fn mutator_and_command(version: Version, bytes: &[u8]) -> Option<(u32
     let (mutator, rest) = field(bytes)?;
     let command = command(version, rest)?;
     Some((mutator, command))
+}
+
+/// Writes the command that makes an object, without its mutator.
+fn put_new(out: &mut [u8], at: usize, dst: u32, shape: &Shape) -> usize
+    requires { at + 90 ≤ length out.old }
+    ensures text { take result out.new ≡ take at out.old ++ command_text (Command.New dst shape.now) }
+    ensures place { result ≤ at + 90 }
+{
+    let next = put_one(out, at, Keyword::New.text(), dst as u64);
+    let next = put(out, next, b" ");
+    put_shape(out, next, shape)
+}
+
+/// Writes a command without its mutator.
+pub(crate) fn put_command(out: &mut [u8], at: usize, command: &Command) -> usize
+    requires { at + 90 ≤ length out.old }
+    ensures text { take result out.new ≡ take at out.old ++ command_text command.now }
+    ensures place { result ≤ at + 90 }
+{
+    match *command {
+        Command::New { dst, shape } => put_new(out, at, dst, &shape),
+        Command::Load { dst, obj, i } => put_three(out, at, Keyword::Load.text(), [dst, obj, i]),
+        Command::Store { obj, i, src } => put_three(out, at, Keyword::Store.text(), [obj, i, src]),
+        Command::CompareStore {
+            obj,
+            i,
+            expect,
+            new,
+        } => put_four(out, at, Keyword::CompareStore.text(), [obj, i, expect, new]),
+        Command::Get { obj, i } => put_two(out, at, Keyword::Get.text(), [obj, i]),
+        Command::Put { obj, i, word } => {
+            let next = put_two(out, at, Keyword::Put.text(), [obj, i]);
+            put_named(out, next, b" ", word)
+        }
+        Command::ComparePut { obj, i, old, new } => {
+            let next = put_two(out, at, Keyword::ComparePut.text(), [obj, i]);
+            let next = put_named(out, next, b" ", old);
+            put_named(out, next, b" ", new)
+        }
+        Command::Copy { dst, src } => put_two(out, at, Keyword::Copy.text(), [dst, src]),
+        Command::Clear { dst } => put_one(out, at, Keyword::Clear.text(), dst as u64),
+        Command::LoadStatic { dst, k } => put_two(out, at, Keyword::LoadStatic.text(), [dst, k]),
+        Command::StoreStatic { k, src } => put_two(out, at, Keyword::StoreStatic.text(), [k, src]),
+        Command::CompareStatic { k, expect, new } => put_three(
+            out,
+            at,
+            Keyword::CompareStatic.text(),
+            [k, expect, new],
+        ),
+        Command::Same { a, b } => put_two(out, at, Keyword::Same.text(), [a, b]),
+        Command::Describe { a } => put_one(out, at, Keyword::Describe.text(), a as u64),
+        Command::Join => put(out, at, b"join"),
+        Command::Leave => put(out, at, b"leave"),
+    }
 }

@@ -4,11 +4,13 @@ ghost use Rattle.trace.specs.declared.line.Line.{Line};
 ghost use Rattle.trace.specs.Spelling.{is_skipped, Spells};
 ghost use Rattle.trace.specs.Reading.{collector_in, line_in};
 ghost use Rattle.trace.specs.Numbered.{LineRead};
+ghost use Rattle.trace.specs.TextLine.{text_in};
 
 use crate::commands::mutator_and_command;
 use crate::fault::{LineFault, TextFault};
 use crate::field::{cut, word};
-use crate::version::{Version, tells_version};
+use crate::text_line::TextLine;
+use crate::version::Version;
 use graph_heap::Command;
 use quanta::CLOCK_LIMIT;
 
@@ -81,22 +83,17 @@ pub fn read_line(version: Version, bytes: &[u8]) -> Option<Line>
     meaning(version, bytes)
 }
 
-/// Reads the line of this number, from 1, of a trace. Answers none for the line that tells the version, which is
-/// then that of the lines after it. A line that says nothing that a trace of its version may say is a fault.
+/// Reads a line of a trace. Answers none for the line that tells the version of those after it. A line that says nothing
+/// that a trace of its version may say is a fault.
 #[inline(always)]
-pub fn read_numbered(
-    bytes: &[u8],
-    number: u64,
-    version: &mut Version,
-) -> Result<Option<Line>, TextFault>
-    ensures { LineRead bytes.now number version.old version.new result }
+pub fn read_numbered(text: TextLine) -> Result<Option<Line>, TextFault>
+    ensures { LineRead (text_in text.entry) result }
 {
-    if tells_version(number, bytes) {
-        *version = Version::Second;
+    if text.tells_version() {
         return Ok(None);
     }
-    match read_line(*version, bytes) {
+    match read_line(text.version, text.bytes) {
         Some(line) => Ok(Some(line)),
-        None => Err(TextFault::Line(number, LineFault::NotAnEvent)),
+        None => Err(TextFault::Line(text.number, LineFault::NotAnEvent)),
     }
 }

@@ -5,6 +5,8 @@ ghost use Rattle.trace.specs.Streams.{failed, Comes, Stays, NoLf, IsLine, FirstL
 use crate::fault::{LineFault, TextFault};
 use crate::sink::{Sink, WriteFailed};
 use crate::source::{ReadFailed, Source};
+use crate::text_line::TextLine;
+use crate::version::Version;
 use crate::write_buffer::WriteBuffer;
 use memchr::memchr;
 use std::marker::Model;
@@ -50,7 +52,7 @@ fn read_behind<S: Source>(source: &mut S, buffer: &mut [u8], at: usize) -> Resul
 }
 
 /// A reader of lines: a buffer of 65536 bytes, with the line that was handed out last and the bytes that
-/// came after it. It hands out lines of at most 256 bytes, without their LF.
+/// came after it. It hands out lines of at most 256 bytes, without their LF, with their numbers and their versions.
 #[derive(Drop)]
 pub struct LineReader {
     buffer: [u8; CAPACITY],
@@ -59,6 +61,8 @@ pub struct LineReader {
     start: usize,
     end: usize,
     number: u64,
+    version: Version,
+    next: Version,
 }
 
 impl Model for LineReader {
@@ -75,11 +79,12 @@ impl Model for LineReader {
 
 impl LineReader {
     ghost use Rattle.trace.specs.GoneOver.{reads_failed, writes_failed};
-    ghost use Rattle.trace.specs.LineReader.{Hands};
+    ghost use Rattle.trace.specs.LineReader.{Hands, no_lines};
+    ghost use Rattle.trace.specs.TextLine.{text_in, IsNextVersion};
 
     /// A reader that has read nothing yet.
     pub fn new() -> LineReader
-        ensures { result ≡ record { line = []; kept = []; number = 0 } }
+        ensures { result ≡ no_lines }
     {
         LineReader {
             buffer: [0; CAPACITY],
@@ -88,29 +93,44 @@ impl LineReader {
             start: 0,
             end: 0,
             number: 0,
+            version: Version::First,
+            next: Version::First,
         }
     }
 
-    /// The line that was handed out last, without its LF.
-    pub fn line(&self) -> &[u8]
-        ensures { result.now ≡ self.now.line }
+    /// The line that was handed out last.
+    #[inline(always)]
+    pub fn text(&self) -> TextLine<'_>
+        ensures { text_in result ≡ self.now.text }
     {
-        &self.buffer[self.line_start..self.line_end]
+        TextLine {
+            bytes: &self.buffer[self.line_start..self.line_end],
+            number: self.number,
+            version: self.version,
+        }
     }
 
     /// The number of that line, counted from 1. It is also how many lines were handed out.
     pub fn number(&self) -> u64
-        ensures { result ≡ self.now.number }
+        ensures { result ≡ self.now.text.number }
     {
         self.number
+    }
+
+    /// The version of the next line: it is the second exactly where the first line was handed out and tells it.
+    pub fn next_version(&self) -> Version
+        ensures { result ≡ self.now.next }
+    {
+        self.next
     }
 
     /// Reads after the bytes that are kept. Answers how many were read.
     fn fill<S: Source>(&mut self, source: &mut S) -> Result<usize, ReadFailed>
         requires short { length self.old.kept ≤ 256 }
-        requires behind { self.old.number + length self.old.kept ≤ length (S.given source.old) }
+        requires behind { self.old.text.number + length self.old.kept ≤ length (S.given source.old) }
         ensures bytes { Comes (S.given source.old) (S.given source.new) self.old.kept self.new.kept }
-        ensures number { self.new.number ≡ self.old.number }
+        ensures number { self.new.text.number ≡ self.old.text.number }
+        ensures next { self.new.next ≡ self.old.next }
         ensures more { IfOk result (λ n. length self.new.kept ≡ length self.old.kept + n) }
         ensures nothing { result ≡ Ok 0 → self.new.kept ≡ self.old.kept }
         ensures none { OnErr result (self.new.kept ≡ self.old.kept) }
@@ -139,9 +159,11 @@ impl LineReader {
 
     /// Hands out the line that the bytes kept begin with, if its LF is among their first 257.
     fn cut_line(&mut self) -> bool
-        ensures cut { IsTrue result → self.old.kept ≡ self.new.line ++ 10 ∷ self.new.kept }
-        ensures line { IsTrue result → IsLine self.new.line }
-        ensures number { IsTrue result → self.new.number ≡ self.old.number + 1 }
+        ensures cut { IsTrue result → self.old.kept ≡ self.new.text.bytes ++ 10 ∷ self.new.kept }
+        ensures line { IsTrue result → IsLine self.new.text.bytes }
+        ensures number { IsTrue result → self.new.text.number ≡ self.old.text.number + 1 }
+        ensures version { IsTrue result → self.new.text.version ≡ self.old.next }
+        ensures next { IsTrue result → IsNextVersion self.new.text self.new.next }
         ensures none { result ≡ false → NoLf (take 257 self.old.kept) }
         ensures same { result ≡ false → self.new ≡ self.old }
         ensures small { length self.old.kept ≤ 65536 }
@@ -153,13 +175,15 @@ impl LineReader {
         self.line_end = self.start + length;
         self.start = self.line_end + 1;
         self.number += 1;
+        self.version = self.next;
+        self.next = self.text().next_version();
         true
     }
 
     /// The fault of the line that begins with the bytes kept.
     fn fault(&self, fault: LineFault) -> TextFault
         requires { 0 < length self.now.kept }
-        ensures { result ≡ TextFault.Line (self.now.number + 1) fault }
+        ensures { result ≡ TextFault.Line (self.now.text.number + 1) fault }
     {
         TextFault::Line(self.number + 1, fault)
     }
@@ -168,10 +192,10 @@ impl LineReader {
     /// one is kept.
     pub fn next_line<S: Source>(&mut self, source: &mut S) -> Result<bool, TextFault>
         // The source has given the bytes that are kept, and at least one for each line.
-        requires { self.old.number + length self.old.kept ≤ length (S.given source.old) }
+        requires { self.old.text.number + length self.old.kept ≤ length (S.given source.old) }
         ensures hands { Hands (given_by S.given S.ended source.old source.new) self.old self.new result }
-        ensures behind { self.new.number + length self.new.kept ≤ length (S.given source.new) }
-        ensures counted { self.new.number < 2 ^ 64 }
+        ensures behind { self.new.text.number + length self.new.kept ≤ length (S.given source.new) }
+        ensures counted { self.new.text.number < 2 ^ 64 }
         ensures cause { S.failures source.new ≡ S.failures source.old + reads_failed result }
         ensures input { reads_failed result ≡ 0 → Stays (S.input source.old) (S.input source.new) }
     {
@@ -197,7 +221,7 @@ impl LineReader {
         source: &mut S,
         sink: &mut K,
     ) -> Result<bool, TextFault>
-        requires { self.old.number + length self.old.kept ≤ length (S.given source.old) }
+        requires { self.old.text.number + length self.old.kept ≤ length (S.given source.old) }
         // The source was asked for nothing, or all that waited is written.
         ensures asked { (source.new ≡ source.old) ⊎ (waiting.new ≡ []) }
         ensures room { result ≡ Ok true → length waiting.new + 256 ≤ 65536 }
@@ -207,8 +231,8 @@ impl LineReader {
         ensures grows { length (K.taken sink.old) ≤ length (K.taken sink.new) }
         ensures hands { writes_failed result ≡ 0
             → Hands (given_by S.given S.ended source.old source.new) self.old self.new result }
-        ensures behind { self.new.number + length self.new.kept ≤ length (S.given source.new) }
-        ensures counted { self.new.number < 2 ^ 64 }
+        ensures behind { self.new.text.number + length self.new.kept ≤ length (S.given source.new) }
+        ensures counted { self.new.text.number < 2 ^ 64 }
         // Where a write failed, no line was handed out, and nothing was read.
         ensures stays { result ≡ Err TextFault.Write → (self.new ≡ self.old) × (source.new ≡ source.old) }
         ensures writes { K.failures sink.new ≡ K.failures sink.old + writes_failed result }

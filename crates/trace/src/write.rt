@@ -1,16 +1,16 @@
-//! Writing commands, replies and entries.
+//! Writing words with numbers, replies and entries.
 ghost use Rattle.std.specs.Prelude.{◌≡◌, ◌≤◌, ◌+◌, ◌++◌, ◌∷◌, codes, decimal, length, take, slice_index};
 ghost use Rattle.graph_heap.specs.Refusal.{refusal_number};
-ghost use Rattle.trace.specs.Spelling.{two, three, four, shape_text, command_text, command_line, reply_text, entry_line};
+ghost use Rattle.trace.specs.Spelling.{two, three, four, shape_text, command_line, reply_text, entry_line};
 
-use crate::keyword::Keyword;
+use crate::commands::put_command;
 use crate::replies::ReplyWord;
 use crate::text::{put, put_named, put_number};
 use graph_heap::{Command, Entry, Reply, Shape};
 
 /// Writes a word, a blank and a number.
 #[inline(always)]
-fn put_one(out: &mut [u8], at: usize, word: &[u8], n: u64) -> usize
+pub(crate) fn put_one(out: &mut [u8], at: usize, word: &[u8], n: u64) -> usize
     requires { at + length word.now + 21 ≤ length out.old }
     ensures text { take result out.new ≡ take at out.old ++ (word.now ++ 32 ∷ decimal n) }
     ensures place { result ≤ at + length word.now + 21 }
@@ -20,7 +20,7 @@ fn put_one(out: &mut [u8], at: usize, word: &[u8], n: u64) -> usize
 }
 
 /// Writes a word, and after it two numbers.
-fn put_two(out: &mut [u8], at: usize, word: &[u8], numbers: [u32; 2]) -> usize
+pub(crate) fn put_two(out: &mut [u8], at: usize, word: &[u8], numbers: [u32; 2]) -> usize
     requires { at + length word.now + 42 ≤ length out.old }
     ensures text { take result out.new ≡ take at out.old
         ++ (word.now ++ 32 ∷ two (slice_index numbers 0) (slice_index numbers 1)) }
@@ -32,7 +32,7 @@ fn put_two(out: &mut [u8], at: usize, word: &[u8], numbers: [u32; 2]) -> usize
 }
 
 /// Writes a word, and after it three numbers.
-fn put_three(out: &mut [u8], at: usize, word: &[u8], numbers: [u32; 3]) -> usize
+pub(crate) fn put_three(out: &mut [u8], at: usize, word: &[u8], numbers: [u32; 3]) -> usize
     requires { at + length word.now + 63 ≤ length out.old }
     ensures text { take result out.new ≡ take at out.old
         ++ (word.now ++ 32 ∷ three (slice_index numbers 0) (slice_index numbers 1) (slice_index numbers 2)) }
@@ -44,7 +44,7 @@ fn put_three(out: &mut [u8], at: usize, word: &[u8], numbers: [u32; 3]) -> usize
 }
 
 /// Writes a word, and after it four numbers.
-fn put_four(out: &mut [u8], at: usize, word: &[u8], numbers: [u32; 4]) -> usize
+pub(crate) fn put_four(out: &mut [u8], at: usize, word: &[u8], numbers: [u32; 4]) -> usize
     requires { at + length word.now + 84 ≤ length out.old }
     ensures text { take result out.new ≡ take at out.old
         ++ (word.now ++ 32 ∷ four (slice_index numbers 0) (slice_index numbers 1) (slice_index numbers 2)
@@ -56,7 +56,7 @@ fn put_four(out: &mut [u8], at: usize, word: &[u8], numbers: [u32; 4]) -> usize
     put_three(out, next, b"", [b, c, d])
 }
 
-fn put_shape(out: &mut [u8], at: usize, shape: &Shape) -> usize
+pub(crate) fn put_shape(out: &mut [u8], at: usize, shape: &Shape) -> usize
     requires { at + 47 ≤ length out.old }
     ensures text { take result out.new ≡ take at out.old ++ shape_text shape.now }
     ensures place { result ≤ at + 47 }
@@ -65,60 +65,6 @@ fn put_shape(out: &mut [u8], at: usize, shape: &Shape) -> usize
         Shape::Plain { refs, words } => put_two(out, at, b"plain", [refs, words]),
         Shape::RefArray(n) => put_named(out, at, b"refs ", n as u64),
         Shape::WordArray(n) => put_named(out, at, b"words ", n as u64),
-    }
-}
-
-/// Writes the command that makes an object, without its mutator.
-fn put_new(out: &mut [u8], at: usize, dst: u32, shape: &Shape) -> usize
-    requires { at + 90 ≤ length out.old }
-    ensures text { take result out.new ≡ take at out.old ++ command_text (Command.New dst shape.now) }
-    ensures place { result ≤ at + 90 }
-{
-    let next = put_one(out, at, Keyword::New.text(), dst as u64);
-    let next = put(out, next, b" ");
-    put_shape(out, next, shape)
-}
-
-/// Writes a command without its mutator.
-fn put_command(out: &mut [u8], at: usize, command: &Command) -> usize
-    requires { at + 90 ≤ length out.old }
-    ensures text { take result out.new ≡ take at out.old ++ command_text command.now }
-    ensures place { result ≤ at + 90 }
-{
-    match *command {
-        Command::New { dst, shape } => put_new(out, at, dst, &shape),
-        Command::Load { dst, obj, i } => put_three(out, at, Keyword::Load.text(), [dst, obj, i]),
-        Command::Store { obj, i, src } => put_three(out, at, Keyword::Store.text(), [obj, i, src]),
-        Command::CompareStore {
-            obj,
-            i,
-            expect,
-            new,
-        } => put_four(out, at, Keyword::CompareStore.text(), [obj, i, expect, new]),
-        Command::Get { obj, i } => put_two(out, at, Keyword::Get.text(), [obj, i]),
-        Command::Put { obj, i, word } => {
-            let next = put_two(out, at, Keyword::Put.text(), [obj, i]);
-            put_named(out, next, b" ", word)
-        }
-        Command::ComparePut { obj, i, old, new } => {
-            let next = put_two(out, at, Keyword::ComparePut.text(), [obj, i]);
-            let next = put_named(out, next, b" ", old);
-            put_named(out, next, b" ", new)
-        }
-        Command::Copy { dst, src } => put_two(out, at, Keyword::Copy.text(), [dst, src]),
-        Command::Clear { dst } => put_one(out, at, Keyword::Clear.text(), dst as u64),
-        Command::LoadStatic { dst, k } => put_two(out, at, Keyword::LoadStatic.text(), [dst, k]),
-        Command::StoreStatic { k, src } => put_two(out, at, Keyword::StoreStatic.text(), [k, src]),
-        Command::CompareStatic { k, expect, new } => put_three(
-            out,
-            at,
-            Keyword::CompareStatic.text(),
-            [k, expect, new],
-        ),
-        Command::Same { a, b } => put_two(out, at, Keyword::Same.text(), [a, b]),
-        Command::Describe { a } => put_one(out, at, Keyword::Describe.text(), a as u64),
-        Command::Join => put(out, at, b"join"),
-        Command::Leave => put(out, at, b"leave"),
     }
 }
 

@@ -9,6 +9,40 @@ use graph_heap::{Command, Refusal, Reply, Shape};
 use size_classes::parts_of;
 
 impl Heap {
+    /// What a command that is admitted does.
+    pub(super) fn plan(&self, mutator: u32, command: &Command) -> Result<Planned, Refusal>
+        requires { mutator < self.now.limits.mutators }
+        ensures { Deeds self.now mutator command.now result }
+    {
+        match *command {
+            Command::New { dst, shape } => self.plan_new(mutator, dst, shape),
+            Command::Load { dst, obj, i } => self.plan_load(mutator, dst, obj, i),
+            Command::Store { obj, i, src } => self.plan_store(mutator, obj, i, src),
+            Command::CompareStore {
+                obj,
+                i,
+                expect,
+                new,
+            } => self.plan_compare_store(mutator, obj, i, expect, new),
+            Command::Get { obj, i } => self.plan_get(mutator, obj, i),
+            Command::Put { obj, i, word } => self.plan_put(mutator, obj, i, word),
+            Command::ComparePut { obj, i, old, new } => {
+                self.plan_compare_put(mutator, obj, i, old, new)
+            }
+            Command::Copy { dst, src } => self.plan_copy(mutator, dst, src),
+            Command::Clear { dst } => self.plan_clear(mutator, dst),
+            Command::LoadStatic { dst, k } => self.plan_load_static(mutator, dst, k),
+            Command::StoreStatic { k, src } => self.plan_store_static(mutator, k, src),
+            Command::CompareStatic { k, expect, new } => {
+                self.plan_compare_static(mutator, k, expect, new)
+            }
+            Command::Same { a, b } => self.plan_same(mutator, a, b),
+            Command::Describe { a } => self.plan_describe(mutator, a),
+            Command::Join => Ok(self.plan_join(mutator)),
+            Command::Leave => Ok(self.plan_leave(mutator)),
+        }
+    }
+
     /// A new object is planned.
     #[inline(always)]
     pub(super) fn plan_new(&self, mutator: u32, dst: u32, shape: Shape) -> Result<Planned, Refusal>

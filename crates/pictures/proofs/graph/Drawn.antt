@@ -8,7 +8,7 @@ use Rattle.std.proofs.lemmas.List.{drop_more, take_min}
 use Rattle.graph_heap.specs.declared.command.Limits.{Limits}
 use Rattle.graph_heap.specs.declared.command.Shape.{Shape}
 use Rattle.graph_heap.specs.Graph.{Graph, object_of}
-use Rattle.reachability.specs.declared.found.Found.{Found}
+use Rattle.pictures.specs.declared.reachability.found.Found.{Found}
 use Rattle.pictures.specs.declared.graph.statement.Root.{Root}
 use Rattle.pictures.specs.declared.graph.statement.Statement.TheVariants.{Box, Holds, Object, Cell, LeftOut}
 use Rattle.pictures.specs.GraphDrawing.{each_from, root_at, root_drawn, cell_drawn, object_drawn, objects_drawn, left_out}

@@ -3,9 +3,9 @@ use Rattle.std.proofs.Common.{◌≡◌, ℕ, zero, suc, ◌<◌, ◌≤◌, inl
 use Rattle.std.specs.Prelude.{nat_eq}
 use Rattle.std.specs.Set.{is_member}
 use Rattle.std.proofs.lemmas.Bool.{eqb-true, eq-eqb, ltb-true, ltb-false, or_left, or_right, or_cases}
-use Rattle.reachability.specs.declared.found.Found.{Found}
-use Rattle.reachability.specs.Distance.{found_at, AreOnce}
-use Rattle.reachability.specs.Search.{IsAt, IsNowhere}
+use Rattle.pictures.specs.declared.reachability.found.Found.{Found}
+use Rattle.pictures.specs.Distance.{found_at, AreOnce}
+use Rattle.pictures.specs.Search.{IsAt, IsNowhere}
 use Rattle.pictures.specs.GraphDrawing.{shown_of}
 
 -- one of the first that were found is shown

@@ -25,7 +25,7 @@ at_most_one h false = omega arith
 pub moments_few : (old : Stage) (lines : List (List ℕ)) (version : Version) (events : List Event) (new : Stage) (d : LinesDone (TellsVersionOf Nothing) (PlaysText Nothing) old lines version events new)
     → length (moments_along old lines version events new d) ≤ length lines + 1
 moments_few old lines version events new No_lines = omega arith
-moments_few old lines version events new (One_line_more before v next es more line mid after done goes) =
+moments_few old lines version events new (One_line_more before v next es more line mid after done goes follows) =
     let moments = moments_along old before v es mid done in
     let last = cond (is_event line) (moment (length before + 1) after.player.course.heap ∷ []) [] in
     omega (arith, moments_few old before v es mid done, at_most_one (moment (length before + 1) after.player.course.heap) (is_event line), length-append moments last, length-append before (line ∷ []))
@@ -40,9 +40,9 @@ no_moment_more moments h s true is a = absurd (cc)
 no_moment_more moments h s false is a = subst (λ hs. IsAlong hs s) (sym (append-nil moments)) a
 
 -- at the end of the input no line is read
-pub no_line : (number : ℕ) (next : Lines) (b : Bool) → b ≡ false → next.number ≡ number + lines_by (Ok b) → next.number ≡ number
+pub no_line : (number : ℕ) (next : Lines) (b : Bool) → b ≡ false → next.text.number ≡ number + lines_by (Ok b) → next.text.number ≡ number
 no_line number next b is e =
-    let none : next.number ≡ number + 0 = subst (λ t. next.number ≡ number + lines_by (Ok t)) is e in
+    let none : next.text.number ≡ number + 0 = subst (λ t. next.text.number ≡ number + lines_by (Ok t)) is e in
     omega (arith, none)
 
 -- the trace ends with a fault

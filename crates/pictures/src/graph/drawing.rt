@@ -2,7 +2,7 @@
 ghost use Rattle.std.specs.Prelude.{◌≡◌, ◌+◌, ◌++◌, OnOk, OnErr, nat_eq};
 ghost use Rattle.std.specs.Set.{is_member};
 ghost use Rattle.trace.specs.Streams.{GrowsByPart, failed, taken_by};
-ghost use Rattle.reachability.specs.Distance.{AreOnce};
+ghost use Rattle.pictures.specs.Distance.{AreOnce};
 ghost use Rattle.pictures.specs.Statements.{dot_text};
 ghost use Rattle.pictures.specs.GraphDrawing as drawings;
 ghost use Rattle.pictures.specs.GraphDrawing.{shown_of, each_from, root_drawn, cell_drawn, object_drawn, objects_drawn, graph_picture};
@@ -11,8 +11,8 @@ ghost use Rattle.pictures.specs.GraphDrawn.{GraphDrawn, writes_failed};
 use crate::graph::fault::DrawFault;
 use crate::graph::statement::{Root, Statement};
 use crate::graph::writing::write_statement;
+use crate::reachability::{Found, Search, search};
 use graph_heap::{Limits, Reference};
-use reachability::{Found, Search, search};
 use std::alloc::Global;
 use trace::{Sink, WriteFailed};
 

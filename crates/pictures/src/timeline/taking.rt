@@ -10,7 +10,7 @@ use crate::timeline::samples::Samples;
 use player::Player;
 use size_classes::Config;
 use std::alloc::Global;
-use trace::{LineReader, Source, TextFault, Version};
+use trace::{LineReader, Source, TextFault};
 
 /// Plays the lines of a trace on a new heap of a configuration, one after the other, of which nothing is
 /// written, and takes samples of the heap: the first of the new heap, and then one after each stride of
@@ -30,9 +30,8 @@ pub fn take_samples<S: Source>(
     let mut player = Player::new(alloc, config)?;
     let mut sampler = Sampler::new(alloc, player.recorded().heap())?;
     let mut reader = LineReader::new();
-    let mut version = Version::First;
     while reader.next_line(source)? {
-        let is_event = play_line(reader.line(), reader.number(), &mut version, &mut player)?;
+        let is_event = play_line(reader.text(), &mut player)?;
         if !is_event {
             continue;
         }

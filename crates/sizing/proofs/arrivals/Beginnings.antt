@@ -51,9 +51,9 @@ none_first (x ∷ xs) ys e = absurd (cc)
 
 says_first : (whole text more : List (List ℕ)) (version : Version) (said : List Line) (x : Unit {0}) → whole ≡ text ++ more → LinesDone SaysNothing SaysLine tt whole version said x → SaysFirst text said
 says_first whole text more version said x e No_lines = (First, [], [], subst (λ z. Says z First []) (none_first text more e) No_lines, refl)
-says_first whole text more version said x e (One_line_more ls before next es added line mid new d goes) = elim (by_last more) [
+says_first whole text more version said x e (One_line_more ls before next es added line mid new d goes following) = elim (by_last more) [
   | inl none ↦
-      let all : Says (ls ++ line ∷ []) next (es ++ added) = One_line_more ls before next es added line mid new d goes in
+      let all : Says (ls ++ line ∷ []) next (es ++ added) = One_line_more ls before next es added line mid new d goes following in
       (next, es ++ added, [], subst (λ z. Says z next (es ++ added)) (e ∙ ap (λ z. text ++ z) none ∙ append-nil text) all, sym (append-nil (es ++ added)))
   | inr w ↦
       let parts = same_parts ls (text ++ w.0) line w.1 (e ∙ ap (λ z. text ++ z) w.2 ∙ sym (append_assoc text w.0 (w.1 ∷ []))) in

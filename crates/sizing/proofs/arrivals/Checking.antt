@@ -9,6 +9,7 @@ use Rattle.trace.specs.declared.fault.TextFault.{TextFault}
 use Rattle.trace.specs.declared.version.Version.{Version}
 use Rattle.trace.specs.GoneOver.{One_line_more, Goes, GoneOver}
 use Rattle.trace.specs.Spelling.{Spells}
+use Rattle.trace.specs.TextLine.{Text, text_after}
 use Rattle.trace.specs.Streams.{Given}
 use Rattle.sizing.specs.declared.arrivals.keeping.Meter.{Meter}
 use Rattle.sizing.specs.declared.arrivals.keeping.Breach.{Breach}
@@ -20,7 +21,7 @@ use Rattle.sizing.specs.Keeping.{BreaksBy, CheckEnds, LoadChecked}
 use Rattle.sizing.proofs.arrivals.Buckets.{bucket_arrives, arrives_bucket}
 use Rattle.sizing.proofs.arrivals.Appending.{level_of, level_append, since_by, since_of, since_more, stays_more, stays_last, stays_same, often_more, often_last, budgets_more, budgets_last}
 use Rattle.sizing.proofs.arrivals.Windows.{too_much, not_too_much}
-use Rattle.sizing.proofs.arrivals.Reading.{one_reading}
+use Rattle.sizing.proofs.arrivals.Reading.{not_version, one_reading}
 
 -- what a meter tells of lines that keep to a load
 pub record IsMeterOf (l : Load) (k : ℕ) (said : List Line) (m : Meter) : Type 0 where
@@ -49,10 +50,10 @@ meter_more l k said old new line i m within keeps = record {
 }
 
 -- a line that is done
-pub line_goes : (l : Load) (k number : ℕ) (text : List ℕ) (version next : Version) (said : List Line) (old new : Meter) → IsMeterOf l k said old → TextMetered l k text number version next old new (Ok None)
-    → (more : List Line) × Goes SaysNothing SaysLine number text version tt more next tt × IsMeterOf l k (said ++ more) new
-line_goes l k number text version next said old new i (inl told) = ([], inl (told.0, told.1, refl, tt), subst (λ z. IsMeterOf l k z new) (sym (append-nil said)) (subst (λ z. IsMeterOf l k said z) (sym told.2) i))
-line_goes l k number text version next said old new i (inr does) =
+pub line_goes : (l : Load) (k : ℕ) (text : Text) (said : List Line) (old new : Meter) → IsMeterOf l k said old → TextMetered l k text old new (Ok None)
+    → (more : List Line) × Goes SaysNothing SaysLine text tt more tt × IsMeterOf l k (said ++ more) new
+line_goes l k text said old new i (inl told) = ([], inl (told.0, refl, tt), subst (λ z. IsMeterOf l k z new) (sym (append-nil said)) (subst (λ z. IsMeterOf l k said z) (sym told.1) i))
+line_goes l k text said old new i (inr does) =
     let line = does.1.0 in
     let metered = does.1.2 in
     (line ∷ [], inr (does.0, (line, does.1.1, refl)), meter_more l k said old new line i metered.0 metered.1 metered.2)
@@ -76,10 +77,10 @@ breaks_by l k said old new lines.Skip by i none = absurd none
 breaks_by l k said old new lines.Begin by i none = absurd none
 breaks_by l k said old new (lines.Tick n) by i none = absurd none
 
-pub line_breaks : (l : Load) (k number : ℕ) (text : List ℕ) (version next : Version) (said : List Line) (old new : Meter) (by : Breach) → IsMeterOf l k said old → TextMetered l k text number version next old new (Ok (Some by))
-    → (line : Line) × Spells version text line × BreaksBy l k said line by
-line_breaks l k number text version next said old new by i (inl told) = absurd (let e : Some by ≡ None = told.3 in cc)
-line_breaks l k number text version next said old new by i (inr does) = (does.1.0, does.1.1, breaks_by l k said old new does.1.0 by i does.1.2)
+pub line_breaks : (l : Load) (k : ℕ) (text : Text) (said : List Line) (old new : Meter) (by : Breach) → IsMeterOf l k said old → TextMetered l k text old new (Ok (Some by))
+    → (line : Line) × Spells text.version text.bytes line × BreaksBy l k said line by
+line_breaks l k text said old new by i (inl told) = absurd (let e : Some by ≡ None = told.2 in cc)
+line_breaks l k text said old new by i (inr does) = (does.1.0, does.1.1, breaks_by l k said old new does.1.0 by i does.1.2)
 
 -- with a line that breaks the load a text doesn't keep to it
 broken : (l : Load) (k : ℕ) (said : List Line) (line : Line) (by : Breach) → BreaksBy l k said line by → StaysInBucket l (λ class. 0) (said ++ line ∷ []) → BeginsOften l.gap 0 (said ++ line ∷ []) → AreBudgets k (said ++ line ∷ []) → ⊥
@@ -96,7 +97,8 @@ broken l k said (lines.Tick n) by b stays often budgets = b
 text_broken : (l : Load) (k : ℕ) (text : List (List ℕ)) (bytes : List ℕ) (version : Version) (said : List Line) (line : Line) (by : Breach) → Says text version said → Spells version bytes line → BreaksBy l k said line by
     → ¬ KeepsLoad l k (text ++ bytes ∷ [])
 text_broken l k text bytes version said line by says spells b keeps =
-    let more : Says (text ++ bytes ∷ []) version (said ++ line ∷ []) = One_line_more text version version said (line ∷ []) bytes tt tt says (inr (refl, (line, spells, refl))) in
+    let other = not_version (text_after text version bytes) line spells in
+    let more : Says (text ++ bytes ∷ []) version (said ++ line ∷ []) = One_line_more text version version said (line ∷ []) bytes tt tt says (inr (other, (line, spells, refl))) (inr (other, refl)) in
     broken l k said line by b (arrives_bucket l (said ++ line ∷ []) 0 (keeps.arrives version (said ++ line ∷ []) more)) (keeps.begins version (said ++ line ∷ []) more) (keeps.budgets version (said ++ line ∷ []) more)
 
 -- a text that says lines that keep to a load
@@ -113,7 +115,7 @@ checked l k budget given result m same over i = subst (λ z. LoadChecked l z giv
   over = over;
   keeps = text_keeps l k over.lines over.version over.events m over.done i;
   breaks = λ number by e. (
-      let w = (subst (λ r. CheckEnds l k given.ended r over.version (length over.lines) over.events over.mid over.rest) e over.ends).1 in
+      let w = (subst (λ r. CheckEnds l k given.ended r (record { lines = over.lines; version = over.version; events = over.events; state = over.mid; rest = over.rest })) e over.ends).1 in
       (w.0, w.1, w.2, w.3, text_broken l k over.lines w.0 over.version over.events w.4.0 by over.done w.4.1 w.4.2)
       );
 })

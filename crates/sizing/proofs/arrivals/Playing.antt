@@ -31,17 +31,17 @@ does_more (x ∷ ls) p mid new es more line w d = (w.0, w.1 ++ more, w.2, w.3, a
 -- the lines that a text says, and what they do
 reads : (style : Style) (old new : Stage) (text : List (List ℕ)) (version : Version) (es : List Event) → LinesDone (TellsVersionOf style) (PlaysText style) old text version es new → (ls : List Line) × Says text version ls × DoesLines old.player ls es new.player
 reads style old new text version es No_lines = ([], No_lines, (refl, refl))
-reads style old new text version es (One_line_more before was next es' more bytes mid new' d (inl told)) =
+reads style old new text version es (One_line_more before was next es' more bytes mid new' d (inl told) following) =
     let r = reads style old mid before was es' d in (
       r.0 ++ [],
-      One_line_more before was next r.0 [] bytes tt tt r.1 (inl (told.0, told.1, refl, tt)),
+      One_line_more before was next r.0 [] bytes tt tt r.1 (inl (told.0, refl, tt)) following,
       subst (λ z. DoesLines old.player z (es' ++ more) new'.player) (sym (append-nil r.0))
-          (subst (λ z. DoesLines old.player r.0 z new'.player) (sym (append-nil es') ∙ ap (λ z. es' ++ z) (sym told.2)) (subst (λ q. DoesLines old.player r.0 es' q) (sym told.3.0) r.2)),
+          (subst (λ z. DoesLines old.player r.0 z new'.player) (sym (append-nil es') ∙ ap (λ z. es' ++ z) (sym told.1)) (subst (λ q. DoesLines old.player r.0 es' q) (sym told.2.0) r.2)),
     )
-reads style old new text version es (One_line_more before was next es' more bytes mid new' d (inr does)) =
+reads style old new text version es (One_line_more before was next es' more bytes mid new' d (inr does) following) =
     let r = reads style old mid before was es' d in (
       r.0 ++ does.1.0 ∷ [],
-      One_line_more before was next r.0 (does.1.0 ∷ []) bytes tt tt r.1 (inr (does.0, (does.1.0, does.1.1, refl))),
+      One_line_more before was next r.0 (does.1.0 ∷ []) bytes tt tt r.1 (inr (does.0, (does.1.0, does.1.1, refl))) following,
       does_more r.0 old.player mid.player new'.player es' more does.1.0 r.2 does.1.2.0,
     )
 

@@ -4,6 +4,7 @@ use Rattle.trace.specs.declared.line.Line.{Line}
 use Rattle.trace.specs.declared.version.Version.{Version}
 use Rattle.trace.specs.GoneOver.{LinesDone, No_lines, One_line_more, Goes}
 use Rattle.trace.specs.Spelling.{Spells}
+use Rattle.trace.specs.TextLine.{Text, text_after, IsVersionLine, IsNextVersion}
 use Rattle.trace.specs.Reading.{line_in}
 use Rattle.trace.proofs.ReadLines.{read_only, unread}
 use Rattle.sizing.specs.Load.{SaysNothing, SaysLine}
@@ -25,24 +26,32 @@ one_spelling version bytes x y s t =
     let z : Some x ≡ Some y = sym e ∙ f in
     cc
 
-one_line : (n : ℕ) (bytes : List ℕ) (version v w : Version) (s r : List Line) → Goes SaysNothing SaysLine n bytes version tt s v tt → Goes SaysNothing SaysLine n bytes version tt r w tt → (v ≡ w) × (s ≡ r)
-one_line n bytes version v w s r (inl a) (inl b) = (a.1 ∙ sym b.1, a.2 ∙ sym b.2)
-one_line n bytes version v w s r (inl a) (inr b) = absurd (unread version b.1.0 (subst (λ z. Spells version z b.1.0) a.0.1 b.1.1))
-one_line n bytes version v w s r (inr a) (inl b) = absurd (unread version a.1.0 (subst (λ z. Spells version z a.1.0) b.0.1 a.1.1))
-one_line n bytes version v w s r (inr a) (inr b) = (a.0 ∙ sym b.0, a.1.2 ∙ ap (λ z. z ∷ []) (one_spelling version bytes a.1.0 b.1.0 a.1.1 b.1.1) ∙ sym b.1.2)
+-- what spells a line doesn't tell the version
+pub not_version : (text : Text) (line : Line) → Spells text.version text.bytes line → ¬ IsVersionLine text
+not_version text line spells told = unread text.version line (subst (λ z. Spells text.version z line) told.1 spells)
 
-same_line : (ls ms : List (List ℕ)) (x y : List ℕ) (before was v w : Version) (s r : List Line) → ls ≡ ms → x ≡ y → before ≡ was → Goes SaysNothing SaysLine (length ls + 1) x before tt s v tt → Goes SaysNothing SaysLine (length ms + 1) y was tt r w tt
-    → (v ≡ w) × (s ≡ r)
-same_line ls ms x y before was v w s r e f h a b =
-    one_line (length ls + 1) x before v w s r a
-    (subst (λ z. Goes SaysNothing SaysLine (length z + 1) x before tt r w tt) (sym e) (subst (λ z. Goes SaysNothing SaysLine (length ms + 1) z before tt r w tt) (sym f) (subst (λ z. Goes SaysNothing SaysLine (length ms + 1) y z tt r w tt) (sym h) b)))
+one_line : (text : Text) (s r : List Line) → Goes SaysNothing SaysLine text tt s tt → Goes SaysNothing SaysLine text tt r tt → s ≡ r
+one_line text s r (inl a) (inl b) = a.1 ∙ sym b.1
+one_line text s r (inl a) (inr b) = absurd (b.0 a.0)
+one_line text s r (inr a) (inl b) = absurd (a.0 b.0)
+one_line text s r (inr a) (inr b) = a.1.2 ∙ ap (λ z. z ∷ []) (one_spelling text.version text.bytes a.1.0 b.1.0 a.1.1 b.1.1) ∙ sym b.1.2
+
+one_next : (text : Text) (v w : Version) → IsNextVersion text v → IsNextVersion text w → v ≡ w
+one_next text v w (inl a) (inl b) = a.1 ∙ sym b.1
+one_next text v w (inl a) (inr b) = absurd (b.0 a.0)
+one_next text v w (inr a) (inl b) = absurd (a.0 b.0)
+one_next text v w (inr a) (inr b) = a.1 ∙ sym b.1
+
+same_text : (ls ms : List (List ℕ)) (x y : List ℕ) (before was : Version) → ls ≡ ms → x ≡ y → before ≡ was → text_after ls before x ≡ text_after ms was y
+same_text ls ms x y before was e f h = ap (λ z. text_after z before x) e ∙ ap (λ z. text_after ms before z) f ∙ ap (λ z. text_after ms z y) h
 
 pub one_reading : (t u : List (List ℕ)) (v w : Version) (s r : List Line) (p q : Unit {0}) → t ≡ u → LinesDone SaysNothing SaysLine tt t v s p → LinesDone SaysNothing SaysLine tt u w r q → (v ≡ w) × (s ≡ r)
 one_reading t u v w s r p q e No_lines No_lines = (refl, refl)
-one_reading t u v w s r p q e No_lines (One_line_more ms was w' es' more' y mid' q' d' b) = absurd (nothing_behind ms y e)
-one_reading t u v w s r p q e (One_line_more ls before v' es more x mid p' d a) No_lines = absurd (nothing_behind ls x (sym e))
-one_reading t u v w s r p q e (One_line_more ls before v' es more x mid p' d a) (One_line_more ms was w' es' more' y mid' q' d' b) =
+one_reading t u v w s r p q e No_lines (One_line_more ms was w' es' more' y mid' q' d' b next) = absurd (nothing_behind ms y e)
+one_reading t u v w s r p q e (One_line_more ls before v' es more x mid p' d a next) No_lines = absurd (nothing_behind ls x (sym e))
+one_reading t u v w s r p q e (One_line_more ls before v' es more x mid p' d a next) (One_line_more ms was w' es' more' y mid' q' d' b following) =
     let parts = same_parts ls ms x y e in
     let so = one_reading ls ms before was es es' mid mid' parts.0 d d' in
-    let last = same_line ls ms x y before was v' w' more more' parts.0 parts.1 so.0 a b in
-    (last.0, ap (λ z. z ++ more) so.1 ∙ ap (λ z. es' ++ z) last.1)
+    let same = sym (same_text ls ms x y before was parts.0 parts.1 so.0) in
+    let last = one_line (text_after ls before x) more more' a (subst (λ z. Goes SaysNothing SaysLine z tt more' tt) same b) in
+    (one_next (text_after ls before x) v' w' next (subst (λ z. IsNextVersion z w') same following), ap (λ z. z ++ more) so.1 ∙ ap (λ z. es' ++ z) last)

@@ -2,6 +2,7 @@
 ghost use Rattle.std.specs.Prelude.{◌≡◌, ℕ, ◌+◌, ◌-◌, ◌*◌, ◌<◌, ◌≤◌, replicate, slice_index, IfNone, IfSome};
 ghost use Rattle.space.specs.Room.{asks};
 ghost use Rattle.trace.specs.GoneOver.{reads_failed};
+ghost use Rattle.trace.specs.TextLine.{text_in};
 ghost use Rattle.trace.specs.Streams.{Stays, given_by};
 ghost use Rattle.sizing.specs.Fitting.{load_in};
 ghost use Rattle.sizing.specs.Metering.{levels_in, IsWithin, Overflows, Metered, TextMetered};
@@ -10,7 +11,7 @@ ghost use Rattle.sizing.specs.Keeping.{LoadChecked};
 use crate::arrivals::load::Load;
 use graph_heap::Command;
 use size_classes::{CLASSES, Class, Config, Need, parts_of};
-use trace::{Line, LineReader, Source, TextFault, Version, read_numbered};
+use trace::{Line, LineReader, Source, TextFault, TextLine, read_numbered};
 
 /// In which way a line breaks a load.
 #[derive(Clone, Copy, Debug, PartialEq, Eq)]
@@ -141,20 +142,17 @@ impl Meter {
     }
 }
 
-/// Checks one line. Answers how it breaks the load, if it does. Keeps the version of the next.
+/// Checks one line. Answers how it breaks the load, if it does.
 fn check_line(
-    bytes: &[u8],
-    number: u64,
-    version: &mut Version,
+    text: TextLine,
     meter: &mut Meter,
     load: &Load,
     budget: u32,
 ) -> Result<Option<Breach>, TextFault>
     requires { IsWithin (load_in load.now) meter.old }
-    ensures { TextMetered (load_in load.now) budget bytes.now number version.old version.new meter.old meter.new
-        result }
+    ensures { TextMetered (load_in load.now) budget (text_in text.entry) meter.old meter.new result }
 {
-    match read_numbered(bytes, number, version)? {
+    match read_numbered(text)? {
         Some(line) => Ok(meter.note(&line, load, budget)),
         None => Ok(None),
     }
@@ -176,18 +174,12 @@ pub fn keeps_load<S: Source>(
     let budget = config.budget();
     let mut meter = Meter::new();
     let mut reader = LineReader::new();
-    let mut version = Version::First;
     while reader.next_line(source)? {
-        let number = reader.number();
-        if let Some(by) = check_line(
-            reader.line(),
-            number,
-            &mut version,
-            &mut meter,
-            load,
-            budget,
-        )? {
-            return Ok(Kept::Breaks { line: number, by });
+        if let Some(by) = check_line(reader.text(), &mut meter, load, budget)? {
+            return Ok(Kept::Breaks {
+                line: reader.number(),
+                by,
+            });
         }
     }
     Ok(Kept::Keeps)

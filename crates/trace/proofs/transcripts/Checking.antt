@@ -32,10 +32,10 @@ leads_told old mid new es fs legal leads none same =
 -- the entries of the lines done are legal, and lead to the graph heap after them
 leads_so : (old new : Graph) (ls : List (List ℕ)) (version : Version) (es : List Entry) → LinesDone DoesNothing DoesEntry old ls version es new → IsLegal old es × (new ≡ after old es)
 leads_so old new ls version es No_lines = (tt, refl)
-leads_so old new ls version es (One_line_more ls' before version' es' fs text mid new' d (inl told)) =
+leads_so old new ls version es (One_line_more ls' before version' es' fs text mid new' d (inl told) next) =
     let so = leads_so old mid ls' before es' d in
-    leads_told old mid new es' fs so.0 so.1 told.2 told.3
-leads_so old new ls version es (One_line_more ls' before version' es' fs text mid new' d (inr does)) =
+    leads_told old mid new es' fs so.0 so.1 told.1 told.2
+leads_so old new ls version es (One_line_more ls' before version' es' fs text mid new' d (inr does) next) =
     let so = leads_so old mid ls' before es' d in
     leads_on old mid new es' fs before text so.0 so.1 does.1
 

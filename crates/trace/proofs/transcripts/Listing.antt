@@ -11,6 +11,7 @@ use Rattle.trace.specs.declared.line.Line.{Line}
 use Rattle.trace.specs.declared.line.Line.TheVariants as lines
 use Rattle.trace.specs.declared.version.Version.{Version}
 use Rattle.trace.specs.GoneOver.{Goes}
+use Rattle.trace.specs.TextLine.{Text}
 use Rattle.trace.specs.Spelling.{Spells, is_skipped}
 use Rattle.trace.specs.Scripts.{IsOfScripts, script_of, scripts_of, one_more, with_line, AsksNothing, DoesScript, lists_in, LineAdded}
 
@@ -107,10 +108,10 @@ pub no_line : (version : Version) (text : List ℕ) → ((x : Line) → Spells v
 no_line version text only = (λ s. let e = only lines.Skip s in cc, λ m c s. let e = only (lines.Command m c) s in cc)
 
 -- what a line of an input does to the scripts
-pub line_goes : (number : ℕ) (text : List ℕ) (version next : Version) (mutators : ℕ) (old new : Vec (Vec Command Global) Global) → vec_len old ≡ mutators → LineAdded text number version next old new (Ok tt)
-    → (spelled : List Line) × Goes AsksNothing (DoesScript mutators) number text version tt spelled next tt × ((ls : List Line) → lists_in old ≡ scripts_of mutators ls → lists_in new ≡ scripts_of mutators (ls ++ spelled))
-line_goes number text version next mutators old new len (inl told) =
-    ([], inl (told.0, told.1, refl, tt), λ ls e. told.2 ∙ e ∙ ap (scripts_of mutators) (sym (append-nil ls)))
-line_goes number text version next mutators old new len (inr (same, (line, does, lists))) =
+pub line_goes : (text : Text) (mutators : ℕ) (old new : Vec (Vec Command Global) Global) → vec_len old ≡ mutators → LineAdded text old new (Ok tt)
+    → (spelled : List Line) × Goes AsksNothing (DoesScript mutators) text tt spelled tt × ((ls : List Line) → lists_in old ≡ scripts_of mutators ls → lists_in new ≡ scripts_of mutators (ls ++ spelled))
+line_goes text mutators old new len (inl told) =
+    ([], inl (told.0, refl, tt), λ ls e. told.1 ∙ e ∙ ap (scripts_of mutators) (sym (append-nil ls)))
+line_goes text mutators old new len (inr (other, (line, does, lists))) =
     let below = subst (λ n. IsOfScripts n line) len does.1 in
-    (line ∷ [], inr (same, (does.0, below)), λ ls e. lists ∙ ap (λ s. with_line s line) e ∙ sym (scripts_more mutators ls line below))
+    (line ∷ [], inr (other, (does.0, below)), λ ls e. lists ∙ ap (λ s. with_line s line) e ∙ sym (scripts_more mutators ls line below))

@@ -2,11 +2,10 @@
 ghost use Rattle.std.specs.Prelude.{◌≡◌, ◌+◌};
 ghost use Rattle.trace.specs.GoneOver.{reads_failed};
 ghost use Rattle.trace.specs.Streams.{Stays, given_by};
+ghost use Rattle.trace.specs.TextLine.{text_in};
 ghost use Rattle.trace.specs.Histories.{LineChecked, EntriesChecked};
 
-use crate::{
-    EntryLine, LineFault, LineReader, Source, TextFault, Version, read_entry, tells_version,
-};
+use crate::{EntryLine, LineFault, LineReader, Source, TextFault, TextLine, read_entry};
 use graph_heap::Reference;
 
 /// What became of a history that was checked.
@@ -29,21 +28,15 @@ enum Outcome {
     Wrong,
 }
 
-/// Checks one line, and does its entry if that is a step. Keeps the version of the next.
-fn check_line(
-    bytes: &[u8],
-    number: u64,
-    version: &mut Version,
-    reference: &mut Reference,
-) -> Result<Outcome, TextFault>
-    ensures { LineChecked bytes.now number version.old version.new reference.old reference.new result }
+/// Checks one line, and does its entry if that is a step.
+fn check_line(text: TextLine, reference: &mut Reference) -> Result<Outcome, TextFault>
+    ensures { LineChecked (text_in text.entry) reference.old reference.new result }
 {
-    if tells_version(number, bytes) {
-        *version = Version::Second;
+    if text.tells_version() {
         return Ok(Outcome::Skipped);
     }
-    let Some(line) = read_entry(*version, bytes) else {
-        return Err(TextFault::Line(number, LineFault::NotAnEntry));
+    let Some(line) = read_entry(text.version, text.bytes) else {
+        return Err(TextFault::Line(text.number, LineFault::NotAnEntry));
     };
     let EntryLine::Entry(entry) = line else {
         return Ok(Outcome::Skipped);
@@ -68,10 +61,9 @@ pub fn check_entries<S: Source>(
     ensures input { reads_failed result ≡ 0 → Stays (S.input source.old) (S.input source.new) }
 {
     let mut reader = LineReader::new();
-    let mut version = Version::First;
     let mut good = 0;
     while reader.next_line(source)? {
-        match check_line(reader.line(), reader.number(), &mut version, reference)? {
+        match check_line(reader.text(), reference)? {
             Outcome::Skipped => {}
             Outcome::Done => good += 1,
             Outcome::Wrong => return Ok(Checked::Wrong(reader.number())),

@@ -3,9 +3,10 @@ ghost use Rattle.std.specs.Prelude.{◌≡◌, ◌+◌, ◌<◌, vec_len, replic
 ghost use Rattle.trace.specs.GoneOver.{reads_failed};
 ghost use Rattle.trace.specs.Streams.{Stays, given_by};
 ghost use Rattle.trace.specs.Spelling.{Spells};
+ghost use Rattle.trace.specs.TextLine.{text_in};
 ghost use Rattle.trace.specs.Scripts.{line_of, lists_in, one_more, IsOfScripts, ScriptLineIs, LineAdded, ScriptsRead};
 
-use crate::{Line, LineFault, LineReader, Source, TextFault, Version, read_line, tells_version};
+use crate::{Line, LineFault, LineReader, Source, TextFault, TextLine, Version, read_line};
 use graph_heap::{Command, Limits, NoMemory};
 use std::alloc::Global;
 
@@ -45,24 +46,18 @@ fn add(scripts: &mut Vec<Vec<Command>>, mutator: usize, command: Command) -> Res
     Ok(())
 }
 
-/// Does what a line of scripts says. Keeps the version of the next.
-fn add_line(
-    bytes: &[u8],
-    number: u64,
-    version: &mut Version,
-    scripts: &mut Vec<Vec<Command>>,
-) -> Result<(), TextFault>
-    ensures done { LineAdded bytes.now number version.old version.new scripts.old scripts.new result }
+/// Does what a line of scripts says.
+fn add_line(text: TextLine, scripts: &mut Vec<Vec<Command>>) -> Result<(), TextFault>
+    ensures done { LineAdded (text_in text.entry) scripts.old scripts.new result }
     ensures len { vec_len scripts.new ≡ vec_len scripts.old }
 {
-    if tells_version(number, bytes) {
-        *version = Version::Second;
+    if text.tells_version() {
         return Ok(());
     }
-    match script_line(*version, bytes, scripts.len()) {
+    match script_line(text.version, text.bytes, scripts.len()) {
         Ok(None) => Ok(()),
         Ok(Some((mutator, command))) => Ok(add(scripts, mutator as usize, command)?),
-        Err(fault) => Err(TextFault::Line(number, fault)),
+        Err(fault) => Err(TextFault::Line(text.number, fault)),
     }
 }
 
@@ -92,9 +87,8 @@ pub fn read_scripts<S: Source>(
 {
     let mut scripts = empty(alloc, limits.mutators)?;
     let mut reader = LineReader::new();
-    let mut version = Version::First;
     while reader.next_line(source)? {
-        add_line(reader.line(), reader.number(), &mut version, &mut scripts)?;
+        add_line(reader.text(), &mut scripts)?;
     }
-    Ok((version, scripts))
+    Ok((reader.next_version(), scripts))
 }

@@ -1,4 +1,4 @@
-use Rattle.std.proofs.Common.{◌≡◌, ◌∙◌, ℕ, ap, arith}
+use Rattle.std.proofs.Common.{◌≡◌, ◌∙◌, ℕ, ◌<◌, ap, subst, arith}
 use Rattle.std.proofs.lemmas.List.{get_or-replicate}
 use Rattle.size_classes.specs.Parts.{cells_of, parts_in}
 use Rattle.arraylets.proofs.Linking.{none_made, one_more, spine_stands, first_within, all_made, links_same, links_then}
@@ -42,3 +42,15 @@ returns-clause-made c =
     let i = c.loop-part.invariant in
     let e : c.loop-part.part ≡ parts_in (cells_of c.args.shape) = omega (arith, count, c.loop-part-test.false) in
     all_made c.args.nodes.now c.loop-part.nodes c.args.shape c.args.colour c.args.identity c.loop-part.spines c.loop-part.part i.made e (omega (arith, e, count, c.count-part-end.ensures.within))
+
+pub returns-clause-within : goal.returns-clause-within
+returns-clause-within c = c.loop-part.invariant.within
+
+pub returns-clause-links : goal.returns-clause-links
+returns-clause-links c = c.loop-part.invariant.links
+
+pub make_linked-block-requires-clause-part : goal.make_linked-block-requires-clause-part
+make_linked-block-requires-clause-part c = subst (λ n. c.loop-part.part < n) (c.count-part-end.ensures.count ∙ ap parts_in c.requires.parts) c.loop-part-test.true
+
+pub make_linked-block-requires-clause-room : goal.make_linked-block-requires-clause-room
+make_linked-block-requires-clause-room c = c.loop-part.invariant.room

@@ -1,7 +1,8 @@
 use Rattle.std.proofs.Common.{◌++◌, ap}
 use Rattle.std.proofs.lemmas.Result.{on_err_weaker, on_ok_weaker}
 use Rattle.pictures.specs.OverTime.{time_axes, time_frame, time_shown}
-use Rattle.pictures.proofs.Parts.{at_err, in_head, in_body, in_end, to_end}
+use Rattle.pictures.proofs.Parts.{at_err}
+use Rattle.pictures.proofs.Drawing.{in_head, in_body, in_end, to_end}
 use Rattle.pictures.proofs.over_time.draw_samples.Goals as goal
 
 pub returns-in_err-write_head-clause-err : goal.returns-in_err-write_head-clause-err

@@ -6,7 +6,8 @@ use Rattle.pictures.specs.declared.element.Element.{Element}
 use Rattle.pictures.specs.Frame.{frame}
 use Rattle.pictures.specs.PageMap.{map_frame, map_told, map_shown}
 use Rattle.pictures.specs.Squares.{map_height}
-use Rattle.pictures.proofs.Parts.{at_err, in_head, in_body, in_end, to_end}
+use Rattle.pictures.proofs.Parts.{at_err}
+use Rattle.pictures.proofs.Drawing.{in_head, in_body, in_end, to_end}
 use Rattle.pictures.proofs.page_map.draw_pages.Goals as goal
 
 head_is : (h : HeapState) (n : ℕ) (told : List Element) → n ≡ map_height (length h.store.pages) → told ≡ map_told h → frame 1200 n PagesOfTheHeap ++ told ≡ map_frame h ++ map_told h

@@ -3,22 +3,23 @@ use Rattle.std.proofs.lemmas.List.{drop_all}
 use Rattle.pictures.specs.Elements.{each_from}
 use Rattle.pictures.specs.Squares.{squares_for}
 use Rattle.pictures.proofs.Parts.{at_err, none_yet, further, cut_short, all_of}
+use Rattle.pictures.proofs.Drawing.{svg_is}
 use Rattle.pictures.proofs.SquareLemmas.{drawn_of, squares_on}
 use Rattle.pictures.proofs.page_map.write_squares.Goals as goal
 
 pub loop-page-init : goal.loop-page-init
-loop-page-init g c = record { written = none_yet _ _; failures = refl }
+loop-page-init g c = record { written = none_yet svg_is _ _; failures = refl }
 
 pub returns-in_err-write_square-clause-err : goal.returns-in_err-write_square-clause-err
 returns-in_err-write_square-clause-err g c =
     let on = squares_on (squares_for (length c.args.heap.now.store.pages)) c.for_pages-squares.result c.args.heap.now.store.pages c.loop-page.page (c.for_pages-squares.ensures ∙ ap squares_for c.pages.ensures.pages) (omega (arith, c.pages-page-end.ensures.pages, c.loop-page-test.true)) in
-    at_err c.from_residual.result _ (cut_short _ _ _ _ c.loop-page.invariant.written _ _ on _ c.in_err-write_square.ensures.err)
+    at_err c.from_residual.result _ (cut_short svg_is _ _ _ _ c.loop-page.invariant.written _ _ on _ c.in_err-write_square.ensures.err)
 
 pub loop-page-preserved : goal.loop-page-preserved
 loop-page-preserved g c =
     let on = squares_on (squares_for (length c.args.heap.now.store.pages)) c.for_pages-squares.result c.args.heap.now.store.pages c.loop-page.page (c.for_pages-squares.ensures ∙ ap squares_for c.pages.ensures.pages) (omega (arith, c.pages-page-end.ensures.pages, c.loop-page-test.true)) in
     record {
-      written = further _ _ _ _ c.loop-page.invariant.written _ _ on _ c.in_ok-write_square.ensures.ok;
+      written = further svg_is _ _ _ _ c.loop-page.invariant.written _ _ on _ c.in_ok-write_square.ensures.ok;
       failures = omega (arith, c.in_ok-write_square.ensures.cause, c.loop-page.invariant.failures);
     }
 

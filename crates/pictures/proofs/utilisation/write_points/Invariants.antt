@@ -1,12 +1,13 @@
 use Rattle.std.proofs.Common.{◌≡◌, drop}
 use Rattle.pictures.specs.Elements.{each_from}
 use Rattle.pictures.specs.Utilisation.{window_points}
+use Rattle.pictures.specs.Elements.{svg_text}
 use Rattle.pictures.proofs.Parts.{SoFar}
 use Rattle.pictures.proofs.utilisation.write_points.Given as goal
 
 -- the windows so far are written, and no call has failed
 abbrev pub invariant-loop-place : goal.invariant-loop-place
 invariant-loop-place g l = record {
-  written : SoFar (g.K.Sink.taken l.fn.sink) (g.K.Sink.taken l.sink) (each_from (window_points l.last) 0 l.shares) (each_from (window_points l.last) l.place (drop l.place l.shares));
+  written : SoFar svg_text (g.K.Sink.taken l.fn.sink) (g.K.Sink.taken l.sink) (each_from (window_points l.last) 0 l.shares) (each_from (window_points l.last) l.place (drop l.place l.shares));
   failures : g.K.Sink.failures l.sink ≡ g.K.Sink.failures l.fn.sink;
 }

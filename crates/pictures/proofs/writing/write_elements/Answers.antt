@@ -2,7 +2,8 @@ use Rattle.std.proofs.Common.{◌≡◌, [], ◌∷◌, ◌++◌, refl, subst, a
 use Rattle.trace.specs.Streams.{GrowsByPart}
 use Rattle.pictures.specs.declared.element.Element.{Element}
 use Rattle.pictures.specs.Elements.{svg_text}
-use Rattle.pictures.proofs.Parts.{at_err, none, one_more, part_of_one}
+use Rattle.pictures.proofs.Parts.{at_err, none}
+use Rattle.pictures.proofs.Drawing.{svg_is, one_more, part_of_one}
 use Rattle.pictures.proofs.writing.write_elements.Goals as goal
 
 pub returns-in_err-write_element-clause-err : goal.returns-in_err-write_element-clause-err
@@ -22,4 +23,4 @@ loop-element-preserved g c =
     }
 
 pub loop-element-init : goal.loop-element-init
-loop-element-init g c = record { written = none (g.K.Sink.taken c.args.sink.now); failures = refl }
+loop-element-init g c = record { written = none svg_is (g.K.Sink.taken c.args.sink.now); failures = refl }

@@ -2,6 +2,7 @@ use Rattle.std.proofs.Common.{◌≡◌, ◌≢◌, ◌+◌, ◌++◌, ◌∷◌
 use Rattle.std.proofs.lemmas.Result.{err_from_is_err_and}
 use Rattle.std.specs.List.{count_by}
 use Rattle.trace.specs.Streams.{given_by}
+use Rattle.trace.specs.TextLine.{Text}
 use Rattle.trace.proofs.GoingOver.{at_first, goes_on, ends_without, ends_over, ends_at}
 use Rattle.trace.proofs.Reading.{reading_at_first, reading_on}
 use Rattle.player.specs.Playing.{stage, TellsVersionOf, is_event, PlaysText, StopsText}
@@ -38,7 +39,7 @@ returns-in_err-next_line_once_written-clause-played g c =
     let s = e.stays (ap Err is) in
     let behind = behind_fewer c.args.style old i.done.lines i.done.events c.loop-reader.reader.kept c.loop-reader.reader.kept (g.K.Sink.taken c.loop-reader.sink) (g.K.Sink.taken new.sink) e.grows (omega arith) i.behind in
     rw is (rw (s.1, w.1, append-nil (g.K.Sink.taken new.sink))
-    (up_to c.args.n (cut_after c.args.style _ old c.loop-reader.player (g.K.Sink.taken c.loop-reader.sink) c.loop-reader.waiting c.loop-reader.reader c.loop-reader.version i.done (g.K.Sink.taken new.sink) i.grows w.0 behind) few))))
+    (up_to c.args.n (cut_after c.args.style _ old c.loop-reader.player (g.K.Sink.taken c.loop-reader.sink) c.loop-reader.waiting c.loop-reader.reader i.done (g.K.Sink.taken new.sink) i.grows w.0 behind) few))))
 
 pub returns-in_err-next_line_once_written-clause-cut : goal.returns-in_err-next_line_once_written-clause-cut
 returns-in_err-next_line_once_written-clause-cut g c taken grows =
@@ -68,7 +69,7 @@ returns-in_err-is_event-clause-played g c =
     let new = c.next_line_once_written.new in
     let so = moved c.args.style _ (g.K.Sink.taken new.sink ++ new.waiting) i.done (e.whole refl) in
     rw (p.1, p.2) (up_to c.args.n (ends_so
-    (ends_at so new.self _ _ _ (e.hands refl) c.if-branch.true _ c.line.ensures (Unit {0}) (StopsText c.args.style) _ _ _ c.number.ensures (c.in_err-is_event.ensures.played (g.K.Sink.taken new.sink))))
+    (ends_at so new.self _ _ _ (e.hands refl) c.if-branch.true _ c.text.ensures (Unit {0}) (StopsText c.args.style) _ _ (c.in_err-is_event.ensures.played (g.K.Sink.taken new.sink))))
     (fewer c.args.n c.loop-reader.left (count_by is_event i.done.lines) i.few (c.is_any_left.ensures.some c.loop-reader-test.true)))
 
 pub returns-in_err-is_event-clause-cut : goal.returns-in_err-is_event-clause-cut
@@ -83,11 +84,11 @@ returns-in_err-is_event-clause-cut g c taken grows =
     let more = grows_longer (g.K.Sink.taken new.sink) taken waiting grows in
     let so = moved c.args.style _ (g.K.Sink.taken new.sink ++ new.waiting) i.done (e.whole refl) in
     let h = handed _ _ _ _ true c.if-branch.true (e.hands refl) in
-    elim (waited_or_written g.S.Source.given c.loop-reader.source new.source c.loop-reader.reader.kept (new.self.line ++ 10 ∷ new.self.kept) new.waiting h.text e.asked) [
+    elim (waited_or_written g.S.Source.given c.loop-reader.source new.source c.loop-reader.reader.kept (new.self.text.bytes ++ 10 ∷ new.self.kept) new.waiting h.text e.asked) [
       | inl same ↦ up_to c.args.n (cut c.args.style given old c.play_line.new.player (g.K.Sink.taken new.sink) taken waiting (Err c.in_err-is_event.field-0.0) (omega (arith, i.grows, e.grows)) grows
-          (ends_at so new.self _ _ _ (e.hands refl) c.if-branch.true _ c.line.ensures (Unit {0}) (StopsText c.args.style) _ _ _ c.number.ensures (c.in_err-is_event.ensures.played (g.K.Sink.taken new.sink)))
-          (behind_fewer c.args.style old i.done.lines i.done.events c.loop-reader.reader.kept (new.self.line ++ 10 ∷ new.self.kept) (g.K.Sink.taken c.loop-reader.sink) taken (omega (arith, e.grows, more)) (omega (arith, ap length same)) i.behind)) few
-      | inr none ↦ absurd (no_part (g.K.Sink.taken new.sink) taken waiting (stops_taken c.args.style _ _ _ _ _ _ (c.in_err-is_event.ensures.played []) ∙ none) grows)
+          (ends_at so new.self _ _ _ (e.hands refl) c.if-branch.true _ c.text.ensures (Unit {0}) (StopsText c.args.style) _ _ (c.in_err-is_event.ensures.played (g.K.Sink.taken new.sink)))
+          (behind_fewer c.args.style old i.done.lines i.done.events c.loop-reader.reader.kept (new.self.text.bytes ++ 10 ∷ new.self.kept) (g.K.Sink.taken c.loop-reader.sink) taken (omega (arith, e.grows, more)) (omega (arith, ap length same)) i.behind)) few
+      | inr none ↦ absurd (no_part (g.K.Sink.taken new.sink) taken waiting (stops_taken c.args.style _ _ _ _ (c.in_err-is_event.ensures.played []) ∙ none) grows)
     ]
 
 pub loop-reader-preserved : goal.loop-reader-preserved
@@ -99,15 +100,15 @@ loop-reader-preserved g c =
     let so = moved c.args.style _ (g.K.Sink.taken new.sink ++ new.waiting) i.done (e.whole refl) in
     let h = handed _ _ _ _ true c.if-branch.true (e.hands refl) in
     let played = c.in_ok-is_event.ensures.played (g.K.Sink.taken new.sink) in
-    let event = played.2 ∙ ap is_event c.line.ensures in
+    let event = played.2 ∙ ap (λ (t : Text). is_event t.bytes) c.text.ensures in
     record {
-      done = goes_on so new.self _ _ _ (e.hands refl) c.if-branch.true _ c.line.ensures _ _ played.0 _ c.number.ensures played.1;
+      done = goes_on so new.self _ _ _ (e.hands refl) c.if-branch.true _ c.text.ensures _ played.0 played.1;
       grows = omega (arith, e.grows, i.grows);
-      behind = behind_on c.args.style old so.lines so.events played.0 new.self.line new.self.kept (g.K.Sink.taken new.sink) c.loop-reader.version (stage c.loop-reader.player (g.K.Sink.taken new.sink ++ new.waiting)) c.loop-reader.reader.kept
+      behind = behind_on c.args.style old so.lines so.events played.0 new.self.text.bytes new.self.kept (g.K.Sink.taken new.sink) c.loop-reader.reader.next (stage c.loop-reader.player (g.K.Sink.taken new.sink ++ new.waiting)) c.loop-reader.reader.kept
           (g.K.Sink.taken c.loop-reader.sink) new.waiting i.behind e.grows so.done refl h.small
-          (waited_or_written g.S.Source.given c.loop-reader.source new.source c.loop-reader.reader.kept (new.self.line ++ 10 ∷ new.self.kept) new.waiting h.text e.asked);
-      few = rw (c.left_after-left.ensures, count_more so.lines new.self.line c.in_ok-is_event.is_event event) (left_on c.args.n c.loop-reader.left (count_by is_event so.lines) c.in_ok-is_event.is_event i.few (c.is_any_left.ensures.some c.loop-reader-test.true));
-      at_end = λ none. last_left c.loop-reader.left c.in_ok-is_event.is_event so.lines new.self.line (c.is_any_left.ensures.some c.loop-reader-test.true) event (sym c.left_after-left.ensures ∙ none);
+          (waited_or_written g.S.Source.given c.loop-reader.source new.source c.loop-reader.reader.kept (new.self.text.bytes ++ 10 ∷ new.self.kept) new.waiting h.text e.asked);
+      few = rw (c.left_after-left.ensures, count_more so.lines new.self.text.bytes c.in_ok-is_event.is_event event) (left_on c.args.n c.loop-reader.left (count_by is_event so.lines) c.in_ok-is_event.is_event i.few (c.is_any_left.ensures.some c.loop-reader-test.true));
+      at_end = λ none. last_left c.loop-reader.left c.in_ok-is_event.is_event so.lines new.self.text.bytes (c.is_any_left.ensures.some c.loop-reader-test.true) event (sym c.left_after-left.ensures ∙ none);
       none = λ none. absurd (let few = fewer c.args.n c.loop-reader.left (count_by is_event so.lines) i.few (c.is_any_left.ensures.some c.loop-reader-test.true) 0 none in omega (arith, few));
       reading = reading_on i.reading e.behind e.reads (e.input (refl {a = 0}));
       writes = omega (arith, e.writes, i.writes);

@@ -11,7 +11,7 @@ use Rattle.player.proofs.playing.play_lines.Given as goal
 -- no read or write has failed
 abbrev pub invariant-loop-reader : goal.invariant-loop-reader
 invariant-loop-reader g l = record {
-  done : SoFar (TellsVersionOf l.style) (PlaysText l.style) (given_by g.S.Source.given g.S.Source.ended l.fn.source l.source) (stage l.fn.player (g.K.Sink.taken l.fn.sink)) (stage l.player (g.K.Sink.taken l.sink ++ l.waiting)) l.reader l.version;
+  done : SoFar (TellsVersionOf l.style) (PlaysText l.style) (given_by g.S.Source.given g.S.Source.ended l.fn.source l.source) (stage l.fn.player (g.K.Sink.taken l.fn.sink)) (stage l.player (g.K.Sink.taken l.sink ++ l.waiting)) l.reader;
   grows : length (g.K.Sink.taken l.fn.sink) ≤ length (g.K.Sink.taken l.sink);
   behind : IsWrittenUpTo l.style (stage l.fn.player (g.K.Sink.taken l.fn.sink)) done.lines done.events l.reader.kept (g.K.Sink.taken l.sink);
   few : AreLeft l.fn.n (count_by is_event done.lines) l.left;
@@ -22,4 +22,4 @@ invariant-loop-reader g l = record {
 }
 
 abbrev pub decreases-loop-reader : goal.decreases-loop-reader
-decreases-loop-reader g l = 2 ^ 64 - l.reader.number
+decreases-loop-reader g l = 2 ^ 64 - l.reader.text.number

@@ -1,3 +1,4 @@
+use Rattle.std.proofs.Common.{◌∙◌, sym, arith}
 use Rattle.player.specs.Playing.{stage}
 use Rattle.player.proofs.Closing.{closed_up_to}
 use Rattle.player.proofs.playing.play_up_to.Goals as goal
@@ -7,3 +8,18 @@ returns-clause-played g c =
     let l = c.play_lines-ended.ensures in
     closed_up_to c.args.n c.args.style _ (stage c.args.player.now (g.K.Sink.taken c.args.sink.now)) c.play_lines-ended.new.player (g.K.Sink.taken c.play_lines-ended.new.sink) (g.K.Sink.taken c.close.new.sink) c.play_lines-ended.new.waiting
     c.play_lines-ended.result c.close.result c.close.ensures.closes l.played (l.cut (g.K.Sink.taken c.close.new.sink))
+
+pub close-requires : goal.close-requires
+close-requires g c = c.play_lines-ended.ensures.nothing
+
+pub returns-clause-none : goal.returns-clause-none
+returns-clause-none g c = c.play_lines-ended.ensures.none
+
+pub returns-clause-reads : goal.returns-clause-reads
+returns-clause-reads g c = omega (arith, c.play_lines-ended.ensures.reads, c.close.ensures.reads)
+
+pub returns-clause-writes : goal.returns-clause-writes
+returns-clause-writes g c = omega (arith, c.play_lines-ended.ensures.writes, c.close.ensures.writes)
+
+pub returns-clause-input : goal.returns-clause-input
+returns-clause-input g c = λ none. c.play_lines-ended.ensures.input (sym c.close.ensures.reads ∙ none)

@@ -37,7 +37,7 @@ loop-run-preserved g c =
     record {
       first = i.first;
       fresh = i.fresh;
-      done = goes_on i.done c.next_line.new.self _ _ _ e.hands c.if-branch.true _ c.line.ensures (stage c.measure_line.new.run.player []) _ went.0 _ c.number.ensures went.1;
+      done = goes_on i.done c.next_line.new.self _ _ _ e.hands c.if-branch.true _ c.text.ensures (stage c.measure_line.new.run.player []) went.0 went.1;
       at = went.2;
       reading = reading_on i.reading e.behind e.cause (e.input (refl {a = 0}));
     }
@@ -47,9 +47,9 @@ returns-in_err-measure_line-clause-measured g c =
     let p = err_from_is_err_and c.from_residual-in_err-measure_line.result c.from_residual-in_err-measure_line.ensures.1 in
     let e = c.in_ok-next_line.ensures in
     let i = c.loop-run.invariant in
-    rw (p.1, p.2) (stops_measured c.args.config.now _ c.in_err-measure_line.field-0.0 i.first _ _ c.loop-run.version c.measure_line.new.version c.loop-run.run c.measure_line.new.run c.in_err-measure_line.ensures.measured
+    rw (p.1, p.2) (stops_measured c.args.config.now _ c.in_err-measure_line.field-0.0 i.first _ c.loop-run.run c.measure_line.new.run c.in_err-measure_line.ensures.measured
     (λ stops. ends_so
-    (ends_at i.done c.next_line.new.self _ _ _ e.hands c.if-branch.true _ c.line.ensures (Unit {0}) (StopsText Nothing) _ _ (stage c.measure_line.new.run.player []) c.number.ensures stops))
+    (ends_at i.done c.next_line.new.self _ _ _ e.hands c.if-branch.true _ c.text.ensures (Unit {0}) (StopsText Nothing) _ (stage c.measure_line.new.run.player []) stops))
     i.fresh)
 
 pub measured-requires : goal.measured-requires

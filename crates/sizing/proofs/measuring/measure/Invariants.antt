@@ -14,10 +14,10 @@ abbrev pub invariant-loop-run : goal.invariant-loop-run
 invariant-loop-run g l = record {
   first : PlayerState;
   fresh : IsNew l.config first;
-  done : SoFar (TellsVersionOf Nothing) (PlaysText Nothing) (given_by g.S.Source.given g.S.Source.ended l.fn.source l.source) (stage first []) (stage l.run.player []) l.reader l.version;
+  done : SoFar (TellsVersionOf Nothing) (PlaysText Nothing) (given_by g.S.Source.given g.S.Source.ended l.fn.source l.source) (stage first []) (stage l.run.player []) l.reader;
   at : IsAt first.course.heap done.events l.run;
   reading : IsReading (g.S.Source.given l.source) (g.S.Source.failures l.fn.source) (g.S.Source.failures l.source) (g.S.Source.input l.fn.source) (g.S.Source.input l.source) l.reader;
 }
 
 abbrev pub decreases-loop-run : goal.decreases-loop-run
-decreases-loop-run g l = 2 ^ 64 - l.reader.number
+decreases-loop-run g l = 2 ^ 64 - l.reader.text.number

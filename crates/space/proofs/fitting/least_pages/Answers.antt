@@ -3,6 +3,9 @@ use Rattle.std.proofs.lemmas.Bool.{cases_lt}
 use Rattle.space.specs.Fitting.{pace_in, FitsIn}
 use Rattle.space.proofs.fitting.least_pages.Goals as goal
 
+pub loop-pages-init : goal.loop-pages-init
+loop-pages-init c = record { none = λ pages one less fits. omega (arith, one, less) }
+
 pub loop-pages-preserved : goal.loop-pages-preserved
 loop-pages-preserved c = record { none = λ pages one less fits. by_size pages one less fits (cases_lt pages c.loop-pages.pages) }
   where

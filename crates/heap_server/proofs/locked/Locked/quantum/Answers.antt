@@ -1,11 +1,13 @@
-use Rattle.std.proofs.Common.{◌≡◌, ◌∙◌, ap, sym, subst, refl, arith}
+use Rattle.std.proofs.Common.{◌≡◌, ◌∙◌, ℕ, ◌+◌, ap, sym, subst, refl, arith}
+use Rattle.heap_model.specs.Event.{Course, Collects}
 use Rattle.heap_model.specs.State.{HeapState}
 use Rattle.heap_model.proofs.Leading.{led_course}
-use Rattle.heap_server.specs.Views.{PacerView}
+use Rattle.heap_server.specs.Views.{PacerView, LockedView}
 use Rattle.heap_server.specs.Kept.{cycles_on}
 use Rattle.heap_server.specs.Paced.{IsPaced}
 use Rattle.heap_server.proofs.Turning.{cycles_fall, quantum_paced}
 use Rattle.heap_server.proofs.Keeping.{quantum_kept}
+use Rattle.heap_server.proofs.Booking.{turned, pacer_same}
 use Rattle.heap_server.proofs.locked.Locked.quantum.Goals as goal
 
 pub overflow_sub-on : goal.overflow_sub-on
@@ -33,4 +35,19 @@ returns-clause-paced g c =
     quantum_paced c.self.inside.recorded.course c.quantum.new.self.course c.args.budget c.in_ok-spent.spent _ new (led_course _ _ _ _ c.self.invariant.0.led) c.in_ok-spent.ensures.does c.in_ok-spent.ensures.ends
     (omega (arith, begun, ended, c.self.invariant.0.cycles)) c.audit.ensures.amount (omega (arith, c.add.ensures.amount, c.audit-3.ensures.amount)) (omega (arith, c.add-2.ensures.amount, c.audit-4.ensures.amount, c.from.ensures))
     (omega (arith, before, after, c.add-3.ensures.amount, c.audit-2.ensures.amount))
+    )
+
+pub returns-clause-does : goal.returns-clause-does
+returns-clause-does g c =
+    let s = c.in_ok-spent.spent in
+    subst (λ (r : Course). Collects r c.args.budget s.units s.phase c.quantum.new.self.course) (ap (λ (v : LockedView). v.course) c.self.view_is) c.in_ok-spent.ensures.does
+
+pub returns-clause-books : goal.returns-clause-books
+returns-clause-books g c =
+    let begun = c.audit.ensures.whole c.pacer.invariant.0 ∙ sym c.audit.ensures.total in
+    let ended : c.add-3.new.share.amount ≡ c.add-3.new.self.total = omega (arith, c.audit-2.ensures.whole c.pacer.invariant.1, c.audit-2.ensures.total, c.audit-2.ensures.amount, c.add-3.ensures.total, c.add-3.ensures.amount) in
+    let quanta : c.add.new.share.amount ≡ c.add.new.self.total = omega (arith, c.audit-3.ensures.whole c.pacer.invariant.2, c.audit-3.ensures.total, c.audit-3.ensures.amount, c.add.ensures.total, c.add.ensures.amount) in
+    let spent : c.add-2.new.share.amount ≡ c.add-2.new.self.total = omega (arith, c.audit-4.ensures.whole c.pacer.invariant.3, c.audit-4.ensures.total, c.audit-4.ensures.amount, c.add-2.ensures.total, c.add-2.ensures.amount) in (
+      turned _ c.args.self.now _ _ _ _ _ c.self.view_is c.audit.ensures.total (c.add.ensures.total ∙ ap (λ (n : ℕ). n + 1) c.audit-3.ensures.total),
+      pacer_same _ _ _ _ _ _ _ _ (c.audit.ensures.amount ∙ begun) ended quanta spent,
     )

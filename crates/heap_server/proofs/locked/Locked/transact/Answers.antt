@@ -1,10 +1,12 @@
 use Rattle.std.proofs.Common.{◌≡◌, ◌<◌, ◌+◌, ℕ, refl, List, [], ◌∷◌, ◌++◌, length, sym, ap, ◌∙◌, subst, arith}
+use Rattle.std.proofs.lemmas.Bool.{false≢true}
 use mathlib.Core.List.{IsPrefix}
 use Rattle.graph_heap.specs.declared.command.Command.{Command}
 use Rattle.graph_heap.specs.declared.command.Reply.{Reply}
 use Rattle.graph_heap.specs.declared.command.Entry.{Entry}
 use Rattle.graph_heap.specs.Graph.{opening}
 use Rattle.graph_heap.specs.History.{IsLegal}
+use Rattle.heap_model.specs.Event.{Course, Enters}
 use Rattle.heap_model.specs.Settings.{HeapSettings}
 use Rattle.heap_server.specs.Views.{SeatView, LockedView}
 use Rattle.heap_server.specs.Seen.{mine}
@@ -12,6 +14,17 @@ use Rattle.heap_server.proofs.Keeping.{call_kept}
 use Rattle.heap_server.proofs.Adding.{where_torn, where_done}
 use Rattle.heap_server.proofs.Mine.{mine_grows, mine_more}
 use Rattle.heap_server.proofs.locked.Locked.transact.Goals as goal
+
+-- making room leaves the heap and its history
+course_was : (v ready old : LockedView) → v ≡ ready → ready ≡ record old { room = ready.room } → v.course ≡ old.course
+course_was v ready old is same = ap (λ (w : LockedView). w.course) is ∙ ap (λ (w : LockedView). w.course) same
+
+-- there is room for the call
+pub unreachable-requires : goal.unreachable-requires
+unreachable-requires g c = absurd (false≢true (c.in_default.ensures.room (omega (arith, c.self.invariant.2, ap (λ (v : LockedView). v.room) c.self.view_is, c.in_ok-make_ready.ensures.room))))
+
+pub overflow_sub-self : goal.overflow_sub-self
+overflow_sub-self g c = omega (arith, ap (λ (v : LockedView). v.room) c.self.view_is, c.in_ok-make_ready.ensures.room)
 
 pub invariant_of-seat : goal.invariant_of-seat
 invariant_of-seat g c = (
@@ -24,7 +37,7 @@ pub returns-then-found-at-clause-fault : goal.returns-then-found-at-clause-fault
 returns-then-found-at-clause-fault g c =
     let len : length c.self.inside.front ≡ length c.history.result.now = ap length (c.self.invariant.1 ∙ sym c.history.ensures.history) in
     let t = where_torn _ _ _ _ (λ found. c.if-found-at.true (found ∙ len)) c.commit-found.ensures.done in
-    let same : c.self.inside.front ≡ c.args.self.now.course.history = c.self.invariant.1 ∙ ap (λ (v : LockedView). v.course.history) (c.self.view_is ∙ c.in_ok-make_ready.ensures.same) in
+    let same : c.self.inside.front ≡ c.args.self.now.course.history = c.self.invariant.1 ∙ ap (λ (r : Course). r.history) (course_was _ _ c.args.self.now c.self.view_is c.in_ok-make_ready.ensures.same) in
     (t.1, subst (λ (h : List Entry). IsPrefix h c.commit-found.new.mine) same t.2, subst (λ (h : List Entry). length h < length c.commit-found.new.mine) same t.3)
 
 pub invariant_of-self-2 : goal.invariant_of-self-2
@@ -76,3 +89,44 @@ returns-clause-ends g c =
       t.1 ∙ ((invariant_of-self-2 g c).1 ∙ (c.in-Ok.ensures.does.history ∙ ap (λ (x : Entry). history ++ x ∷ []) own)),
       c.in-Ok.ensures.place,
     )
+
+pub returns-clause-does : goal.returns-clause-does
+returns-clause-does g c =
+    let reply = c.in-Ok.receipt.entry.reply in
+    let after = c.call.new.self.course in
+    let by = subst (λ (m : ℕ). Enters c.self.inside.recorded.course m c.args.command reply after) (ap (λ (s : SeatView). s.mutator) c.seat.view_is) c.in-Ok.ensures.does in
+    subst (λ (r : Course). Enters r c.args.seat.now.mutator c.args.command reply after) (course_was _ _ c.args.self.now c.self.view_is c.in_ok-make_ready.ensures.same) by
+
+pub returns-clause-entry : goal.returns-clause-entry
+returns-clause-entry g c = (c.in-Ok.ensures.entry.0 ∙ ap (λ (s : SeatView). s.mutator) c.seat.view_is, c.in-Ok.ensures.entry.1)
+
+pub returns-clause-place : goal.returns-clause-place
+returns-clause-place g c = c.in-Ok.ensures.place ∙ ap (λ (r : Course). length r.history) (course_was _ _ c.args.self.now c.self.view_is c.in_ok-make_ready.ensures.same)
+
+-- a seat with one call more
+called : (old : SeatView) (m calls more : ℕ) (was seen history : List Entry) → record { mutator = m; calls = calls; seen = was } ≡ old → more ≡ calls + 1 → seen ≡ history
+    → record { mutator = m; calls = more; seen = seen } ≡ record old { calls = old.calls + 1; seen = history }
+called old m calls more was seen history is one all =
+    ap (λ (n : ℕ). record { mutator = m; calls = n; seen = seen }) one ∙ (ap (λ (h : List Entry). record { mutator = m; calls = calls + 1; seen = h }) all ∙ ap (λ (s : SeatView). record s { calls = s.calls + 1; seen = history }) is)
+
+pub returns-clause-seat : goal.returns-clause-seat
+returns-clause-seat g c =
+    let len : length c.self.inside.front ≡ length c.history.result.now = ap length (c.self.invariant.1 ∙ sym c.history.ensures.history) in
+    let t = where_done _ _ _ _ (c.if-found-at.false ∙ sym len) c.commit-found.ensures.done in
+    called c.args.seat.now c.seat.inside.mutator _ _ _ _ _ c.seat.view_is (c.add.ensures.amount ∙ ap (λ (n : ℕ). n + 1) c.audit.ensures.amount) (t.1 ∙ (invariant_of-self-2 g c).1)
+
+-- the locked state with one call more
+booked : (v ready old : LockedView) (course : Course) (room calls : ℕ) → v ≡ ready → ready ≡ record old { room = ready.room } → calls ≡ v.calls + 1
+    → record v { course = course; room = room; calls = calls } ≡ record old { course = course; room = room; calls = old.calls + 1 }
+booked v ready old course room calls is same one =
+    ap (λ (n : ℕ). record v { course = course; room = room; calls = n }) one ∙ ap (λ (w : LockedView). record w { course = course; room = room; calls = w.calls + 1 }) (is ∙ same)
+
+pub returns-clause-books : goal.returns-clause-books
+returns-clause-books g c =
+    booked _ _ c.args.self.now c.call.new.self.course _ _ c.self.view_is c.in_ok-make_ready.ensures.same (c.add.ensures.total ∙ ap (λ (n : ℕ). n + 1) c.audit.ensures.total)
+
+pub returns-clause-seen : goal.returns-clause-seen
+returns-clause-seen g c = subst (λ (h : List Entry). IsPrefix h c.commit-found.new.mine) (ap (λ (s : SeatView). s.seen) c.seat.view_is) c.commit-found.ensures.grows
+
+pub returns-clause-left : goal.returns-clause-left
+returns-clause-left g c = omega (arith, ap (λ (v : LockedView). v.room) c.self.view_is, c.in_ok-make_ready.ensures.kept)

@@ -1,5 +1,4 @@
 use Rattle.std.proofs.Common.{false, refl}
-use Rattle.graph_heap.specs.declared.command.Command.TheVariants as commands
 use Rattle.raw_heap.specs.Heap.{state_of}
 use Rattle.machine.proofs.Replying.{admitted_steps, refused_steps}
 use Rattle.machine.proofs.heap.Heap.compare_store.Goals as goal
@@ -9,9 +8,9 @@ settle-requires-clause-planned c g a = (_, c.plan_compare_store.ensures g a)
 
 pub returns-in-Ok : goal.returns-in-Ok
 returns-in-Ok c =
-    admitted_steps (state_of c.self.inside.raw) c.args.self.now c.self.view_is c.args.mutator (commands.CompareStore c.args.obj c.args.i c.args.expect c.args.new) false refl c.admit.result c.admit.ensures.admitted
+    admitted_steps (state_of c.self.inside.raw) c.args.self.now c.self.view_is c.args.mutator _ false refl c.admit.result c.admit.ensures.admitted
     c.in-Ok.field-0 c.in-Ok.is c.plan_compare_store.result c.plan_compare_store.ensures c.settle.result c.settle.new.self c.settle.ensures
 
 pub returns-in-Err : goal.returns-in-Err
 returns-in-Err c =
-    refused_steps (state_of c.self.inside.raw) c.args.self.now c.self.view_is c.args.mutator (commands.CompareStore c.args.obj c.args.i c.args.expect c.args.new) false refl c.admit.result c.admit.ensures.admitted c.in-Err.refusal c.in-Err.is
+    refused_steps (state_of c.self.inside.raw) c.args.self.now c.self.view_is c.args.mutator _ false refl c.admit.result c.admit.ensures.admitted c.in-Err.refusal c.in-Err.is

@@ -1,6 +1,7 @@
-use Rattle.std.proofs.Common.{true, length, set, sym, subst, ap}
+use Rattle.std.proofs.Common.{true, length, set, refl, sym, subst, ap}
 use Rattle.graph_heap.specs.declared.command.Change.{Change}
 use Rattle.heap_model.specs.Change.{DoesChange, Does_nothing}
+use Rattle.machine.specs.Buffers.{AreBuffersBy}
 use Rattle.machine.specs.Plan.{CanPerform, DoesEach}
 use Rattle.machine.specs.declared.plan.Write.{Write}
 use Rattle.machine.specs.declared.plan.Write.TheVariants as writes
@@ -56,3 +57,36 @@ write_leave-requires-clause-write c = subst (CanPerform (state_of c.args.heap.no
 
 pub returns-in-Leave-clause-does : goal.returns-in-Leave-clause-does
 returns-in-Leave-clause-does c = subst (λ (w : Write). DoesEach (state_of c.args.heap.now) w (state_of c.write_leave.new.heap)) (sym c.in-Leave.is) c.write_leave.ensures.does
+
+pub write_root-requires-clause-write : goal.write_root-requires-clause-write
+write_root-requires-clause-write c = subst (CanPerform (state_of c.args.heap.now)) c.in-Root.is c.requires.write
+
+pub returns-in-Root-clause-does : goal.returns-in-Root-clause-does
+returns-in-Root-clause-does c = subst (λ (w : Write). DoesEach (state_of c.args.heap.now) w (state_of c.write_root.new.heap)) (sym c.in-Root.is) c.write_root.ensures.does
+
+pub returns-in-Root-clause-buffers : goal.returns-in-Root-clause-buffers
+returns-in-Root-clause-buffers c = subst (λ (w : Write). AreBuffersBy c.args.heap.now c.args.mutator w c.write_root.new.heap.grey) (sym c.in-Root.is) c.write_root.ensures.buffers
+
+pub write_ref-requires-clause-write : goal.write_ref-requires-clause-write
+write_ref-requires-clause-write c = subst (CanPerform (state_of c.args.heap.now)) c.in-Ref.is c.requires.write
+
+pub returns-in-Ref-clause-does : goal.returns-in-Ref-clause-does
+returns-in-Ref-clause-does c = subst (λ (w : Write). DoesEach (state_of c.args.heap.now) w (state_of c.write_ref.new.heap)) (sym c.in-Ref.is) c.write_ref.ensures.does
+
+pub returns-in-Ref-clause-buffers : goal.returns-in-Ref-clause-buffers
+returns-in-Ref-clause-buffers c = subst (λ (w : Write). AreBuffersBy c.args.heap.now c.args.mutator w c.write_ref.new.heap.grey) (sym c.in-Ref.is) c.write_ref.ensures.buffers
+
+pub returns-in-New-clause-buffers : goal.returns-in-New-clause-buffers
+returns-in-New-clause-buffers c = subst (λ (w : Write). AreBuffersBy c.args.heap.now c.args.mutator w c.write_new.new.heap.grey) (sym c.in-New.is) c.write_new.ensures.buffers
+
+pub returns-in-Leave-clause-buffers : goal.returns-in-Leave-clause-buffers
+returns-in-Leave-clause-buffers c = subst (λ (w : Write). AreBuffersBy c.args.heap.now c.args.mutator w c.write_leave.new.heap.grey) (sym c.in-Leave.is) c.write_leave.ensures.buffers
+
+pub returns-in-Nothing-clause-buffers : goal.returns-in-Nothing-clause-buffers
+returns-in-Nothing-clause-buffers c = subst (λ (w : Write). AreBuffersBy c.args.heap.now c.args.mutator w c.args.heap.now.grey) (sym c.in-Nothing.is) refl
+
+pub returns-in-Word-clause-buffers : goal.returns-in-Word-clause-buffers
+returns-in-Word-clause-buffers c = subst (λ (w : Write). AreBuffersBy c.args.heap.now c.args.mutator w c.args.heap.now.grey) (sym c.in-Word.is) refl
+
+pub returns-in-Join-clause-buffers : goal.returns-in-Join-clause-buffers
+returns-in-Join-clause-buffers c = subst (λ (w : Write). AreBuffersBy c.args.heap.now c.args.mutator w c.args.heap.now.grey) (sym c.in-Join.is) refl

@@ -6,14 +6,15 @@ use Rattle.pictures.specs.declared.graph.statement.Statement.{Statement}
 use Rattle.pictures.specs.Statements.{dot_text}
 use Rattle.pictures.specs.GraphDrawing.{shown_of}
 use Rattle.pictures.proofs.graph.Drawn.{cell_hidden, cell_shown}
-use Rattle.pictures.proofs.graph.Parts.{none}
+use Rattle.pictures.proofs.Parts.{none}
+use Rattle.pictures.proofs.graph.Statements.{dot_is}
 use Rattle.pictures.proofs.graph.drawing.write_cell.Goals as goal
 
 pub returns-then-not-is_shown-clause-ok : goal.returns-then-not-is_shown-clause-ok
 returns-then-not-is_shown-clause-ok g c =
     let old = g.K.Sink.taken c.args.sink.now in
     let hidden = cell_hidden (shown_of c.args.most c.args.search.now.found) c.args.from c.args.cell c.args.id (sym c.is_shown.ensures ∙ c.if-not-is_shown.true) in
-    none old ∙ ap (λ xs. old ++ dot_text xs) (sym hidden)
+    none dot_is old ∙ ap (λ xs. old ++ dot_text xs) (sym hidden)
 
 pub returns-clause-ok : goal.returns-clause-ok
 returns-clause-ok g c =

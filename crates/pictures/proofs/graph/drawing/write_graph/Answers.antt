@@ -1,5 +1,5 @@
 use Rattle.std.proofs.lemmas.Result.{on_err_weaker, on_ok_weaker}
-use Rattle.pictures.proofs.graph.Parts.{at_err}
+use Rattle.pictures.proofs.Parts.{at_err}
 use Rattle.pictures.proofs.graph.Document.{in_open, in_roots, in_objects, in_left_out, in_close, closed}
 use Rattle.pictures.proofs.graph.drawing.write_graph.Goals as goal
 

@@ -5,13 +5,14 @@ use Rattle.trace.specs.Streams.{GrowsByPart}
 use Rattle.pictures.specs.declared.graph.statement.Statement.{Statement}
 use Rattle.pictures.specs.Statements.{dot_text}
 use Rattle.pictures.proofs.graph.Drawn.{none_left, some_left}
-use Rattle.pictures.proofs.graph.Parts.{none}
+use Rattle.pictures.proofs.Parts.{none}
+use Rattle.pictures.proofs.graph.Statements.{dot_is}
 use Rattle.pictures.proofs.graph.drawing.write_left_out.Goals as goal
 
 pub returns-then-n-eq0-clause-ok : goal.returns-then-n-eq0-clause-ok
 returns-then-n-eq0-clause-ok g c =
     let old = g.K.Sink.taken c.args.sink.now in
-    none old ∙ ap (λ xs. old ++ dot_text xs) (sym (none_left c.args.n c.if-n-eq0.true))
+    none dot_is old ∙ ap (λ xs. old ++ dot_text xs) (sym (none_left c.args.n c.if-n-eq0.true))
 
 pub returns-clause-ok : goal.returns-clause-ok
 returns-clause-ok g c =

@@ -2,22 +2,23 @@ use Rattle.std.proofs.Common.{ap, refl, arith}
 use Rattle.std.proofs.lemmas.List.{drop_all}
 use Rattle.pictures.specs.GraphDrawing.{shown_of, objects_drawn}
 use Rattle.pictures.proofs.graph.Drawn.{objects_on}
-use Rattle.pictures.proofs.graph.Parts.{at_err, none_yet, further, cut_short, all_of}
+use Rattle.pictures.proofs.Parts.{at_err, none_yet, further, cut_short, all_of}
+use Rattle.pictures.proofs.graph.Statements.{dot_is}
 use Rattle.pictures.proofs.graph.drawing.write_objects.Goals as goal
 
 pub loop-object-init : goal.loop-object-init
-loop-object-init g c = record { written = none_yet _ _; failures = refl }
+loop-object-init g c = record { written = none_yet dot_is _ _; failures = refl }
 
 pub returns-in_err-write_object-clause-err : goal.returns-in_err-write_object-clause-err
 returns-in_err-write_object-clause-err g c =
     let shown = shown_of c.args.most c.args.search.now.found in
-    at_err c.from_residual.result _ (cut_short _ _ _ _ c.loop-object.invariant.written _ _ (objects_on c.args.graph.now shown c.args.objects.now c.loop-object.object-index _ c.loop-object-test.true) _ c.in_err-write_object.ensures.err)
+    at_err c.from_residual.result _ (cut_short dot_is _ _ _ _ c.loop-object.invariant.written _ _ (objects_on c.args.graph.now shown c.args.objects.now c.loop-object.object-index _ c.loop-object-test.true) _ c.in_err-write_object.ensures.err)
 
 pub loop-object-preserved : goal.loop-object-preserved
 loop-object-preserved g c =
     let shown = shown_of c.args.most c.args.search.now.found in
     record {
-      written = further _ _ _ _ c.loop-object.invariant.written _ _ (objects_on c.args.graph.now shown c.args.objects.now c.loop-object.object-index _ c.loop-object-test.true) _ c.in_ok-write_object.ensures.ok;
+      written = further dot_is _ _ _ _ c.loop-object.invariant.written _ _ (objects_on c.args.graph.now shown c.args.objects.now c.loop-object.object-index _ c.loop-object-test.true) _ c.in_ok-write_object.ensures.ok;
       failures = omega (arith, c.in_ok-write_object.ensures.cause, c.loop-object.invariant.failures);
     }
 

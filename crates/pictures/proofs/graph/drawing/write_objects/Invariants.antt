@@ -1,6 +1,7 @@
 use Rattle.std.proofs.Common.{◌≡◌, drop}
 use Rattle.pictures.specs.GraphDrawing.{shown_of, objects_drawn}
-use Rattle.pictures.proofs.graph.Parts.{SoFar}
+use Rattle.pictures.specs.Statements.{dot_text}
+use Rattle.pictures.proofs.Parts.{SoFar}
 use Rattle.pictures.proofs.graph.drawing.write_objects.Given as goal
 
 -- the objects so far are written, and no call has failed
@@ -8,6 +9,6 @@ abbrev pub invariant-loop-object : goal.invariant-loop-object
 invariant-loop-object g l =
     let shown = shown_of l.most l.search.found in
     record {
-      written : SoFar (g.K.Sink.taken l.fn.sink) (g.K.Sink.taken l.sink) (objects_drawn l.graph shown l.objects) (objects_drawn l.graph shown (drop l.object-index l.objects));
+      written : SoFar dot_text (g.K.Sink.taken l.fn.sink) (g.K.Sink.taken l.sink) (objects_drawn l.graph shown l.objects) (objects_drawn l.graph shown (drop l.object-index l.objects));
       failures : g.K.Sink.failures l.sink ≡ g.K.Sink.failures l.fn.sink;
     }

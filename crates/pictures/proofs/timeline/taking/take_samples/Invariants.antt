@@ -15,10 +15,10 @@ abbrev pub invariant-loop-sampler : goal.invariant-loop-sampler
 invariant-loop-sampler g l = record {
   first : PlayerState;
   fresh : IsNew l.config first;
-  done : SoFar (TellsVersionOf Nothing) (PlaysText Nothing) (given_by g.S.Source.given g.S.Source.ended l.fn.source l.source) (stage first []) (stage l.player []) l.reader l.version;
-  along : IsAlong (moments_along (stage first []) done.lines l.version done.events (stage l.player []) done.done) l.sampler;
+  done : SoFar (TellsVersionOf Nothing) (PlaysText Nothing) (given_by g.S.Source.given g.S.Source.ended l.fn.source l.source) (stage first []) (stage l.player []) l.reader;
+  along : IsAlong (moments_along (stage first []) done.lines l.reader.next done.events (stage l.player []) done.done) l.sampler;
   reading : IsReading (g.S.Source.given l.source) (g.S.Source.failures l.fn.source) (g.S.Source.failures l.source) (g.S.Source.input l.fn.source) (g.S.Source.input l.source) l.reader;
 }
 
 abbrev pub decreases-loop-sampler : goal.decreases-loop-sampler
-decreases-loop-sampler g l = 2 ^ 64 - l.reader.number
+decreases-loop-sampler g l = 2 ^ 64 - l.reader.text.number

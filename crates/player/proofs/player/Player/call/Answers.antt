@@ -11,3 +11,6 @@ returns-clause-does c =
     let p = player_of c.self.inside in
     subst (λ (x : PlayerState). IfOk c.call.result (λ r. DoesLine x (lines.Command c.args.mutator c.args.command) (Command_done c.args.mutator c.args.command r.entry.reply ∷ []) (record p { course = c.call.new.self.course }))) c.self.view_is
     (command_line p c.args.mutator c.args.command c.call.new.self.course c.call.result c.call.ensures.does)
+
+pub returns-clause-entry : goal.returns-clause-entry
+returns-clause-entry c = c.call.ensures.entry

@@ -1,7 +1,8 @@
-use Rattle.std.proofs.Common.{Ok, ◌∙◌, subst, refl}
+use Rattle.std.proofs.Common.{Ok, ◌∙◌, ap, sym, subst, refl}
 use Rattle.std.proofs.lemmas.Result.{err_from_is_err_and}
 use Rattle.trace.specs.declared.line.Line.{Line}
 use Rattle.trace.specs.Spelling.{Spells}
+use Rattle.trace.specs.TextLine.{Text, text_in}
 use Rattle.trace.proofs.Reading.{reading_at_first, reading_on}
 use Rattle.trace.proofs.GoingOver.{at_first, goes_on, ends_without, ends_over, ends_in, ends_at}
 use Rattle.sizing.specs.declared.arrivals.keeping.Kept.{Kept}
@@ -40,7 +41,7 @@ returns-in_err-by-clause-checked g c =
     let e = c.in_ok-next_line.ensures in
     let i = c.loop-reader.invariant in
     rw (p.1, p.2) (checked (load_in c.args.load.now) c.budget-budget.result _ _ _ c.loop-reader.meter c.budget-budget.ensures.budget
-    (ends_at i.done c.next_line.new.self _ _ _ e.hands c.if-branch.true _ c.line.ensures Kept NoEvent _ _ tt c.number-number.ensures c.in_err-by.ensures) i.meter)
+    (ends_at i.done c.next_line.new.self _ _ _ e.hands c.if-branch.true _ c.text.ensures Kept NoEvent _ tt c.in_err-by.ensures) i.meter)
 
 pub returns-in-Some-clause-checked : goal.returns-in-Some-clause-checked
 returns-in-Some-clause-checked g c =
@@ -48,10 +49,10 @@ returns-in-Some-clause-checked g c =
     let i = c.loop-reader.invariant in
     let l = load_in c.args.load.now in
     let k = c.budget-budget.result in
-    let b = line_breaks l k _ _ c.loop-reader.version _ i.done.events c.loop-reader.meter _ c.in-Some.by i.meter (rw c.in-Some.is at c.in_ok-by.ensures) in
+    let b = line_breaks l k (text_in c.text.result) i.done.events c.loop-reader.meter _ c.in-Some.by i.meter (rw c.in-Some.is at c.in_ok-by.ensures) in
     checked l k _ _ _ c.loop-reader.meter c.budget-budget.ensures.budget
-    (ends_in i.done c.next_line.new.self _ _ _ e.hands c.if-branch.true _ c.line.ensures
-    (λ bytes. (line : Line) × Spells c.loop-reader.version bytes line × BreaksBy l k i.done.events line c.in-Some.by) b _ (λ count rest next. (c.number-number.ensures ∙ count, next))) i.meter
+    (ends_in i.done c.next_line.new.self _ _ _ e.hands c.if-branch.true _ c.text.ensures
+    (λ (t : Text). (line : Line) × Spells t.version t.bytes line × BreaksBy l k i.done.events line c.in-Some.by) b _ (λ count rest next. (c.number.ensures ∙ ap (λ (t : Text). t.number) (sym c.text.ensures) ∙ count, next))) i.meter
 
 pub loop-reader-preserved : goal.loop-reader-preserved
 loop-reader-preserved g c =
@@ -59,10 +60,10 @@ loop-reader-preserved g c =
     let i = c.loop-reader.invariant in
     let l = load_in c.args.load.now in
     let k = c.budget-budget.result in
-    let kept = subst (λ found. TextMetered l k c.line.result.now c.number-number.result c.loop-reader.version c.check_line.new.version c.loop-reader.meter c.check_line.new.meter (Ok found)) (not_some c.in_ok-by.field-0 c.in_default.not-Some) c.in_ok-by.ensures in
-    let went = line_goes l k c.number-number.result c.line.result.now c.loop-reader.version c.check_line.new.version i.done.events c.loop-reader.meter c.check_line.new.meter i.meter kept in
+    let kept = subst (λ found. TextMetered l k (text_in c.text.result) c.loop-reader.meter c.check_line.new.meter (Ok found)) (not_some c.in_ok-by.field-0 c.in_default.not-Some) c.in_ok-by.ensures in
+    let went = line_goes l k (text_in c.text.result) i.done.events c.loop-reader.meter c.check_line.new.meter i.meter kept in
     record {
-      done = goes_on i.done c.next_line.new.self _ _ _ e.hands c.if-branch.true _ c.line.ensures tt _ went.0 _ c.number-number.ensures went.1;
+      done = goes_on i.done c.next_line.new.self _ _ _ e.hands c.if-branch.true _ c.text.ensures tt went.0 went.1;
       meter = went.2;
       reading = reading_on i.reading e.behind e.cause (e.input (refl {a = 0}));
     }

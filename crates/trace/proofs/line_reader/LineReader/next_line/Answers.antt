@@ -1,4 +1,4 @@
-use Rattle.std.proofs.Common.{◌≤◌, length, take, arith, refl, sym, subst, ap, Ok}
+use Rattle.std.proofs.Common.{◌≤◌, ◌∙◌, length, take, arith, refl, sym, subst, ap, Ok}
 use Rattle.trace.specs.Streams.{NoLf, IsLine, Comes}
 use Rattle.trace.specs.LineReader.{Lines}
 use Rattle.trace.proofs.Feeds.{short_line, comes_on}
@@ -12,7 +12,8 @@ returns-then-kept-gt-LONGEST-clause-hands g c =
     rw c.fault.ensures (record {
       text = subst (λ (s : Lines). Comes (g.S.Source.given c.args.source.now) (g.S.Source.given c.loop-self.source) c.args.self.now.kept s.kept) (sym same) i.text;
       says = (refl, omega arith, none);
-      number = omega (arith, ap (λ (s : Lines). s.number) same, i.number);
+      number = omega (arith, ap (λ (s : Lines). s.text.number) same, i.number);
+      versions = ap (λ (s : Lines). s.next) same ∙ i.next;
       small = omega (arith, c.loop-self-test.ensures.small, ap (λ (s : Lines). length s.kept) same);
     })
 
@@ -27,7 +28,8 @@ returns-in-Ok-eq0-2-clause-hands g c =
     rw c.fault-in-Ok-eq0-2.ensures (record {
       text = comes_on i.text (subst (λ (s : Lines). Comes (g.S.Source.given c.loop-self.source) (g.S.Source.given c.fill.new.source) s.kept c.fill.new.self.kept) same fill.bytes);
       says = (refl, omega arith, line, fill.end c.in-Ok-eq0.field-0-test);
-      number = omega (arith, ap (λ (s : Lines). s.number) same, fill.number, i.number);
+      number = omega (arith, ap (λ (s : Lines). s.text.number) same, fill.number, i.number);
+      versions = fill.next ∙ ap (λ (s : Lines). s.next) same ∙ i.next;
       small = fill.small;
     })
 
@@ -41,6 +43,7 @@ returns-in-Err-clause-hands g c =
     record {
       text = comes_on i.text (subst (λ (s : Lines). Comes (g.S.Source.given c.loop-self.source) (g.S.Source.given c.fill.new.source) s.kept c.fill.new.self.kept) same fill.bytes);
       says = subst IsLine (sym fill.none) (short_line c.cut_line.new.self.kept few none);
-      number = omega (arith, ap (λ (s : Lines). s.number) same, fill.number, i.number);
+      number = omega (arith, ap (λ (s : Lines). s.text.number) same, fill.number, i.number);
+      versions = fill.next ∙ ap (λ (s : Lines). s.next) same ∙ i.next;
       small = fill.small;
     }

@@ -6,8 +6,9 @@ use Rattle.trace.proofs.line_reader.LineReader.next_line.Given as goal
 abbrev pub invariant-loop-self : goal.invariant-loop-self
 invariant-loop-self g l = record {
   text : Comes (g.S.Source.given l.fn.source) (g.S.Source.given l.source) l.fn.self.kept l.self.kept;
-  number : l.self.number ≡ l.fn.self.number;
-  behind : l.self.number + length l.self.kept ≤ length (g.S.Source.given l.source);
+  number : l.self.text.number ≡ l.fn.self.text.number;
+  next : l.self.next ≡ l.fn.self.next;
+  behind : l.self.text.number + length l.self.kept ≤ length (g.S.Source.given l.source);
   input : Stays (g.S.Source.input l.fn.source) (g.S.Source.input l.source);
   failures : g.S.Source.failures l.source ≡ g.S.Source.failures l.fn.source;
 }

@@ -3,6 +3,7 @@ use Rattle.std.proofs.lemmas.Result.{err_from_is_err_and}
 use Rattle.std.proofs.lemmas.List.{length_push}
 use Rattle.trace.proofs.GoingOver.{one_line, at_first, goes_on, ends_without, ends_over, ends_in, ends_at}
 use Rattle.trace.specs.declared.transcripts.histories.Checked.{Checked}
+use Rattle.trace.specs.TextLine.{Text}
 use Rattle.trace.specs.Histories.{DoesNothing, DoesEntry, HistoryStops, IsWrong}
 use Rattle.trace.proofs.transcripts.Checking.{checked}
 use Rattle.trace.proofs.Reading.{reading_at_first, reading_on}
@@ -35,14 +36,14 @@ returns-in_err-check_line-clause-checked g c =
     let p = err_from_is_err_and c.from_residual-in_err-check_line.result c.from_residual-in_err-check_line.ensures.1 in
     let e = c.in_ok-next_line.ensures in
     rw (p.1, p.2) (checked _ _ _ _
-    (ends_at c.loop-reader.invariant.done c.next_line.new.self _ _ _ e.hands c.if-branch.true _ c.line.ensures Checked HistoryStops _ _ _ c.number.ensures c.in_err-check_line.ensures))
+    (ends_at c.loop-reader.invariant.done c.next_line.new.self _ _ _ e.hands c.if-branch.true _ c.text.ensures Checked HistoryStops _ _ c.in_err-check_line.ensures))
 
 pub loop-reader-preserved-in-Skipped : goal.loop-reader-preserved-in-Skipped
 loop-reader-preserved-in-Skipped g c =
     let e = c.in_ok-next_line.ensures in
     let i = c.loop-reader.invariant in
     record {
-      done = goes_on i.done c.next_line.new.self _ _ _ e.hands c.if-branch.true _ c.line.ensures _ _ [] _ c.number.ensures (rw c.in-Skipped.is at c.in_ok-check_line.ensures);
+      done = goes_on i.done c.next_line.new.self _ _ _ e.hands c.if-branch.true _ c.text.ensures _ [] (rw c.in-Skipped.is at c.in_ok-check_line.ensures);
       good = i.good ∙ ap length (sym (append-nil i.done.events));
       few = omega (arith, e.hands.number, i.few);
       reading = reading_on i.reading e.behind e.cause (e.input (refl {a = 0}));
@@ -53,9 +54,9 @@ loop-reader-preserved g c =
     let e = c.in_ok-next_line.ensures in
     let i = c.loop-reader.invariant in
     let does = rw c.in-Done.is at c.in_ok-check_line.ensures in
-    let more = one_line c.loop-reader.reader.number c.next_line.new.self c.in_ok-next_line.field-0 c.if-branch.true e.hands.number in
+    let more = one_line c.loop-reader.reader.text.number c.next_line.new.self c.in_ok-next_line.field-0 c.if-branch.true e.hands.number in
     record {
-      done = goes_on i.done c.next_line.new.self _ _ _ e.hands c.if-branch.true _ c.line.ensures _ _ (does.0 ∷ []) _ c.number.ensures does.1;
+      done = goes_on i.done c.next_line.new.self _ _ _ e.hands c.if-branch.true _ c.text.ensures _ (does.0 ∷ []) does.1;
       good = ap (λ n. n + 1) i.good ∙ sym (length_push i.done.events does.0);
       few = omega (arith, more, i.few);
       reading = reading_on i.reading e.behind e.cause (e.input (refl {a = 0}));
@@ -67,4 +68,4 @@ returns-in-Wrong-clause-checked g c =
     let i = c.loop-reader.invariant in
     let wrong = rw c.in-Wrong.is at c.in_ok-check_line.ensures in
     checked _ _ _ _
-    (ends_in i.done c.next_line.new.self _ _ _ e.hands c.if-branch.true _ c.line.ensures (IsWrong c.loop-reader.version c.loop-reader.reference) wrong.0 _ (λ count rest next. (c.number-in-Wrong.ensures ∙ count, next, wrong.1)))
+    (ends_in i.done c.next_line.new.self _ _ _ e.hands c.if-branch.true _ c.text.ensures (IsWrong c.loop-reader.reference) wrong.0 _ (λ count rest next. (c.number.ensures ∙ ap (λ (t : Text). t.number) (sym c.text.ensures) ∙ count, next, wrong.1)))

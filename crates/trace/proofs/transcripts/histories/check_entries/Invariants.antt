@@ -8,11 +8,11 @@ use Rattle.trace.proofs.transcripts.histories.check_entries.Given as goal
 -- the entries of the lines so far are done, and no read has failed
 abbrev pub invariant-loop-reader : goal.invariant-loop-reader
 invariant-loop-reader g l = record {
-  done : SoFar DoesNothing DoesEntry (given_by g.S.Source.given g.S.Source.ended l.fn.source l.source) l.fn.reference l.reference l.reader l.version;
+  done : SoFar DoesNothing DoesEntry (given_by g.S.Source.given g.S.Source.ended l.fn.source l.source) l.fn.reference l.reference l.reader;
   good : l.good ≡ length done.events;
-  few : l.good ≤ l.reader.number;
+  few : l.good ≤ l.reader.text.number;
   reading : IsReading (g.S.Source.given l.source) (g.S.Source.failures l.fn.source) (g.S.Source.failures l.source) (g.S.Source.input l.fn.source) (g.S.Source.input l.source) l.reader;
 }
 
 abbrev pub decreases-loop-reader : goal.decreases-loop-reader
-decreases-loop-reader g l = 2 ^ 64 - l.reader.number
+decreases-loop-reader g l = 2 ^ 64 - l.reader.text.number

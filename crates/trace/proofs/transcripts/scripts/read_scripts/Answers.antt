@@ -1,6 +1,8 @@
-use Rattle.std.proofs.Common.{inl, inr, arith, ◌∙◌, subst, refl}
+use Rattle.std.proofs.Common.{inl, inr, arith, ◌∙◌, subst, refl, Ok}
 use Rattle.std.proofs.lemmas.Result.{err_from_is_err_and}
 use Rattle.trace.proofs.GoingOver.{at_first, goes_on, ends_without, ends_over, ends_at}
+use Rattle.trace.specs.LineReader.{Versions}
+use Rattle.trace.specs.TextLine.{text_in}
 use Rattle.trace.specs.Scripts.{ReadScripts, AsksNothing, DoesScript, ScriptStops}
 use Rattle.trace.proofs.transcripts.Listing.{empty_scripts, line_goes}
 use Rattle.trace.proofs.Reading.{reading_at_first, reading_on}
@@ -33,9 +35,9 @@ loop-scripts-preserved g c =
     let e = c.in_ok-next_line.ensures in
     let d = c.in_ok-add_line.ensures in
     let i = c.loop-scripts.invariant in
-    let went = line_goes c.number.result c.line.result.now c.loop-scripts.version _ c.args.limits.now.mutators c.loop-scripts.scripts c.add_line.new.scripts i.len d.done in
+    let went = line_goes (text_in c.text.result) c.args.limits.now.mutators c.loop-scripts.scripts c.add_line.new.scripts i.len d.done in
     record {
-      done = goes_on i.done c.next_line.new.self _ _ _ e.hands c.if-branch.true _ c.line.ensures tt _ went.0 _ c.number.ensures went.1;
+      done = goes_on i.done c.next_line.new.self _ _ _ e.hands c.if-branch.true _ c.text.ensures tt went.0 went.1;
       are = went.2 i.done.events i.are;
       len = omega (arith, d.len, i.len);
       reading = reading_on i.reading e.behind e.cause (e.input (refl {a = 0}));
@@ -46,9 +48,9 @@ returns-in_err-add_line-clause-read g c =
     let e = c.in_ok-next_line.ensures in
     let i = c.loop-scripts.invariant in
     let p = err_from_is_err_and c.from_residual-in_err-add_line.result c.from_residual-in_err-add_line.ensures.1 in
-    let stops = subst (λ n. ScriptStops n c.loop-scripts.version c.in_err-add_line.field-0.0 c.line.result.now c.number.result tt tt) i.len c.in_err-add_line.ensures.done in
+    let stops = subst (λ n. ScriptStops n c.in_err-add_line.field-0.0 (text_in c.text.result) tt tt) i.len c.in_err-add_line.ensures.done in
     rw (p.1, p.2) (inr (record {
-      over = ends_at i.done c.next_line.new.self _ _ _ e.hands c.if-branch.true _ c.line.ensures ReadScripts (ScriptStops c.args.limits.now.mutators) _ _ tt c.number.ensures stops;
+      over = ends_at i.done c.next_line.new.self _ _ _ e.hands c.if-branch.true _ c.text.ensures ReadScripts (ScriptStops c.args.limits.now.mutators) _ tt stops;
       are = tt;
     }))
 
@@ -58,7 +60,7 @@ returns-clause-read g c =
     let i = c.loop-scripts.invariant in
     inr (record {
       over = ends_over i.done c.next_line.new.self _ _ _ e.hands c.if-branch.false _ (λ rest all. (all.0, all.1, refl));
-      are = (refl, i.are);
+      are = (c.next_version.ensures ∙ subst (λ b. Versions (Ok b) c.loop-scripts.reader c.next_line.new.self) c.if-branch.false e.hands.versions, i.are);
     })
 
 pub returns-clause-len : goal.returns-clause-len

@@ -1,0 +1,67 @@
+-- What lines do to a player and the log of its steps.
+use Rattle.std.specs.Prelude.{◌≡◌, ℕ, ◌+◌, ◌<◌, List, [], ◌++◌, Bool, true, false, Result, Ok, Err, None}
+use Rattle.graph_heap.specs.declared.no_memory.NoMemory.{NoMemory}
+use Rattle.heap_model.specs.Event.{Event}
+use Rattle.quanta.specs.declared.schedule.TheConstants.{CLOCK_LIMIT}
+use Rattle.quanta.specs.Timetable.{due_below}
+use Rattle.trace.specs.declared.line.Line.{Line}
+use Rattle.trace.specs.declared.line.Line.TheVariants as lines
+use Rattle.trace.specs.declared.fault.TextFault.{TextFault}
+use Rattle.trace.specs.declared.fault.TextFault.TheVariants.{NoMemory as Without_memory}
+use Rattle.trace.specs.GoneOver.{Goes}
+use Rattle.trace.specs.TextLine.{Text}
+use Rattle.player.specs.declared.player.TickFault.{TickFault}
+use Rattle.player.specs.declared.player.TickFault.TheVariants as faults
+use Rattle.player.specs.declared.style.Style.TheVariants.{Nothing}
+use Rattle.player.specs.Player.{QuantaDue, DoesLine}
+use Rattle.player.specs.Playing.{stage, TellsVersionOf, PlaysText, Stops, StopsText}
+use Rattle.inspector.specs.declared.cycles.watch.Watch.{Watch}
+use Rattle.inspector.specs.Steps.{Step, steps_due, steps_of, steps_in}
+use Rattle.inspector.specs.Log.{IsLog}
+
+-- a log of some steps is one of these more, which lead from one player to another
+abbrev pub LogsOn : Watch → List Step → Watch → Type 0
+LogsOn old more new =
+    (steps : List Step) → IsLog steps old.player.course old.log → IsLog (steps ++ more) new.player.course new.log
+
+-- a line is done, and its steps are logged
+abbrev pub LineLogged : ℕ → Line → Watch → Watch → Type 0
+LineLogged number line old new =
+    (es : List Event) × (does : DoesLine old.player line es new.player)
+    × LogsOn old (steps_of number old.player line es new.player does) new
+
+-- quanta are done that are due below a time, for a line, and they are logged
+abbrev pub QuantaLogged : ℕ → ℕ → Watch → Watch → Type 0
+QuantaLogged number until old new =
+    (es : List Event) × (due : QuantaDue until old.player es new.player)
+    × LogsOn old (steps_due number until old.player es new.player due) new
+
+-- one more quantum is done and logged that is due below a time; or none is due; or memory was refused
+abbrev pub DueLogged : ℕ → Watch → Watch → Result Bool NoMemory → Type 0
+DueLogged until old new (Ok true) =
+    (number : ℕ) (first : Watch) → QuantaLogged number until first old → QuantaLogged number until first new
+DueLogged until old new (Ok false) = (due_below until old.player.timetable.due ≡ None) × (new ≡ old)
+DueLogged until old new (Err refused) = Unit {0}
+
+-- so many ticks pass, or would pass the clock's limit, or memory was refused
+abbrev pub TicksLogged : ℕ → ℕ → Watch → Watch → Result (Unit {0}) TickFault → Type 0
+TicksLogged number n old new (Ok passed) = LineLogged number (lines.Tick n) old new
+TicksLogged number n old new (Err faults.ClockSpent) =
+    (CLOCK_LIMIT < old.player.timetable.clock + n) × (new.player ≡ old.player)
+TicksLogged number n old new (Err faults.NoMemory) = Unit {0}
+
+-- a line of this number is done and logged, or stops with a fault
+abbrev pub EventLogged : Line → ℕ → Watch → Watch → Result (Unit {0}) TextFault → Type 0
+EventLogged line number old new (Ok done) = LineLogged number line old new
+EventLogged line number old new (Err Without_memory) = Unit {0}
+EventLogged line number old new (Err fault) =
+    Stops Nothing fault line number (stage old.player []) (stage new.player [])
+
+-- the same of a line's text
+abbrev pub TextLogged : Text → Watch → Watch → Result (Unit {0}) TextFault → Type 0
+TextLogged text old new (Ok done) =
+    (es : List Event)
+    × (goes : Goes (TellsVersionOf Nothing) (PlaysText Nothing) text (stage old.player []) es (stage new.player []))
+    × LogsOn old (steps_in text (stage old.player []) es (stage new.player []) goes) new
+TextLogged text old new (Err Without_memory) = Unit {0}
+TextLogged text old new (Err fault) = StopsText Nothing fault text (stage old.player []) (stage new.player [])

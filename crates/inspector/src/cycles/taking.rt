@@ -1,0 +1,31 @@
+//! Taking the cycles of a run.
+ghost use Rattle.std.specs.Prelude.{◌≡◌, ◌+◌};
+ghost use Rattle.trace.specs.GoneOver.{reads_failed};
+ghost use Rattle.trace.specs.Streams.{Stays, given_by};
+ghost use Rattle.inspector.specs.Taking.{CyclesTaken};
+
+use crate::cycles::cycle::Cycles;
+use crate::cycles::watch::{Watch, log_line};
+use size_classes::Config;
+use std::alloc::Global;
+use trace::{LineReader, Source, TextFault};
+
+/// Plays the lines of a trace on a new heap of a configuration, one after the other, of which nothing is written, and
+/// answers the cycles of the run, with the figures of each. A fault is that with which playing the trace ends; or
+/// memory was refused, for that or for the cycles.
+pub fn take_cycles<S: Source>(
+    alloc: Global,
+    config: &Config,
+    source: &mut S,
+) -> Result<Cycles, TextFault>
+    ensures taken { CyclesTaken config.now (given_by S.given S.ended source.old source.new) result }
+    ensures reads { S.failures source.new ≡ S.failures source.old + reads_failed result }
+    ensures input { reads_failed result ≡ 0 → Stays (S.input source.old) (S.input source.new) }
+{
+    let mut watch = Watch::new(alloc, config)?;
+    let mut reader = LineReader::new();
+    while reader.next_line(source)? {
+        log_line(reader.text(), &mut watch)?;
+    }
+    Ok(watch.cycles()?)
+}

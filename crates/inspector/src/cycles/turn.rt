@@ -1,0 +1,96 @@
+//! What a quantum was to the cycle that it found.
+ghost use Rattle.std.specs.Prelude.{◌≡◌, true};
+ghost use Rattle.nodes.specs.Copies.{copies_in};
+ghost use Rattle.space.specs.Tally as tally;
+ghost use Rattle.space.specs.Pace as pace;
+ghost use Rattle.inspector.specs.Log.{IsMark, IsTurn};
+ghost use Rattle.inspector.specs.Steps.{Step, is_quantum};
+
+use heap_model::phase::Phase;
+use machine::Heap;
+use nodes::Copies;
+
+/// Where the collector of a heap is: its phase, and the units of the cycle.
+#[derive(Clone, Copy, Debug, PartialEq, Eq)]
+pub struct Mark {
+    pub phase: Phase,
+    pub units: u64,
+}
+
+/// What a quantum was to the cycle that it found.
+#[derive(Clone, Copy, Debug, PartialEq, Eq)]
+pub struct Turn {
+    /// Whether it found one on.
+    pub works: bool,
+    /// Whether it ended the sweep.
+    pub ends_sweep: bool,
+    /// Whether it ended the cycle.
+    pub ends_cycle: bool,
+    /// The units that it spent on the cycle.
+    pub units: u64,
+}
+
+/// Whether a cycle is on, and its sweep hasn't ended.
+fn is_tracing(phase: Phase) -> bool
+    ensures { result ≡ tally.is_tracing phase }
+{
+    matches!(
+        phase,
+        Phase::Roots { .. } | Phase::Marking { .. } | Phase::Sweeping { .. }
+    )
+}
+
+/// Whether a cycle is on.
+pub fn in_cycle(phase: Phase) -> bool
+    ensures { result ≡ pace.in_cycle phase }
+{
+    !matches!(phase, Phase::Idle)
+}
+
+impl Mark {
+    /// Where the collector of a heap is now.
+    pub fn of(heap: &Heap) -> Mark
+        ensures { IsMark heap.now result }
+    {
+        Mark {
+            phase: heap.phase(),
+            units: heap.units(),
+        }
+    }
+}
+
+impl Turn {
+    /// What a quantum was that left the heap so, before which the collector was at this mark.
+    pub fn of(before: &Mark, heap: &Heap) -> Turn
+        ensures { (s : Step) → is_quantum s.event ≡ true → IsMark s.before.heap before.now → s.after.heap ≡ heap.now
+            → IsTurn s result }
+    {
+        let works = in_cycle(before.phase);
+        let after = heap.phase();
+        Turn {
+            works,
+            ends_sweep: works && is_tracing(before.phase) && !is_tracing(after),
+            ends_cycle: works && !in_cycle(after),
+            units: if works {
+                heap.units().saturating_sub(before.units)
+            } else {
+                0
+            },
+        }
+    }
+
+    /// The copies in the heap, which are counted where the quantum ended a sweep or a cycle.
+    pub fn copies(&self, heap: &Heap) -> Copies
+        ensures sweep { self.now.ends_sweep ≡ true → result ≡ copies_in heap.now.store }
+        ensures cycle { self.now.ends_cycle ≡ true → result ≡ copies_in heap.now.store }
+    {
+        if self.ends_sweep || self.ends_cycle {
+            return heap.copies();
+        }
+        Copies {
+            objects: 0,
+            parts: 0,
+            old: 0,
+        }
+    }
+}

@@ -1,0 +1,37 @@
+-- What is played before something is told of the player.
+use Rattle.std.specs.Prelude.{◌≡◌, ℕ, ◌⊎◌, List, Option, Some, None, Result, Ok, Err}
+use Rattle.size_classes.specs.declared.config.Config.{Config}
+use Rattle.trace.specs.declared.fault.TextFault.{TextFault}
+use Rattle.trace.specs.Streams.{Given, Taken}
+use Rattle.player.specs.declared.style.Style.TheVariants.{Nothing}
+use Rattle.player.specs.New.{IsNew}
+use Rattle.player.specs.Player.{PlayerState}
+use Rattle.player.specs.Playing.{Stage, stage, Played, PlayedFirst}
+use Rattle.metronome.specs.declared.fault.Ending.{Ending}
+use Rattle.metronome.specs.declared.fault.RunFault.{RunFault}
+use Rattle.metronome.specs.declared.fault.RunFault.TheVariants.{NoMemory}
+use Rattle.metronome.specs.Faults.{of_text}
+
+-- a trace, or its first event lines, played without a line written
+abbrev pub PlayedUpTo : Option ℕ → Given → Stage → Stage → Result (Unit {0}) TextFault → Type 0
+PlayedUpTo None given old new how = Played Nothing given old new how
+PlayedUpTo (Some events) given old new how = PlayedFirst events Nothing given old new how
+
+-- A new player played a trace, or its first event lines: to the end; or a fault ended the play; or memory was refused
+-- before anything was read or written.
+abbrev pub PlayerBehind : Option ℕ → Config → Given → Taken → Result PlayerState RunFault → Type 0
+PlayerBehind after config given taken (Ok new) = (old : PlayerState) × IsNew config old
+    × PlayedUpTo after given (stage old taken.before) (stage new taken.after) (Ok tt)
+PlayerBehind after config given taken (Err fault) =
+    ((given.after ≡ given.before) × (taken.after ≡ taken.before) × (fault ≡ NoMemory))
+    ⊎ ((old : PlayerState) × (new : PlayerState) × (why : TextFault) × IsNew config old
+    × PlayedUpTo after given (stage old taken.before) (stage new taken.after) (Err why) × (fault ≡ of_text why))
+
+-- A new player played a trace, or its first event lines, to the end, and then this was told of it; or the play ended in
+-- a fault, and nothing was told.
+abbrev pub AfterPlay : (PlayerState → Taken → Result Ending RunFault → Type 0) → Option ℕ → Config → Given → Taken
+    → Result Ending RunFault → Type 0
+AfterPlay Tells after config given taken result =
+    ((new : PlayerState) × (mid : List ℕ) × PlayerBehind after config given (record taken { after = mid }) (Ok new)
+    × Tells new (record taken { before = mid }) result)
+    ⊎ ((fault : RunFault) × (result ≡ Err fault) × PlayerBehind after config given taken (Err fault))

@@ -1,0 +1,120 @@
+//! What is told of a player behind a trace.
+ghost use Rattle.std.specs.Prelude.{◌≡◌, ◌+◌, IfOk};
+ghost use Rattle.heap_model.specs.Settings.{settings_of, settings_by};
+ghost use Rattle.player.specs.Playing.{stage};
+ghost use Rattle.trace.specs.GoneOver.{reads_failed, writes_failed};
+ghost use Rattle.trace.specs.Streams.{given_by, taken_by};
+ghost use Rattle.metronome.specs.Faults.{failed_reads, failed_writes};
+ghost use Rattle.metronome.specs.Behind.{PlayedUpTo, PlayerBehind, AfterPlay};
+ghost use Rattle.metronome.specs.Telling.{Tells};
+
+mod graph;
+mod path;
+mod picture;
+mod report;
+mod windows;
+
+use crate::fault::{Ending, RunFault};
+use command_line::{Picture, Report};
+use graph::tell_graph;
+use path::tell_path;
+use picture::tell_picture;
+use player::{Player, Style, play, play_first};
+use report::tell_report;
+use size_classes::Config;
+use std::alloc::Global;
+use trace::{Sink, Source, TextFault};
+use windows::tell_windows;
+
+/// What is told.
+#[derive(Clone, Copy)]
+pub enum Telling<'a> {
+    /// A report of the heap.
+    Report(Report),
+    /// A picture of the player.
+    Picture(Picture),
+    /// A picture of the objects that can be reached, at most so many, nearest to the roots first.
+    Graph(u32),
+    /// A shortest path from a root to an object; or that none leads to it, and whether blocks of it are still held; or that
+    /// it was never made.
+    Path(u64),
+    /// A line for each window.
+    Windows(&'a [u64]),
+}
+
+/// Plays a trace, or its first event lines, and writes nothing.
+fn play_silently<S: Source, K: Sink>(
+    source: &mut S,
+    sink: &mut K,
+    player: &mut Player,
+    after: Option<u32>,
+) -> Result<(), TextFault>
+    ensures played { PlayedUpTo after (given_by S.given S.ended source.old source.new)
+        (stage player.old (K.taken sink.old)) (stage player.new (K.taken sink.new)) result }
+    ensures reads { S.failures source.new ≡ S.failures source.old + reads_failed result }
+    ensures writes { K.failures sink.new ≡ K.failures sink.old + writes_failed result }
+{
+    match after {
+        None => play(source, sink, player, Style::Nothing),
+        Some(events) => play_first(events, source, sink, player, Style::Nothing),
+    }
+}
+
+/// A new player behind a trace, or behind its first event lines, of which nothing was written.
+fn player_behind<S: Source, K: Sink>(
+    alloc: Global,
+    config: &Config,
+    source: &mut S,
+    sink: &mut K,
+    after: Option<u32>,
+) -> Result<Player, RunFault>
+    ensures behind { PlayerBehind after config.now (given_by S.given S.ended source.old source.new)
+        (taken_by K.taken sink.old sink.new) result }
+    ensures settings { IfOk result (λ player. settings_of player.course.heap ≡ settings_by config.now) }
+    ensures reads { S.failures source.new ≡ S.failures source.old + failed_reads result }
+    ensures writes { K.failures sink.new ≡ K.failures sink.old + failed_writes result }
+{
+    let mut player = Player::new(alloc, config)?;
+    play_silently(source, sink, &mut player, after)?;
+    Ok(player)
+}
+
+/// Tells it.
+fn tell<K: Sink>(
+    alloc: Global,
+    config: &Config,
+    player: &Player,
+    telling: Telling,
+    sink: &mut K,
+) -> Result<Ending, RunFault>
+    requires { settings_of player.now.course.heap ≡ settings_by config.now }
+    ensures told { Tells telling.entry config.now player.now (taken_by K.taken sink.old sink.new) result }
+    ensures reads { failed_reads result ≡ 0 }
+    ensures writes { K.failures sink.new ≡ K.failures sink.old + failed_writes result }
+{
+    match telling {
+        Telling::Report(by) => tell_report(player, by, sink),
+        Telling::Picture(picture) => tell_picture(config, player, picture, sink),
+        Telling::Graph(most) => tell_graph(alloc, config, player, most, sink),
+        Telling::Path(id) => tell_path(alloc, config, player, id, sink),
+        Telling::Windows(windows) => tell_windows(alloc, config, player, windows, sink),
+    }
+}
+
+/// Plays a trace, or its first event lines, on a new player, and then tells of the player.
+pub fn after_play<S: Source, K: Sink>(
+    alloc: Global,
+    config: &Config,
+    source: &mut S,
+    sink: &mut K,
+    after: Option<u32>,
+    telling: Telling,
+) -> Result<Ending, RunFault>
+    ensures done { AfterPlay (Tells telling.entry config.now) after config.now
+        (given_by S.given S.ended source.old source.new) (taken_by K.taken sink.old sink.new) result }
+    ensures reads { S.failures source.new ≡ S.failures source.old + failed_reads result }
+    ensures writes { K.failures sink.new ≡ K.failures sink.old + failed_writes result }
+{
+    let player = player_behind(alloc, config, source, sink, after)?;
+    tell(alloc, config, &player, telling, sink)
+}

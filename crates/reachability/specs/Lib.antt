@@ -1,4 +1,0 @@
-pub mod Distance
-pub mod Search
-pub mod Route
-pub mod Text

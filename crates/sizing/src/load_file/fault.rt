@@ -1,0 +1,70 @@
+//! Why a document states no load.
+use crate::load_file::field::Field;
+use command_line::OpenFault;
+use std::fmt;
+use thiserror::Error;
+
+/// Which number of a document.
+#[derive(Clone, Copy, Debug, PartialEq, Eq)]
+pub enum Place {
+    Gap,
+    /// The one at a key of the table of the size class with blocks of `size` words.
+    Class { size: u32, field: Field },
+}
+
+impl fmt::Display for Place {
+    fn fmt<W: fmt::Write>(&self, f: &mut fmt::Formatter<W>) -> fmt::Result {
+        match self {
+            Place::Gap => write!(f, "gap"),
+            Place::Class { size, field } => write!(f, "size {size} {field}"),
+        }
+    }
+}
+
+/// What is wrong with a document. Its text is what a user reads.
+#[derive(Clone, Copy, Debug, PartialEq, Eq, Error)]
+pub enum DocumentFault {
+    /// It has more than 65536 bytes.
+    #[error("too long")]
+    TooLong,
+    #[error("not TOML")]
+    NotToml,
+    #[error("unknown key")]
+    UnknownKey,
+    #[error("gap missing")]
+    GapMissing,
+    /// What stands at the size of a class isn't a table.
+    #[error("size {0} not a table")]
+    NotTable(u32),
+    #[error("{0} not a whole number")]
+    NotWhole(Place),
+    /// It isn't 0 to 4294967295.
+    #[error("{0} out of range")]
+    OutOfRange(Place),
+}
+
+/// Why bytes give no load. Its text is what a user reads.
+#[derive(Clone, Copy, Debug, PartialEq, Eq, Error)]
+pub enum LoadFault {
+    /// The first thing that is wrong with the document.
+    #[error("{0}")]
+    Refused(DocumentFault),
+    /// Memory was refused while the document was read.
+    #[error("no memory")]
+    NoMemory,
+}
+
+impl From<OpenFault> for LoadFault {
+    ghost use Rattle.std.specs.Prelude.{◌≡◌};
+    ghost use Rattle.sizing.specs.Document.{load_fault};
+
+    ghost from_gives = { λ opened fault. fault ≡ load_fault opened };
+
+    fn from(fault: OpenFault) -> LoadFault {
+        match fault {
+            OpenFault::TooLong => LoadFault::Refused(DocumentFault::TooLong),
+            OpenFault::NotToml => LoadFault::Refused(DocumentFault::NotToml),
+            OpenFault::NoMemory => LoadFault::NoMemory,
+        }
+    }
+}

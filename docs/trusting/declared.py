@@ -136,8 +136,9 @@ def public_names(files):
         if path in public_files:
             above = path.removesuffix("/lib")
             public_files |= {f"{above}/{it}" for it in re.findall(r"^pub mod (\w+);", texts[path], re.M)}
-    for words in re.findall(r"^pub use [\w:]+::\{?([\w\s,]+)\}?;", root, re.M):
-        names |= {it.strip() for it in words.split(",")}
+    for path in public_files & texts.keys():
+        for words in re.findall(r"^pub use [\w:]+::\{?([\w\s,]+)\}?;", texts[path], re.M):
+            names |= {it.strip() for it in words.split(",")}
     if len(public_files) == 1 and not names and not re.search("^pub fn", root, re.M):
         public_files = set(texts)
     inside = [it for it in files if it.path in public_files]

@@ -25,7 +25,7 @@ use Rattle.space.proofs.Counts.{one_if, used_set, both_true, flags_all}
 use Rattle.space.proofs.Spacing.{shades_same}
 use Rattle.fragmentation.specs.Tight.{IsTight}
 use Rattle.fragmentation.proofs.IsFew.{held_from, to_move, IsFew}
-use Rattle.fragmentation.proofs.Free.{free_change, Choosable, choosable_is, choosable_all, chosen_free}
+use Rattle.fragmentation.proofs.Free.{free_change, leaving_free, Choosable, choosable_is, choosable_all, chosen_free}
 use Rattle.fragmentation.proofs.Taken.{free_less}
 use Rattle.fragmentation.proofs.Gathering.{tight_action}
 
@@ -176,13 +176,6 @@ chosen_few old new class page chosen p q first made pages at good free is off ti
     used : (k : ℕ) → used_pages new k ≡ used_pages old k
     used k = let u = used_set old new page (Some p) (Some (record p { leaving = true })) within at is k in omega (arith, u)
 
-    leaves : (k : ℕ) → free_on k (Some (record p { leaving = true })) ≡ 0
-    leaves k = by_test (p.class == k)
-      where
-        by_test : (b : Bool) → cond (b && false) (count_by not p.held) 0 ≡ 0
-        by_test true = refl
-        by_test false = refl
-
     now : page_at new page ≡ Some (record p { leaving = true })
     now = ap (λ z. page_at z page) is ∙ set_page_here old page _ within
 
@@ -203,7 +196,7 @@ chosen_few old new class page chosen p q first made pages at good free is off ti
               let m = mul-le-mul_left (blocks_in class) s in
               let mu : blocks_in class * used_pages new class ≡ blocks_in class * used_pages old class = ap (λ z. blocks_in class * z) u in
               let f = free_change old new page (Some p) (Some (record p { leaving = true })) within at is class in
-              let z = leaves class in
+              let z = leaving_free p class in
               let all = choosable_all class p (pages.each page p at) good in
               let x : (p.class == class) ≡ true = ap (λ z. z == class) c.own ∙ eq-eqb class class refl in
               let r : to_move new class (phases.Moving (moves.Emptying class page 0 chosen)) ≡ held_on (Some p) = ap (held_from class 0) now ∙ ap (λ b. if b then count_by (λ b. b) p.held else 0) x in
@@ -213,7 +206,7 @@ chosen_few old new class page chosen p q first made pages at good free is off ti
         let u = used k in
         let mu : blocks_in k * used_pages new k ≡ blocks_in k * used_pages old k = ap (λ z. blocks_in k * z) u in
         let f = free_change old new page (Some p) (Some (record p { leaving = true })) within at is k in
-        let z = leaves k in
+        let z = leaving_free p k in
         let x : (p.class == k) ≡ false = ap (λ z. z == k) c.own ∙ e in
         let none : free_on k (Some p) ≡ 0 = ap (λ b. cond (b && not p.leaving) (count_by not p.held) 0) x in
         let r : to_move new k (phases.Moving (moves.Emptying class page 0 chosen)) ≡ 0 = ap (held_from k 0) now ∙ ap (λ b. if b then count_by (λ b. b) p.held else 0) x in

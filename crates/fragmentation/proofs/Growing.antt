@@ -3,6 +3,7 @@ use Rattle.std.proofs.Common.{◌≡◌, ℕ, ◌+◌, ◌-◌, ◌*◌, ◌/◌
 use Rattle.std.proofs.lemmas.Bool.{eq-eqb}
 use Rattle.std.proofs.lemmas.Bool.Decides.{eqb_tells}
 use Rattle.std.proofs.lemmas.Nat.{le-div}
+use Rattle.std.proofs.Math.Bool.{and-false}
 use Rattle.graph_heap.specs.declared.command.Shape.{Shape}
 use Rattle.graph_heap.specs.declared.command.Change.{Change}
 use Rattle.graph_heap.specs.Graph.{Graph, first_slot}
@@ -186,11 +187,7 @@ leaves_kept old new class k w = by_page (page_at old k) refl (page_at new k) ref
     by_page : (o : Option Page) → page_at old k ≡ o → (n : Option Page) → page_at new k ≡ n → leaves class (page_at new k) ≡ leaves class (page_at old k)
     by_page (Some p) e n f = let r = w.used k p e in ap (leaves class) r.1 ∙ (let a = r.2.class in let b = r.2.leaving in cc) ∙ sym (ap (leaves class) e)
     by_page None e None f = ap (leaves class) f ∙ sym (ap (leaves class) e)
-    by_page None e (Some q) f = let r = w.free k q e f in let z : ((q.class == class) && q.leaving) ≡ false = ap (λ b. (q.class == class) && b) r.0 ∙ off (q.class == class) in ap (leaves class) f ∙ z ∙ sym (ap (leaves class) e)
-      where
-        off : (b : Bool) → (b && false) ≡ false
-        off true = refl
-        off false = refl
+    by_page None e (Some q) f = let r = w.free k q e f in let z : ((q.class == class) && q.leaving) ≡ false = ap (λ b. (q.class == class) && b) r.0 ∙ and-false (q.class == class) in ap (leaves class) f ∙ z ∙ sym (ap (leaves class) e)
 
 -- a need that is greater, with the same store
 settled_more : (s : Store) (class m n : ℕ) → class < CLASSES → m ≤ n → IsSettled s class m → IsSettled s class n

@@ -1,12 +1,12 @@
 -- A page is chosen, emptied block by block, and moving ends.
-use Rattle.std.proofs.Common.{◌≡◌, ℕ, zero, suc, ◌+◌, ◌*◌, ◌<◌, ◌≤◌, inl, inr, Bool, true, false, not, ◌&&◌, cond, ◌==◌, if◌then◌else◌, nat_lt, List, [], ◌∷◌, Option, Some, None, length, set, ap, ◌∙◌, sym, subst, arith, refl}
-use Rattle.std.specs.Prelude.{count_by, slice_get}
+use Rattle.std.proofs.Common.{◌≡◌, ℕ, zero, suc, ◌+◌, ◌*◌, ◌<◌, ◌≤◌, inl, inr, Bool, true, false, not, ◌&&◌, ◌==◌, if◌then◌else◌, nat_lt, List, [], ◌∷◌, Option, Some, None, length, set, ap, ◌∙◌, sym, subst, arith, refl}
+use Rattle.std.specs.Prelude.{slice_get}
 use Rattle.std.proofs.lemmas.List.{get_or_past}
 use Rattle.std.proofs.lemmas.List.Sums.{sum_by-cons}
 use Rattle.std.proofs.lemmas.Option.{same_Some}
 use Rattle.size_classes.specs.declared.class.TheConstants.{CLASSES}
 use Rattle.size_classes.specs.Sizes.{blocks_in}
-use Rattle.heap_model.specs.Pages.{Page, IsPage, ArePages, is_usable, with_held, page_at, free_on, free_blocks, whole_pages}
+use Rattle.heap_model.specs.Pages.{Page, IsPage, ArePages, is_usable, with_held, page_at, free_blocks, whole_pages}
 use Rattle.heap_model.specs.Store.{Store, address_of}
 use Rattle.heap_model.specs.State.{is_leaving}
 use Rattle.heap_model.specs.Action.{KeepsBlocks, MovesBlock, IsNext, is_choosable}
@@ -18,7 +18,7 @@ use Rattle.fragmentation.specs.Gathering.{AreUsed}
 use Rattle.fragmentation.specs.Suffice.{gathered_pages}
 use Rattle.fragmentation.proofs.IsLeftover.{leaves, StrandedOn, NoneStranded, one_leaving, IsSettled, IsMoved, StandsBehind, IsEmptying}
 use Rattle.fragmentation.proofs.Emptied.{ChosenPage, chosen_page, MovedBlock, moved_block}
-use Rattle.fragmentation.proofs.Free.{Choosable, choosable_is, choosable_all, free_change, tight_fewest}
+use Rattle.fragmentation.proofs.Free.{Choosable, choosable_is, choosable_all, free_change, leaving_free, tight_fewest}
 use Rattle.fragmentation.proofs.Paging.{whole_more}
 use Rattle.fragmentation.proofs.Leftover.{staying_set, page_set, AtLook}
 
@@ -74,16 +74,9 @@ chosen_left s t class page chosen p need a used at good free small keeps is tigh
         let all = choosable_all class p (a.each page p at) good in
         let h = used page p within at in
         let o = own class t.pages pages in
-        let y : free_on class (Some v) ≡ 0 = leaves_none in
+        let y = leaving_free p class in
         some_times (free_blocks t.pages class) (main_blocks t.pages class) (blocks_in class) (staying_pages t.pages class) o (omega (arith, u, all, h, y, free))
       where
-        leaves_none : free_on class (Some v) ≡ 0
-        leaves_none = by_test (p.class == class)
-          where
-            by_test : (b : Bool) → cond (b && false) (count_by not p.held) 0 ≡ 0
-            by_test true = refl
-            by_test false = refl
-
         some_times : (x y b n : ℕ) → x + y ≡ b * n → 0 < x → 0 < n
         some_times x y b zero e l = absurd (let z : b * 0 ≡ 0 = omega arith in omega (arith, e, z, l))
         some_times x y b (suc n) e l = omega arith

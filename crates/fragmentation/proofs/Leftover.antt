@@ -4,6 +4,7 @@ use Rattle.std.specs.Prelude.{count_by, slice_get}
 use Rattle.std.proofs.lemmas.Bool.{eq-eqb}
 use Rattle.std.proofs.lemmas.List.Sums.{sum_by-cons}
 use Rattle.std.proofs.lemmas.Option.{slice_get_within, slice_get-get_or, get_or_from_slice_get, same_Some}
+use Rattle.std.proofs.Math.Bool.{and-false}
 use Rattle.std.proofs.Math.Nat.{mul-le-mul_right, mul-le-mul_left}
 use Rattle.graph_heap.specs.Graph.{Graph}
 use Rattle.size_classes.specs.declared.class.TheConstants.{CLASSES}
@@ -148,13 +149,9 @@ settled_closed h present snapshot page block class need t small st e l looked ke
     closed_stays None = refl
     closed_stays (Some p) = by_held (held_on (Some p) == 0)
       where
-        off : (b : Bool) → (b && false) ≡ false
-        off true = refl
-        off false = refl
-
         by_held : (b : Bool) → leaves class (if b then None else Some (record p { leaving = false; receiving = false })) ≡ false
         by_held true = refl
-        by_held false = off (p.class == class)
+        by_held false = and-false (p.class == class)
 
     at : (k : ℕ) → page_at t.pages k ≡ (if k == page then closed o else page_at h.store.pages k)
     at k = page_set h.store.pages t.pages page o (closed o) l refl is k

@@ -5,6 +5,7 @@ use Rattle.std.proofs.lemmas.Bool.{eq-eqb}
 use Rattle.std.proofs.lemmas.List.Sums.{get_or-le-sum_by}
 use Rattle.std.proofs.lemmas.List.Quantifiers.{position-Some}
 use Rattle.std.proofs.lemmas.Option.{same_Some}
+use Rattle.std.proofs.Math.Bool.{and-false}
 use Rattle.std.proofs.Math.Nat.{div-mul-le_self, lt_of_mul-lt-mul_left}
 use Rattle.graph_heap.specs.Graph.{Graph}
 use Rattle.size_classes.specs.declared.class.TheConstants.{CLASSES}
@@ -158,16 +159,12 @@ chosen_sparse s t class page p need a used at good free small keeps is tight w =
     stays_p : ((p.class == class) && not p.leaving) ≡ true
     stays_p = grind (arith, c.own, c.leaving)
 
-    off : (b : Bool) → (b && false) ≡ false
-    off true = refl
-    off false = refl
-
     -- the page goes from those that stay to that which is emptied
     moves_over : staying_pages t.pages class + 1 ≡ staying_pages s.pages class
     moves_over =
         let u = staying_set s.pages t.pages page (Some p) (Some v) within at is class in
         let x : one_if (stays class (Some p)) ≡ 1 = ap one_if stays_p in
-        let y : one_if (stays class (Some v)) ≡ 0 = ap one_if (off (p.class == class)) in
+        let y : one_if (stays class (Some v)) ≡ 0 = ap one_if (and-false (p.class == class)) in
         omega (arith, u, x, y)
 
     on_page_now : one_leaving class (page_at t.pages page) ≡ 1

@@ -160,11 +160,13 @@ module _ (live : Lives) (pages : ℕ) (r new : Course) (budget units : ℕ) (pha
   made_now : (class : ℕ) → made class ≡ blocks_of (drop s.swept (present_of new).objects) class
   made_now class = ap (λ (z : Graph). blocks_of (drop s.swept z.objects) class) (sym present)
 
-  room_now : GathersAll new.heap → length new.heap.store.pages ≡ length r.heap.store.pages → pages ≤ length new.heap.store.pages
-  room_now all n = let x = k.room in omega (arith, x, n)
-
   same_count : length new.heap.store.pages ≡ length r.heap.store.pages
   same_count = ap (λ (z : HeapSettings). z.pages) (does_settings r (Quantum_done budget units phase) new q)
+
+  -- what is kept in any season, where its few pages and what is left are known
+  kept : IsGoing new.heap g (snapshot_of r) → (t : Season) (first : ℕ → ℕ) → ((class : ℕ) → class < CLASSES → first class ≤ gathered_pages class (t.before class)) → IsFew new.heap.store.pages new.heap.phase first (λ class. blocks_of (drop t.swept (present_of new).objects) class)
+      → IsLeftover new.heap.store new.heap.phase (needed_since live t) → IsMoving live pages new t
+  kept y t first most few left = record { room = (let x = k.room in omega (arith, x, same_count)); gathering = y.gathering; all = y.all; first = first; most = most; few = few; left = left }
 
   -- the sweep of a cycle that is on hasn't ended before
   module _ (on : s.tracing ≡ true) where
@@ -175,26 +177,13 @@ module _ (live : Lives) (pages : ℕ) (r new : Course) (budget units : ℕ) (pha
     came = came_chain g (snapshot_of r) k.first made (needed_since live s) resting counted r.heap new.heap units going q.turn.chain (inl (record { tracing = sym i.tracing ∙ on; few = k.few; left = k.left }))
 
     goes_on : IsGoing new.heap g (snapshot_of r) → Before new.heap k.first made (needed_since live s) → IsMoving live pages new s
-    goes_on y b = record {
-      room = room_now y.all same_count;
-      gathering = y.gathering;
-      all = y.all;
-      first = k.first;
-      most = k.most;
-      few = few_made new.heap.store.pages new.heap.phase k.first made _ made_now b.few;
-      left = b.left;
-    }
+    goes_on y b = kept y s k.first k.most (few_made new.heap.store.pages new.heap.phase k.first made _ made_now b.few) b.left
 
     ends : IsGoing new.heap g (snapshot_of r) → Behind new.heap (needed_since live s) resting → IsMoving live pages new (season_swept live s)
-    ends y b = record {
-      room = room_now y.all same_count;
-      gathering = y.gathering;
-      all = y.all;
-      first = b.first;
-      most = b.most;
-      few = few_made new.heap.store.pages new.heap.phase b.first _ _ (λ class. sym (ap (λ z. blocks_of (drop z (present_of new).objects) class) (ap (λ (z : Graph). length z.objects) (i.graph ∙ sym present)) ∙ none_since (present_of new).objects class)) b.few;
-      left = leftover_more new.heap.store new.heap.phase resting (needed_since live (season_swept live s)) (λ class l. (let x : made_since s.last s class ≡ blocks_of (drop (length (snapshot_of r).objects) g.objects) class = ap (λ z. made_since z s class) i.last ∙ ap (λ (z : Graph). blocks_of (drop (length (snapshot_of r).objects) z.objects) class) i.graph in omega (arith, x))) b.left;
-    }
+    ends y b =
+        kept y (season_swept live s) b.first b.most
+        (few_made new.heap.store.pages new.heap.phase b.first _ _ (λ class. sym (ap (λ z. blocks_of (drop z (present_of new).objects) class) (ap (λ (z : Graph). length z.objects) (i.graph ∙ sym present)) ∙ none_since (present_of new).objects class)) b.few)
+        (leftover_more new.heap.store new.heap.phase resting (needed_since live (season_swept live s)) (λ class l. (let x : made_since s.last s class ≡ blocks_of (drop (length (snapshot_of r).objects) g.objects) class = ap (λ z. made_since z s class) i.last ∙ ap (λ (z : Graph). blocks_of (drop (length (snapshot_of r).objects) z.objects) class) i.graph in omega (arith, x))) b.left)
 
     by_end : Came → (t : Bool) → is_tracing phase ≡ t → IsMoving live pages new (if t then s else (if s.tracing then season_swept live s else s))
     by_end (y, inl b) true e = goes_on y b
@@ -215,15 +204,7 @@ module _ (live : Lives) (pages : ℕ) (r new : Course) (budget units : ℕ) (pha
     out = out_chain g (snapshot_of r) k.first made (needed_since live s) resting counted r.heap new.heap units going q.turn.chain (record { tracing = sym i.tracing ∙ off; few = k.few; left = left_same r (needed_since live s) resting rest_same k.left })
 
     rests : IsMoving live pages new s
-    rests = record {
-      room = room_now out.0.all same_count;
-      gathering = out.0.gathering;
-      all = out.0.all;
-      first = k.first;
-      most = k.most;
-      few = few_made new.heap.store.pages new.heap.phase k.first made _ made_now out.1.few;
-      left = left_same new resting (needed_since live s) (λ class. sym (rest_same class)) out.1.left;
-    }
+    rests = kept out.0 s k.first k.most (few_made new.heap.store.pages new.heap.phase k.first made _ made_now out.1.few) (left_same new resting (needed_since live s) (λ class. sym (rest_same class)) out.1.left)
 
     by_out : (t : Bool) → is_tracing phase ≡ t → IsMoving live pages new (if t then s else (if s.tracing then season_swept live s else s))
     by_out true e = absurd (let z : false ≡ true = sym out.1.tracing ∙ out_phase ∙ e in cc)

@@ -1,7 +1,9 @@
 -- No new object is refused in a run that keeps to a demand, with one page more for each class and the leaving pages once.
-use Rattle.std.proofs.Common.{◌≡◌, ℕ, zero, suc, ◌+◌, ◌-◌, ◌<◌, ◌≤◌, ◌⊎◌, inl, inr, Bool, true, false, not, ◌&&◌, ◌==◌, List, [], ◌∷◌, Option, Some, None, length, ap, ◌∙◌, sym, subst, arith, refl}
-use Rattle.std.proofs.lemmas.Bool.{le-leb}
-use Rattle.std.proofs.lemmas.List.Sums.{sum_by-cons}
+use Rattle.std.proofs.Common.{◌≡◌, ℕ, zero, suc, ◌+◌, ◌-◌, ◌<◌, ◌≤◌, ◌⊎◌, inl, inr, Bool, true, false, ◌&&◌, ◌==◌, List, [], ◌∷◌, Option, Some, None, length, ap, ◌∙◌, sym, subst, arith, refl}
+use Rattle.std.specs.Prelude.{sum_by}
+use Rattle.std.proofs.lemmas.Bool.{le-leb, ne_eqb}
+use Rattle.std.proofs.lemmas.List.Sums.{sum_by-cons, sum_by-le-sum_by}
+use Rattle.std.proofs.Math.Bool.{and-true, and-false}
 use Rattle.size_classes.specs.declared.class.TheConstants.{CLASSES}
 use Rattle.size_classes.specs.Sizes.{blocks_in}
 use Rattle.size_classes.specs.Need.{needed}
@@ -14,7 +16,7 @@ use Rattle.graph_heap.specs.Effect.{reply_of, slot_at, fitting, next_identity, a
 use Rattle.heap_model.specs.declared.phase.Phase.{Phase}
 use Rattle.heap_model.specs.declared.phase.Phase.TheVariants as phases
 use Rattle.heap_model.specs.declared.phase.Moving.TheVariants as moves
-use Rattle.heap_model.specs.Pages.{Page, IsPage, ArePages, is_free, page_at, has_room, pages_needed, whole_pages, free_blocks, free_pages}
+use Rattle.heap_model.specs.Pages.{Page, ArePages, page_at, has_room, pages_needed, whole_pages, free_blocks, free_pages}
 use Rattle.heap_model.specs.Store.{Store}
 use Rattle.heap_model.specs.State.{HeapState, is_leaving}
 use Rattle.heap_model.specs.Opening.{IsOpening}
@@ -25,10 +27,10 @@ use Rattle.heap_model.proofs.Course.{opening_course}
 use Rattle.space.specs.Demand.{asked_for, asked_by}
 use Rattle.space.specs.Tally.{FindsRoom, NewFindsRoom, EveryNewFindsRoom}
 use Rattle.space.specs.Space.{spare_of}
-use Rattle.space.specs.Counts.{stays, main_blocks, leaving_pages}
+use Rattle.space.specs.Counts.{main_blocks, used_pages, leaving_pages}
 use Rattle.space.specs.Placement.{HasBoundedPages}
 use Rattle.space.specs.Space.{class_sum}
-use Rattle.space.proofs.Counts.{one_if, own, zero_or, whole_within, class_sum_both, class_sum_same, class_sum_one, zeros, first_page, other_pages}
+use Rattle.space.proofs.Counts.{one_if, leave_on, own, used, zero_or, whole_within, class_sum_both, class_sum_same, class_sum_one, zeros, all_pages}
 use Rattle.space.proofs.Spacing.{bounded_pages}
 use Rattle.space.proofs.Changing.{bounded_change}
 use Rattle.space.proofs.Roomless.{admitted_other, slot_other, fitting_other, next_other}
@@ -67,33 +69,41 @@ has_page s (phases.Moving (moves.Emptying c page block chosen)) need w class l =
     by_class true e = subst (λ z. HasPage s z (need z)) (same_number w.source.class class e) (record { page = page; few = w.few; some = λ on. w.enough })
     by_class false e = settled_page s class (need class) (w.others class l e).settled
 
--- pages that stay, that leave and that are free
-one_kind : (o : Option Page) → ((p : Page) → o ≡ Some p → IsPage p) → class_sum (λ k. one_if (stays k o)) CLASSES + one_if (is_leaving o) + one_if (is_free o) ≡ 1
-one_kind None w = let z = zeros CLASSES in omega (arith, z)
-one_kind (Some p) w = by_leaving p.leaving
-  where
-    by_leaving : (l : Bool) → class_sum (λ k. one_if ((p.class == k) && not l)) CLASSES + one_if l + 0 ≡ 1
-    by_leaving true = let a = class_sum_same (λ k. one_if ((p.class == k) && false)) (λ k. 0) CLASSES (λ k. off (p.class == k)) in let z = zeros CLASSES in omega (arith, a, z)
-      where
-        off : (b : Bool) → one_if (b && false) ≡ 0
-        off true = refl
-        off false = refl
-    by_leaving false = let a = class_sum_same (λ k. one_if ((p.class == k) && true)) (λ k. one_if (p.class == k)) CLASSES (λ k. on (p.class == k)) in let r = class_sum_one p.class CLASSES ((w p refl).class) in omega (arith, a, r)
-      where
-        on : (b : Bool) → one_if (b && true) ≡ one_if b
-        on true = refl
-        on false = refl
+-- a number for each class and page, added up by class or by page
+class_sums : (number : ℕ → Option Page → ℕ) (pages : List (Option Page)) (n : ℕ) → class_sum (λ k. sum_by (number k) pages) n ≡ sum_by (λ o. class_sum (λ k. number k o) n) pages
+class_sums number [] n = zeros n
+class_sums number (o ∷ os) n =
+    class_sum_same _ (λ k. number k o + sum_by (number k) os) n (λ k. sum_by-cons (number k) o os) ∙ class_sum_both (λ k. number k o) (λ k. sum_by (number k) os) n ∙ ap (λ z. class_sum (λ k. number k o) n + z) (class_sums number os n) ∙ sym (sum_by-cons (λ z. class_sum (λ k. number k z) n) o os)
 
-all_kinds : (pages : List (Option Page)) → ArePages pages → class_sum (staying_pages pages) CLASSES + leaving_pages pages + free_pages pages ≡ length pages
-all_kinds [] w = let z = zeros CLASSES in omega (arith, z)
-all_kinds (o ∷ os) w =
-    let r = all_kinds os (other_pages o os w) in
-    let h = one_kind o (first_page o os w) in
-    let a : class_sum (staying_pages (o ∷ os)) CLASSES ≡ class_sum (λ k. one_if (stays k o) + staying_pages os k) CLASSES = class_sum_same (staying_pages (o ∷ os)) (λ k. one_if (stays k o) + staying_pages os k) CLASSES (λ k. sum_by-cons (λ z. one_if (stays k z)) o os) in
-    let b = class_sum_both (λ k. one_if (stays k o)) (staying_pages os) CLASSES in
-    let c = sum_by-cons (λ z. one_if (is_leaving z)) o os in
-    let d = sum_by-cons (λ z. one_if (is_free z)) o os in
-    omega (arith, r, h, a, b, c, d)
+-- a class is one of the first or none
+most_one : (c n : ℕ) → class_sum (λ k. one_if (c == k)) n ≤ 1
+most_one c zero = omega arith
+most_one c (suc n) = elim (order c (suc n)) [
+  | inl l ↦ (let e = class_sum_one c (suc n) l in omega (arith, e))
+  | inr l ↦ (let r = most_one c n in let e : one_if (c == n) ≡ 0 = ap one_if (ne_eqb c n (λ z. omega arith)) in omega (arith, r, e))
+]
+  where
+    order : (a b : ℕ) → (a < b) ⊎ (b ≤ a)
+    order a b = grind arith
+
+-- a leaving page leaves of one class at most
+one_leaves : (o : Option Page) → class_sum (λ k. leave_on k o) CLASSES ≤ one_if (is_leaving o)
+one_leaves None = let z = zeros CLASSES in omega (arith, z)
+one_leaves (Some p) = by_leaving p.leaving
+  where
+    by_leaving : (l : Bool) → class_sum (λ k. one_if ((p.class == k) && l)) CLASSES ≤ one_if l
+    by_leaving true = let e = class_sum_same (λ k. one_if ((p.class == k) && true)) (λ k. one_if (p.class == k)) CLASSES (λ k. ap one_if (and-true (p.class == k))) in let m = most_one p.class CLASSES in omega (arith, e, m)
+    by_leaving false = let e = class_sum_same (λ k. one_if ((p.class == k) && false)) (λ k. 0) CLASSES (λ k. ap one_if (and-false (p.class == k))) in let z = zeros CLASSES in omega (arith, e, z)
+
+-- each page stays in its class, is leaving or is free
+all_kinds : (pages : List (Option Page)) → ArePages pages → length pages ≤ class_sum (staying_pages pages) CLASSES + leaving_pages pages + free_pages pages
+all_kinds pages w =
+    let a = all_pages pages w in
+    let u = class_sum_same (used_pages pages) (λ k. staying_pages pages k + sum_by (leave_on k) pages) CLASSES (λ k. (used k pages).0) in
+    let b = class_sum_both (staying_pages pages) (λ k. sum_by (leave_on k) pages) CLASSES in
+    let s = class_sums leave_on pages CLASSES in
+    let l = sum_by-le-sum_by (λ o. class_sum (λ k. leave_on k o) CLASSES) (λ o. one_if (is_leaving o)) pages one_leaves in
+    omega (arith, a, u, b, s, l)
 
 -- room for a command
 module _ (h : HeapState) (g : Graph) (blocks : ℕ → ℕ) (spare : ℕ) (a : ArePages h.store.pages) (w : IsSparse h.store h.phase blocks) (leave : leaving_pages h.store.pages ≤ spare) (fits : sparse_pages blocks + spare ≤ length h.store.pages) where

@@ -5,14 +5,16 @@ use Rattle.std.proofs.lemmas.List.Folds.{sum_by-replicate}
 use Rattle.std.proofs.Math.Seq.{take-length}
 use Rattle.size_classes.specs.declared.class.TheConstants.{CLASSES}
 use Rattle.graph_heap.specs.declared.command.Command.{Command}
+use Rattle.graph_heap.specs.declared.command.Command.TheVariants as commands
 use Rattle.graph_heap.specs.declared.command.Reply.{Reply}
 use Rattle.graph_heap.specs.declared.command.Change.{Change}
 use Rattle.graph_heap.specs.Graph.{Object, Graph, object_of, opening, changed}
 use Rattle.graph_heap.specs.Reach.{Reaches}
+use Rattle.graph_heap.specs.Effect.{reply_of, slot_at, fitting, next_identity, admitted}
 use Rattle.graph_heap.specs.History.{after}
 use Rattle.size_classes.specs.Need.{needed}
 use Rattle.heap_model.specs.declared.phase.Phase.{Phase}
-use Rattle.heap_model.specs.Pages.{Page, page_at}
+use Rattle.heap_model.specs.Pages.{Page, page_at, has_room}
 use Rattle.heap_model.specs.Store.{is_held}
 use Rattle.heap_model.specs.State.{HeapState}
 use Rattle.heap_model.specs.Opening.{IsOpening}
@@ -27,8 +29,8 @@ use Rattle.heap_model.proofs.Opening.{page_none}
 use Rattle.heap_model.proofs.Agreements.{consistent_agrees}
 use Rattle.heap_model.proofs.Left.{change_left}
 use Rattle.heap_model.proofs.Course.{enters_graph, enters_present, enters_snapshot, begins_present, collects_limits, collects_present, does_course, opening_course}
-use Rattle.space.specs.Demand.{LiveWithin, blocks_of, asked_by}
-use Rattle.space.specs.Tally.{is_tracing, NewFindsRoom, EveryNewFindsRoom}
+use Rattle.space.specs.Demand.{LiveWithin, blocks_of, asked_for, asked_by}
+use Rattle.space.specs.Tally.{is_tracing, FindsRoom, NewFindsRoom, EveryNewFindsRoom}
 use Rattle.space.specs.Counts.{stays, main_blocks}
 use Rattle.space.specs.Placement.{IsTidy, KeepsOnly, KeepsShapes}
 use Rattle.space.proofs.Counts.{one_if}
@@ -36,7 +38,8 @@ use Rattle.space.proofs.Tidying.{shrinks_keeps, tidy_same, tidy_action}
 use Rattle.space.proofs.Changing.{tidy_change, only_change, shapes_kept, shapes_then}
 use Rattle.space.proofs.Census.{census}
 use Rattle.space.proofs.Pacing.{more_since}
-use Rattle.space.proofs.Running.{rest_only, chain_only, shapes_same, shapes_into}
+use Rattle.space.proofs.Roomless.{admitted_other, slot_other, fitting_other, next_other}
+use Rattle.space.proofs.Running.{rest_only, chain_only, new_has_room, shapes_same, shapes_into}
 use Rattle.fragmentation.specs.Season.{Season, Lives, opening_season, made_since, needed_since, season_swept, season_after, Keeps, AllKeep}
 use Rattle.fragmentation.specs.Tight.{staying_pages}
 use Rattle.fragmentation.proofs.IsLeftover.{leaves, IsSettled}
@@ -248,6 +251,15 @@ module _ (Bound : Season → (ℕ → ℕ) → Type 0) (live : Lives) (Kept : Co
   all_find_room (e ∷ es) r new s w k kept runs keeps =
       let x = step r e runs.0 s w k kept keeps.0 runs.1 in
       (x.1, all_find_room es runs.0 new (season_after live s e) (does_course r e runs.0 w runs.1) (counted_does r e runs.0 s w k keeps.0 runs.1) x.0 runs.2 keeps.1)
+
+-- with room for what it asks for, a command makes all that it would
+pub command_room : (h : HeapState) (g : Graph) (m : ℕ) (c : Command) → ((need : ℕ → ℕ) → ((k : ℕ) → asked_for g m c k ≡ need k) → has_room h.store.pages need ≡ true) → FindsRoom c (reply_of (room_for h c) g m c) × (change_by (room_for h c) g m c ≡ change_by true g m c)
+unfolding reply_of
+command_room h g m (commands.New dst shape) room =
+    new_has_room (admitted g m (commands.New dst shape)) (slot_at g.limits m dst) (fitting shape) (next_identity g) shape
+    (admitted_other g m (commands.New dst shape)) (slot_other g.limits m dst) (fitting_other shape) (next_other g)
+    (has_room h.store.pages (needed shape)) (room (needed shape))
+command_room h g m _ room = (tt, refl)
 
 -- from an opening heap
 module _ (h : HeapState) (o : IsOpening h) (some : 0 < length h.store.pages) where

@@ -4,15 +4,13 @@ use Rattle.std.proofs.lemmas.List.{drop_all}
 use Rattle.size_classes.specs.declared.class.TheConstants.{CLASSES}
 use Rattle.size_classes.specs.Sizes.{blocks_in}
 use Rattle.graph_heap.specs.declared.command.Command.{Command}
-use Rattle.graph_heap.specs.declared.command.Command.TheVariants as commands
 use Rattle.graph_heap.specs.declared.command.Reply.{Reply}
 use Rattle.graph_heap.specs.declared.command.Change.{Change}
 use Rattle.graph_heap.specs.Graph.{Object, Graph, opening}
-use Rattle.graph_heap.specs.Effect.{reply_of, slot_at, fitting, next_identity, admitted}
-use Rattle.size_classes.specs.Need.{needed}
+use Rattle.graph_heap.specs.Effect.{reply_of}
 use Rattle.heap_model.specs.declared.phase.Phase.{Phase}
 use Rattle.heap_model.specs.declared.phase.Phase.TheVariants as phases
-use Rattle.heap_model.specs.Pages.{ArePages, has_room, free_blocks, whole_pages}
+use Rattle.heap_model.specs.Pages.{ArePages, free_blocks, whole_pages}
 use Rattle.heap_model.specs.State.{HeapState}
 use Rattle.heap_model.specs.Opening.{IsOpening}
 use Rattle.heap_model.specs.Settings.{HeapSettings, settings_of}
@@ -26,8 +24,7 @@ use Rattle.space.specs.Counts.{is_of, main_blocks, used_pages}
 use Rattle.space.proofs.Counts.{class_sum_le}
 use Rattle.space.proofs.Census.{census}
 use Rattle.space.proofs.Pacing.{more_since}
-use Rattle.space.proofs.Roomless.{admitted_other, slot_other, fitting_other, next_other}
-use Rattle.space.proofs.Running.{rest_only, new_has_room}
+use Rattle.space.proofs.Running.{rest_only}
 use Rattle.fragmentation.specs.Tight.{IsTight}
 use Rattle.fragmentation.specs.Gathering.{IsGathering}
 use Rattle.fragmentation.specs.Season.{Season, Lives, opening_season, made_since, needed_since, season_swept, season_after, Keeps, AllKeep}
@@ -39,7 +36,7 @@ use Rattle.fragmentation.proofs.FewTaken.{few_room}
 use Rattle.fragmentation.proofs.Gathering.{gather_change}
 use Rattle.fragmentation.proofs.Growing.{leftover_change, leftover_more, few_made}
 use Rattle.fragmentation.proofs.Acting.{IsGoing, gathers_settings, Before, Behind, Out, came_chain, out_chain, few_change}
-use Rattle.fragmentation.proofs.Counted.{IsCounted, counted_held, objects_then, needed_more, all_find_room, count_none, opening_counted, opening_settled}
+use Rattle.fragmentation.proofs.Counted.{IsCounted, counted_held, objects_then, needed_more, all_find_room, command_room, count_none, opening_counted, opening_settled}
 
 -- room for a command
 module _ (h : HeapState) (g : Graph) (s : Season) (first made : ℕ → ℕ) (a : ArePages h.store.pages) (w : IsFew h.store.pages h.phase first made) (same : s.graph ≡ g)
@@ -53,15 +50,9 @@ module _ (h : HeapState) (g : Graph) (s : Season) (first made : ℕ → ℕ) (a 
       omega (arith, x, p)))
 
   season_room : (m : ℕ) (c : Command) → season_pages s (asked_for s.graph m c) ≤ length h.store.pages → FindsRoom c (reply_of (room_for h c) g m c) × (change_by (room_for h c) g m c ≡ change_by true g m c)
-  unfolding reply_of
-  season_room m (commands.New dst shape) fits =
-      new_has_room (admitted g m (commands.New dst shape)) (slot_at g.limits m dst) (fitting shape) (next_identity g) shape
-      (admitted_other g m (commands.New dst shape)) (slot_other g.limits m dst) (fitting_other shape) (next_other g)
-      (has_room h.store.pages (needed shape))
-      (λ e. few_room h.store.pages h.phase first made (needed shape) a w (
-      let l = season_more (needed shape) (asked_for s.graph m (commands.New dst shape)) (λ k. (let x = e k in let y : asked_for s.graph m (commands.New dst shape) k ≡ asked_for g m (commands.New dst shape) k = ap (λ z. asked_for z m (commands.New dst shape) k) same in omega (arith, x, y))) in
+  season_room m c fits = command_room h g m c (λ need e. few_room h.store.pages h.phase first made need a w (
+      let l = season_more need (asked_for s.graph m c) (λ k. (let x = e k in let y : asked_for s.graph m c k ≡ asked_for g m c k = ap (λ z. asked_for z m c k) same in omega (arith, x, y))) in
       omega (arith, l, fits)))
-  season_room m _ fits = (tt, refl)
 
 left_same : (r : Course) (need more : ℕ → ℕ) → ((k : ℕ) → need k ≡ more k) → IsLeftover r.heap.store r.heap.phase need → IsLeftover r.heap.store r.heap.phase more
 left_same r need more e w = leftover_more r.heap.store r.heap.phase need more (λ k l. (let x = e k in omega (arith, x))) w

@@ -26,7 +26,7 @@ use Rattle.heap_model.proofs.Settings.{action_settings}
 use Rattle.heap_model.proofs.Stood.{stands_action}
 use Rattle.space.specs.Demand.{asked_by}
 use Rattle.space.specs.Tally.{is_tracing}
-use Rattle.space.specs.Counts.{main_blocks, leaving_pages, used_pages}
+use Rattle.space.specs.Counts.{main_blocks, used_pages}
 use Rattle.space.specs.Placement.{IsTidy}
 use Rattle.space.proofs.Counts.{one_if, used, both_true}
 use Rattle.space.proofs.Tidying.{shrinks_then, shrinks_writes, shrinks_shades, shrinks_frees, shrinks_keeps, tidy_same, tidy_action}
@@ -35,7 +35,7 @@ use Rattle.space.proofs.Spacing.{none_leaving}
 use Rattle.fragmentation.specs.Gathering.{AreUsed, ReceivesFirst, AreTight, HasLooked, IsGathering}
 use Rattle.fragmentation.specs.Suffice.{gathered_pages, GathersAll}
 use Rattle.fragmentation.proofs.IsFew.{IsFew}
-use Rattle.fragmentation.proofs.IsLeftover.{IsSettled, IsMoved, IsEmptying, IsLeftover}
+use Rattle.fragmentation.proofs.IsLeftover.{IsSettled, IsEmptying, AtLook, IsLeftover}
 use Rattle.fragmentation.proofs.Free.{chosen_free}
 use Rattle.fragmentation.proofs.Few.{few_starts, few_action, moving_not}
 use Rattle.fragmentation.proofs.Passing.{in_pass}
@@ -69,16 +69,14 @@ left_action h after cost g s need st ga all census same (Ends_sweep page block e
     ends : (b : Bool) → is_tracing (if b then phases.Moving (moves.Pass 0 0 None 0) else phases.Idle) ≡ true → ⊥
     ends true e = cc
     ends false e = cc
-left_action h after cost g s need st ga all census same (Looks_at_page class page best chosen at few more) w =
-    let q = at_look h class page best chosen need st.pages (census (sym same)) w at in (q.moved, q.count)
+left_action h after cost g s need st ga all census same (Looks_at_page class page best chosen at few more) w = at_look h class page best chosen need st.pages (census (sym same)) w at
 left_action h after cost g s need st ga all census same (Chooses_page class page best chosen k p new at few last is good there w0 pages) w =
     let q = at_look h class page best chosen need st.pages (census (sym same)) w at in
     let i = in_pass h class page best chosen ga at in
     let ok : is_choosable class (Some p) ≡ true = sym (ap (is_choosable class) there) ∙ (both_true _ _ good).0 in
     chosen_left h.store new class k.page chosen p need st.pages i.used there ok (chosen_free h.store.pages class k st.pages good) few w0 pages
     (λ c t. tight_action h _ 1 c st.pages (moving_not h class page best chosen at) (Chooses_page class page best chosen k p new at few last is good there w0 pages) t) q
-left_action h after cost g s need st ga all census same (Chooses_none class page best chosen at few last is) w =
-    let q = at_look h class page best chosen need st.pages (census (sym same)) w at in (q.moved, q.count)
+left_action h after cost g s need st ga all census same (Chooses_none class page best chosen at few last is) w = at_look h class page best chosen need st.pages (census (sym same)) w at
 left_action h after cost g s need st ga all census same (Moves_block class page block chosen i to j p q new e at leaving next place there empty w0 pages) w =
     let usable : is_usable p.class (Some q) ≡ true = ap (is_usable p.class) (sym there) ∙ (position-Some (is_usable p.class) h.store.pages to None place).1 in
     block_left h.store new page block chosen i to j p q need st.pages at leaving next usable there empty w0 pages
@@ -91,9 +89,9 @@ left_action h after cost g s need st ga all census same (Ends_moving done) w = e
 
     ended : MovingDone h → (class : ℕ) → class < CLASSES → IsSettled h.store class (need class)
     ended (No_class page best chosen e) class small =
-        let q : ((class : ℕ) → class < CLASSES → IsMoved h.store class (need class)) × (chosen ≤ leaving_pages h.store.pages) = at_phase h.store h.phase (phases.Moving (moves.Pass CLASSES page best chosen)) need e w in
+        let q : AtLook h.store chosen need = at_phase h.store h.phase (phases.Moving (moves.Pass CLASSES page best chosen)) need e w in
         let t : AreUsed h.store.pages (length h.store.pages) × ReceivesFirst h.store.pages × AreTight h.store.pages CLASSES × HasLooked h.store.pages CLASSES page best = subst (IsGathering h.store.pages (length h.store.pages)) e ga in
-        moved_settled h.store class (need class) small st.pages (t.2 class small) (main class small) (q.0 class small)
+        moved_settled h.store class (need class) small st.pages (t.2 class small) (main class small) (q.moved class small)
     ended (No_page k page block chosen p e at done most) class small =
         let q : IsEmptying h.store page block chosen need = at_phase h.store h.phase (phases.Moving (moves.Emptying k page block chosen)) need e w in
         let n = never_cut h.store page block chosen need q in
@@ -244,7 +242,7 @@ module _ (present snapshot : Graph) (first made old new : ℕ → ℕ) (census :
     first = used_pages h.store.pages;
     most = λ class small. (let u = used class h.store.pages in let n = none_leaving h.store.pages none in let f = settled_used h.store class (old class) (settled class small) in omega (arith, u.0, u.1, n, f));
     few = few_starts h.store.pages _ (λ class. refl);
-    left = (λ class small. inl (none_leaves h.store class none), omega arith);
+    left = record { moved = λ class small. inl (none_leaves h.store class none); count = omega arith };
   }))
     where
       moving : after_sweep h ≡ phases.Moving (moves.Pass 0 0 None 0)

@@ -304,9 +304,8 @@ module _ (h : HeapState) (o : IsOpening h) (some : 0 < length h.store.pages) whe
   pub opening_settled : (class need : ℕ) → IsSettled h.store class need
   opening_settled class need = record {
     page = length h.store.pages;
-    only = λ b x. absurd (none_held b x.held);
+    left = record { only = λ b x. absurd (none_held b x.held); some = λ on. absurd (leave_none class on) };
     few = (let s : staying_pages h.store.pages class ≡ 0 = count_none (stays class) refl in let z = one_none (leaves class (page_at h.store.pages (length h.store.pages))) (leave_none class) in omega (arith, s, z));
-    some = λ on. absurd (leave_none class on);
   }
     where
       number : Bool → ℕ

@@ -7,16 +7,12 @@ use Rattle.std.proofs.Math.Bool.{and-true, and-false}
 use Rattle.size_classes.specs.declared.class.TheConstants.{CLASSES}
 use Rattle.size_classes.specs.Sizes.{blocks_in}
 use Rattle.size_classes.proofs.Table.{blocks_some}
-use Rattle.heap_model.specs.declared.phase.Phase.{Phase}
 use Rattle.heap_model.specs.declared.phase.Phase.TheVariants as phases
-use Rattle.heap_model.specs.declared.phase.Moving.TheVariants as moves
-use Rattle.heap_model.specs.Pages.{Page, ArePages, page_at, has_room, pages_needed, whole_pages, free_blocks, free_pages}
-use Rattle.heap_model.specs.Store.{Store}
+use Rattle.heap_model.specs.Pages.{Page, ArePages, has_room, pages_needed, whole_pages, free_blocks, free_pages}
 use Rattle.heap_model.specs.State.{HeapState, is_leaving}
 use Rattle.heap_model.specs.Opening.{IsOpening}
 use Rattle.heap_model.specs.Event.{Course, Event, Runs}
 use Rattle.heap_model.specs.Led.{opened}
-use Rattle.heap_model.proofs.Moved.{same_number}
 use Rattle.space.specs.Tally.{EveryNewFindsRoom}
 use Rattle.space.specs.Space.{spare_of}
 use Rattle.space.specs.Counts.{main_blocks, used_pages, leaving_pages}
@@ -27,35 +23,14 @@ use Rattle.fragmentation.specs.Tight.{staying_pages}
 use Rattle.fragmentation.specs.Gathering.{IsGathering}
 use Rattle.fragmentation.specs.Season.{AllKeep, Lives, opening_season}
 use Rattle.fragmentation.specs.Suffice.{sparse_pages, WithinBlocks, gathered_pages}
-use Rattle.fragmentation.proofs.IsLeftover.{leaves, IsSettled, kept_pages}
 use Rattle.fragmentation.proofs.IsSparse.{IsSparse}
 use Rattle.fragmentation.proofs.Paging.{whole_none, gathered_least}
 use Rattle.fragmentation.proofs.Gathering.{gather_change}
 use Rattle.fragmentation.proofs.Counted.{opening_settled}
 use Rattle.fragmentation.proofs.Joints.{KeepsRoom, joint_runs}
 use Rattle.fragmentation.proofs.SparseChanges.{sparse_change, chain_sparse}
-use Rattle.fragmentation.proofs.Sparse.{sparse_phase}
-
--- of a class: its page that was left
-record HasPage (s : Store) (class need : ℕ) : Type 0 where
-  page : ℕ
-  few : kept_pages s.pages class page ≤ gathered_pages class need
-  some : leaves class (page_at s.pages page) ≡ true → blocks_in class ≤ need
-
-settled_page : (s : Store) (class need : ℕ) → IsSettled s class need → HasPage s class need
-settled_page s class need w = record { page = w.page; few = w.few; some = w.some }
-
-has_page : (s : Store) (p : Phase) (need : ℕ → ℕ) → IsSparse s p need → (class : ℕ) → class < CLASSES → HasPage s class (need class)
-has_page s phases.Idle need w class l = settled_page s class (need class) (w class l)
-has_page s (phases.Roots next) need w class l = settled_page s class (need class) (w class l)
-has_page s (phases.Marking part cell) need w class l = settled_page s class (need class) (w class l)
-has_page s (phases.Sweeping page block) need w class l = settled_page s class (need class) (w class l)
-has_page s (phases.Moving (moves.Pass c page best chosen)) need w class l = settled_page s class (need class) (w class l).settled
-has_page s (phases.Moving (moves.Emptying c page block chosen)) need w class l = by_class (w.source.class == class) refl
-  where
-    by_class : (b : Bool) → (w.source.class == class) ≡ b → HasPage s class (need class)
-    by_class true e = subst (λ z. HasPage s z (need z)) (same_number w.source.class class e) (record { page = page; few = w.few; some = λ on. w.enough })
-    by_class false e = settled_page s class (need class) (w.others class l e).settled
+use Rattle.fragmentation.proofs.Leftover.{settled_used}
+use Rattle.fragmentation.proofs.Sparse.{sparse_phase, all_settled}
 
 -- a number for each class and page, added up by class or by page
 class_sums : (number : ℕ → Option Page → ℕ) (pages : List (Option Page)) (n : ℕ) → class_sum (λ k. sum_by (number k) pages) n ≡ sum_by (λ o. class_sum (λ k. number k o) n) pages
@@ -98,14 +73,11 @@ module _ (h : HeapState) (blocks : ℕ → ℕ) (spare : ℕ) (a : ArePages h.st
   class_sparse : (need : ℕ → ℕ) → ((k : ℕ) → k < CLASSES → main_blocks h.store.pages k + need k ≤ blocks k) → (class : ℕ) → class < CLASSES → whole_pages class (need class - free_blocks h.store.pages class) + staying_pages h.store.pages class ≤ gathered_pages class (blocks class)
   class_sparse need asks class small = by_missing (zero_or (need class - free_blocks h.store.pages class))
     where
-      q : HasPage h.store class (blocks class)
-      q = has_page h.store h.phase blocks w class small
-
       missing : ℕ
       missing = need class - free_blocks h.store.pages class
 
       by_missing : (missing ≡ 0) ⊎ (0 < missing) → whole_pages class missing + staying_pages h.store.pages class ≤ gathered_pages class (blocks class)
-      by_missing (inl z) = let n : whole_pages class missing ≡ 0 = ap (whole_pages class) z ∙ whole_none class small in let f = q.few in omega (arith, n, f)
+      by_missing (inl z) = let n : whole_pages class missing ≡ 0 = ap (whole_pages class) z ∙ whole_none class small in let f = settled_used h.store class (blocks class) (all_settled h.store h.phase blocks w class small) in omega (arith, n, f)
       by_missing (inr s) =
           let some = blocks_some class small in
           let o = own class h.store.pages a in

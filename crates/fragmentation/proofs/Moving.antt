@@ -22,7 +22,6 @@ use Rattle.space.specs.Demand.{blocks_of, asked_for, asked_by}
 use Rattle.space.specs.Tally.{is_tracing, FindsRoom, NewFindsRoom, EveryNewFindsRoom}
 use Rattle.space.specs.Counts.{is_of, main_blocks, used_pages}
 use Rattle.space.proofs.Counts.{class_sum_le}
-use Rattle.space.proofs.Census.{census}
 use Rattle.space.proofs.Pacing.{more_since}
 use Rattle.space.proofs.Running.{rest_only}
 use Rattle.fragmentation.specs.Tight.{IsTight}
@@ -36,7 +35,7 @@ use Rattle.fragmentation.proofs.FewTaken.{few_room}
 use Rattle.fragmentation.proofs.Gathering.{gather_change}
 use Rattle.fragmentation.proofs.Growing.{leftover_change, leftover_more, few_made}
 use Rattle.fragmentation.proofs.Acting.{IsGoing, gathers_settings, Before, Behind, Out, came_chain, out_chain, few_change}
-use Rattle.fragmentation.proofs.Counted.{IsCounted, counted_held, objects_then, needed_more, all_find_room, command_room, count_none, opening_counted, opening_settled}
+use Rattle.fragmentation.proofs.Counted.{IsCounted, held_since, counted_held, objects_then, needed_more, all_find_room, command_room, count_none, opening_counted, opening_settled}
 
 -- room for a command
 module _ (h : HeapState) (g : Graph) (s : Season) (first made : ℕ → ℕ) (a : ArePages h.store.pages) (w : IsFew h.store.pages h.phase first made) (same : s.graph ≡ g)
@@ -137,10 +136,7 @@ module _ (live : Lives) (pages : ℕ) (r new : Course) (budget units : ℕ) (pha
 
   counted : (j : HeapState) → IsGoing j g (snapshot_of r) → is_tracing j.phase ≡ false → (class : ℕ) → class < CLASSES → main_blocks j.store.pages class ≤ resting class
   counted j y off class l =
-      let only = rest_only j g (snapshot_of r) i.begun.ids y.stands off i.begun.reached in
-      let x = census j.store y.stands.pages class g.objects y.tidy (snapshot_of r).objects i.begun.ids i.kept_last only in
-      let z = i.begun.blocks class l in
-      omega (arith, x, z)
+      held_since j.store g.objects (snapshot_of r) (live s.cycles) i.begun.live y.stands.pages y.tidy i.begun.kept (rest_only j g (snapshot_of r) i.begun.live.ids y.stands off i.begun.live.reached) class l
 
   out_phase : is_tracing new.heap.phase ≡ is_tracing phase
   out_phase = ap is_tracing q.ends

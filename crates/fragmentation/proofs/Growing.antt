@@ -1,6 +1,7 @@
 -- New objects: what they leave of how few pages there are.
 use Rattle.std.proofs.Common.{◌≡◌, ℕ, ◌+◌, ◌-◌, ◌*◌, ◌/◌, ◌<◌, ◌≤◌, ◌⊎◌, inl, inr, Bool, true, false, ◌&&◌, ◌==◌, if◌then◌else◌, List, Option, Some, None, length, ap, ◌∙◌, sym, subst, arith, refl}
-use Rattle.std.proofs.lemmas.Bool.{eq-eqb}
+use Rattle.std.proofs.lemmas.Bool.{eq-eqb, eqb-true}
+use Rattle.std.proofs.lemmas.List.Sums.{count_by-le-length}
 use Rattle.std.proofs.lemmas.Bool.Decides.{eqb_tells}
 use Rattle.std.proofs.lemmas.Nat.{le-div}
 use Rattle.std.proofs.Math.Bool.{and-false}
@@ -13,9 +14,9 @@ use Rattle.size_classes.specs.Parts.{cells_of, parts_in, part_words}
 use Rattle.size_classes.specs.Need.{blocks_needed, needed}
 use Rattle.size_classes.proofs.Table.{blocks_some}
 use Rattle.heap_model.specs.declared.phase.Phase.{Phase}
-use Rattle.heap_model.specs.Pages.{Page, ArePages, with_held, fresh_page, is_usable, TakesBlock, page_at, free_on, free_blocks, whole_pages}
+use Rattle.heap_model.specs.Pages.{Page, ArePages, with_held, fresh_page, TakesBlock, page_at, free_blocks, whole_pages}
 use Rattle.heap_model.specs.Store.{Store}
-use Rattle.heap_model.specs.State.{HeapState}
+use Rattle.heap_model.specs.State.{HeapState, is_leaving}
 use Rattle.heap_model.specs.Placed.{KeepsPages, IsPlaced}
 use Rattle.heap_model.specs.Taking.{Takes, Nothing_taken, Part_taken}
 use Rattle.heap_model.specs.Making.{MakesObject}
@@ -25,135 +26,70 @@ use Rattle.heap_model.proofs.Rooms.{no_blocks, more_needed}
 use Rattle.heap_model.proofs.Moved.{same_number, usable_fits}
 use Rattle.heap_model.proofs.Left.{change_left}
 use Rattle.heap_model.proofs.Marks.{taken_placed}
-use Rattle.heap_model.proofs.Taken.{class_low, block_pages, takes_keep}
+use Rattle.heap_model.proofs.Taken.{class_low, takes_pages, takes_keep}
 use Rattle.space.specs.Demand.{asked_by}
-use Rattle.space.specs.Counts.{main_blocks, leaving_pages, used_pages}
-use Rattle.space.proofs.Counts.{one_if, own, leaving_set, both_true}
+use Rattle.space.specs.Counts.{is_of, main_blocks, leaving_pages, used_pages, IsBounded}
+use Rattle.space.proofs.Counts.{one_if, own, both_true, takes_bounded}
 use Rattle.space.proofs.Tidying.{Shrinks, shrinks_none, shrinks_then, shrinks_writes}
 use Rattle.space.proofs.Changing.{made_blocks, shrinks_records}
 use Rattle.fragmentation.specs.Tight.{staying_pages}
 use Rattle.fragmentation.proofs.IsFew.{IsFew}
 use Rattle.fragmentation.specs.Suffice.{gathered_pages}
 use Rattle.fragmentation.proofs.IsLeftover.{leaves, IsStranded, one_leaving, kept_pages, IsLeftover}
-use Rattle.fragmentation.proofs.Free.{free_change}
-use Rattle.fragmentation.proofs.Taken.{FromUsed, FromFree, took, fresh_few, fresh_other}
+use Rattle.fragmentation.proofs.Taken.{FromFree, took}
 use Rattle.fragmentation.proofs.Paging.{gathered_more, gathered_least, gathered_enough}
-use Rattle.fragmentation.proofs.Few.{one_less, none_less}
 use Rattle.fragmentation.proofs.FewTaken.{block_few}
 use Rattle.fragmentation.proofs.Leftover.{staying_set, Goes, goes_same, goes_then, leftover_goes}
 use Rattle.fragmentation.proofs.Gathering.{takes_tight, clears_pages}
 
--- what a block that is taken leaves: a page more only where none of the class's blocks was free
-pub record Grew (old new : List (Option Page)) (class : ℕ) : Type 0 where
-  pub staying : (k : ℕ) → (staying_pages new k ≡ staying_pages old k) ⊎ ((class ≡ k) × (staying_pages new k ≡ staying_pages old k + 1) × (free_blocks old k ≡ 0))
-  pub leaving : leaving_pages new ≡ leaving_pages old
-  pub main : (k : ℕ) → main_blocks new k ≡ main_blocks old k + one_if (class == k)
+-- blocks that are taken are held, and no page comes to leave: space counts them within any bound, so within one that is great enough
+takes_counts : (cells : ℕ) (at : ℕ → ℕ) (old : List (Option Page)) (parts : ℕ) (new : List (Option Page)) → ArePages old → Takes cells at old parts new → (leaving_pages new ≡ leaving_pages old) × ((k : ℕ) → main_blocks new k ≡ main_blocks old k + blocks_needed cells parts k)
+takes_counts cells at old parts new a takes = let t = takes_bounded cells at old parts new blocks (length old) a bounded (λ k l. omega arith) takes in (t.leaving, t.main)
+  where
+    blocks : ℕ → ℕ
+    blocks k = main_blocks old k + blocks_needed cells parts k + 1
 
-pub block_grew : (old new : List (Option Page)) (class page index : ℕ) → class < CLASSES → ArePages old → TakesBlock old class page index new → Grew old new class
-block_grew old new class page index small a t = elim (took old new class page index t) [ inl u ↦ from_used u | inr f ↦ from_free f ]
+    bounded : IsBounded old blocks (length old)
+    bounded = record { used = λ k l. by_none k (blocks k == 0) refl; leaving = count_by-le-length is_leaving old }
+      where
+        by_none : (k : ℕ) (b : Bool) → (blocks k == 0) ≡ b → used_pages old k ≤ (if b then 0 else whole_pages k (blocks k) + length old)
+        by_none k true e = absurd (let z = eqb-true (blocks k) 0 e in omega (arith, z))
+        by_none k false e = let l = count_by-le-length (is_of k) old in omega (arith, l)
+
+-- a block that is taken opens a page only where none of the class's blocks was free
+block_stays : (old new : List (Option Page)) (class page index k : ℕ) → TakesBlock old class page index new → (staying_pages new k ≡ staying_pages old k) ⊎ ((class ≡ k) × (staying_pages new k ≡ staying_pages old k + 1) × (free_blocks old k ≡ 0))
+block_stays old new class page index k t = elim (took old new class page index t) [
+  | inl u ↦ inl (let s = staying_set old new page (Some u.source) (Some (with_held u.source index true)) within u.at u.is k in omega (arith, s))
+  | inr f ↦ from_free f
+]
   where
     within : page < length old
     within = page_for_within old class page t.page_is
 
-    pages : ArePages new
-    pages = block_pages old new class page index small a t
-
-    from_used : FromUsed old class page index new → Grew old new class
-    from_used u = record {
-      staying = λ k. inl (same k);
-      leaving = (let s = leaving_set old new page (Some u.source) (Some v) within u.at u.is in omega (arith, s));
-      main = λ k. by_class k (class == k) refl;
-    }
+    from_free : FromFree old class page index new → (staying_pages new k ≡ staying_pages old k) ⊎ ((class ≡ k) × (staying_pages new k ≡ staying_pages old k + 1) × (free_blocks old k ≡ 0))
+    from_free f = by_class (class == k) refl
       where
-        v : Page
-        v = with_held u.source index true
+        set_stay : staying_pages new k ≡ staying_pages old k + one_if ((class == k) && true)
+        set_stay = let s = staying_set old new page None (Some (with_held (fresh_page class) index true)) within f.at f.is k in omega (arith, s)
 
-        same : (k : ℕ) → staying_pages new k ≡ staying_pages old k
-        same k = let s = staying_set old new page (Some u.source) (Some v) within u.at u.is k in omega (arith, s)
+        by_class : (b : Bool) → (class == k) ≡ b → (staying_pages new k ≡ staying_pages old k) ⊎ ((class ≡ k) × (staying_pages new k ≡ staying_pages old k + 1) × (free_blocks old k ≡ 0))
+        by_class true e = let same = same_number class k e in inr (same, set_stay ∙ ap (λ b. staying_pages old k + one_if (b && true)) e, subst (λ z. free_blocks old z ≡ 0) same (no_blocks old class f.none))
+        by_class false e = inl (let o : one_if ((class == k) && true) ≡ 0 = ap (λ b. one_if (b && true)) e in omega (arith, set_stay, o))
 
-        by_class : (k : ℕ) (b : Bool) → (class == k) ≡ b → main_blocks new k ≡ main_blocks old k + one_if b
-        by_class k true e =
-            let f = free_change old new page (Some u.source) (Some v) within u.at u.is k in
-            let one : free_on k (Some v) + 1 ≡ free_on k (Some u.source) = one_less u.source k index (subst (λ z. is_usable z (Some u.source) ≡ true) (same_number class k e) u.usable) u.opened in
-            let o = own k old a in let n = own k new pages in
-            let m : blocks_in k * staying_pages new k ≡ blocks_in k * staying_pages old k = ap (λ z. blocks_in k * z) (same k) in
-            omega (arith, f, one, o, n, m)
-        by_class k false e =
-            let f = free_change old new page (Some u.source) (Some v) within u.at u.is k in
-            let none = none_less u.source class k index (usable_fits class u.source u.usable).0 e in
-            let o = own k old a in let n = own k new pages in
-            let m : blocks_in k * staying_pages new k ≡ blocks_in k * staying_pages old k = ap (λ z. blocks_in k * z) (same k) in
-            omega (arith, f, none.0, none.1, o, n, m)
+-- and the blocks of an object: no class has fewer pages than before, or more than before and than so many blocks take, where what is held and what they need are no more
+record Grew (old new : List (Option Page)) (need : ℕ → ℕ) : Type 0 where
+  more : (k : ℕ) → staying_pages old k ≤ staying_pages new k
+  staying : (k : ℕ) → k < CLASSES → (staying_pages new k ≡ staying_pages old k) ⊎ (staying_pages new k ≤ whole_pages k (need k))
 
-    from_free : FromFree old class page index new → Grew old new class
-    from_free f = record {
-      staying = λ k. stay_by k (class == k) refl;
-      leaving = (let s = leaving_set old new page None (Some v) within f.at f.is in omega (arith, s));
-      main = λ k. by_class k (class == k) refl;
-    }
-      where
-        v : Page
-        v = with_held (fresh_page class) index true
-
-        set_stay : (k : ℕ) → staying_pages new k ≡ staying_pages old k + one_if ((class == k) && true)
-        set_stay k = let s = staying_set old new page None (Some v) within f.at f.is k in omega (arith, s)
-
-        none : free_blocks old class ≡ 0
-        none = no_blocks old class f.none
-
-        stay_by : (k : ℕ) (b : Bool) → (class == k) ≡ b → (staying_pages new k ≡ staying_pages old k) ⊎ ((class ≡ k) × (staying_pages new k ≡ staying_pages old k + 1) × (free_blocks old k ≡ 0))
-        stay_by k true e =
-            let same = same_number class k e in
-            let s = set_stay k in
-            let o : one_if ((class == k) && true) ≡ 1 = ap (λ b. one_if (b && true)) e in
-            inr (same, omega (arith, s, o), subst (λ z. free_blocks old z ≡ 0) same none)
-        stay_by k false e = let s = set_stay k in let o : one_if ((class == k) && true) ≡ 0 = ap (λ b. one_if (b && true)) e in inl (omega (arith, s, o))
-
-        by_class : (k : ℕ) (b : Bool) → (class == k) ≡ b → main_blocks new k ≡ main_blocks old k + one_if b
-        by_class k true e =
-            let same = same_number class k e in
-            let s = set_stay k in
-            let z : one_if ((class == k) && true) ≡ 1 = ap (λ b. one_if (b && true)) e in
-            let c = free_change old new page None (Some v) within f.at f.is k in
-            let n : free_on k (Some v) + 1 ≡ blocks_in k = subst (λ z. free_on z (Some v) + 1 ≡ blocks_in z) same (fresh_few class index f.opened) in
-            let zero : free_blocks old k ≡ 0 = subst (λ z. free_blocks old z ≡ 0) same none in
-            let o = own k old a in let p = own k new pages in
-            let uu : staying_pages new k ≡ staying_pages old k + 1 = omega (arith, s, z) in
-            let m : blocks_in k * staying_pages new k ≡ blocks_in k * (staying_pages old k + 1) = ap (λ z. blocks_in k * z) uu in
-            let d : blocks_in k * (staying_pages old k + 1) ≡ blocks_in k * staying_pages old k + blocks_in k = omega arith in
-            omega (arith, c, n, zero, o, p, m, d)
-        by_class k false e =
-            let s = set_stay k in
-            let z : one_if ((class == k) && true) ≡ 0 = ap (λ b. one_if (b && true)) e in
-            let c = free_change old new page None (Some v) within f.at f.is k in
-            let n = fresh_other class k index e in
-            let o = own k old a in let p = own k new pages in
-            let uu : staying_pages new k ≡ staying_pages old k = omega (arith, s, z) in
-            let m : blocks_in k * staying_pages new k ≡ blocks_in k * staying_pages old k = ap (λ z. blocks_in k * z) uu in
-            omega (arith, c, n, o, p, m)
-
--- and the blocks of an object: no class has more pages than before, or than so many blocks take, where what is held and what they need are no more
-pub record GrewAll (old new : List (Option Page)) (cells parts : ℕ) (need : ℕ → ℕ) : Type 0 where
-  pub pages : ArePages new
-  pub more : (k : ℕ) → staying_pages old k ≤ staying_pages new k
-  pub staying : (k : ℕ) → k < CLASSES → (staying_pages new k ≡ staying_pages old k) ⊎ (staying_pages new k ≤ whole_pages k (need k))
-  pub leaving : leaving_pages new ≡ leaving_pages old
-  pub main : (k : ℕ) → main_blocks new k ≡ main_blocks old k + blocks_needed cells parts k
-
-grew_then : (cells : ℕ) (old s t : List (Option Page)) (part class page index : ℕ) (need : ℕ → ℕ) → ((k : ℕ) → k < CLASSES → main_blocks old k + blocks_needed cells (part + 1) k ≤ need k) → class_for (part_words cells part) ≡ Some class → TakesBlock s class page index t → GrewAll old s cells part need → GrewAll old t cells (part + 1) need
-grew_then cells old s t part class page index need fits f b r = record {
-  pages = block_pages s t class page index small r.pages b;
-  more = λ k. (let m = r.more k in elim (g.staying k) [ inl e ↦ omega (arith, m, e) | inr e ↦ (let z = e.1 in omega (arith, m, z)) ]);
-  staying = λ k l. stay k l (g.staying k) (r.staying k l);
-  leaving = g.leaving ∙ r.leaving;
-  main = λ k. (let m = r.main k in let o = g.main k in let n = more_needed cells part class k f in omega (arith, m, o, n));
+grew_then : (cells : ℕ) (at : ℕ → ℕ) (old : List (Option Page)) (part : ℕ) (s t : List (Option Page)) (class page index : ℕ) (need : ℕ → ℕ) → ArePages old → ((k : ℕ) → k < CLASSES → main_blocks old k + blocks_needed cells (part + 1) k ≤ need k) → class_for (part_words cells part) ≡ Some class
+    → Takes cells at old part s → TakesBlock s class page index t → Grew old s need → Grew old t need
+grew_then cells at old part s t class page index need a fits f takes b r = record {
+  more = λ k. (let m = r.more k in elim (g k) [ inl e ↦ omega (arith, m, e) | inr e ↦ (let z = e.1 in omega (arith, m, z)) ]);
+  staying = λ k l. stay k l (g k) (r.staying k l);
 }
   where
-    small : class < CLASSES
-    small = class_low (part_words cells part) class f
-
-    g : Grew s t class
-    g = block_grew s t class page index small r.pages b
+    g : (k : ℕ) → (staying_pages t k ≡ staying_pages s k) ⊎ ((class ≡ k) × (staying_pages t k ≡ staying_pages s k + 1) × (free_blocks s k ≡ 0))
+    g k = block_stays s t class page index k b
 
     stay : (k : ℕ) → k < CLASSES → (staying_pages t k ≡ staying_pages s k) ⊎ ((class ≡ k) × (staying_pages t k ≡ staying_pages s k + 1) × (free_blocks s k ≡ 0)) → (staying_pages s k ≡ staying_pages old k) ⊎ (staying_pages s k ≤ whole_pages k (need k))
         → (staying_pages t k ≡ staying_pages old k) ⊎ (staying_pages t k ≤ whole_pages k (need k))
@@ -161,8 +97,8 @@ grew_then cells old s t part class page index need fits f b r = record {
     stay k l (inl e) (inr d) = inr (omega (arith, e, d))
     stay k l (inr e) d =
         let some = blocks_some k l in
-        let o = own k s r.pages in
-        let m = r.main k in
+        let o = own k s (takes_pages cells at old part s a takes) in
+        let m = (takes_counts cells at old part s a takes).1 k in
         let n = more_needed cells part class k f in
         let one : one_if (class == k) ≡ 1 = ap one_if (eq-eqb class k e.0) in
         let x = fits k l in
@@ -173,10 +109,10 @@ grew_then cells old s t part class page index need fits f b r = record {
         let q = le-div (staying_pages s k + 1) (need k + (blocks_in k - 1)) (blocks_in k) some (omega (arith, o, m, n, one, x, z, d, c, some)) in
         inr (omega (arith, p, q))
 
-pub takes_grew : (cells : ℕ) (at : ℕ → ℕ) (old : List (Option Page)) (parts : ℕ) (new : List (Option Page)) (need : ℕ → ℕ) → ArePages old → ((k : ℕ) → k < CLASSES → main_blocks old k + blocks_needed cells parts k ≤ need k) → Takes cells at old parts new → GrewAll old new cells parts need
-takes_grew cells at old parts new need a fits Nothing_taken = record { pages = a; more = λ k. omega arith; staying = λ k l. inl refl; leaving = refl; main = λ k. omega arith }
+takes_grew : (cells : ℕ) (at : ℕ → ℕ) (old : List (Option Page)) (parts : ℕ) (new : List (Option Page)) (need : ℕ → ℕ) → ArePages old → ((k : ℕ) → k < CLASSES → main_blocks old k + blocks_needed cells parts k ≤ need k) → Takes cells at old parts new → Grew old new need
+takes_grew cells at old parts new need a fits Nothing_taken = record { more = λ k. omega arith; staying = λ k l. inl refl }
 takes_grew cells at old parts new need a fits (Part_taken part class index s t takes f b) =
-    grew_then cells old s t part class (at part / 2048) index need fits f b (takes_grew cells at old part s need a (λ k l. (let n = more_needed cells part class k f in let x = fits k l in omega (arith, n, x))) takes)
+    grew_then cells at old part s t class (at part / 2048) index need a fits f takes b (takes_grew cells at old part s need a (λ k l. (let n = more_needed cells part class k f in let x = fits k l in omega (arith, n, x))) takes)
 
 -- a leaving page stays as it is, and no other comes to leave
 pub leaves_kept : (old new : List (Option Page)) (class k : ℕ) → KeepsPages old new → leaves class (page_at new k) ≡ leaves class (page_at old k)
@@ -197,7 +133,7 @@ module _ (s new : Store) (shape : Shape) (colour : Bool) (id : ℕ) (at : ℕ �
   keeps : KeepsPages s.pages new.pages
   keeps = takes_keep (cells_of shape) at s.pages (parts_in (cells_of shape)) new.pages takes
 
-  grew : GrewAll s.pages new.pages (cells_of shape) (parts_in (cells_of shape)) more
+  grew : Grew s.pages new.pages more
   grew = takes_grew (cells_of shape) at s.pages (parts_in (cells_of shape)) new.pages more a fits takes
 
   -- a part of the new object stands on a page that stays
@@ -256,7 +192,7 @@ module _ (s new : Store) (shape : Shape) (colour : Bool) (id : ℕ) (at : ℕ �
     kept = kept_new;
     tight = λ k w. takes_tight (cells_of shape) at s.pages (parts_in (cells_of shape)) new.pages k takes w;
     staying = grew.more;
-    leaving = (let e = grew.leaving in omega (arith, e));
+    leaving = (let e = (takes_counts (cells_of shape) at s.pages (parts_in (cells_of shape)) new.pages a takes).0 in omega (arith, e));
     less = l;
   }
 

@@ -10,6 +10,7 @@ use Rattle.size_classes.specs.declared.class.TheConstants.{CLASSES}
 use Rattle.size_classes.specs.Sizes.{blocks_in}
 use Rattle.heap_model.specs.declared.phase.Phase.{Phase}
 use Rattle.heap_model.specs.declared.phase.Phase.TheVariants as phases
+use Rattle.heap_model.specs.declared.phase.Moving.{Moving}
 use Rattle.heap_model.specs.declared.phase.Moving.TheVariants as moves
 use Rattle.heap_model.specs.declared.phase.Candidate.{Candidate}
 use Rattle.heap_model.specs.Pages.{Page, IsPage, ArePages, IsOpen, is_usable, with_held, page_at, free_on, free_blocks}
@@ -46,13 +47,6 @@ next_fewer p block i n =
     let e : suc i ≡ i + 1 = omega arith in
     next_flag p.held block i n.from (get_or_from_slice_get p.held i true false n.held) (λ k x y. get_or_from_slice_get p.held k false false (n.first k x y)) ∙ ap (λ z. count_by (λ b. b) (drop z p.held) + 1) e
 
--- a class whose page was free or used
-of_one : (class k : ℕ) (p : Page) → p.class ≡ class → (class == k) ≡ true → one_if (is_of k (Some p)) ≡ 1
-of_one class k p c e = ap one_if (ap (λ z. z == k) c ∙ e)
-
-of_none : (class k : ℕ) (p : Page) → p.class ≡ class → (class == k) ≡ false → one_if (is_of k (Some p)) ≡ 0
-of_none class k p c e = ap one_if (ap (λ z. z == k) c ∙ e)
-
 -- pages and phase that leave the numbers as they are, or make them no worse
 few_less : (old new : List (Option Page)) (p q : Phase) (first made : ℕ → ℕ) → IsFew old p first made
     → ((class : ℕ) → class < CLASSES → used_pages new class ≤ used_pages old class)
@@ -77,12 +71,6 @@ few_starts pages p none = record {
   fair = λ class l. (let z = none class in omega (arith, z));
   still = λ e class l. inr (omega arith);
 }
-
-sweeping_is : (h : HeapState) (page block : ℕ) → h.phase ≡ phases.Sweeping page block → is_sweeping h.phase ≡ true
-sweeping_is h page block e = ap is_sweeping e
-
-true_false : (b : Bool) → b ≡ true → b ≡ false → ⊥
-true_false b p q = cc
 
 -- a page that is closed
 module _ (old new : List (Option Page)) (page : ℕ) (l : page < length old) (w : ArePages old) (is : new ≡ set old page (closed (page_at old page))) where
@@ -269,14 +257,26 @@ moved_few old new class page block chosen i to j p q first made at leaving next 
         let b : to_move new k (phases.Moving (moves.Emptying class page (i + 1) chosen)) ≡ 0 = ap (held_from k (i + 1)) now ∙ ap (λ b. if b then count_by (λ b. b) (drop (i + 1) p.held) else 0) e in
         omega (arith, mu, f, none.0, none.1, a, b)
 
--- at a look of a pass, and where moving ends, no page is swept
-pub moving_not : (h : HeapState) (class page : ℕ) (best : Option Candidate) (chosen : ℕ) → AtPass h class page best chosen → is_sweeping h.phase ≡ false
-moving_not h class page best chosen (In_pass class0 page0 best0 chosen0 e) = ap is_sweeping e
-moving_not h class page best chosen (After_page class0 page0 block chosen0 p e at on done few) = ap is_sweeping e
+-- at a look of a pass, and where moving ends, blocks are moved
+pub at_pass_moving : (h : HeapState) (class page : ℕ) (best : Option Candidate) (chosen : ℕ) → AtPass h class page best chosen → (m : Moving) × (h.phase ≡ phases.Moving m)
+at_pass_moving h class page best chosen (In_pass class0 page0 best0 chosen0 e) = (_, e)
+at_pass_moving h class page best chosen (After_page class0 page0 block chosen0 p e at on done few) = (_, e)
 
-done_not : (h : HeapState) → MovingDone h → is_sweeping h.phase ≡ false
-done_not h (No_class page best chosen e) = ap is_sweeping e
-done_not h (No_page class page block chosen p e at done l) = ap is_sweeping e
+pub done_moving : (h : HeapState) → MovingDone h → (m : Moving) × (h.phase ≡ phases.Moving m)
+done_moving h (No_class page best chosen e) = (_, e)
+done_moving h (No_page class page block chosen p e at done l) = (_, e)
+
+pub moving_not : (h : HeapState) (class page : ℕ) (best : Option Candidate) (chosen : ℕ) → AtPass h class page best chosen → is_sweeping h.phase ≡ false
+moving_not h class page best chosen at = ap is_sweeping (at_pass_moving h class page best chosen at).1
+
+-- out of a sweep moving begins, or the cycle ends
+pub sweep_ended : (b : Bool) → is_tracing (if b then phases.Moving (moves.Pass 0 0 None 0) else phases.Idle) ≡ false
+sweep_ended true = refl
+sweep_ended false = refl
+
+-- a test isn't both
+pub not_both : (b : Bool) → b ≡ true → b ≡ false → ⊥
+not_both b p q = cc
 
 -- each action but the change out of a sweep
 pub few_action : (h after : HeapState) (cost : ℕ) (first made : ℕ → ℕ) → ArePages h.store.pages → is_tracing after.phase ≡ is_tracing h.phase → Action h cost after → IsFew h.store.pages h.phase first made → IsFew after.store.pages after.phase first made
@@ -311,11 +311,7 @@ few_action h after cost first made a same (Closes_page page block new e l f w0 p
     (λ k b. (close_counts h.store.pages new.pages page l a pages k).0)
     (λ k b. (let c = (close_counts h.store.pages new.pages page l a pages k).1 in omega (arith, c)))
     (λ s. absurd (cc))
-few_action h after cost first made a same (Ends_sweep page block e l) w = absurd (ends (is_sparse h) (same ∙ ap is_tracing e))
-  where
-    ends : (b : Bool) → is_tracing (if b then phases.Moving (moves.Pass 0 0 None 0) else phases.Idle) ≡ true → ⊥
-    ends true e = cc
-    ends false e = cc
+few_action h after cost first made a same (Ends_sweep page block e l) w = absurd (not_both _ (same ∙ ap is_tracing e) (sweep_ended (is_sparse h)))
 few_action h after cost first made a same (Looks_at_page class page best chosen at few more) w = few_same _ _ _ _ first made w refl (λ class. refl) (λ s. moving_not h class page best chosen at)
 few_action h after cost first made a same (Chooses_page class page best chosen k p new at few last is good there w0 pages) w =
     let ok : is_choosable class (Some p) ≡ true = sym (ap (is_choosable class) there) ∙ (both_true _ _ good).0 in
@@ -328,4 +324,4 @@ few_action h after cost first made a same (Moves_block class page block chosen i
     moved_few h.store.pages new.pages class page block chosen i to j p q first made at leaving next usable there empty pages
     (λ c t. tight_action h _ _ c a (ap is_sweeping e) (Moves_block class page block chosen i to j p q new e at leaving next place there empty w0 pages) t)
     (subst (λ z. IsFew h.store.pages z first made) e w)
-few_action h after cost first made a same (Ends_moving done) w = few_same _ _ _ _ first made w refl (λ class. refl) (λ s. done_not h done)
+few_action h after cost first made a same (Ends_moving done) w = few_same _ _ _ _ first made w refl (λ class. refl) (λ s. ap is_sweeping (done_moving h done).1)

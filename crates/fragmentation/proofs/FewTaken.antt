@@ -1,6 +1,6 @@
 -- How many pages a class has since a sweep ended, through blocks that are taken; and room for what is asked for.
 use Rattle.std.proofs.Common.{◌≡◌, ℕ, zero, suc, ◌+◌, ◌-◌, ◌*◌, ◌/◌, ◌<◌, ◌≤◌, ◌⊎◌, inl, inr, Bool, true, false, ◌==◌, if◌then◌else◌, List, Option, Some, None, length, set, ap, ◌∙◌, sym, subst, arith, refl}
-use Rattle.std.proofs.lemmas.Bool.{le-leb, eq-eqb}
+use Rattle.std.proofs.lemmas.Bool.{le-leb}
 use Rattle.std.proofs.lemmas.Nat.{le-div}
 use Rattle.std.proofs.lemmas.Option.{same_Some}
 use Rattle.size_classes.specs.declared.class.TheConstants.{CLASSES}
@@ -44,9 +44,6 @@ block_few old new class page index p first made small placed t w = elim (took ol
   where
     within : page < length old
     within = page_for_within old class page t.page_is
-
-    one_same : one_if (class == class) ≡ 1
-    one_same = ap one_if (eq-eqb class class refl)
 
     -- a leaving page gives no block
     leaving_same : (v : Option Page) → new ≡ set old page v → ((q : Page) → page_at old page ≡ Some q → q.leaving ≡ true → ⊥) → (k : ℕ) (q : Page) → page_at old k ≡ Some q → q.leaving ≡ true → page_at new k ≡ Some q

@@ -31,9 +31,6 @@ use Rattle.fragmentation.specs.Suffice.{gathered_pages}
 use Rattle.fragmentation.proofs.Paging.{gathered_more}
 use Rattle.fragmentation.proofs.IsLeftover.{leaves, IsStranded, NoneStranded, one_leaving, kept_pages, LeftOn, IsSettled, IsMoved, IsEmptied, IsEmptying, ByPhase, AtLook, IsLeftover}
 
-abbrev stay_on : ℕ → Option Page → ℕ
-stay_on class o = one_if (stays class o)
-
 -- one page for another in the list
 module _ (old new : List (Option Page)) (page : ℕ) (o v : Option Page) (l : page < length old) (at : page_at old page ≡ o) (is : new ≡ set old page v) where
   pub staying_set : (k : ℕ) → staying_pages new k + one_if (stays k o) ≡ staying_pages old k + one_if (stays k v)

@@ -34,7 +34,8 @@ use Rattle.fragmentation.proofs.Paging.{whole_more}
 use Rattle.fragmentation.proofs.FewTaken.{few_room}
 use Rattle.fragmentation.proofs.Gathering.{gather_change}
 use Rattle.fragmentation.proofs.Growing.{leftover_change, leftover_more, few_made}
-use Rattle.fragmentation.proofs.Acting.{IsGoing, gathers_settings, Before, Behind, Out, came_chain, out_chain, few_change}
+use Rattle.fragmentation.proofs.Few.{not_both}
+use Rattle.fragmentation.proofs.Acting.{IsGoing, gathers_settings, Stage, Behind, came_chain, out_chain, few_change}
 use Rattle.fragmentation.proofs.Counted.{IsCounted, held_since, counted_held, objects_then, needed_more, all_find_room, command_room, count_none, opening_counted, opening_settled}
 
 -- room for a command
@@ -158,24 +159,24 @@ module _ (live : Lives) (pages : ℕ) (r new : Course) (budget units : ℕ) (pha
   -- the sweep of a cycle that is on hasn't ended before
   module _ (on : s.tracing ≡ true) where
     abbrev Came : Type 0
-    Came = IsGoing new.heap g (snapshot_of r) × (Before new.heap k.first made (needed_since live s) ⊎ Behind new.heap (needed_since live s) resting)
+    Came = IsGoing new.heap g (snapshot_of r) × (Stage true new.heap k.first made (needed_since live s) ⊎ Behind new.heap (needed_since live s) resting)
 
     came : Came
     came = came_chain g (snapshot_of r) k.first made (needed_since live s) resting counted r.heap new.heap units going q.turn.chain (inl (record { tracing = sym i.tracing ∙ on; few = k.few; left = k.left }))
 
-    goes_on : IsGoing new.heap g (snapshot_of r) → Before new.heap k.first made (needed_since live s) → IsMoving live pages new s
+    goes_on : IsGoing new.heap g (snapshot_of r) → Stage true new.heap k.first made (needed_since live s) → IsMoving live pages new s
     goes_on y b = kept y s k.first k.most (few_made new.heap.store.pages new.heap.phase k.first made _ made_now b.few) b.left
 
     ends : IsGoing new.heap g (snapshot_of r) → Behind new.heap (needed_since live s) resting → IsMoving live pages new (season_swept live s)
     ends y b =
         kept y (season_swept live s) b.first b.most
-        (few_made new.heap.store.pages new.heap.phase b.first _ _ (λ class. sym (ap (λ z. blocks_of (drop z (present_of new).objects) class) (ap (λ (z : Graph). length z.objects) (i.graph ∙ sym present)) ∙ none_since (present_of new).objects class)) b.few)
-        (leftover_more new.heap.store new.heap.phase resting (needed_since live (season_swept live s)) (λ class l. (let x : made_since s.last s class ≡ blocks_of (drop (length (snapshot_of r).objects) g.objects) class = ap (λ z. made_since z s class) i.last ∙ ap (λ (z : Graph). blocks_of (drop (length (snapshot_of r).objects) z.objects) class) i.graph in omega (arith, x))) b.left)
+        (few_made new.heap.store.pages new.heap.phase b.first _ _ (λ class. sym (ap (λ z. blocks_of (drop z (present_of new).objects) class) (ap (λ (z : Graph). length z.objects) (i.graph ∙ sym present)) ∙ none_since (present_of new).objects class)) b.stage.few)
+        (leftover_more new.heap.store new.heap.phase resting (needed_since live (season_swept live s)) (λ class l. (let x : made_since s.last s class ≡ blocks_of (drop (length (snapshot_of r).objects) g.objects) class = ap (λ z. made_since z s class) i.last ∙ ap (λ (z : Graph). blocks_of (drop (length (snapshot_of r).objects) z.objects) class) i.graph in omega (arith, x))) b.stage.left)
 
     by_end : Came → (t : Bool) → is_tracing phase ≡ t → IsMoving live pages new (if t then s else (if s.tracing then season_swept live s else s))
     by_end (y, inl b) true e = goes_on y b
-    by_end (y, inl b) false e = absurd (let z : true ≡ false = sym b.tracing ∙ out_phase ∙ e in cc)
-    by_end (y, inr b) true e = absurd (let z : false ≡ true = sym b.tracing ∙ out_phase ∙ e in cc)
+    by_end (y, inl b) false e = absurd (not_both _ b.tracing (out_phase ∙ e))
+    by_end (y, inr b) true e = absurd (not_both _ (out_phase ∙ e) b.stage.tracing)
     by_end (y, inr b) false e = subst (λ z. IsMoving live pages new (if z then season_swept live s else s)) (sym on) (ends y b)
 
   -- it has ended before
@@ -187,14 +188,14 @@ module _ (live : Lives) (pages : ℕ) (r new : Course) (budget units : ℕ) (pha
         let b : made_since s.base s class ≡ blocks_of (drop (length (snapshot_of r).objects) g.objects) class = ap (λ n. made_since n s class) (z.0 ∙ i.last) ∙ ap (λ (z : Graph). blocks_of (drop (length (snapshot_of r).objects) z.objects) class) i.graph in
         omega (arith, a, b)
 
-    out : IsGoing new.heap g (snapshot_of r) × Out g (snapshot_of r) k.first made (needed_since live s) resting counted new.heap
+    out : IsGoing new.heap g (snapshot_of r) × Stage false new.heap k.first made resting
     out = out_chain g (snapshot_of r) k.first made (needed_since live s) resting counted r.heap new.heap units going q.turn.chain (record { tracing = sym i.tracing ∙ off; few = k.few; left = left_same r (needed_since live s) resting rest_same k.left })
 
     rests : IsMoving live pages new s
     rests = kept out.0 s k.first k.most (few_made new.heap.store.pages new.heap.phase k.first made _ made_now out.1.few) (left_same new resting (needed_since live s) (λ class. sym (rest_same class)) out.1.left)
 
     by_out : (t : Bool) → is_tracing phase ≡ t → IsMoving live pages new (if t then s else (if s.tracing then season_swept live s else s))
-    by_out true e = absurd (let z : false ≡ true = sym out.1.tracing ∙ out_phase ∙ e in cc)
+    by_out true e = absurd (not_both _ (out_phase ∙ e) out.1.tracing)
     by_out false e = subst (λ z. IsMoving live pages new (if z then season_swept live s else s)) (sym off) rests
 
   by_start : (b : Bool) → s.tracing ≡ b → IsMoving live pages new (season_after live s (Quantum_done budget units phase))

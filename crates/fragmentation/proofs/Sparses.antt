@@ -24,7 +24,7 @@ use Rattle.fragmentation.specs.Gathering.{IsGathering}
 use Rattle.fragmentation.specs.Season.{AllKeep, Lives, opening_season}
 use Rattle.fragmentation.specs.Suffice.{sparse_pages, WithinBlocks, gathered_pages}
 use Rattle.fragmentation.proofs.IsSparse.{IsSparse}
-use Rattle.fragmentation.proofs.Paging.{whole_none, gathered_least}
+use Rattle.fragmentation.proofs.Paging.{whole_none, gathered_least, needed_sums}
 use Rattle.fragmentation.proofs.Gathering.{gather_change}
 use Rattle.fragmentation.proofs.Counted.{opening_settled}
 use Rattle.fragmentation.proofs.Joints.{KeepsRoom, joint_runs}
@@ -86,12 +86,8 @@ module _ (h : HeapState) (blocks : ℕ → ℕ) (spare : ℕ) (a : ArePages h.st
           let l = gathered_least class (blocks class) in
           omega (arith, r, l)
 
-  sparse_sums : (need : ℕ → ℕ) → ((k : ℕ) → k < CLASSES → main_blocks h.store.pages k + need k ≤ blocks k) → (n : ℕ) → n ≤ CLASSES → pages_needed h.store.pages need n + class_sum (staying_pages h.store.pages) n ≤ class_sum (λ class. gathered_pages class (blocks class)) n
-  sparse_sums need asks zero l = omega arith
-  sparse_sums need asks (suc n) l = let r = sparse_sums need asks n (omega (arith, l)) in let x = class_sparse need asks n (omega (arith, l)) in omega (arith, r, x)
-
   sparse_has_room : (need : ℕ → ℕ) → ((k : ℕ) → k < CLASSES → main_blocks h.store.pages k + need k ≤ blocks k) → has_room h.store.pages need ≡ true
-  sparse_has_room need asks = le-leb (pages_needed h.store.pages need CLASSES) (free_pages h.store.pages) (let s = sparse_sums need asks CLASSES (omega arith) in let t = all_kinds h.store.pages a in omega (arith, s, t, fits, leave))
+  sparse_has_room need asks = le-leb (pages_needed h.store.pages need CLASSES) (free_pages h.store.pages) (let s = needed_sums h.store.pages need (staying_pages h.store.pages) (λ class. gathered_pages class (blocks class)) CLASSES (class_sparse need asks) in let t = all_kinds h.store.pages a in omega (arith, s, t, fits, leave))
 
 -- what is kept
 sparse_keeps : (blocks : ℕ → ℕ) (spare : ℕ) → KeepsRoom blocks spare (sparse_pages blocks + spare) (λ h. IsGathering h.store.pages (length h.store.pages) h.phase × IsSparse h.store h.phase blocks)

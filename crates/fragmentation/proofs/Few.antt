@@ -72,79 +72,49 @@ few_starts pages p none = record {
   still = λ e class l. inr (omega arith);
 }
 
--- a page that is closed
-module _ (old new : List (Option Page)) (page : ℕ) (l : page < length old) (w : ArePages old) (is : new ≡ set old page (closed (page_at old page))) where
-  close_counts : (k : ℕ) → (used_pages new k ≤ used_pages old k) × (blocks_in k * used_pages new k + free_blocks old k ≤ blocks_in k * used_pages old k + free_blocks new k)
-  close_counts k = by_page (page_at old page) refl
-    where
-      u : used_pages new k + one_if (is_of k (page_at old page)) ≡ used_pages old k + one_if (is_of k (closed (page_at old page)))
-      u = used_set old new page (page_at old page) (closed (page_at old page)) l refl is k
+-- a page that is closed is used no more, or goes on with no fewer free blocks
+closed_page : (k : ℕ) (o : Option Page) → ((p : Page) → o ≡ Some p → IsPage p) → (one_if (is_of k (closed o)) ≤ one_if (is_of k o)) × (blocks_in k * one_if (is_of k (closed o)) + free_on k o ≤ blocks_in k * one_if (is_of k o) + free_on k (closed o))
+closed_page k None w = (omega arith, omega arith)
+closed_page k (Some p) w = by_held (held_on (Some p) == 0)
+  where
+    at_most : free_on k (Some p) ≤ blocks_in k * one_if (p.class == k)
+    at_most = by_class (p.class == k) refl
+      where
+        by_leaving : (l : Bool) → p.class ≡ k → cond (true && not l) (count_by not p.held) 0 ≤ blocks_in k * 1
+        by_leaving true c = omega arith
+        by_leaving false c = let a = flags_all p.held in let m : length p.held ≡ blocks_in k = (w p refl).blocks ∙ ap blocks_in c in omega (arith, a, m)
 
-      f : free_blocks new k + free_on k (page_at old page) ≡ free_blocks old k + free_on k (closed (page_at old page))
-      f = free_change old new page (page_at old page) (closed (page_at old page)) l refl is k
+        by_class : (b : Bool) → (p.class == k) ≡ b → cond (b && not p.leaving) (count_by not p.held) 0 ≤ blocks_in k * one_if b
+        by_class true e = by_leaving p.leaving (same_number p.class k e)
+        by_class false e = omega arith
 
-      -- numbers
-      gone : (b x y m n a c : ℕ) → x + c ≡ y + 0 → m + a ≡ n + 0 → a ≤ b * c → (x ≤ y) × (b * x + n ≤ b * y + m)
-      gone b x y m n a c p q r = let d : b * y ≡ b * x + b * c = times b x c y (omega (arith, p)) in (omega (arith, p), omega (arith, d, q, r))
-        where
-          times : (b x c y : ℕ) → y ≡ x + c → b * y ≡ b * x + b * c
-          times b x c y e = let z : b * (x + c) ≡ b * x + b * c = omega arith in ap (λ t. b * t) e ∙ z
+    more_free : free_on k (Some p) ≤ free_on k (Some (record p { leaving = false; receiving = false }))
+    more_free = by_tests (p.class == k) p.leaving
+      where
+        by_tests : (b l : Bool) → cond (b && not l) (count_by not p.held) 0 ≤ cond (b && true) (count_by not p.held) 0
+        by_tests true true = omega arith
+        by_tests true false = omega arith
+        by_tests false l = omega arith
 
-      stays : (b x y m n a d c : ℕ) → x + c ≡ y + c → m + a ≡ n + d → a ≤ d → (x ≤ y) × (b * x + n ≤ b * y + m)
-      stays b x y m n a d c p q r = let e : x ≡ y = omega (arith, p) in let t : b * x ≡ b * y = ap (λ z. b * z) e in (omega (arith, e), omega (arith, t, q, r))
+    by_held : (b : Bool) → (one_if (is_of k (if b then None else Some (record p { leaving = false; receiving = false }))) ≤ one_if (p.class == k))
+        × (blocks_in k * one_if (is_of k (if b then None else Some (record p { leaving = false; receiving = false }))) + free_on k (Some p) ≤ blocks_in k * one_if (p.class == k) + free_on k (if b then None else Some (record p { leaving = false; receiving = false })))
+    by_held true = (omega arith, omega (arith, at_most))
+    by_held false = (omega arith, omega (arith, more_free))
 
-      at_most : (p : Page) → IsPage p → free_on k (Some p) ≤ blocks_in k * one_if (p.class == k)
-      at_most p i = by_class (p.class == k) refl
-        where
-          all : count_by not p.held ≤ length p.held
-          all = let a = flags_all p.held in omega (arith, a)
-
-          by_leaving : (l : Bool) → p.class ≡ k → cond (true && not l) (count_by not p.held) 0 ≤ blocks_in k * 1
-          by_leaving true c = omega arith
-          by_leaving false c = let b = i.blocks in let m : length p.held ≡ blocks_in k = b ∙ ap blocks_in c in omega (arith, all, m)
-
-          by_class : (b : Bool) → (p.class == k) ≡ b → cond (b && not p.leaving) (count_by not p.held) 0 ≤ blocks_in k * one_if b
-          by_class true e = by_leaving p.leaving (same_number p.class k e)
-          by_class false e = omega arith
-
-      more_free : (p : Page) → free_on k (Some p) ≤ free_on k (Some (record p { leaving = false; receiving = false }))
-      more_free p = by_tests (p.class == k) p.leaving
-        where
-          by_tests : (b l : Bool) → cond (b && not l) (count_by not p.held) 0 ≤ cond (b && true) (count_by not p.held) 0
-          by_tests true true = omega arith
-          by_tests true false = omega arith
-          by_tests false true = omega arith
-          by_tests false false = omega arith
-
-      Goal : Type 0
-      Goal = (used_pages new k ≤ used_pages old k) × (blocks_in k * used_pages new k + free_blocks old k ≤ blocks_in k * used_pages old k + free_blocks new k)
-
-      by_page : (o : Option Page) → page_at old page ≡ o → Goal
-      by_page None e =
-          let uo : one_if (is_of k (page_at old page)) ≡ 0 = ap (λ z. one_if (is_of k z)) e in
-          let uc : one_if (is_of k (closed (page_at old page))) ≡ 0 = ap (λ z. one_if (is_of k (closed z))) e in
-          let fo : free_on k (page_at old page) ≡ 0 = ap (free_on k) e in
-          let fc : free_on k (closed (page_at old page)) ≡ 0 = ap (λ z. free_on k (closed z)) e in
-          stays (blocks_in k) (used_pages new k) (used_pages old k) (free_blocks new k) (free_blocks old k) 0 0 0 (omega (arith, u, uo, uc)) (omega (arith, f, fo, fc)) (omega arith)
-      by_page (Some p) e = by_held (held_on (Some p) == 0) refl
-        where
-          uo : one_if (is_of k (page_at old page)) ≡ one_if (p.class == k)
-          uo = ap (λ z. one_if (is_of k z)) e
-
-          fo : free_on k (page_at old page) ≡ free_on k (Some p)
-          fo = ap (free_on k) e
-
-          by_held : (b : Bool) → (held_on (Some p) == 0) ≡ b → Goal
-          by_held true t =
-              let c : closed (page_at old page) ≡ None = ap closed e ∙ ap (λ b. if b then None else Some (record p { leaving = false; receiving = false })) t in
-              let uc : one_if (is_of k (closed (page_at old page))) ≡ 0 = ap (λ z. one_if (is_of k z)) c in
-              let fc : free_on k (closed (page_at old page)) ≡ 0 = ap (free_on k) c in
-              gone (blocks_in k) (used_pages new k) (used_pages old k) (free_blocks new k) (free_blocks old k) (free_on k (Some p)) (one_if (p.class == k)) (omega (arith, u, uo, uc)) (omega (arith, f, fo, fc)) (at_most p (w.each page p e))
-          by_held false t =
-              let c : closed (page_at old page) ≡ Some (record p { leaving = false; receiving = false }) = ap closed e ∙ ap (λ b. if b then None else Some (record p { leaving = false; receiving = false })) t in
-              let uc : one_if (is_of k (closed (page_at old page))) ≡ one_if (p.class == k) = ap (λ z. one_if (is_of k z)) c in
-              let fc : free_on k (closed (page_at old page)) ≡ free_on k (Some (record p { leaving = false; receiving = false })) = ap (free_on k) c in
-              stays (blocks_in k) (used_pages new k) (used_pages old k) (free_blocks new k) (free_blocks old k) (free_on k (Some p)) (free_on k (Some (record p { leaving = false; receiving = false }))) (one_if (p.class == k)) (omega (arith, u, uo, uc)) (omega (arith, f, fo, fc)) (more_free p)
+close_counts : (old new : List (Option Page)) (page : ℕ) → page < length old → ArePages old → new ≡ set old page (closed (page_at old page)) → (k : ℕ)
+    → (used_pages new k ≤ used_pages old k) × (blocks_in k * used_pages new k + free_blocks old k ≤ blocks_in k * used_pages old k + free_blocks new k)
+close_counts old new page l w is k =
+    let o = page_at old page in
+    let q = closed_page k o (λ p e. w.each page p e) in
+    let u = used_set old new page o (closed o) l refl is k in
+    let f = free_change old new page o (closed o) l refl is k in
+    let x = times (blocks_in k) (used_pages new k) (one_if (is_of k o)) in
+    let y = times (blocks_in k) (used_pages old k) (one_if (is_of k (closed o))) in
+    let e : blocks_in k * (used_pages new k + one_if (is_of k o)) ≡ blocks_in k * (used_pages old k + one_if (is_of k (closed o))) = ap (λ z. blocks_in k * z) u in
+    (omega (arith, u, q.0), omega (arith, x, y, e, f, q.1))
+  where
+    times : (b x y : ℕ) → b * (x + y) ≡ b * x + b * y
+    times b x y = omega arith
 
 -- a page that is chosen: its class has as many free blocks as a page, so that no page was opened for it
 chosen_few : (old new : List (Option Page)) (class page chosen : ℕ) (p : Page) (q : Phase) (first made : ℕ → ℕ) → ArePages old → page_at old page ≡ Some p → is_choosable class (Some p) ≡ true → blocks_in class ≤ free_blocks old class

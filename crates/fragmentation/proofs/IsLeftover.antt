@@ -36,7 +36,7 @@ one_leaving class o = if leaves class o then 1 else 0
 abbrev pub kept_pages : List (Option Page) → ℕ → ℕ → ℕ
 kept_pages pages class page = staying_pages pages class + one_leaving class (page_at pages page)
 
--- on this page only; and while it leaves, so many blocks fill a page
+-- they are on this page only; and while it leaves, so many blocks fill a page
 pub record LeftOn (s : Store) (class need page : ℕ) : Type 0 where
   pub only : StrandedOn s class page
   pub some : leaves class (page_at s.pages page) ≡ true → blocks_in class ≤ need
@@ -56,7 +56,7 @@ pub record WasLeft (s : Store) (class need : ℕ) : Type 0 where
 abbrev pub IsMoved : Store → ℕ → ℕ → Type 0
 IsMoved s class need = NoneStranded s class ⊎ WasLeft s class need
 
--- while a page of a class is emptied: what main copies of the class were left stand there, at its next block or behind it
+-- while a page of a class is emptied: its main copies on leaving pages stand there, at the next block or behind it
 pub record IsEmptied (s : Store) (class page block : ℕ) (Other : ℕ → Type 0) : Type 0 where
   pub small : class < CLASSES
   pub on : leaves class (page_at s.pages page) ≡ true
@@ -70,7 +70,7 @@ pub record IsEmptying (s : Store) (page block chosen : ℕ) (need : ℕ → ℕ)
   pub some : 0 < staying_pages s.pages class
   pub count : chosen ≤ leaving_pages s.pages
 
--- what holds but in moving, in a pass when so many pages were chosen, and where a page is emptied from a block on
+-- what holds outside moving; in a pass, when so many pages were chosen; and where a page is emptied from a block on
 abbrev pub ByPhase : Type 0 → (ℕ → Type 0) → (ℕ → ℕ → ℕ → Type 0) → Phase → Type 0
 ByPhase Still Pass Emptying phases.Idle = Still
 ByPhase Still Pass Emptying (phases.Roots next) = Still

@@ -1,6 +1,6 @@
 -- What holds of few pages and of what is left, through each action and each chain of actions.
-use Rattle.std.proofs.Common.{◌≡◌, ℕ, ◌+◌, ◌-◌, ◌<◌, ◌≤◌, ◌⊎◌, inl, inr, Bool, true, false, ◌&&◌, if◌then◌else◌, nat_lt, List, [], ◌∷◌, Option, Some, None, length, ap, ◌∙◌, sym, subst, arith, refl}
-use Rattle.std.proofs.lemmas.List.Sums.{sum_by-cons}
+use Rattle.std.proofs.Common.{◌≡◌, ℕ, ◌+◌, ◌-◌, ◌<◌, ◌≤◌, ◌⊎◌, inl, inr, Bool, true, false, ◌&&◌, if◌then◌else◌, nat_lt, List, Option, Some, None, length, ap, ◌∙◌, sym, subst, arith, refl}
+use Rattle.std.proofs.lemmas.List.Sums.{count_by-le-length}
 use Rattle.std.proofs.lemmas.List.Quantifiers.{position-Some}
 use Rattle.graph_heap.specs.Graph.{Graph, first_slot}
 use Rattle.graph_heap.specs.declared.command.Change.{Change}
@@ -9,7 +9,6 @@ use Rattle.size_classes.specs.Parts.{cells_of, parts_in}
 use Rattle.heap_model.specs.declared.phase.Phase.{Phase}
 use Rattle.heap_model.specs.declared.phase.Phase.TheVariants as phases
 use Rattle.heap_model.specs.declared.phase.Moving.TheVariants as moves
-use Rattle.heap_model.specs.declared.phase.Candidate.{Candidate}
 use Rattle.heap_model.specs.Pages.{Page, is_usable, is_free, page_at, free_pages}
 use Rattle.heap_model.specs.Store.{Store}
 use Rattle.heap_model.specs.State.{HeapState}
@@ -18,7 +17,7 @@ use Rattle.heap_model.specs.Placed.{IsPlaced}
 use Rattle.heap_model.specs.Settings.{HeapSettings, settings_of}
 use Rattle.heap_model.specs.Standing.{Stands, is_sweeping}
 use Rattle.heap_model.specs.Change.{DoesChange, Does_nothing, Does_root, Does_ref, Does_word, Does_new, Does_join, Does_leave}
-use Rattle.heap_model.specs.Action.{Relinks, Action, Chain, Nothing_done, Then, Scans_root, Ends_roots, Scans_header, Scans_cell, Ends_marking, Frees_block, Passes_block, Closes_page, Ends_sweep, Looks_at_page, Chooses_page, Chooses_none, Moves_block, Ends_moving, AtPass, In_pass, After_page, MovingDone, No_class, No_page, goes_to, after_sweep, is_sparse, is_choosable}
+use Rattle.heap_model.specs.Action.{Relinks, Action, Chain, Nothing_done, Then, Scans_root, Ends_roots, Scans_header, Scans_cell, Ends_marking, Frees_block, Passes_block, Closes_page, Ends_sweep, Looks_at_page, Chooses_page, Chooses_none, Moves_block, Ends_moving, MovingDone, No_class, No_page, goes_to, after_sweep, is_sparse, is_choosable}
 use Rattle.heap_model.proofs.Marks.{no_mark}
 use Rattle.heap_model.proofs.Recorded.{records_stay}
 use Rattle.heap_model.proofs.Relinked.{stands_relinked, relinked_settings}
@@ -26,18 +25,18 @@ use Rattle.heap_model.proofs.Settings.{action_settings}
 use Rattle.heap_model.proofs.Stood.{stands_action}
 use Rattle.space.specs.Demand.{asked_by}
 use Rattle.space.specs.Tally.{is_tracing}
-use Rattle.space.specs.Counts.{main_blocks, leaving_pages, used_pages}
+use Rattle.space.specs.Counts.{main_blocks, used_pages}
 use Rattle.space.specs.Placement.{IsTidy}
-use Rattle.space.proofs.Counts.{one_if, used, both_true}
+use Rattle.space.proofs.Counts.{used, both_true}
 use Rattle.space.proofs.Tidying.{shrinks_then, shrinks_writes, shrinks_shades, shrinks_frees, shrinks_keeps, tidy_same, tidy_action}
 use Rattle.space.proofs.Changing.{shrinks_records}
 use Rattle.space.proofs.Spacing.{none_leaving}
 use Rattle.fragmentation.specs.Gathering.{AreUsed, ReceivesFirst, AreTight, HasLooked, IsGathering}
 use Rattle.fragmentation.specs.Suffice.{gathered_pages, GathersAll}
 use Rattle.fragmentation.proofs.IsFew.{IsFew}
-use Rattle.fragmentation.proofs.IsLeftover.{IsSettled, IsMoved, IsEmptying, IsLeftover}
+use Rattle.fragmentation.proofs.IsLeftover.{IsSettled, IsEmptying, AtLook, IsLeftover}
 use Rattle.fragmentation.proofs.Free.{chosen_free}
-use Rattle.fragmentation.proofs.Few.{few_starts, few_action, moving_not}
+use Rattle.fragmentation.proofs.Few.{few_starts, few_action, at_pass_moving, done_moving, moving_not, sweep_ended, not_both}
 use Rattle.fragmentation.proofs.Passing.{in_pass}
 use Rattle.fragmentation.proofs.Gathering.{gather_action, gather_same, clears_pages, tight_action}
 use Rattle.fragmentation.proofs.Leftover.{leftover_same, settled_freed, settled_closed, settled_used, none_leaves, at_look}
@@ -64,21 +63,15 @@ left_action h after cost g s need st ga all census same (Passes_block page block
 left_action h after cost g s need st ga all census same (Closes_page page block new e l f w0 pages) w =
     let q : (class : ℕ) → class < CLASSES → IsSettled h.store class (need class) = at_phase h.store h.phase (phases.Sweeping page block) need e w in
     λ class small. settled_closed h g s page block class (need class) new small st e l f w0 pages (q class small)
-left_action h after cost g s need st ga all census same (Ends_sweep page block e l) w = absurd (ends (is_sparse h) (same ∙ ap is_tracing e))
-  where
-    ends : (b : Bool) → is_tracing (if b then phases.Moving (moves.Pass 0 0 None 0) else phases.Idle) ≡ true → ⊥
-    ends true e = cc
-    ends false e = cc
-left_action h after cost g s need st ga all census same (Looks_at_page class page best chosen at few more) w =
-    let q = at_look h class page best chosen need st.pages (census (sym same)) w at in (q.moved, q.count)
+left_action h after cost g s need st ga all census same (Ends_sweep page block e l) w = absurd (not_both _ (same ∙ ap is_tracing e) (sweep_ended (is_sparse h)))
+left_action h after cost g s need st ga all census same (Looks_at_page class page best chosen at few more) w = at_look h class page best chosen need st.pages (census (sym same)) w at
 left_action h after cost g s need st ga all census same (Chooses_page class page best chosen k p new at few last is good there w0 pages) w =
     let q = at_look h class page best chosen need st.pages (census (sym same)) w at in
     let i = in_pass h class page best chosen ga at in
     let ok : is_choosable class (Some p) ≡ true = sym (ap (is_choosable class) there) ∙ (both_true _ _ good).0 in
     chosen_left h.store new class k.page chosen p need st.pages i.used there ok (chosen_free h.store.pages class k st.pages good) few w0 pages
     (λ c t. tight_action h _ 1 c st.pages (moving_not h class page best chosen at) (Chooses_page class page best chosen k p new at few last is good there w0 pages) t) q
-left_action h after cost g s need st ga all census same (Chooses_none class page best chosen at few last is) w =
-    let q = at_look h class page best chosen need st.pages (census (sym same)) w at in (q.moved, q.count)
+left_action h after cost g s need st ga all census same (Chooses_none class page best chosen at few last is) w = at_look h class page best chosen need st.pages (census (sym same)) w at
 left_action h after cost g s need st ga all census same (Moves_block class page block chosen i to j p q new e at leaving next place there empty w0 pages) w =
     let usable : is_usable p.class (Some q) ≡ true = ap (is_usable p.class) (sym there) ∙ (position-Some (is_usable p.class) h.store.pages to None place).1 in
     block_left h.store new page block chosen i to j p q need st.pages at leaving next usable there empty w0 pages
@@ -91,9 +84,9 @@ left_action h after cost g s need st ga all census same (Ends_moving done) w = e
 
     ended : MovingDone h → (class : ℕ) → class < CLASSES → IsSettled h.store class (need class)
     ended (No_class page best chosen e) class small =
-        let q : ((class : ℕ) → class < CLASSES → IsMoved h.store class (need class)) × (chosen ≤ leaving_pages h.store.pages) = at_phase h.store h.phase (phases.Moving (moves.Pass CLASSES page best chosen)) need e w in
+        let q : AtLook h.store chosen need = at_phase h.store h.phase (phases.Moving (moves.Pass CLASSES page best chosen)) need e w in
         let t : AreUsed h.store.pages (length h.store.pages) × ReceivesFirst h.store.pages × AreTight h.store.pages CLASSES × HasLooked h.store.pages CLASSES page best = subst (IsGathering h.store.pages (length h.store.pages)) e ga in
-        moved_settled h.store class (need class) small st.pages (t.2 class small) (main class small) (q.0 class small)
+        moved_settled h.store class (need class) small st.pages (t.2 class small) (main class small) (q.moved class small)
     ended (No_page k page block chosen p e at done most) class small =
         let q : IsEmptying h.store page block chosen need = at_phase h.store h.phase (phases.Moving (moves.Emptying k page block chosen)) need e w in
         let n = never_cut h.store page block chosen need q in
@@ -147,31 +140,15 @@ leaves_sweep h after cost (Frees_block page block p new e f was unmarked w0 page
 leaves_sweep h after cost (Passes_block page block p e f l marked) x y = absurd (cc)
 leaves_sweep h after cost (Closes_page page block new e l f w0 pages) x y = absurd (cc)
 leaves_sweep h after cost (Ends_sweep page block e l) x y = record { page = page; block = block; phase = e; all = l; after_is = refl }
-leaves_sweep h after cost (Looks_at_page class page best chosen at few more) x y = absurd (looks h class page best chosen at x)
-  where
-    looks : (h : HeapState) (class page : ℕ) (best : Option Candidate) (chosen : ℕ) → AtPass h class page best chosen → is_tracing h.phase ≡ true → ⊥
-    looks h class page best chosen (In_pass c p b n e) x = let z : false ≡ true = sym (ap is_tracing e) ∙ x in cc
-    looks h class page best chosen (After_page c p b n q e at on done few) x = let z : false ≡ true = sym (ap is_tracing e) ∙ x in cc
-leaves_sweep h after cost (Chooses_page class page best chosen k p new at few last is good there w0 pages) x y = absurd (looks h class page best chosen at x)
-  where
-    looks : (h : HeapState) (class page : ℕ) (best : Option Candidate) (chosen : ℕ) → AtPass h class page best chosen → is_tracing h.phase ≡ true → ⊥
-    looks h class page best chosen (In_pass c p b n e) x = let z : false ≡ true = sym (ap is_tracing e) ∙ x in cc
-    looks h class page best chosen (After_page c p b n q e at on done few) x = let z : false ≡ true = sym (ap is_tracing e) ∙ x in cc
-leaves_sweep h after cost (Chooses_none class page best chosen at few last is) x y = absurd (looks h class page best chosen at x)
-  where
-    looks : (h : HeapState) (class page : ℕ) (best : Option Candidate) (chosen : ℕ) → AtPass h class page best chosen → is_tracing h.phase ≡ true → ⊥
-    looks h class page best chosen (In_pass c p b n e) x = let z : false ≡ true = sym (ap is_tracing e) ∙ x in cc
-    looks h class page best chosen (After_page c p b n q e at on done few) x = let z : false ≡ true = sym (ap is_tracing e) ∙ x in cc
-leaves_sweep h after cost (Moves_block class page block chosen i to j p q new e at leaving next place there empty w0 pages) x y = absurd (let z : false ≡ true = sym (ap is_tracing e) ∙ x in cc)
-leaves_sweep h after cost (Ends_moving done) x y = absurd (ends done)
-  where
-    ends : MovingDone h → ⊥
-    ends (No_class page best chosen e) = let z : false ≡ true = sym (ap is_tracing e) ∙ x in cc
-    ends (No_page k page block chosen p e at done most) = let z : false ≡ true = sym (ap is_tracing e) ∙ x in cc
+leaves_sweep h after cost (Looks_at_page class page best chosen at few more) x y = absurd (not_both _ x (ap is_tracing (at_pass_moving h class page best chosen at).1))
+leaves_sweep h after cost (Chooses_page class page best chosen k p new at few last is good there w0 pages) x y = absurd (not_both _ x (ap is_tracing (at_pass_moving h class page best chosen at).1))
+leaves_sweep h after cost (Chooses_none class page best chosen at few last is) x y = absurd (not_both _ x (ap is_tracing (at_pass_moving h class page best chosen at).1))
+leaves_sweep h after cost (Moves_block class page block chosen i to j p q new e at leaving next place there empty w0 pages) x y = absurd (not_both _ x (ap is_tracing e))
+leaves_sweep h after cost (Ends_moving done) x y = absurd (not_both _ x (ap is_tracing (done_moving h done).1))
 
 -- with always enough to move, and all of it
 sparse_always : (h : HeapState) → 0 < length h.store.pages → GathersAll h → is_sparse h ≡ true
-sparse_always h some all = both _ _ (lt 0 h.defrag_pages (let a = all.all in omega (arith, a, some))) (lt (free_pages h.store.pages) h.defrag_below (let a = all.always in let f = free_few h.store.pages in omega (arith, a, f)))
+sparse_always h some all = both _ _ (lt 0 h.defrag_pages (let a = all.all in omega (arith, a, some))) (lt (free_pages h.store.pages) h.defrag_below (let a = all.always in let f = count_by-le-length is_free h.store.pages in omega (arith, a, f)))
   where
     both : (a b : Bool) → a ≡ true → b ≡ true → (a && b) ≡ true
     both a b p q = cc
@@ -179,42 +156,42 @@ sparse_always h some all = both _ _ (lt 0 h.defrag_pages (let a = all.all in ome
     lt : (a b : ℕ) → a < b → nat_lt a b ≡ true
     lt a b l = grind arith
 
-    free_few : (pages : List (Option Page)) → free_pages pages ≤ length pages
-    free_few [] = omega arith
-    free_few (o ∷ os) =
-        let r = free_few os in
-        let a = sum_by-cons (λ z. one_if (is_free z)) o os in
-        let c = few_one (is_free o) in
-        omega (arith, r, a, c)
-      where
-        few_one : (b : Bool) → one_if b ≤ 1
-        few_one true = omega arith
-        few_one false = omega arith
-
--- how far a heap has come in a quantum whose cycle's sweep hadn't ended before: it hasn't ended, or it has
-pub record Before (h : HeapState) (first made old : ℕ → ℕ) : Type 0 where
-  pub tracing : is_tracing h.phase ≡ true
+-- how far a heap has come in a quantum: whether its cycle's sweep is to end still, how few pages there are, and what is left
+pub record Stage (on : Bool) (h : HeapState) (first made need : ℕ → ℕ) : Type 0 where
+  pub tracing : is_tracing h.phase ≡ on
   pub few : IsFew h.store.pages h.phase first made
-  pub left : IsLeftover h.store h.phase old
+  pub left : IsLeftover h.store h.phase need
 
+-- the sweep has ended in it
 pub record Behind (h : HeapState) (old new : ℕ → ℕ) : Type 0 where
-  pub tracing : is_tracing h.phase ≡ false
   pub first : ℕ → ℕ
   pub most : (class : ℕ) → class < CLASSES → first class ≤ gathered_pages class (old class)
-  pub few : IsFew h.store.pages h.phase first (λ class. 0)
-  pub left : IsLeftover h.store h.phase new
+  pub stage : Stage false h first (λ class. 0) new
+
+stage_action : (on : Bool) (h after : HeapState) (cost : ℕ) (present snapshot : Graph) (first made need : ℕ → ℕ) → IsGoing h present snapshot → (is_tracing h.phase ≡ false → (class : ℕ) → class < CLASSES → main_blocks h.store.pages class ≤ need class)
+    → Action h cost after → is_tracing after.phase ≡ on → Stage on h first made need → Stage on after first made need
+stage_action on h after cost present snapshot first made need g census a e w =
+    let same : is_tracing after.phase ≡ is_tracing h.phase = e ∙ sym w.tracing in
+    record { tracing = e; few = few_action h after cost first made g.stands.pages same a w.few; left = left_action h after cost present snapshot need g.stands g.gathering g.all census same a w.left }
+
+stage_relinked : (on : Bool) (h : HeapState) (linked : Store) (first made need : ℕ → ℕ) → Relinks h.store linked → Stage on h first made need → Stage on (record h { store = linked }) first made need
+stage_relinked on h linked first made need links w = record {
+  tracing = w.tracing;
+  few = subst (λ z. IsFew z h.phase first made) (sym links.pages) w.few;
+  left = leftover_same h.store linked h.phase need (shrinks_keeps h.store linked links.blocks) links.pages w.left;
+}
 
 -- no page is swept while blocks are moved, and no cycle begins by an action
 stays_out : (h after : HeapState) (cost : ℕ) → Action h cost after → is_tracing h.phase ≡ false → is_tracing after.phase ≡ false
-stays_out h after cost (Scans_root next k e l sh) x = absurd (let z : true ≡ false = sym (ap is_tracing e) ∙ x in cc)
-stays_out h after cost (Ends_roots next e l) x = absurd (let z : true ≡ false = sym (ap is_tracing e) ∙ x in cc)
-stays_out h after cost (Scans_header part cell z front back e f n) x = absurd (let z : true ≡ false = sym (ap is_tracing e) ∙ x in cc)
-stays_out h after cost (Scans_cell part cell new k e l w0 sh) x = absurd (let z : true ≡ false = sym (ap is_tracing e) ∙ x in cc)
-stays_out h after cost (Ends_marking part cell e f n) x = absurd (let z : true ≡ false = sym (ap is_tracing e) ∙ x in cc)
-stays_out h after cost (Frees_block page block p new e f was unmarked w0 pages) x = absurd (let z : true ≡ false = sym (ap is_tracing e) ∙ x in cc)
-stays_out h after cost (Passes_block page block p e f l marked) x = absurd (let z : true ≡ false = sym (ap is_tracing e) ∙ x in cc)
-stays_out h after cost (Closes_page page block new e l f w0 pages) x = absurd (let z : true ≡ false = sym (ap is_tracing e) ∙ x in cc)
-stays_out h after cost (Ends_sweep page block e l) x = absurd (let z : true ≡ false = sym (ap is_tracing e) ∙ x in cc)
+stays_out h after cost (Scans_root next k e l sh) x = absurd (not_both _ (ap is_tracing e) x)
+stays_out h after cost (Ends_roots next e l) x = absurd (not_both _ (ap is_tracing e) x)
+stays_out h after cost (Scans_header part cell z front back e f n) x = absurd (not_both _ (ap is_tracing e) x)
+stays_out h after cost (Scans_cell part cell new k e l w0 sh) x = absurd (not_both _ (ap is_tracing e) x)
+stays_out h after cost (Ends_marking part cell e f n) x = absurd (not_both _ (ap is_tracing e) x)
+stays_out h after cost (Frees_block page block p new e f was unmarked w0 pages) x = absurd (not_both _ (ap is_tracing e) x)
+stays_out h after cost (Passes_block page block p e f l marked) x = absurd (not_both _ (ap is_tracing e) x)
+stays_out h after cost (Closes_page page block new e l f w0 pages) x = absurd (not_both _ (ap is_tracing e) x)
+stays_out h after cost (Ends_sweep page block e l) x = absurd (not_both _ (ap is_tracing e) x)
 stays_out h after cost (Looks_at_page class page best chosen at few more) x = refl
 stays_out h after cost (Chooses_page class page best chosen k p new at few last is good there w0 pages) x = refl
 stays_out h after cost (Chooses_none class page best chosen at few last is) x = refl
@@ -226,25 +203,14 @@ chain_out h after spent Nothing_done x = x
 chain_out h after spent (Then u cost j k linked chain links action) x = stays_out (record j { store = linked }) k cost action (chain_out h j u chain x)
 
 module _ (present snapshot : Graph) (first made old new : ℕ → ℕ) (census : (k : HeapState) → IsGoing k present snapshot → is_tracing k.phase ≡ false → (class : ℕ) → class < CLASSES → main_blocks k.store.pages class ≤ new class) where
-  behind_action : (h after : HeapState) (cost : ℕ) → IsGoing h present snapshot → Action h cost after → Behind h old new → Behind after old new
-  behind_action h after cost g a w =
-      let out = stays_out h after cost a w.tracing in
-      let same : is_tracing after.phase ≡ is_tracing h.phase = out ∙ sym w.tracing in
-      record {
-        tracing = out;
-        first = w.first;
-        most = w.most;
-        few = few_action h after cost w.first (λ class. 0) g.stands.pages same a w.few;
-        left = left_action h after cost present snapshot new g.stands g.gathering g.all (λ x. census h g x) same a w.left;
-      }
+  step_behind : (h after : HeapState) (cost : ℕ) (from made : ℕ → ℕ) → IsGoing h present snapshot → Action h cost after → Stage false h from made new → Stage false after from made new
+  step_behind h after cost from made g a w = stage_action false h after cost present snapshot from made new g (census h g) a (stays_out h after cost a w.tracing) w
 
-  sweep_ends : (h after : HeapState) → IsGoing h present snapshot → LeavesSweep h after → Before h first made old → Behind after old new
+  sweep_ends : (h after : HeapState) → IsGoing h present snapshot → LeavesSweep h after → Stage true h first made old → Behind after old new
   sweep_ends h after g l w = subst (λ z. Behind z old new) (sym l.after_is) (subst (λ z. Behind (goes_to h 1 z) old new) (sym moving) (record {
-    tracing = refl;
     first = used_pages h.store.pages;
     most = λ class small. (let u = used class h.store.pages in let n = none_leaving h.store.pages none in let f = settled_used h.store class (old class) (settled class small) in omega (arith, u.0, u.1, n, f));
-    few = few_starts h.store.pages _ (λ class. refl);
-    left = (λ class small. inl (none_leaves h.store class none), omega arith);
+    stage = record { tracing = refl; few = few_starts h.store.pages _ (λ class. refl); left = record { moved = λ class small. inl (none_leaves h.store class none); count = omega arith } };
   }))
     where
       moving : after_sweep h ≡ phases.Moving (moves.Pass 0 0 None 0)
@@ -256,36 +222,20 @@ module _ (present snapshot : Graph) (first made old new : ℕ → ℕ) (census :
       settled : (class : ℕ) → class < CLASSES → IsSettled h.store class (old class)
       settled = at_phase h.store h.phase (phases.Sweeping l.page l.block) old l.phase w.left
 
-  came_action : (h after : HeapState) (cost : ℕ) → IsGoing h present snapshot → Action h cost after → (Before h first made old ⊎ Behind h old new) → (Before after first made old ⊎ Behind after old new)
-  came_action h after cost g a (inr w) = inr (behind_action h after cost g a w)
+  came_action : (h after : HeapState) (cost : ℕ) → IsGoing h present snapshot → Action h cost after → (Stage true h first made old ⊎ Behind h old new) → (Stage true after first made old ⊎ Behind after old new)
+  came_action h after cost g a (inr w) = inr (record { first = w.first; most = w.most; stage = step_behind h after cost w.first _ g a w.stage })
   came_action h after cost g a (inl w) = by_tracing (is_tracing after.phase) refl
     where
-      by_tracing : (b : Bool) → is_tracing after.phase ≡ b → (Before after first made old ⊎ Behind after old new)
-      by_tracing true e =
-          let same : is_tracing after.phase ≡ is_tracing h.phase = e ∙ sym w.tracing in
-          inl (record {
-            tracing = e;
-            few = few_action h after cost first made g.stands.pages same a w.few;
-            left = left_action h after cost present snapshot old g.stands g.gathering g.all (λ x. absurd (let z : true ≡ false = sym w.tracing ∙ x in cc)) same a w.left;
-          })
+      by_tracing : (b : Bool) → is_tracing after.phase ≡ b → (Stage true after first made old ⊎ Behind after old new)
+      by_tracing true e = inl (stage_action true h after cost present snapshot first made old g (λ x. absurd (not_both _ w.tracing x)) a e w)
       by_tracing false e = inr (sweep_ends h after g (leaves_sweep h after cost a w.tracing e) w)
 
-  came_relinked : (h : HeapState) (linked : Store) → Relinks h.store linked → (Before h first made old ⊎ Behind h old new) → (Before (record h { store = linked }) first made old ⊎ Behind (record h { store = linked }) old new)
-  came_relinked h linked links (inl w) = inl (record {
-    tracing = w.tracing;
-    few = subst (λ z. IsFew z h.phase first made) (sym links.pages) w.few;
-    left = leftover_same h.store linked h.phase old (shrinks_keeps h.store linked links.blocks) links.pages w.left;
-  })
-  came_relinked h linked links (inr w) = inr (record {
-    tracing = w.tracing;
-    first = w.first;
-    most = w.most;
-    few = subst (λ z. IsFew z h.phase w.first (λ class. 0)) (sym links.pages) w.few;
-    left = leftover_same h.store linked h.phase new (shrinks_keeps h.store linked links.blocks) links.pages w.left;
-  })
+  came_relinked : (h : HeapState) (linked : Store) → Relinks h.store linked → (Stage true h first made old ⊎ Behind h old new) → (Stage true (record h { store = linked }) first made old ⊎ Behind (record h { store = linked }) old new)
+  came_relinked h linked links (inl w) = inl (stage_relinked true h linked first made old links w)
+  came_relinked h linked links (inr w) = inr (record { first = w.first; most = w.most; stage = stage_relinked false h linked w.first _ new links w.stage })
 
   -- a chain of actions
-  pub came_chain : (h after : HeapState) (spent : ℕ) → IsGoing h present snapshot → Chain h spent after → (Before h first made old ⊎ Behind h old new) → IsGoing after present snapshot × (Before after first made old ⊎ Behind after old new)
+  pub came_chain : (h after : HeapState) (spent : ℕ) → IsGoing h present snapshot → Chain h spent after → (Stage true h first made old ⊎ Behind h old new) → IsGoing after present snapshot × (Stage true after first made old ⊎ Behind after old new)
   came_chain h after spent g Nothing_done w = (g, w)
   came_chain h after spent g (Then u cost j k linked chain links action) w =
       let r = came_chain h j u g chain w in
@@ -293,28 +243,12 @@ module _ (present snapshot : Graph) (first made old new : ℕ → ℕ) (census :
       (going_action (record j { store = linked }) k cost present snapshot i action, came_action (record j { store = linked }) k cost i action (came_relinked j linked links r.1))
 
   -- in a quantum whose cycle's sweep had ended before
-  pub record Out (h : HeapState) : Type 0 where
-    pub tracing : is_tracing h.phase ≡ false
-    pub few : IsFew h.store.pages h.phase first made
-    pub left : IsLeftover h.store h.phase new
-
-  pub out_chain : (h after : HeapState) (spent : ℕ) → IsGoing h present snapshot → Chain h spent after → Out h → IsGoing after present snapshot × Out after
+  pub out_chain : (h after : HeapState) (spent : ℕ) → IsGoing h present snapshot → Chain h spent after → Stage false h first made new → IsGoing after present snapshot × Stage false after first made new
   out_chain h after spent g Nothing_done w = (g, w)
   out_chain h after spent g (Then u cost j k linked chain links action) w =
       let r = out_chain h j u g chain w in
       let i = going_relinked j linked present snapshot links r.0 in
-      let l : HeapState = record j { store = linked } in
-      let out = stays_out l k cost action r.1.tracing in
-      let same : is_tracing k.phase ≡ is_tracing l.phase = out ∙ sym r.1.tracing in
-      let few : IsFew linked.pages j.phase first made = subst (λ z. IsFew z j.phase first made) (sym links.pages) r.1.few in
-      let left = leftover_same j.store linked j.phase new (shrinks_keeps j.store linked links.blocks) links.pages r.1.left in (
-        going_action l k cost present snapshot i action,
-        record {
-          tracing = out;
-          few = few_action l k cost first made i.stands.pages same action few;
-          left = left_action l k cost present snapshot new i.stands i.gathering i.all (λ x. census l i x) same action left;
-        },
-      )
+      (going_action (record j { store = linked }) k cost present snapshot i action, step_behind (record j { store = linked }) k cost first made i action (stage_relinked false j linked first made new links r.1))
 
 -- what a command changes
 few_phase : (pages : List (Option Page)) (p q : Phase) (first made : ℕ → ℕ) → q ≡ p → IsFew pages p first made → IsFew pages q first made

@@ -76,7 +76,7 @@ module _ (live : Lives) (b : Budget) (lives : (n : ℕ) → pages_of (live n) �
     moving = moving;
     since = (let p = pages_more (made_since s.base (season_after live s (Command_done m c reply))) (λ class. made_since s.base s class + asked_for s.graph m c class) (λ class l. grows class) in omega (arith, p, keeps));
     before = k.before;
-    last = (let x = i.last in let y = after_counted.last in let z = after_counted.kept_last.more in let u : length (season_after live s (Command_done m c reply)).graph.objects ≡ length (present_of new).objects = ap (λ (z : Graph). length z.objects) after_counted.graph in omega (arith, x, y, z, u));
+    last = (let x = i.last in let y = after_counted.last in let z = after_counted.begun.kept.more in let u : length (season_after live s (Command_done m c reply)).graph.objects ≡ length (present_of new).objects = ap (λ (z : Graph). length z.objects) after_counted.graph in omega (arith, x, y, z, u));
     base = k.base;
     swept = k.swept;
   }

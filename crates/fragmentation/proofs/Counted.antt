@@ -1,19 +1,21 @@
 -- What is counted of each course by its events, and a run that keeps to a bound.
-use Rattle.std.proofs.Common.{◌≡◌, ℕ, ◌+◌, ◌*◌, ◌/◌, ◌<◌, ◌≤◌, Bool, true, false, if◌then◌else◌, List, [], ◌∷◌, Option, Some, None, length, drop, take, ap, ◌∙◌, sym, subst, arith, refl, mul-zero}
-use Rattle.std.specs.Prelude.{count_by, sum_by}
+use Rattle.std.proofs.Common.{◌≡◌, ℕ, ◌+◌, ◌*◌, ◌/◌, ◌<◌, ◌≤◌, Bool, true, false, if◌then◌else◌, List, [], ◌∷◌, Option, Some, None, length, drop, take, ap, ◌∙◌, sym, subst, arith, rules, refl, mul-zero}
+use Rattle.std.specs.Prelude.{count_by}
 use Rattle.std.proofs.lemmas.List.Folds.{sum_by-replicate}
 use Rattle.std.proofs.Math.Seq.{take-length}
 use Rattle.size_classes.specs.declared.class.TheConstants.{CLASSES}
 use Rattle.graph_heap.specs.declared.command.Command.{Command}
+use Rattle.graph_heap.specs.declared.command.Command.TheVariants as commands
 use Rattle.graph_heap.specs.declared.command.Reply.{Reply}
 use Rattle.graph_heap.specs.declared.command.Change.{Change}
-use Rattle.graph_heap.specs.Graph.{Object, Graph, object_of, opening, changed}
+use Rattle.graph_heap.specs.Graph.{Object, Graph, opening, changed}
 use Rattle.graph_heap.specs.Reach.{Reaches}
+use Rattle.graph_heap.specs.Effect.{reply_of, slot_at, fitting, next_identity, admitted}
 use Rattle.graph_heap.specs.History.{after}
 use Rattle.size_classes.specs.Need.{needed}
 use Rattle.heap_model.specs.declared.phase.Phase.{Phase}
-use Rattle.heap_model.specs.Pages.{Page, page_at}
-use Rattle.heap_model.specs.Store.{is_held}
+use Rattle.heap_model.specs.Pages.{Page, ArePages, page_at, has_room}
+use Rattle.heap_model.specs.Store.{Store, is_held}
 use Rattle.heap_model.specs.State.{HeapState}
 use Rattle.heap_model.specs.Opening.{IsOpening}
 use Rattle.heap_model.specs.Standing.{Stands}
@@ -27,8 +29,8 @@ use Rattle.heap_model.proofs.Opening.{page_none}
 use Rattle.heap_model.proofs.Agreements.{consistent_agrees}
 use Rattle.heap_model.proofs.Left.{change_left}
 use Rattle.heap_model.proofs.Course.{enters_graph, enters_present, enters_snapshot, begins_present, collects_limits, collects_present, does_course, opening_course}
-use Rattle.space.specs.Demand.{LiveWithin, blocks_of, asked_by}
-use Rattle.space.specs.Tally.{is_tracing, NewFindsRoom, EveryNewFindsRoom}
+use Rattle.space.specs.Demand.{LiveWithin, blocks_of, asked_for, asked_by}
+use Rattle.space.specs.Tally.{is_tracing, FindsRoom, NewFindsRoom, EveryNewFindsRoom}
 use Rattle.space.specs.Counts.{stays, main_blocks}
 use Rattle.space.specs.Placement.{IsTidy, KeepsOnly, KeepsShapes}
 use Rattle.space.proofs.Counts.{one_if}
@@ -36,11 +38,24 @@ use Rattle.space.proofs.Tidying.{shrinks_keeps, tidy_same, tidy_action}
 use Rattle.space.proofs.Changing.{tidy_change, only_change, shapes_kept, shapes_then}
 use Rattle.space.proofs.Census.{census}
 use Rattle.space.proofs.Pacing.{more_since}
-use Rattle.space.proofs.Running.{rest_only, chain_only, shapes_same, shapes_into}
+use Rattle.space.proofs.Roomless.{admitted_other, slot_other, fitting_other, next_other}
+use Rattle.space.proofs.Running.{rest_only, chain_only, new_has_room, shapes_same, shapes_into}
 use Rattle.fragmentation.specs.Season.{Season, Lives, opening_season, made_since, needed_since, season_swept, season_after, Keeps, AllKeep}
 use Rattle.fragmentation.specs.Tight.{staying_pages}
 use Rattle.fragmentation.proofs.IsLeftover.{leaves, IsSettled}
 use Rattle.fragmentation.proofs.Acting.{chain_out}
+
+-- What there was when a cycle began: it is at the front of what is present, and what was live of it needs at most so many blocks.
+pub record WasLive (r : Course) (origin : Graph) (most : ℕ → ℕ) : Type 0 where
+  pub live : LiveWithin origin most
+  pub kept : KeepsShapes origin.objects (present_of r).objects
+
+-- of so many objects that there were then, only those that were live have a main copy
+pub record HasOnly (r : Course) (count : ℕ) (most : ℕ → ℕ) : Type 0 where
+  pub origin : Graph
+  pub base : count ≡ length origin.objects
+  pub was : WasLive r origin most
+  pub only : KeepsOnly r.heap.store (length origin.objects) was.live.ids
 
 -- Of those objects that there were when the cycle began whose sweep ended last, the ones with a main copy need no more
 -- than live ones did.
@@ -48,25 +63,42 @@ pub record IsCounted (r : Course) (s : Season) (live : Lives) : Type 0 where
   pub graph : s.graph ≡ present_of r
   pub tracing : s.tracing ≡ is_tracing r.heap.phase
   pub last : s.last ≡ length (snapshot_of r).objects
-  pub begun : LiveWithin (snapshot_of r) (live s.cycles)
-  pub kept_last : KeepsShapes (snapshot_of r).objects (present_of r).objects
-  pub origin : List Object
-  pub ids : List ℕ
-  pub base : s.base ≡ length origin
-  pub within : (class : ℕ) → class < CLASSES → sum_by (λ id. needed (object_of origin id).shape class) ids ≤ live s.number class
-  pub kept : KeepsShapes origin (present_of r).objects
-  pub only : KeepsOnly r.heap.store (length origin) ids
+  pub begun : WasLive r (snapshot_of r) (live s.cycles)
+  pub based : HasOnly r s.base (live s.number)
   pub rested : s.tracing ≡ false → (s.base ≡ s.last) × (s.number ≡ s.cycles)
   pub swept : s.swept ≤ length (present_of r).objects
   pub tidy : IsTidy r.heap.store (present_of r).objects
 
--- the main copies are no more than what is needed since
+-- the main copies are no more than what was live, and what was made since
+pub held_since : (s : Store) (objects : List Object) (origin : Graph) (most : ℕ → ℕ) (live : LiveWithin origin most) → ArePages s.pages → IsTidy s objects → KeepsShapes origin.objects objects → KeepsOnly s (length origin.objects) live.ids
+    → (class : ℕ) → class < CLASSES → main_blocks s.pages class ≤ most class + blocks_of (drop (length origin.objects) objects) class
+held_since s objects origin most live a tidy kept only class l =
+    let x = census s a class objects tidy origin.objects live.ids kept only in
+    let y = live.blocks class l in
+    omega (arith, x, y)
+
 pub counted_held : (r : Course) (s : Season) (live : Lives) → IsCourse r → IsCounted r s live → (class : ℕ) → class < CLASSES → main_blocks r.heap.store.pages class ≤ needed_since live s class
 counted_held r s live w k class l =
-    let x = census r.heap.store w.stands.pages class (present_of r).objects k.tidy k.origin k.ids k.kept k.only in
-    let y = k.within class l in
-    let d : made_since s.base s class ≡ blocks_of (drop (length k.origin) (present_of r).objects) class = ap (λ z. made_since z s class) k.base ∙ ap (λ (z : Graph). blocks_of (drop (length k.origin) z.objects) class) k.graph in
-    omega (arith, x, y, d)
+    let o = k.based in
+    let x = held_since r.heap.store (present_of r).objects o.origin (live s.number) o.was.live w.stands.pages k.tidy o.was.kept o.only class l in
+    let d : made_since s.base s class ≡ blocks_of (drop (length o.origin.objects) (present_of r).objects) class = ap (λ z. made_since z s class) o.base ∙ ap (λ (z : Graph). blocks_of (drop (length o.origin.objects) z.objects) class) k.graph in
+    omega (arith, x, d)
+
+-- where what is present keeps its objects
+module _ (r new : Course) (shapes : KeepsShapes (present_of r).objects (present_of new).objects) where
+  abbrev was_live : (origin : Graph) (most : ℕ → ℕ) → WasLive r origin most → WasLive new origin most
+  was_live origin most w = record { live = w.live; kept = shapes_then _ _ _ w.kept shapes }
+
+  has_only : (base : ℕ) (most : ℕ → ℕ) → ((n : ℕ) (ids : List ℕ) → n ≤ length (present_of r).objects → KeepsOnly r.heap.store n ids → KeepsOnly new.heap.store n ids) → HasOnly r base most → HasOnly new base most
+  has_only base most only w = record {
+    origin = w.origin;
+    base = w.base;
+    was = was_live w.origin most w.was;
+    only = only (length w.origin.objects) w.was.live.ids w.was.kept.more w.only;
+  }
+
+  no_fewer : (n : ℕ) → n ≤ length (present_of r).objects → n ≤ length (present_of new).objects
+  no_fewer n l = let m = shapes.more in omega (arith, l, m)
 
 -- what a command makes
 module _ (r new : Course) (m : ℕ) (c : Command) (reply : Reply) (s : Season) (live : Lives) (w : IsCourse r) (k : IsCounted r s live) (e : Enters r m c reply new) where
@@ -79,21 +111,18 @@ module _ (r new : Course) (m : ℕ) (c : Command) (reply : Reply) (s : Season) (
   next_identity_is : r.heap.next ≡ length (present_of r).objects + 1
   next_identity_is = (consistent_agrees r.heap (present_of r) (snapshot_of r) w.stands.consistent).next
 
+  shapes : KeepsShapes (present_of r).objects (present_of new).objects
+  shapes = shapes_into _ _ _ objects_then (shapes_kept (present_of r) change)
+
   pub counted_command : IsCounted new (season_after live s (Command_done m c reply)) live
   counted_command = record {
     graph = enters_graph r new m c reply w e s.graph k.graph;
     tracing = k.tracing ∙ ap is_tracing (sym (change_left r.heap new.heap (present_of r) change e.change).phase);
     last = k.last ∙ ap (λ (z : Graph). length z.objects) (sym (enters_snapshot r new m c reply w e));
-    begun = subst (λ z. LiveWithin z (live s.cycles)) (sym (enters_snapshot r new m c reply w e)) k.begun;
-    kept_last = subst (λ z. KeepsShapes z.objects (present_of new).objects) (sym (enters_snapshot r new m c reply w e)) (shapes_into _ _ _ objects_then (shapes_then _ _ _ k.kept_last (shapes_kept (present_of r) change)));
-    origin = k.origin;
-    ids = k.ids;
-    base = k.base;
-    within = k.within;
-    kept = shapes_into _ _ _ objects_then (shapes_then _ _ _ k.kept (shapes_kept (present_of r) change));
-    only = only_change r.heap new.heap (present_of r) change (length k.origin) k.ids next_identity_is k.kept.more e.change k.only;
+    begun = subst (λ z. WasLive new z (live s.cycles)) (sym (enters_snapshot r new m c reply w e)) (was_live r new shapes _ _ k.begun);
+    based = has_only r new shapes _ _ (λ n ids l o. only_change r.heap new.heap (present_of r) change n ids next_identity_is l e.change o) k.based;
     rested = k.rested;
-    swept = (let x = k.swept in let y = (shapes_kept (present_of r) change).more in let z : length (present_of new).objects ≡ length (changed (present_of r) change).objects = ap length objects_then in omega (arith, x, y, z));
+    swept = no_fewer r new shapes s.swept k.swept;
     tidy = subst (IsTidy new.heap.store) (sym objects_then) (tidy_change r.heap new.heap (present_of r) change next_identity_is e.change k.tidy);
   }
 
@@ -105,7 +134,7 @@ module _ (r new : Course) (m : ℕ) (c : Command) (reply : Reply) (s : Season) (
       omega (arith, a, b, d)
 
   pub base_low : s.base ≤ length (present_of r).objects
-  base_low = let b = k.base in let x = k.kept.more in omega (arith, b, x)
+  base_low = let b = k.based.base in let x = k.based.was.kept.more in omega (arith, b, x)
 
   pub needed_more : (class : ℕ) → needed_since live (season_after live s (Command_done m c reply)) class ≡ needed_since live s class + asked_by change class
   needed_more class = let x = made_more s.base class base_low in omega (arith, x)
@@ -116,27 +145,21 @@ counted_begins r new s live w k lives b = record {
   graph = k.graph ∙ sym present;
   tracing = ap (λ (z : HeapState). is_tracing z.phase) (sym b.heap);
   last = ap (λ (z : Graph). length z.objects) (k.graph ∙ sym snapshot);
-  begun = subst (λ z. LiveWithin z (live (s.cycles + 1))) (k.graph ∙ sym snapshot) lives;
-  kept_last = shapes_same _ _ (ap (λ (z : Graph). z.objects) (present ∙ sym snapshot));
-  origin = k.origin;
-  ids = k.ids;
-  base = k.base;
-  within = k.within;
-  kept = shapes_into _ _ _ (ap (λ (z : Graph). z.objects) present) k.kept;
-  only = subst (λ (z : HeapState). KeepsOnly z.store (length k.origin) k.ids) (sym b.heap) k.only;
+  begun = subst (λ z. WasLive new z (live (s.cycles + 1))) (sym snapshot) (record { live = subst (λ z. LiveWithin z (live (s.cycles + 1))) k.graph lives; kept = shapes });
+  based = has_only r new shapes _ _ (λ n ids l o. subst (λ (z : HeapState). KeepsOnly z.store n ids) (sym b.heap) o) k.based;
   rested = λ e. absurd (cc);
-  swept = (let x = k.swept in let z : length (present_of new).objects ≡ length (present_of r).objects = ap (λ (z : Graph). length z.objects) present in omega (arith, x, z));
+  swept = no_fewer r new shapes s.swept k.swept;
   tidy = subst (λ (z : HeapState). IsTidy z.store (present_of new).objects) (sym b.heap) (subst (λ (z : Graph). IsTidy r.heap.store z.objects) (sym present) k.tidy);
 }
   where
     present : present_of new ≡ present_of r
     present = begins_present r new b
 
+    shapes : KeepsShapes (present_of r).objects (present_of new).objects
+    shapes = shapes_same _ _ (ap (λ (z : Graph). z.objects) present)
+
     snapshot : snapshot_of new ≡ present_of r
-    snapshot =
-        let limits : new.heap.limits ≡ r.heap.limits = ap (λ (z : HeapState). z.limits) b.heap in
-        let all : take new.place new.history ≡ r.history = ap (λ z. take z new.history) b.place ∙ ap (take (length r.history)) b.history ∙ take-length r.history in
-        ap (λ z. after (opening z) (take new.place new.history)) limits ∙ ap (after (opening r.heap.limits)) all
+    snapshot = ap (after (opening new.heap.limits)) (ap (λ z. take z new.history) (b.place ∙ ap length (sym b.history)) ∙ take-length new.history) ∙ present
 
 -- a quantum
 chain_tidy : (h after : HeapState) (spent : ℕ) (present snapshot : Graph) → Stands h present snapshot → Chain h spent after → IsTidy h.store present.objects → IsTidy after.store present.objects
@@ -148,75 +171,42 @@ chain_tidy h after spent g s st (Then u cost j k linked chain links action) w =
 counted_quantum : (r new : Course) (budget units : ℕ) (phase : Phase) (s : Season) (live : Lives) → IsCourse r → IsCounted r s live → Collects r budget units phase new → IsCounted new (season_after live s (Quantum_done budget units phase)) live
 counted_quantum r new budget units phase s live w k q = by_phase (is_tracing phase) refl
   where
-    g : Graph
-    g = present_of r
-
-    present : present_of new ≡ g
+    present : present_of new ≡ present_of r
     present = collects_present r new budget units phase w q
 
     snapshot : snapshot_of new ≡ snapshot_of r
-    snapshot =
-        let limits = collects_limits r new budget units phase w q in
-        let front : take new.place new.history ≡ take r.place r.history = ap (λ z. take z new.history) q.place ∙ ap (take r.place) q.history in
-        ap (λ z. after (opening z) (take new.place new.history)) limits ∙ ap (after (opening r.heap.limits)) front
+    snapshot = let l = collects_limits r new budget units phase w q in let p = q.place in let h = q.history in cc
 
-    stands : Stands new.heap g (snapshot_of r)
-    stands = stands_chain r.heap new.heap units g (snapshot_of r) w.stands q.turn.chain
-
-    tidy : IsTidy new.heap.store (present_of new).objects
-    tidy = subst (λ (z : Graph). IsTidy new.heap.store z.objects) (sym present) (chain_tidy r.heap new.heap units g (snapshot_of r) w.stands q.turn.chain k.tidy)
-
-    count : length (present_of new).objects ≡ length g.objects
-    count = ap (λ (z : Graph). length z.objects) present
+    shapes : KeepsShapes (present_of r).objects (present_of new).objects
+    shapes = shapes_same _ _ (ap (λ (z : Graph). z.objects) present)
 
     out_phase : is_tracing new.heap.phase ≡ is_tracing phase
     out_phase = ap is_tracing q.ends
 
-    begun : LiveWithin (snapshot_of new) (live s.cycles)
-    begun = subst (λ z. LiveWithin z (live s.cycles)) (sym snapshot) k.begun
-
-    kept_last : KeepsShapes (snapshot_of new).objects (present_of new).objects
-    kept_last = subst (λ (z : Graph). KeepsShapes z.objects (present_of new).objects) (sym snapshot) (shapes_into _ _ _ (ap (λ (z : Graph). z.objects) present) k.kept_last)
-
-    last : s.last ≡ length (snapshot_of new).objects
-    last = k.last ∙ ap (λ (z : Graph). length z.objects) (sym snapshot)
+    -- in a season that has come as far, and counts from such a base
+    counted : (z : Season) → z.graph ≡ s.graph → z.tracing ≡ is_tracing phase → z.last ≡ s.last → z.cycles ≡ s.cycles → z.swept ≤ length (present_of r).objects → (z.tracing ≡ false → (z.base ≡ z.last) × (z.number ≡ z.cycles)) → HasOnly new z.base (live z.number) → IsCounted new z live
+    counted z graph t l c swept rested based = record {
+      graph = graph ∙ k.graph ∙ sym present;
+      tracing = t ∙ sym out_phase;
+      last = l ∙ k.last ∙ ap (λ (y : Graph). length y.objects) (sym snapshot);
+      begun = subst (λ y. WasLive new (snapshot_of new) (live y)) (sym c) (subst (λ y. WasLive new y (live s.cycles)) (sym snapshot) (was_live r new shapes _ _ k.begun));
+      based = based;
+      rested = rested;
+      swept = no_fewer r new shapes z.swept swept;
+      tidy = subst (λ (y : Graph). IsTidy new.heap.store y.objects) (sym present) (chain_tidy r.heap new.heap units (present_of r) (snapshot_of r) w.stands q.turn.chain k.tidy);
+    }
 
     on : is_tracing phase ≡ true → s.tracing ≡ true → IsCounted new s live
-    on e t = record {
-      graph = k.graph ∙ sym present;
-      tracing = t ∙ sym (out_phase ∙ e);
-      last = last;
-      begun = begun;
-      kept_last = kept_last;
-      origin = k.origin;
-      ids = k.ids;
-      base = k.base;
-      within = k.within;
-      kept = shapes_into _ _ _ (ap (λ (z : Graph). z.objects) present) k.kept;
-      only = chain_only r.heap new.heap units (length k.origin) k.ids q.turn.chain (out_phase ∙ e) k.only;
-      rested = k.rested;
-      swept = (let x = k.swept in omega (arith, x, count));
-      tidy = tidy;
-    }
+    on e t = counted s refl (t ∙ sym e) refl refl k.swept k.rested (has_only r new shapes _ _ (λ n ids l o. chain_only r.heap new.heap units n ids q.turn.chain (out_phase ∙ e) o) k.based)
 
     -- in idle and in moving
-    off : (z : Season) → z.graph ≡ s.graph → z.tracing ≡ false → z.last ≡ s.last → z.cycles ≡ s.cycles → z.base ≡ s.last → z.number ≡ s.cycles → z.swept ≤ length g.objects → is_tracing phase ≡ false → IsCounted new z live
-    off z graph t l c b n swept e = record {
-      graph = graph ∙ k.graph ∙ sym present;
-      tracing = t ∙ sym (out_phase ∙ e);
-      last = l ∙ last;
-      begun = subst (λ y. LiveWithin (snapshot_of new) (live y)) (sym c) begun;
-      kept_last = kept_last;
-      origin = (snapshot_of r).objects;
-      ids = k.begun.ids;
+    off : (z : Season) → z.graph ≡ s.graph → z.tracing ≡ false → z.last ≡ s.last → z.cycles ≡ s.cycles → z.base ≡ s.last → z.number ≡ s.cycles → z.swept ≤ length (present_of r).objects → is_tracing phase ≡ false → IsCounted new z live
+    off z graph t l c b n swept e = counted z graph (t ∙ sym e) l c swept (λ y. (b ∙ sym l, n ∙ sym c)) (subst (λ y. HasOnly new z.base (live y)) (sym n) (record {
+      origin = snapshot_of r;
       base = b ∙ k.last;
-      within = λ class small. (let x = k.begun.blocks class small in let y : live z.number class ≡ live s.cycles class = ap (λ i. live i class) n in omega (arith, x, y));
-      kept = shapes_into _ _ _ (ap (λ (z : Graph). z.objects) present) k.kept_last;
-      only = rest_only new.heap g (snapshot_of r) k.begun.ids stands (out_phase ∙ e) k.begun.reached;
-      rested = λ y. (b ∙ sym l, n ∙ sym c);
-      swept = omega (arith, swept, count);
-      tidy = tidy;
-    }
+      was = was_live r new shapes _ _ k.begun;
+      only = rest_only new.heap (present_of r) (snapshot_of r) k.begun.live.ids (stands_chain r.heap new.heap units (present_of r) (snapshot_of r) w.stands q.turn.chain) (out_phase ∙ e) k.begun.live.reached;
+    }))
 
     traced : is_tracing phase ≡ true → s.tracing ≡ true
     traced e = by_start s.tracing refl
@@ -226,7 +216,7 @@ counted_quantum r new budget units phase s live w k q = by_phase (is_tracing pha
         by_start false t = absurd (let z = chain_out r.heap new.heap units q.turn.chain (sym k.tracing ∙ t) in let y : false ≡ true = sym z ∙ out_phase ∙ e in cc)
 
     by_tracing : (b : Bool) → s.tracing ≡ b → is_tracing phase ≡ false → IsCounted new (if b then season_swept live s else s) live
-    by_tracing true t e = off (season_swept live s) refl refl refl refl refl refl (let x : length s.graph.objects ≡ length g.objects = ap (λ (z : Graph). length z.objects) k.graph in omega (arith, x)) e
+    by_tracing true t e = off (season_swept live s) refl refl refl refl refl refl (let x : length s.graph.objects ≡ length (present_of r).objects = ap (λ (z : Graph). length z.objects) k.graph in omega (arith, x)) e
     by_tracing false t e = let z = k.rested t in off s refl t refl refl z.0 z.1 k.swept e
 
     by_phase : (b : Bool) → is_tracing phase ≡ b → IsCounted new (if b then s else (if s.tracing then season_swept live s else s)) live
@@ -249,6 +239,15 @@ module _ (Bound : Season → (ℕ → ℕ) → Type 0) (live : Lives) (Kept : Co
       let x = step r e runs.0 s w k kept keeps.0 runs.1 in
       (x.1, all_find_room es runs.0 new (season_after live s e) (does_course r e runs.0 w runs.1) (counted_does r e runs.0 s w k keeps.0 runs.1) x.0 runs.2 keeps.1)
 
+-- with room for what it asks for, a command makes all that it would
+pub command_room : (h : HeapState) (g : Graph) (m : ℕ) (c : Command) → ((need : ℕ → ℕ) → ((k : ℕ) → asked_for g m c k ≡ need k) → has_room h.store.pages need ≡ true) → FindsRoom c (reply_of (room_for h c) g m c) × (change_by (room_for h c) g m c ≡ change_by true g m c)
+unfolding reply_of
+command_room h g m (commands.New dst shape) room =
+    new_has_room (admitted g m (commands.New dst shape)) (slot_at g.limits m dst) (fitting shape) (next_identity g) shape
+    (admitted_other g m (commands.New dst shape)) (slot_other g.limits m dst) (fitting_other shape) (next_other g)
+    (has_room h.store.pages (needed shape)) (room (needed shape))
+command_room h g m _ room = (tt, refl)
+
 -- from an opening heap
 module _ (h : HeapState) (o : IsOpening h) (some : 0 < length h.store.pages) where
   pub none_held : (b : ℕ) → is_held h.store b ≡ true → ⊥
@@ -261,29 +260,19 @@ module _ (h : HeapState) (o : IsOpening h) (some : 0 < length h.store.pages) whe
   unfolding Reaches
   none_reached id r = let g = (consistent_agrees h (opening h.limits) (opening h.limits) (opening_course h o some).stands.consistent).given id r in let l = g.below in let p = r.0 in omega (arith, l, p)
 
+  live_none : (most : ℕ → ℕ) → WasLive (opened h) (opening h.limits) most
+  live_none most = record { live = record { ids = []; reached = λ id r. absurd (none_reached id r); blocks = λ class l. omega arith }; kept = shapes_same _ _ refl }
+
   pub opening_counted : (live : Lives) → IsCounted (opened h) (opening_season h.limits) live
   opening_counted live = record {
     graph = refl;
     tracing = ap is_tracing (sym o.phase);
     last = refl;
-    begun = record { ids = []; reached = λ id r. absurd (none_reached id r); blocks = λ class l. omega arith };
-    kept_last = record { more = omega arith; shape = λ id l. refl };
-    origin = [];
-    ids = [];
-    base = refl;
-    within = λ class l. omega arith;
-    kept = record { more = omega arith; shape = λ id l. refl };
-    only = λ b l. absurd (none_held b l);
+    begun = live_none (live 0);
+    based = record { origin = opening h.limits; base = refl; was = live_none (live 0); only = λ b l. absurd (none_held b l) };
     rested = λ e. (refl, refl);
     swept = omega arith;
-    tidy = record {
-      class = λ b l. absurd (none_held b l);
-      part = λ b l. absurd (none_held b l);
-      given = λ b l. absurd (none_held b l);
-      shape = λ b l. absurd (none_held b l);
-      one = λ a b l. absurd (none_held a l);
-      old = λ b l. absurd (none_held b l);
-    };
+    tidy = search (rules, none_held);
   }
 
   leave_none : (class : ℕ) → leaves class (page_at h.store.pages (length h.store.pages)) ≡ true → ⊥
@@ -292,9 +281,8 @@ module _ (h : HeapState) (o : IsOpening h) (some : 0 < length h.store.pages) whe
   pub opening_settled : (class need : ℕ) → IsSettled h.store class need
   opening_settled class need = record {
     page = length h.store.pages;
-    only = λ b x. absurd (none_held b x.held);
+    left = record { only = λ b x. absurd (none_held b x.held); some = λ on. absurd (leave_none class on) };
     few = (let s : staying_pages h.store.pages class ≡ 0 = count_none (stays class) refl in let z = one_none (leaves class (page_at h.store.pages (length h.store.pages))) (leave_none class) in omega (arith, s, z));
-    some = λ on. absurd (leave_none class on);
   }
     where
       number : Bool → ℕ

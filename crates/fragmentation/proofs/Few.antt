@@ -10,6 +10,7 @@ use Rattle.size_classes.specs.declared.class.TheConstants.{CLASSES}
 use Rattle.size_classes.specs.Sizes.{blocks_in}
 use Rattle.heap_model.specs.declared.phase.Phase.{Phase}
 use Rattle.heap_model.specs.declared.phase.Phase.TheVariants as phases
+use Rattle.heap_model.specs.declared.phase.Moving.{Moving}
 use Rattle.heap_model.specs.declared.phase.Moving.TheVariants as moves
 use Rattle.heap_model.specs.declared.phase.Candidate.{Candidate}
 use Rattle.heap_model.specs.Pages.{Page, IsPage, ArePages, IsOpen, is_usable, with_held, page_at, free_on, free_blocks}
@@ -25,7 +26,7 @@ use Rattle.space.proofs.Counts.{one_if, used_set, both_true, flags_all}
 use Rattle.space.proofs.Spacing.{shades_same}
 use Rattle.fragmentation.specs.Tight.{IsTight}
 use Rattle.fragmentation.proofs.IsFew.{held_from, to_move, IsFew}
-use Rattle.fragmentation.proofs.Free.{free_change, Choosable, choosable_is, choosable_all, chosen_free}
+use Rattle.fragmentation.proofs.Free.{free_change, leaving_free, Choosable, choosable_is, choosable_all, chosen_free}
 use Rattle.fragmentation.proofs.Taken.{free_less}
 use Rattle.fragmentation.proofs.Gathering.{tight_action}
 
@@ -45,13 +46,6 @@ next_fewer : (p : Page) (block i : ℕ) → IsNext p block i → count_by (λ b.
 next_fewer p block i n =
     let e : suc i ≡ i + 1 = omega arith in
     next_flag p.held block i n.from (get_or_from_slice_get p.held i true false n.held) (λ k x y. get_or_from_slice_get p.held k false false (n.first k x y)) ∙ ap (λ z. count_by (λ b. b) (drop z p.held) + 1) e
-
--- a class whose page was free or used
-of_one : (class k : ℕ) (p : Page) → p.class ≡ class → (class == k) ≡ true → one_if (is_of k (Some p)) ≡ 1
-of_one class k p c e = ap one_if (ap (λ z. z == k) c ∙ e)
-
-of_none : (class k : ℕ) (p : Page) → p.class ≡ class → (class == k) ≡ false → one_if (is_of k (Some p)) ≡ 0
-of_none class k p c e = ap one_if (ap (λ z. z == k) c ∙ e)
 
 -- pages and phase that leave the numbers as they are, or make them no worse
 few_less : (old new : List (Option Page)) (p q : Phase) (first made : ℕ → ℕ) → IsFew old p first made
@@ -78,85 +72,49 @@ few_starts pages p none = record {
   still = λ e class l. inr (omega arith);
 }
 
-sweeping_is : (h : HeapState) (page block : ℕ) → h.phase ≡ phases.Sweeping page block → is_sweeping h.phase ≡ true
-sweeping_is h page block e = ap is_sweeping e
+-- a page that is closed is used no more, or goes on with no fewer free blocks
+closed_page : (k : ℕ) (o : Option Page) → ((p : Page) → o ≡ Some p → IsPage p) → (one_if (is_of k (closed o)) ≤ one_if (is_of k o)) × (blocks_in k * one_if (is_of k (closed o)) + free_on k o ≤ blocks_in k * one_if (is_of k o) + free_on k (closed o))
+closed_page k None w = (omega arith, omega arith)
+closed_page k (Some p) w = by_held (held_on (Some p) == 0)
+  where
+    at_most : free_on k (Some p) ≤ blocks_in k * one_if (p.class == k)
+    at_most = by_class (p.class == k) refl
+      where
+        by_leaving : (l : Bool) → p.class ≡ k → cond (true && not l) (count_by not p.held) 0 ≤ blocks_in k * 1
+        by_leaving true c = omega arith
+        by_leaving false c = let a = flags_all p.held in let m : length p.held ≡ blocks_in k = (w p refl).blocks ∙ ap blocks_in c in omega (arith, a, m)
 
-true_false : (b : Bool) → b ≡ true → b ≡ false → ⊥
-true_false b p q = cc
+        by_class : (b : Bool) → (p.class == k) ≡ b → cond (b && not p.leaving) (count_by not p.held) 0 ≤ blocks_in k * one_if b
+        by_class true e = by_leaving p.leaving (same_number p.class k e)
+        by_class false e = omega arith
 
--- a page that is closed
-module _ (old new : List (Option Page)) (page : ℕ) (l : page < length old) (w : ArePages old) (is : new ≡ set old page (closed (page_at old page))) where
-  close_counts : (k : ℕ) → (used_pages new k ≤ used_pages old k) × (blocks_in k * used_pages new k + free_blocks old k ≤ blocks_in k * used_pages old k + free_blocks new k)
-  close_counts k = by_page (page_at old page) refl
-    where
-      u : used_pages new k + one_if (is_of k (page_at old page)) ≡ used_pages old k + one_if (is_of k (closed (page_at old page)))
-      u = used_set old new page (page_at old page) (closed (page_at old page)) l refl is k
+    more_free : free_on k (Some p) ≤ free_on k (Some (record p { leaving = false; receiving = false }))
+    more_free = by_tests (p.class == k) p.leaving
+      where
+        by_tests : (b l : Bool) → cond (b && not l) (count_by not p.held) 0 ≤ cond (b && true) (count_by not p.held) 0
+        by_tests true true = omega arith
+        by_tests true false = omega arith
+        by_tests false l = omega arith
 
-      f : free_blocks new k + free_on k (page_at old page) ≡ free_blocks old k + free_on k (closed (page_at old page))
-      f = free_change old new page (page_at old page) (closed (page_at old page)) l refl is k
+    by_held : (b : Bool) → (one_if (is_of k (if b then None else Some (record p { leaving = false; receiving = false }))) ≤ one_if (p.class == k))
+        × (blocks_in k * one_if (is_of k (if b then None else Some (record p { leaving = false; receiving = false }))) + free_on k (Some p) ≤ blocks_in k * one_if (p.class == k) + free_on k (if b then None else Some (record p { leaving = false; receiving = false })))
+    by_held true = (omega arith, omega (arith, at_most))
+    by_held false = (omega arith, omega (arith, more_free))
 
-      -- numbers
-      gone : (b x y m n a c : ℕ) → x + c ≡ y + 0 → m + a ≡ n + 0 → a ≤ b * c → (x ≤ y) × (b * x + n ≤ b * y + m)
-      gone b x y m n a c p q r = let d : b * y ≡ b * x + b * c = times b x c y (omega (arith, p)) in (omega (arith, p), omega (arith, d, q, r))
-        where
-          times : (b x c y : ℕ) → y ≡ x + c → b * y ≡ b * x + b * c
-          times b x c y e = let z : b * (x + c) ≡ b * x + b * c = omega arith in ap (λ t. b * t) e ∙ z
-
-      stays : (b x y m n a d c : ℕ) → x + c ≡ y + c → m + a ≡ n + d → a ≤ d → (x ≤ y) × (b * x + n ≤ b * y + m)
-      stays b x y m n a d c p q r = let e : x ≡ y = omega (arith, p) in let t : b * x ≡ b * y = ap (λ z. b * z) e in (omega (arith, e), omega (arith, t, q, r))
-
-      at_most : (p : Page) → IsPage p → free_on k (Some p) ≤ blocks_in k * one_if (p.class == k)
-      at_most p i = by_class (p.class == k) refl
-        where
-          all : count_by not p.held ≤ length p.held
-          all = let a = flags_all p.held in omega (arith, a)
-
-          by_leaving : (l : Bool) → p.class ≡ k → cond (true && not l) (count_by not p.held) 0 ≤ blocks_in k * 1
-          by_leaving true c = omega arith
-          by_leaving false c = let b = i.blocks in let m : length p.held ≡ blocks_in k = b ∙ ap blocks_in c in omega (arith, all, m)
-
-          by_class : (b : Bool) → (p.class == k) ≡ b → cond (b && not p.leaving) (count_by not p.held) 0 ≤ blocks_in k * one_if b
-          by_class true e = by_leaving p.leaving (same_number p.class k e)
-          by_class false e = omega arith
-
-      more_free : (p : Page) → free_on k (Some p) ≤ free_on k (Some (record p { leaving = false; receiving = false }))
-      more_free p = by_tests (p.class == k) p.leaving
-        where
-          by_tests : (b l : Bool) → cond (b && not l) (count_by not p.held) 0 ≤ cond (b && true) (count_by not p.held) 0
-          by_tests true true = omega arith
-          by_tests true false = omega arith
-          by_tests false true = omega arith
-          by_tests false false = omega arith
-
-      Goal : Type 0
-      Goal = (used_pages new k ≤ used_pages old k) × (blocks_in k * used_pages new k + free_blocks old k ≤ blocks_in k * used_pages old k + free_blocks new k)
-
-      by_page : (o : Option Page) → page_at old page ≡ o → Goal
-      by_page None e =
-          let uo : one_if (is_of k (page_at old page)) ≡ 0 = ap (λ z. one_if (is_of k z)) e in
-          let uc : one_if (is_of k (closed (page_at old page))) ≡ 0 = ap (λ z. one_if (is_of k (closed z))) e in
-          let fo : free_on k (page_at old page) ≡ 0 = ap (free_on k) e in
-          let fc : free_on k (closed (page_at old page)) ≡ 0 = ap (λ z. free_on k (closed z)) e in
-          stays (blocks_in k) (used_pages new k) (used_pages old k) (free_blocks new k) (free_blocks old k) 0 0 0 (omega (arith, u, uo, uc)) (omega (arith, f, fo, fc)) (omega arith)
-      by_page (Some p) e = by_held (held_on (Some p) == 0) refl
-        where
-          uo : one_if (is_of k (page_at old page)) ≡ one_if (p.class == k)
-          uo = ap (λ z. one_if (is_of k z)) e
-
-          fo : free_on k (page_at old page) ≡ free_on k (Some p)
-          fo = ap (free_on k) e
-
-          by_held : (b : Bool) → (held_on (Some p) == 0) ≡ b → Goal
-          by_held true t =
-              let c : closed (page_at old page) ≡ None = ap closed e ∙ ap (λ b. if b then None else Some (record p { leaving = false; receiving = false })) t in
-              let uc : one_if (is_of k (closed (page_at old page))) ≡ 0 = ap (λ z. one_if (is_of k z)) c in
-              let fc : free_on k (closed (page_at old page)) ≡ 0 = ap (free_on k) c in
-              gone (blocks_in k) (used_pages new k) (used_pages old k) (free_blocks new k) (free_blocks old k) (free_on k (Some p)) (one_if (p.class == k)) (omega (arith, u, uo, uc)) (omega (arith, f, fo, fc)) (at_most p (w.each page p e))
-          by_held false t =
-              let c : closed (page_at old page) ≡ Some (record p { leaving = false; receiving = false }) = ap closed e ∙ ap (λ b. if b then None else Some (record p { leaving = false; receiving = false })) t in
-              let uc : one_if (is_of k (closed (page_at old page))) ≡ one_if (p.class == k) = ap (λ z. one_if (is_of k z)) c in
-              let fc : free_on k (closed (page_at old page)) ≡ free_on k (Some (record p { leaving = false; receiving = false })) = ap (free_on k) c in
-              stays (blocks_in k) (used_pages new k) (used_pages old k) (free_blocks new k) (free_blocks old k) (free_on k (Some p)) (free_on k (Some (record p { leaving = false; receiving = false }))) (one_if (p.class == k)) (omega (arith, u, uo, uc)) (omega (arith, f, fo, fc)) (more_free p)
+close_counts : (old new : List (Option Page)) (page : ℕ) → page < length old → ArePages old → new ≡ set old page (closed (page_at old page)) → (k : ℕ)
+    → (used_pages new k ≤ used_pages old k) × (blocks_in k * used_pages new k + free_blocks old k ≤ blocks_in k * used_pages old k + free_blocks new k)
+close_counts old new page l w is k =
+    let o = page_at old page in
+    let q = closed_page k o (λ p e. w.each page p e) in
+    let u = used_set old new page o (closed o) l refl is k in
+    let f = free_change old new page o (closed o) l refl is k in
+    let x = times (blocks_in k) (used_pages new k) (one_if (is_of k o)) in
+    let y = times (blocks_in k) (used_pages old k) (one_if (is_of k (closed o))) in
+    let e : blocks_in k * (used_pages new k + one_if (is_of k o)) ≡ blocks_in k * (used_pages old k + one_if (is_of k (closed o))) = ap (λ z. blocks_in k * z) u in
+    (omega (arith, u, q.0), omega (arith, x, y, e, f, q.1))
+  where
+    times : (b x y : ℕ) → b * (x + y) ≡ b * x + b * y
+    times b x y = omega arith
 
 -- a page that is chosen: its class has as many free blocks as a page, so that no page was opened for it
 chosen_few : (old new : List (Option Page)) (class page chosen : ℕ) (p : Page) (q : Phase) (first made : ℕ → ℕ) → ArePages old → page_at old page ≡ Some p → is_choosable class (Some p) ≡ true → blocks_in class ≤ free_blocks old class
@@ -175,13 +133,6 @@ chosen_few old new class page chosen p q first made pages at good free is off ti
 
     used : (k : ℕ) → used_pages new k ≡ used_pages old k
     used k = let u = used_set old new page (Some p) (Some (record p { leaving = true })) within at is k in omega (arith, u)
-
-    leaves : (k : ℕ) → free_on k (Some (record p { leaving = true })) ≡ 0
-    leaves k = by_test (p.class == k)
-      where
-        by_test : (b : Bool) → cond (b && false) (count_by not p.held) 0 ≡ 0
-        by_test true = refl
-        by_test false = refl
 
     now : page_at new page ≡ Some (record p { leaving = true })
     now = ap (λ z. page_at z page) is ∙ set_page_here old page _ within
@@ -203,7 +154,7 @@ chosen_few old new class page chosen p q first made pages at good free is off ti
               let m = mul-le-mul_left (blocks_in class) s in
               let mu : blocks_in class * used_pages new class ≡ blocks_in class * used_pages old class = ap (λ z. blocks_in class * z) u in
               let f = free_change old new page (Some p) (Some (record p { leaving = true })) within at is class in
-              let z = leaves class in
+              let z = leaving_free p class in
               let all = choosable_all class p (pages.each page p at) good in
               let x : (p.class == class) ≡ true = ap (λ z. z == class) c.own ∙ eq-eqb class class refl in
               let r : to_move new class (phases.Moving (moves.Emptying class page 0 chosen)) ≡ held_on (Some p) = ap (held_from class 0) now ∙ ap (λ b. if b then count_by (λ b. b) p.held else 0) x in
@@ -213,7 +164,7 @@ chosen_few old new class page chosen p q first made pages at good free is off ti
         let u = used k in
         let mu : blocks_in k * used_pages new k ≡ blocks_in k * used_pages old k = ap (λ z. blocks_in k * z) u in
         let f = free_change old new page (Some p) (Some (record p { leaving = true })) within at is k in
-        let z = leaves k in
+        let z = leaving_free p k in
         let x : (p.class == k) ≡ false = ap (λ z. z == k) c.own ∙ e in
         let none : free_on k (Some p) ≡ 0 = ap (λ b. cond (b && not p.leaving) (count_by not p.held) 0) x in
         let r : to_move new k (phases.Moving (moves.Emptying class page 0 chosen)) ≡ 0 = ap (held_from k 0) now ∙ ap (λ b. if b then count_by (λ b. b) p.held else 0) x in
@@ -276,14 +227,26 @@ moved_few old new class page block chosen i to j p q first made at leaving next 
         let b : to_move new k (phases.Moving (moves.Emptying class page (i + 1) chosen)) ≡ 0 = ap (held_from k (i + 1)) now ∙ ap (λ b. if b then count_by (λ b. b) (drop (i + 1) p.held) else 0) e in
         omega (arith, mu, f, none.0, none.1, a, b)
 
--- at a look of a pass, and where moving ends, no page is swept
-pub moving_not : (h : HeapState) (class page : ℕ) (best : Option Candidate) (chosen : ℕ) → AtPass h class page best chosen → is_sweeping h.phase ≡ false
-moving_not h class page best chosen (In_pass class0 page0 best0 chosen0 e) = ap is_sweeping e
-moving_not h class page best chosen (After_page class0 page0 block chosen0 p e at on done few) = ap is_sweeping e
+-- at a look of a pass, and where moving ends, blocks are moved
+pub at_pass_moving : (h : HeapState) (class page : ℕ) (best : Option Candidate) (chosen : ℕ) → AtPass h class page best chosen → (m : Moving) × (h.phase ≡ phases.Moving m)
+at_pass_moving h class page best chosen (In_pass class0 page0 best0 chosen0 e) = (_, e)
+at_pass_moving h class page best chosen (After_page class0 page0 block chosen0 p e at on done few) = (_, e)
 
-done_not : (h : HeapState) → MovingDone h → is_sweeping h.phase ≡ false
-done_not h (No_class page best chosen e) = ap is_sweeping e
-done_not h (No_page class page block chosen p e at done l) = ap is_sweeping e
+pub done_moving : (h : HeapState) → MovingDone h → (m : Moving) × (h.phase ≡ phases.Moving m)
+done_moving h (No_class page best chosen e) = (_, e)
+done_moving h (No_page class page block chosen p e at done l) = (_, e)
+
+pub moving_not : (h : HeapState) (class page : ℕ) (best : Option Candidate) (chosen : ℕ) → AtPass h class page best chosen → is_sweeping h.phase ≡ false
+moving_not h class page best chosen at = ap is_sweeping (at_pass_moving h class page best chosen at).1
+
+-- out of a sweep moving begins, or the cycle ends
+pub sweep_ended : (b : Bool) → is_tracing (if b then phases.Moving (moves.Pass 0 0 None 0) else phases.Idle) ≡ false
+sweep_ended true = refl
+sweep_ended false = refl
+
+-- a test isn't both
+pub not_both : (b : Bool) → b ≡ true → b ≡ false → ⊥
+not_both b p q = cc
 
 -- each action but the change out of a sweep
 pub few_action : (h after : HeapState) (cost : ℕ) (first made : ℕ → ℕ) → ArePages h.store.pages → is_tracing after.phase ≡ is_tracing h.phase → Action h cost after → IsFew h.store.pages h.phase first made → IsFew after.store.pages after.phase first made
@@ -318,11 +281,7 @@ few_action h after cost first made a same (Closes_page page block new e l f w0 p
     (λ k b. (close_counts h.store.pages new.pages page l a pages k).0)
     (λ k b. (let c = (close_counts h.store.pages new.pages page l a pages k).1 in omega (arith, c)))
     (λ s. absurd (cc))
-few_action h after cost first made a same (Ends_sweep page block e l) w = absurd (ends (is_sparse h) (same ∙ ap is_tracing e))
-  where
-    ends : (b : Bool) → is_tracing (if b then phases.Moving (moves.Pass 0 0 None 0) else phases.Idle) ≡ true → ⊥
-    ends true e = cc
-    ends false e = cc
+few_action h after cost first made a same (Ends_sweep page block e l) w = absurd (not_both _ (same ∙ ap is_tracing e) (sweep_ended (is_sparse h)))
 few_action h after cost first made a same (Looks_at_page class page best chosen at few more) w = few_same _ _ _ _ first made w refl (λ class. refl) (λ s. moving_not h class page best chosen at)
 few_action h after cost first made a same (Chooses_page class page best chosen k p new at few last is good there w0 pages) w =
     let ok : is_choosable class (Some p) ≡ true = sym (ap (is_choosable class) there) ∙ (both_true _ _ good).0 in
@@ -335,4 +294,4 @@ few_action h after cost first made a same (Moves_block class page block chosen i
     moved_few h.store.pages new.pages class page block chosen i to j p q first made at leaving next usable there empty pages
     (λ c t. tight_action h _ _ c a (ap is_sweeping e) (Moves_block class page block chosen i to j p q new e at leaving next place there empty w0 pages) t)
     (subst (λ z. IsFew h.store.pages z first made) e w)
-few_action h after cost first made a same (Ends_moving done) w = few_same _ _ _ _ first made w refl (λ class. refl) (λ s. done_not h done)
+few_action h after cost first made a same (Ends_moving done) w = few_same _ _ _ _ first made w refl (λ class. refl) (λ s. ap is_sweeping (done_moving h done).1)

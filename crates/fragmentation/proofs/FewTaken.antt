@@ -1,6 +1,6 @@
 -- How many pages a class has since a sweep ended, through blocks that are taken; and room for what is asked for.
-use Rattle.std.proofs.Common.{◌≡◌, ℕ, zero, suc, ◌+◌, ◌-◌, ◌*◌, ◌/◌, ◌<◌, ◌≤◌, ◌⊎◌, inl, inr, Bool, true, false, ◌==◌, if◌then◌else◌, List, Option, Some, None, length, set, ap, ◌∙◌, sym, subst, arith, refl}
-use Rattle.std.proofs.lemmas.Bool.{le-leb, eq-eqb}
+use Rattle.std.proofs.Common.{◌≡◌, ℕ, ◌+◌, ◌-◌, ◌*◌, ◌<◌, ◌≤◌, ◌⊎◌, inl, inr, Bool, true, false, ◌==◌, if◌then◌else◌, List, Option, Some, None, length, set, ap, ◌∙◌, sym, subst, arith, refl}
+use Rattle.std.proofs.lemmas.Bool.{le-leb}
 use Rattle.std.proofs.lemmas.Nat.{le-div}
 use Rattle.std.proofs.lemmas.Option.{same_Some}
 use Rattle.size_classes.specs.declared.class.TheConstants.{CLASSES}
@@ -16,14 +16,13 @@ use Rattle.heap_model.proofs.Held.{set_page}
 use Rattle.heap_model.proofs.Placed.{page_for_within}
 use Rattle.heap_model.proofs.Rooms.{no_blocks}
 use Rattle.heap_model.proofs.Moved.{same_number, usable_fits}
-use Rattle.space.specs.Space.{class_sum}
 use Rattle.space.specs.Counts.{used_pages}
 use Rattle.space.proofs.Counts.{one_if, used_set, all_pages, whole_within, zero_or}
 use Rattle.fragmentation.specs.Tight.{IsTight}
 use Rattle.fragmentation.proofs.IsFew.{held_from, to_move, IsFew, few_pages}
 use Rattle.fragmentation.proofs.Free.{free_change}
 use Rattle.fragmentation.proofs.Taken.{FromUsed, FromFree, took, fresh_few, fresh_other, opened_tight, block_tight}
-use Rattle.fragmentation.proofs.Paging.{whole_more, whole_none}
+use Rattle.fragmentation.proofs.Paging.{whole_more, whole_none, needed_sums}
 use Rattle.fragmentation.proofs.Few.{one_less, none_less}
 
 -- the phase looks at the same blocks of the page that is emptied, while others are taken
@@ -35,6 +34,41 @@ emptied_same old new (phases.Sweeping page block) class w s = refl
 emptied_same old new (phases.Moving (moves.Pass k page best chosen)) class w s = refl
 emptied_same old new (phases.Moving (moves.Emptying k page block chosen)) class w s = ap (held_from class block) (s page w.0 w.1 w.2) ∙ sym (ap (held_from class block) w.1)
 
+-- pages for what is asked for, beside those that there are
+class_few : (pages : List (Option Page)) (p : Phase) (first made need : ℕ → ℕ) → IsFew pages p first made → (class : ℕ) → class < CLASSES → whole_pages class (need class - free_blocks pages class) + used_pages pages class ≤ first class + whole_pages class (made class + need class)
+class_few pages p first made need w class small = by_missing (zero_or (need class - free_blocks pages class)) (order (used_pages pages class) (first class))
+  where
+    some : 0 < blocks_in class
+    some = blocks_some class small
+
+    order : (x y : ℕ) → (x < y) ⊎ (y ≤ x)
+    order x y = grind arith
+
+    missing : ℕ
+    missing = need class - free_blocks pages class
+
+    few : used_pages pages class ≤ first class + whole_pages class (made class)
+    few = w.few class small
+
+    fair : blocks_in class * used_pages pages class + to_move pages class p ≤ blocks_in class * first class + made class + free_blocks pages class
+    fair = w.fair class small
+
+    by_missing : (missing ≡ 0) ⊎ (0 < missing) → (used_pages pages class < first class) ⊎ (first class ≤ used_pages pages class) → whole_pages class missing + used_pages pages class ≤ first class + whole_pages class (made class + need class)
+    by_missing (inl z) o =
+        let n : whole_pages class missing ≡ 0 = ap (whole_pages class) z ∙ whole_none class small in
+        let m = whole_more class (made class) (made class + need class) small (omega arith) in
+        omega (arith, n, m, few)
+    by_missing (inr s) (inl less) =
+        let m = whole_more class missing (made class + need class) small (omega arith) in
+        omega (arith, m, less)
+    by_missing (inr s) (inr more) =
+        let u : ℕ = used_pages pages class - first class in
+        let e : used_pages pages class ≡ first class + u = omega (arith, more) in
+        let d : blocks_in class * used_pages pages class ≡ blocks_in class * (first class + u) = ap (λ y. blocks_in class * y) e in
+        let m : blocks_in class * (first class + u) ≡ blocks_in class * first class + blocks_in class * u = omega arith in
+        let q = whole_within (blocks_in class) missing u (made class + need class) some (omega (arith, d, m, s, fair)) in
+        omega (arith, q, e)
+
 -- a block that is taken
 abbrev pub plus_one : (ℕ → ℕ) → ℕ → ℕ → ℕ
 plus_one made class k = made k + one_if (class == k)
@@ -44,9 +78,6 @@ block_few old new class page index p first made small placed t w = elim (took ol
   where
     within : page < length old
     within = page_for_within old class page t.page_is
-
-    one_same : one_if (class == class) ≡ 1
-    one_same = ap one_if (eq-eqb class class refl)
 
     -- a leaving page gives no block
     leaving_same : (v : Option Page) → new ≡ set old page v → ((q : Page) → page_at old page ≡ Some q → q.leaving ≡ true → ⊥) → (k : ℕ) (q : Page) → page_at old k ≡ Some q → q.leaving ≡ true → page_at new k ≡ Some q
@@ -121,26 +152,12 @@ block_few old new class page index p first made small placed t w = elim (took ol
 
         opens : (k : ℕ) → k < CLASSES → class ≡ k → used_pages old k + 1 ≤ first k + whole_pages k (made k + 1)
         opens k l same =
+            let some = blocks_some k l in
             let z : free_blocks old k ≡ 0 = subst (λ y. free_blocks old y ≡ 0) same none in
-            let a = w.fair k l in
-            by_order (order (used_pages old k) (first k)) z a
-          where
-            order : (x y : ℕ) → (x < y) ⊎ (y ≤ x)
-            order x y = grind arith
-
-            some : 0 < blocks_in k
-            some = blocks_some k l
-
-            by_order : (used_pages old k < first k) ⊎ (first k ≤ used_pages old k) → free_blocks old k ≡ 0 → blocks_in k * used_pages old k + to_move old k p ≤ blocks_in k * first k + made k + free_blocks old k → used_pages old k + 1 ≤ first k + whole_pages k (made k + 1)
-            by_order (inl less) z a = omega (arith, less)
-            by_order (inr more) z a =
-                let u : ℕ = used_pages old k - first k in
-                let s : used_pages old k ≡ first k + u = omega (arith, more) in
-                let d : blocks_in k * used_pages old k ≡ blocks_in k * (first k + u) = ap (λ y. blocks_in k * y) s in
-                let m : blocks_in k * (first k + u) ≡ blocks_in k * first k + blocks_in k * u = omega arith in
-                let q = whole_within (blocks_in k) 1 u (made k + 1) some (omega (arith, d, m, z, a)) in
-                let one : 1 ≤ (1 + (blocks_in k - 1)) / blocks_in k = le-div 1 (1 + (blocks_in k - 1)) (blocks_in k) some (omega (arith, some)) in
-                omega (arith, q, s, one)
+            let c = class_few old p first made (λ n. 1) w k l in
+            let m : whole_pages k (1 - free_blocks old k) ≡ whole_pages k 1 = ap (whole_pages k) (omega (arith, z)) in
+            let one : 1 ≤ whole_pages k 1 = le-div 1 (1 + (blocks_in k - 1)) (blocks_in k) some (omega (arith, some)) in
+            omega (arith, c, m, one)
 
         few_by : (k : ℕ) → k < CLASSES → (b : Bool) → (class == k) ≡ b → used_pages new k ≤ first k + whole_pages k (made k + one_if b)
         few_by k l true e = let u = used k in let o : one_if (class == k) ≡ 1 = ap one_if e in let s = opens k l (same_number class k e) in omega (arith, u, o, s)
@@ -158,44 +175,8 @@ block_few old new class page index p first made small placed t w = elim (took ol
         ]
 
 -- room for what is asked for
-module _ (pages : List (Option Page)) (p : Phase) (first made need : ℕ → ℕ) (a : ArePages pages) (w : IsFew pages p first made) where
-  class_few : (class : ℕ) → class < CLASSES → whole_pages class (need class - free_blocks pages class) + used_pages pages class ≤ first class + whole_pages class (made class + need class)
-  class_few class small = by_missing (zero_or (need class - free_blocks pages class)) (order (used_pages pages class) (first class))
-    where
-      some : 0 < blocks_in class
-      some = blocks_some class small
-
-      order : (x y : ℕ) → (x < y) ⊎ (y ≤ x)
-      order x y = grind arith
-
-      missing : ℕ
-      missing = need class - free_blocks pages class
-
-      few : used_pages pages class ≤ first class + whole_pages class (made class)
-      few = w.few class small
-
-      fair : blocks_in class * used_pages pages class + to_move pages class p ≤ blocks_in class * first class + made class + free_blocks pages class
-      fair = w.fair class small
-
-      by_missing : (missing ≡ 0) ⊎ (0 < missing) → (used_pages pages class < first class) ⊎ (first class ≤ used_pages pages class) → whole_pages class missing + used_pages pages class ≤ first class + whole_pages class (made class + need class)
-      by_missing (inl z) o =
-          let n : whole_pages class missing ≡ 0 = ap (whole_pages class) z ∙ whole_none class small in
-          let m = whole_more class (made class) (made class + need class) small (omega arith) in
-          omega (arith, n, m, few)
-      by_missing (inr s) (inl less) =
-          let m = whole_more class missing (made class + need class) small (omega arith) in
-          omega (arith, m, less)
-      by_missing (inr s) (inr more) =
-          let u : ℕ = used_pages pages class - first class in
-          let e : used_pages pages class ≡ first class + u = omega (arith, more) in
-          let d : blocks_in class * used_pages pages class ≡ blocks_in class * (first class + u) = ap (λ y. blocks_in class * y) e in
-          let m : blocks_in class * (first class + u) ≡ blocks_in class * first class + blocks_in class * u = omega arith in
-          let q = whole_within (blocks_in class) missing u (made class + need class) some (omega (arith, d, m, s, fair)) in
-          omega (arith, q, e)
-
-  few_sums : (n : ℕ) → n ≤ CLASSES → pages_needed pages need n + class_sum (used_pages pages) n ≤ few_pages first (λ class. made class + need class) n
-  few_sums zero l = omega arith
-  few_sums (suc n) l = let r = few_sums n (omega arith) in let h = class_few n (omega arith) in omega (arith, r, h)
-
-  pub few_room : few_pages first (λ class. made class + need class) CLASSES ≤ length pages → has_room pages need ≡ true
-  few_room fits = le-leb (pages_needed pages need CLASSES) (free_pages pages) (let s = few_sums CLASSES (omega arith) in let t = all_pages pages a in omega (arith, s, t, fits))
+pub few_room : (pages : List (Option Page)) (p : Phase) (first made need : ℕ → ℕ) → ArePages pages → IsFew pages p first made → few_pages first (λ class. made class + need class) CLASSES ≤ length pages → has_room pages need ≡ true
+few_room pages p first made need a w fits = le-leb (pages_needed pages need CLASSES) (free_pages pages) (
+    let s = needed_sums pages need (used_pages pages) (λ class. first class + whole_pages class (made class + need class)) CLASSES (class_few pages p first made need w) in
+    let t = all_pages pages a in
+    omega (arith, s, t, fits))

@@ -1,8 +1,10 @@
 -- New objects: what they leave of how few pages there are.
 use Rattle.std.proofs.Common.{◌≡◌, ℕ, ◌+◌, ◌-◌, ◌*◌, ◌/◌, ◌<◌, ◌≤◌, ◌⊎◌, inl, inr, Bool, true, false, ◌&&◌, ◌==◌, if◌then◌else◌, List, Option, Some, None, length, ap, ◌∙◌, sym, subst, arith, refl}
-use Rattle.std.proofs.lemmas.Bool.{eq-eqb}
+use Rattle.std.proofs.lemmas.Bool.{eq-eqb, eqb-true}
+use Rattle.std.proofs.lemmas.List.Sums.{count_by-le-length}
 use Rattle.std.proofs.lemmas.Bool.Decides.{eqb_tells}
 use Rattle.std.proofs.lemmas.Nat.{le-div}
+use Rattle.std.proofs.Math.Bool.{and-false}
 use Rattle.graph_heap.specs.declared.command.Shape.{Shape}
 use Rattle.graph_heap.specs.declared.command.Change.{Change}
 use Rattle.graph_heap.specs.Graph.{Graph, first_slot}
@@ -12,149 +14,82 @@ use Rattle.size_classes.specs.Parts.{cells_of, parts_in, part_words}
 use Rattle.size_classes.specs.Need.{blocks_needed, needed}
 use Rattle.size_classes.proofs.Table.{blocks_some}
 use Rattle.heap_model.specs.declared.phase.Phase.{Phase}
-use Rattle.heap_model.specs.declared.phase.Phase.TheVariants as phases
-use Rattle.heap_model.specs.declared.phase.Moving.TheVariants as moves
-use Rattle.heap_model.specs.Pages.{Page, ArePages, with_held, fresh_page, is_usable, TakesBlock, page_at, free_on, free_blocks, whole_pages}
-use Rattle.heap_model.specs.Store.{Store, address_of}
-use Rattle.heap_model.specs.State.{HeapState}
-use Rattle.heap_model.specs.Placed.{KeepsClass, KeepsPages, IsPlaced}
+use Rattle.heap_model.specs.Pages.{Page, ArePages, with_held, fresh_page, TakesBlock, page_at, free_blocks, whole_pages}
+use Rattle.heap_model.specs.Store.{Store}
+use Rattle.heap_model.specs.State.{HeapState, is_leaving}
+use Rattle.heap_model.specs.Placed.{KeepsPages, IsPlaced}
 use Rattle.heap_model.specs.Taking.{Takes, Nothing_taken, Part_taken}
 use Rattle.heap_model.specs.Making.{MakesObject}
 use Rattle.heap_model.specs.Change.{DoesChange, Does_nothing, Does_root, Does_ref, Does_word, Does_new, Does_join, Does_leave, Clears, Clears_none, Clears_next}
 use Rattle.heap_model.proofs.Placed.{page_for_within, takes_keeps}
 use Rattle.heap_model.proofs.Rooms.{no_blocks, more_needed}
 use Rattle.heap_model.proofs.Moved.{same_number, usable_fits}
-use Rattle.heap_model.proofs.Recorded.{records_stay}
+use Rattle.heap_model.proofs.Left.{change_left}
 use Rattle.heap_model.proofs.Marks.{taken_placed}
-use Rattle.heap_model.proofs.Taken.{class_low, block_pages, takes_keep}
+use Rattle.heap_model.proofs.Taken.{class_low, takes_pages, takes_keep}
 use Rattle.space.specs.Demand.{asked_by}
-use Rattle.space.specs.Counts.{main_blocks, leaving_pages, used_pages}
-use Rattle.space.proofs.Counts.{one_if, own, leaving_set, both_true}
+use Rattle.space.specs.Counts.{is_of, main_blocks, leaving_pages, used_pages, IsBounded}
+use Rattle.space.proofs.Counts.{one_if, own, both_true, takes_bounded}
 use Rattle.space.proofs.Tidying.{Shrinks, shrinks_none, shrinks_then, shrinks_writes}
 use Rattle.space.proofs.Changing.{made_blocks, shrinks_records}
 use Rattle.fragmentation.specs.Tight.{staying_pages}
 use Rattle.fragmentation.proofs.IsFew.{IsFew}
 use Rattle.fragmentation.specs.Suffice.{gathered_pages}
-use Rattle.fragmentation.proofs.IsLeftover.{leaves, IsStranded, one_leaving, kept_pages, IsSettled, IsMoved, IsEmptying, IsLeftover}
-use Rattle.fragmentation.proofs.Free.{free_change}
-use Rattle.fragmentation.proofs.Taken.{FromUsed, FromFree, took, fresh_few, fresh_other}
+use Rattle.fragmentation.proofs.IsLeftover.{leaves, IsStranded, one_leaving, kept_pages, IsLeftover}
+use Rattle.fragmentation.proofs.Taken.{FromFree, took}
 use Rattle.fragmentation.proofs.Paging.{gathered_more, gathered_least, gathered_enough}
-use Rattle.fragmentation.proofs.Few.{one_less, none_less}
 use Rattle.fragmentation.proofs.FewTaken.{block_few}
-use Rattle.fragmentation.proofs.Leftover.{staying_set, leftover_same}
+use Rattle.fragmentation.proofs.Leftover.{staying_set, Goes, goes_same, goes_then, leftover_goes}
 use Rattle.fragmentation.proofs.Gathering.{takes_tight, clears_pages}
 
--- what a block that is taken leaves: a page more only where none of the class's blocks was free
-pub record Grew (old new : List (Option Page)) (class : ℕ) : Type 0 where
-  pub staying : (k : ℕ) → (staying_pages new k ≡ staying_pages old k) ⊎ ((class ≡ k) × (staying_pages new k ≡ staying_pages old k + 1) × (free_blocks old k ≡ 0))
-  pub leaving : leaving_pages new ≡ leaving_pages old
-  pub main : (k : ℕ) → main_blocks new k ≡ main_blocks old k + one_if (class == k)
+-- blocks that are taken are held, and no page comes to leave: space counts them within any bound, so within one that is great enough
+takes_counts : (cells : ℕ) (at : ℕ → ℕ) (old : List (Option Page)) (parts : ℕ) (new : List (Option Page)) → ArePages old → Takes cells at old parts new → (leaving_pages new ≡ leaving_pages old) × ((k : ℕ) → main_blocks new k ≡ main_blocks old k + blocks_needed cells parts k)
+takes_counts cells at old parts new a takes = let t = takes_bounded cells at old parts new blocks (length old) a bounded (λ k l. omega arith) takes in (t.leaving, t.main)
+  where
+    blocks : ℕ → ℕ
+    blocks k = main_blocks old k + blocks_needed cells parts k + 1
 
-pub block_grew : (old new : List (Option Page)) (class page index : ℕ) → class < CLASSES → ArePages old → TakesBlock old class page index new → Grew old new class
-block_grew old new class page index small a t = elim (took old new class page index t) [ inl u ↦ from_used u | inr f ↦ from_free f ]
+    bounded : IsBounded old blocks (length old)
+    bounded = record { used = λ k l. by_none k (blocks k == 0) refl; leaving = count_by-le-length is_leaving old }
+      where
+        by_none : (k : ℕ) (b : Bool) → (blocks k == 0) ≡ b → used_pages old k ≤ (if b then 0 else whole_pages k (blocks k) + length old)
+        by_none k true e = absurd (let z = eqb-true (blocks k) 0 e in omega (arith, z))
+        by_none k false e = let l = count_by-le-length (is_of k) old in omega (arith, l)
+
+-- a block that is taken opens a page only where none of the class's blocks was free
+block_stays : (old new : List (Option Page)) (class page index k : ℕ) → TakesBlock old class page index new → (staying_pages new k ≡ staying_pages old k) ⊎ ((class ≡ k) × (staying_pages new k ≡ staying_pages old k + 1) × (free_blocks old k ≡ 0))
+block_stays old new class page index k t = elim (took old new class page index t) [
+  | inl u ↦ inl (let s = staying_set old new page (Some u.source) (Some (with_held u.source index true)) within u.at u.is k in omega (arith, s))
+  | inr f ↦ from_free f
+]
   where
     within : page < length old
     within = page_for_within old class page t.page_is
 
-    pages : ArePages new
-    pages = block_pages old new class page index small a t
-
-    from_used : FromUsed old class page index new → Grew old new class
-    from_used u = record {
-      staying = λ k. inl (same k);
-      leaving = (let s = leaving_set old new page (Some u.source) (Some v) within u.at u.is in omega (arith, s));
-      main = λ k. by_class k (class == k) refl;
-    }
+    from_free : FromFree old class page index new → (staying_pages new k ≡ staying_pages old k) ⊎ ((class ≡ k) × (staying_pages new k ≡ staying_pages old k + 1) × (free_blocks old k ≡ 0))
+    from_free f = by_class (class == k) refl
       where
-        v : Page
-        v = with_held u.source index true
+        set_stay : staying_pages new k ≡ staying_pages old k + one_if ((class == k) && true)
+        set_stay = let s = staying_set old new page None (Some (with_held (fresh_page class) index true)) within f.at f.is k in omega (arith, s)
 
-        same : (k : ℕ) → staying_pages new k ≡ staying_pages old k
-        same k = let s = staying_set old new page (Some u.source) (Some v) within u.at u.is k in omega (arith, s)
+        by_class : (b : Bool) → (class == k) ≡ b → (staying_pages new k ≡ staying_pages old k) ⊎ ((class ≡ k) × (staying_pages new k ≡ staying_pages old k + 1) × (free_blocks old k ≡ 0))
+        by_class true e = let same = same_number class k e in inr (same, set_stay ∙ ap (λ b. staying_pages old k + one_if (b && true)) e, subst (λ z. free_blocks old z ≡ 0) same (no_blocks old class f.none))
+        by_class false e = inl (let o : one_if ((class == k) && true) ≡ 0 = ap (λ b. one_if (b && true)) e in omega (arith, set_stay, o))
 
-        by_class : (k : ℕ) (b : Bool) → (class == k) ≡ b → main_blocks new k ≡ main_blocks old k + one_if b
-        by_class k true e =
-            let f = free_change old new page (Some u.source) (Some v) within u.at u.is k in
-            let one : free_on k (Some v) + 1 ≡ free_on k (Some u.source) = one_less u.source k index (subst (λ z. is_usable z (Some u.source) ≡ true) (same_number class k e) u.usable) u.opened in
-            let o = own k old a in let n = own k new pages in
-            let m : blocks_in k * staying_pages new k ≡ blocks_in k * staying_pages old k = ap (λ z. blocks_in k * z) (same k) in
-            omega (arith, f, one, o, n, m)
-        by_class k false e =
-            let f = free_change old new page (Some u.source) (Some v) within u.at u.is k in
-            let none = none_less u.source class k index (usable_fits class u.source u.usable).0 e in
-            let o = own k old a in let n = own k new pages in
-            let m : blocks_in k * staying_pages new k ≡ blocks_in k * staying_pages old k = ap (λ z. blocks_in k * z) (same k) in
-            omega (arith, f, none.0, none.1, o, n, m)
+-- and the blocks of an object: no class has fewer pages than before, or more than before and than so many blocks take, where what is held and what they need are no more
+record Grew (old new : List (Option Page)) (need : ℕ → ℕ) : Type 0 where
+  more : (k : ℕ) → staying_pages old k ≤ staying_pages new k
+  staying : (k : ℕ) → k < CLASSES → (staying_pages new k ≡ staying_pages old k) ⊎ (staying_pages new k ≤ whole_pages k (need k))
 
-    from_free : FromFree old class page index new → Grew old new class
-    from_free f = record {
-      staying = λ k. stay_by k (class == k) refl;
-      leaving = (let s = leaving_set old new page None (Some v) within f.at f.is in omega (arith, s));
-      main = λ k. by_class k (class == k) refl;
-    }
-      where
-        v : Page
-        v = with_held (fresh_page class) index true
-
-        set_stay : (k : ℕ) → staying_pages new k ≡ staying_pages old k + one_if ((class == k) && true)
-        set_stay k = let s = staying_set old new page None (Some v) within f.at f.is k in omega (arith, s)
-
-        none : free_blocks old class ≡ 0
-        none = no_blocks old class f.none
-
-        stay_by : (k : ℕ) (b : Bool) → (class == k) ≡ b → (staying_pages new k ≡ staying_pages old k) ⊎ ((class ≡ k) × (staying_pages new k ≡ staying_pages old k + 1) × (free_blocks old k ≡ 0))
-        stay_by k true e =
-            let same = same_number class k e in
-            let s = set_stay k in
-            let o : one_if ((class == k) && true) ≡ 1 = ap (λ b. one_if (b && true)) e in
-            inr (same, omega (arith, s, o), subst (λ z. free_blocks old z ≡ 0) same none)
-        stay_by k false e = let s = set_stay k in let o : one_if ((class == k) && true) ≡ 0 = ap (λ b. one_if (b && true)) e in inl (omega (arith, s, o))
-
-        by_class : (k : ℕ) (b : Bool) → (class == k) ≡ b → main_blocks new k ≡ main_blocks old k + one_if b
-        by_class k true e =
-            let same = same_number class k e in
-            let s = set_stay k in
-            let z : one_if ((class == k) && true) ≡ 1 = ap (λ b. one_if (b && true)) e in
-            let c = free_change old new page None (Some v) within f.at f.is k in
-            let n : free_on k (Some v) + 1 ≡ blocks_in k = subst (λ z. free_on z (Some v) + 1 ≡ blocks_in z) same (fresh_few class index f.opened) in
-            let zero : free_blocks old k ≡ 0 = subst (λ z. free_blocks old z ≡ 0) same none in
-            let o = own k old a in let p = own k new pages in
-            let uu : staying_pages new k ≡ staying_pages old k + 1 = omega (arith, s, z) in
-            let m : blocks_in k * staying_pages new k ≡ blocks_in k * (staying_pages old k + 1) = ap (λ z. blocks_in k * z) uu in
-            let d : blocks_in k * (staying_pages old k + 1) ≡ blocks_in k * staying_pages old k + blocks_in k = omega arith in
-            omega (arith, c, n, zero, o, p, m, d)
-        by_class k false e =
-            let s = set_stay k in
-            let z : one_if ((class == k) && true) ≡ 0 = ap (λ b. one_if (b && true)) e in
-            let c = free_change old new page None (Some v) within f.at f.is k in
-            let n = fresh_other class k index e in
-            let o = own k old a in let p = own k new pages in
-            let uu : staying_pages new k ≡ staying_pages old k = omega (arith, s, z) in
-            let m : blocks_in k * staying_pages new k ≡ blocks_in k * staying_pages old k = ap (λ z. blocks_in k * z) uu in
-            omega (arith, c, n, o, p, m)
-
--- and the blocks of an object: no class has more pages than before, or than so many blocks take, where what is held and what they need are no more
-pub record GrewAll (old new : List (Option Page)) (cells parts : ℕ) (need : ℕ → ℕ) : Type 0 where
-  pub pages : ArePages new
-  pub more : (k : ℕ) → staying_pages old k ≤ staying_pages new k
-  pub staying : (k : ℕ) → k < CLASSES → (staying_pages new k ≡ staying_pages old k) ⊎ (staying_pages new k ≤ whole_pages k (need k))
-  pub leaving : leaving_pages new ≡ leaving_pages old
-  pub main : (k : ℕ) → main_blocks new k ≡ main_blocks old k + blocks_needed cells parts k
-
-grew_then : (cells : ℕ) (old s t : List (Option Page)) (part class page index : ℕ) (need : ℕ → ℕ) → ((k : ℕ) → k < CLASSES → main_blocks old k + blocks_needed cells (part + 1) k ≤ need k) → class_for (part_words cells part) ≡ Some class → TakesBlock s class page index t → GrewAll old s cells part need → GrewAll old t cells (part + 1) need
-grew_then cells old s t part class page index need fits f b r = record {
-  pages = block_pages s t class page index small r.pages b;
-  more = λ k. (let m = r.more k in elim (g.staying k) [ inl e ↦ omega (arith, m, e) | inr e ↦ (let z = e.1 in omega (arith, m, z)) ]);
-  staying = λ k l. stay k l (g.staying k) (r.staying k l);
-  leaving = g.leaving ∙ r.leaving;
-  main = λ k. (let m = r.main k in let o = g.main k in let n = more_needed cells part class k f in omega (arith, m, o, n));
+grew_then : (cells : ℕ) (at : ℕ → ℕ) (old : List (Option Page)) (part : ℕ) (s t : List (Option Page)) (class page index : ℕ) (need : ℕ → ℕ) → ArePages old → ((k : ℕ) → k < CLASSES → main_blocks old k + blocks_needed cells (part + 1) k ≤ need k) → class_for (part_words cells part) ≡ Some class
+    → Takes cells at old part s → TakesBlock s class page index t → Grew old s need → Grew old t need
+grew_then cells at old part s t class page index need a fits f takes b r = record {
+  more = λ k. (let m = r.more k in elim (g k) [ inl e ↦ omega (arith, m, e) | inr e ↦ (let z = e.1 in omega (arith, m, z)) ]);
+  staying = λ k l. stay k l (g k) (r.staying k l);
 }
   where
-    small : class < CLASSES
-    small = class_low (part_words cells part) class f
-
-    g : Grew s t class
-    g = block_grew s t class page index small r.pages b
+    g : (k : ℕ) → (staying_pages t k ≡ staying_pages s k) ⊎ ((class ≡ k) × (staying_pages t k ≡ staying_pages s k + 1) × (free_blocks s k ≡ 0))
+    g k = block_stays s t class page index k b
 
     stay : (k : ℕ) → k < CLASSES → (staying_pages t k ≡ staying_pages s k) ⊎ ((class ≡ k) × (staying_pages t k ≡ staying_pages s k + 1) × (free_blocks s k ≡ 0)) → (staying_pages s k ≡ staying_pages old k) ⊎ (staying_pages s k ≤ whole_pages k (need k))
         → (staying_pages t k ≡ staying_pages old k) ⊎ (staying_pages t k ≤ whole_pages k (need k))
@@ -162,8 +97,8 @@ grew_then cells old s t part class page index need fits f b r = record {
     stay k l (inl e) (inr d) = inr (omega (arith, e, d))
     stay k l (inr e) d =
         let some = blocks_some k l in
-        let o = own k s r.pages in
-        let m = r.main k in
+        let o = own k s (takes_pages cells at old part s a takes) in
+        let m = (takes_counts cells at old part s a takes).1 k in
         let n = more_needed cells part class k f in
         let one : one_if (class == k) ≡ 1 = ap one_if (eq-eqb class k e.0) in
         let x = fits k l in
@@ -174,10 +109,10 @@ grew_then cells old s t part class page index need fits f b r = record {
         let q = le-div (staying_pages s k + 1) (need k + (blocks_in k - 1)) (blocks_in k) some (omega (arith, o, m, n, one, x, z, d, c, some)) in
         inr (omega (arith, p, q))
 
-pub takes_grew : (cells : ℕ) (at : ℕ → ℕ) (old : List (Option Page)) (parts : ℕ) (new : List (Option Page)) (need : ℕ → ℕ) → ArePages old → ((k : ℕ) → k < CLASSES → main_blocks old k + blocks_needed cells parts k ≤ need k) → Takes cells at old parts new → GrewAll old new cells parts need
-takes_grew cells at old parts new need a fits Nothing_taken = record { pages = a; more = λ k. omega arith; staying = λ k l. inl refl; leaving = refl; main = λ k. omega arith }
+takes_grew : (cells : ℕ) (at : ℕ → ℕ) (old : List (Option Page)) (parts : ℕ) (new : List (Option Page)) (need : ℕ → ℕ) → ArePages old → ((k : ℕ) → k < CLASSES → main_blocks old k + blocks_needed cells parts k ≤ need k) → Takes cells at old parts new → Grew old new need
+takes_grew cells at old parts new need a fits Nothing_taken = record { more = λ k. omega arith; staying = λ k l. inl refl }
 takes_grew cells at old parts new need a fits (Part_taken part class index s t takes f b) =
-    grew_then cells old s t part class (at part / 2048) index need fits f b (takes_grew cells at old part s need a (λ k l. (let n = more_needed cells part class k f in let x = fits k l in omega (arith, n, x))) takes)
+    grew_then cells at old part s t class (at part / 2048) index need a fits f takes b (takes_grew cells at old part s need a (λ k l. (let n = more_needed cells part class k f in let x = fits k l in omega (arith, n, x))) takes)
 
 -- a leaving page stays as it is, and no other comes to leave
 pub leaves_kept : (old new : List (Option Page)) (class k : ℕ) → KeepsPages old new → leaves class (page_at new k) ≡ leaves class (page_at old k)
@@ -186,40 +121,23 @@ leaves_kept old new class k w = by_page (page_at old k) refl (page_at new k) ref
     by_page : (o : Option Page) → page_at old k ≡ o → (n : Option Page) → page_at new k ≡ n → leaves class (page_at new k) ≡ leaves class (page_at old k)
     by_page (Some p) e n f = let r = w.used k p e in ap (leaves class) r.1 ∙ (let a = r.2.class in let b = r.2.leaving in cc) ∙ sym (ap (leaves class) e)
     by_page None e None f = ap (leaves class) f ∙ sym (ap (leaves class) e)
-    by_page None e (Some q) f = let r = w.free k q e f in let z : ((q.class == class) && q.leaving) ≡ false = ap (λ b. (q.class == class) && b) r.0 ∙ off (q.class == class) in ap (leaves class) f ∙ z ∙ sym (ap (leaves class) e)
-      where
-        off : (b : Bool) → (b && false) ≡ false
-        off true = refl
-        off false = refl
+    by_page None e (Some q) f = let r = w.free k q e f in let z : ((q.class == class) && q.leaving) ≡ false = ap (λ b. (q.class == class) && b) r.0 ∙ and-false (q.class == class) in ap (leaves class) f ∙ z ∙ sym (ap (leaves class) e)
 
 -- a need that is greater, with the same store
-settled_more : (s : Store) (class m n : ℕ) → class < CLASSES → m ≤ n → IsSettled s class m → IsSettled s class n
-settled_more s class m n small l w = record { page = w.page; only = w.only; few = (let f = w.few in let g = gathered_more class m n small l in omega (arith, f, g)); some = λ on. (let x = w.some on in omega (arith, x, l)) }
-
-moved_more : (s : Store) (class m n : ℕ) → m ≤ n → IsMoved s class m → IsMoved s class n
-moved_more s class m n l (inl q) = inl q
-moved_more s class m n l (inr q) = inr (record { page = q.page; only = q.only; tight = q.tight; some = λ on. (let x = q.some on in omega (arith, x, l)) })
-
 pub leftover_more : (s : Store) (p : Phase) (need more : ℕ → ℕ) → ((k : ℕ) → k < CLASSES → need k ≤ more k) → IsLeftover s p need → IsLeftover s p more
-leftover_more s phases.Idle need more l w = λ k b. settled_more s k (need k) (more k) b (l k b) (w k b)
-leftover_more s (phases.Roots next) need more l w = λ k b. settled_more s k (need k) (more k) b (l k b) (w k b)
-leftover_more s (phases.Marking part cell) need more l w = λ k b. settled_more s k (need k) (more k) b (l k b) (w k b)
-leftover_more s (phases.Sweeping page block) need more l w = λ k b. settled_more s k (need k) (more k) b (l k b) (w k b)
-leftover_more s (phases.Moving (moves.Pass c page best chosen)) need more l w = (λ k b. moved_more s k (need k) (more k) (l k b) (w.0 k b), w.1)
-leftover_more s (phases.Moving (moves.Emptying c page block chosen)) need more l w =
-    record { source = w.source; at = w.at; leaving = w.leaving; others = λ k b ne. moved_more s k (need k) (more k) (l k b) (w.others k b ne); only = w.only; behind = w.behind; some = w.some; count = w.count }
+leftover_more s p need more l w = leftover_goes s s need more (goes_same s s need more (shrinks_none s) refl l) p w
 
 -- a new object
 module _ (s new : Store) (shape : Shape) (colour : Bool) (id : ℕ) (at : ℕ → ℕ) (need more : ℕ → ℕ) (a : ArePages s.pages) (makes : MakesObject s shape colour id at new) (takes : Takes (cells_of shape) at s.pages (parts_in (cells_of shape)) new.pages)
     (l : (k : ℕ) → k < CLASSES → need k ≤ more k) (fits : (k : ℕ) → k < CLASSES → main_blocks s.pages k + needed shape k ≤ more k) where
-  pub keeps : KeepsPages s.pages new.pages
+  keeps : KeepsPages s.pages new.pages
   keeps = takes_keep (cells_of shape) at s.pages (parts_in (cells_of shape)) new.pages takes
 
-  pub grew : GrewAll s.pages new.pages (cells_of shape) (parts_in (cells_of shape)) more
+  grew : Grew s.pages new.pages more
   grew = takes_grew (cells_of shape) at s.pages (parts_in (cells_of shape)) new.pages more a fits takes
 
   -- a part of the new object stands on a page that stays
-  pub made_stays : (class p : ℕ) → p < parts_in (cells_of shape) → leaves class (page_at new.pages (at p / 2048)) ≡ true → ⊥
+  made_stays : (class p : ℕ) → p < parts_in (cells_of shape) → leaves class (page_at new.pages (at p / 2048)) ≡ true → ⊥
   made_stays class p low on = takes_stay (cells_of shape) s.pages (parts_in (cells_of shape)) new.pages takes p low on
     where
       block_stay : (old t : List (Option Page)) (taken page index : ℕ) → TakesBlock old taken page index t → leaves class (page_at t page) ≡ true → ⊥
@@ -238,13 +156,13 @@ module _ (s new : Store) (shape : Shape) (colour : Bool) (id : ℕ) (at : ℕ �
         | inr d ↦ takes_stay cells old part u takes p (let n = d.1 in omega (arith, n, low)) (sym (leaves_kept u v class (at p / 2048) (takes_keeps u v taken (at part / 2048) index b)) ∙ on)
       ]
 
-  pub stranded_before : (class b : ℕ) → IsStranded new class b → IsStranded s class b
+  stranded_before : (class b : ℕ) → IsStranded new class b → IsStranded s class b
   stranded_before class b x = elim (made_blocks s shape colour id at (parts_in (cells_of shape)) new makes b x.held) [
     | inl q ↦ record { held = q.0; main = sym q.1.forward ∙ x.main; on = sym (leaves_kept s.pages new.pages class (b / 2048) keeps) ∙ x.on }
     | inr q ↦ absurd (made_stays class q.0 q.1 (ap (λ z. leaves class (page_at new.pages (z / 2048))) (sym q.2) ∙ x.on))
   ]
 
-  pub kept_new : (k page : ℕ) → k < CLASSES → kept_pages s.pages k page ≤ gathered_pages k (need k) → (leaves k (page_at s.pages page) ≡ true → blocks_in k ≤ need k) → kept_pages new.pages k page ≤ gathered_pages k (more k)
+  kept_new : (k page : ℕ) → k < CLASSES → kept_pages s.pages k page ≤ gathered_pages k (need k) → (leaves k (page_at s.pages page) ≡ true → blocks_in k ≤ need k) → kept_pages new.pages k page ≤ gathered_pages k (more k)
   kept_new k page small f some = elim (grew.staying k small) [
     | inl e ↦ (let g = gathered_more k (need k) (more k) small (l k small) in omega (arith, e, one, f, g))
     | inr e ↦ by_leaves e (leaves k (page_at s.pages page)) refl
@@ -267,82 +185,40 @@ module _ (s new : Store) (shape : Shape) (colour : Bool) (id : ℕ) (at : ℕ �
           let o : one_leaving k (page_at s.pages page) ≡ 0 = ap (λ b. if b then 1 else 0) on in
           omega (arith, e, g, one, o)
 
-  pub settled_new : (k : ℕ) → k < CLASSES → IsSettled s k (need k) → IsSettled new k (more k)
-  settled_new k small w = record {
-    page = w.page;
-    only = λ b x. w.only b (stranded_before k b x);
-    few = kept_new k w.page small w.few w.some;
-    some = λ on. (let x = w.some (sym (leaves_kept s.pages new.pages k w.page keeps) ∙ on) in let m = l k small in omega (arith, x, m));
+  pub goes_new : Goes s new need more
+  goes_new = record {
+    strands = λ k. record { less = stranded_before k; on = λ page on. sym (leaves_kept s.pages new.pages k page keeps) ∙ on };
+    stays = λ k page on. leaves_kept s.pages new.pages k page keeps ∙ on;
+    kept = kept_new;
+    tight = λ k w. takes_tight (cells_of shape) at s.pages (parts_in (cells_of shape)) new.pages k takes w;
+    staying = grew.more;
+    leaving = (let e = (takes_counts (cells_of shape) at s.pages (parts_in (cells_of shape)) new.pages a takes).0 in omega (arith, e));
+    less = l;
   }
-
-  moved_new : (k : ℕ) → k < CLASSES → IsMoved s k (need k) → IsMoved new k (more k)
-  moved_new k small (inl n) = inl (λ b x. n b (stranded_before k b x))
-  moved_new k small (inr w) = inr (record {
-    page = w.page;
-    only = λ b x. w.only b (stranded_before k b x);
-    tight = takes_tight (cells_of shape) at s.pages (parts_in (cells_of shape)) new.pages k takes w.tight;
-    some = λ on. (let x = w.some (sym (leaves_kept s.pages new.pages k w.page keeps) ∙ on) in let m = l k small in omega (arith, x, m));
-  })
-
-  emptying_new : (page block chosen : ℕ) → IsEmptying s page block chosen need → IsEmptying new page block chosen more
-  emptying_new page block chosen w = record {
-    source = r.0;
-    at = r.1;
-    leaving = r.2.leaving ∙ w.leaving;
-    others = λ k small ne. moved_new k small (w.others k small (sym (ap (λ z. z == k) r.2.class) ∙ ne));
-    only = λ b x. w.only b (subst (λ z. IsStranded s z b) r.2.class (stranded_before r.0.class b x));
-    behind = λ b held main here. elim (made_blocks s shape colour id at (parts_in (cells_of shape)) new makes b held) [
-      | inl q ↦ (let z = w.behind b q.0 (sym q.1.forward ∙ main) here in let e : address_of r.0.class page block ≡ address_of w.source.class page block = ap (λ z. address_of z page block) r.2.class in omega (arith, z, e))
-      | inr q ↦ absurd (made_stays r.0.class q.0 q.1 (ap (λ z. leaves r.0.class (page_at new.pages (z / 2048))) (sym q.2) ∙ ap (λ z. leaves r.0.class (page_at new.pages z)) here ∙ on_source))
-    ];
-    some = (let m = grew.more w.source.class in let z = w.some in let e : staying_pages new.pages r.0.class ≡ staying_pages new.pages w.source.class = ap (staying_pages new.pages) r.2.class in omega (arith, m, z, e));
-    count = (let c = w.count in let e = grew.leaving in omega (arith, c, e));
-  }
-    where
-      r : (q : Page) × (page_at new.pages page ≡ Some q) × KeepsClass w.source q
-      r = keeps.used page w.source w.at
-
-      on_source : leaves r.0.class (page_at new.pages page) ≡ true
-      on_source =
-          let x : (r.0.class == r.0.class) ≡ true = eq-eqb r.0.class r.0.class refl in
-          ap (leaves r.0.class) r.1 ∙ ap (λ b. b && r.0.leaving) x ∙ r.2.leaving ∙ w.leaving
-
-  pub leftover_new : (p : Phase) → IsLeftover s p need → IsLeftover new p more
-  leftover_new phases.Idle w = λ k b. settled_new k b (w k b)
-  leftover_new (phases.Roots next) w = λ k b. settled_new k b (w k b)
-  leftover_new (phases.Marking part cell) w = λ k b. settled_new k b (w k b)
-  leftover_new (phases.Sweeping page block) w = λ k b. settled_new k b (w k b)
-  leftover_new (phases.Moving (moves.Pass c page best chosen)) w = (λ k b. moved_new k b (w.0 k b), (let c = w.1 in let e = grew.leaving in omega (arith, c, e)))
-  leftover_new (phases.Moving (moves.Emptying c page block chosen)) w = emptying_new page block chosen w
 
 -- what a command changes
-leftover_phase : (s : Store) (p q : Phase) (need : ℕ → ℕ) → q ≡ p → IsLeftover s p need → IsLeftover s q need
-leftover_phase s p q need e w = subst (λ z. IsLeftover s z need) (sym e) w
+clears_shrink : (h : HeapState) (first n : ℕ) (k : HeapState) → Clears h first n k → Shrinks h.store k.store
+clears_shrink h first n k Clears_none = shrinks_none h.store
+clears_shrink h first n k (Clears_next n0 j k0 c r) = shrinks_then h.store j.store k0.store (clears_shrink h first n0 j c) (shrinks_records j k0 _ r).0
+
+pub change_goes : (h after : HeapState) (g : Graph) (c : Change) (need more : ℕ → ℕ) → ArePages h.store.pages → ((k : ℕ) → k < CLASSES → need k ≤ more k) → ((k : ℕ) → k < CLASSES → main_blocks h.store.pages k + asked_by c k ≤ more k) → DoesChange h g c after → Goes h.store after.store need more
+change_goes h after g c need more a l fits Does_nothing = goes_same h.store h.store need more (shrinks_none h.store) refl l
+change_goes h after g c need more a l fits (Does_root cell id y k r i) = let f = shrinks_records h k _ r in goes_same h.store k.store need more f.0 f.1 l
+change_goes h after g c need more a l fits (Does_ref id i value address y k new at r main writes) =
+    let f = shrinks_records h k _ r in
+    goes_same h.store new need more (shrinks_then h.store k.store new f.0 (shrinks_writes k.store new address _ writes (record { identity = refl; part = refl; shape = refl; forward = refl }))) (writes.pages ∙ f.1) l
+change_goes h after g c need more a l fits (Does_word id i word address new at writes) =
+    goes_same h.store new need more (shrinks_writes h.store new address _ writes (record { identity = refl; part = refl; shape = refl; forward = refl })) writes.pages l
+change_goes h after g c need more a l fits (Does_new cell id shape k new at r makes takes) =
+    let f = shrinks_records h k _ r in
+    goes_then h.store k.store new need need more (goes_same h.store k.store need need f.0 f.1 (λ n b. omega arith))
+    (goes_new k.store new shape k.sense k.next at need more (subst ArePages (sym f.1) a) makes takes l (λ n b. (let q = fits n b in let e : main_blocks k.store.pages n ≡ main_blocks h.store.pages n = ap (λ z. main_blocks z n) f.1 in omega (arith, q, e))))
+change_goes h after g c need more a l fits (Does_join m) = goes_same h.store h.store need more (shrinks_none h.store) refl l
+change_goes h after g c need more a l fits (Does_leave m k clears) = goes_same h.store k.store need more (clears_shrink h (first_slot g.limits m) g.limits.slots k clears) (clears_pages h (first_slot g.limits m) g.limits.slots k clears).0 l
 
 pub leftover_change : (h after : HeapState) (g : Graph) (c : Change) (need more : ℕ → ℕ) → ArePages h.store.pages → ((k : ℕ) → k < CLASSES → need k ≤ more k) → ((k : ℕ) → k < CLASSES → main_blocks h.store.pages k + asked_by c k ≤ more k) → DoesChange h g c after
     → IsLeftover h.store h.phase need → IsLeftover after.store after.phase more
-leftover_change h after g c need more a l fits Does_nothing w = leftover_more h.store h.phase need more l w
-leftover_change h after g c need more a l fits (Does_root cell id y k r i) w =
-    let f = shrinks_records h k _ r in
-    leftover_phase k.store h.phase k.phase more (records_stay h k _ r).phase (leftover_same h.store k.store h.phase more f.0 f.1 (leftover_more h.store h.phase need more l w))
-leftover_change h after g c need more a l fits (Does_ref id i value address y k new at r main writes) w =
-    let f = shrinks_records h k _ r in
-    let e = shrinks_then h.store k.store new f.0 (shrinks_writes k.store new address _ writes (record { identity = refl; part = refl; shape = refl; forward = refl })) in
-    leftover_phase new h.phase k.phase more (records_stay h k _ r).phase (leftover_same h.store new h.phase more e (writes.pages ∙ f.1) (leftover_more h.store h.phase need more l w))
-leftover_change h after g c need more a l fits (Does_word id i word address new at writes) w =
-    leftover_same h.store new h.phase more (shrinks_writes h.store new address _ writes (record { identity = refl; part = refl; shape = refl; forward = refl })) writes.pages (leftover_more h.store h.phase need more l w)
-leftover_change h after g c need more a l fits (Does_new cell id shape k new at r makes takes) w =
-    let f = shrinks_records h k _ r in
-    let before = leftover_phase k.store h.phase k.phase need (records_stay h k _ r).phase (leftover_same h.store k.store h.phase need f.0 f.1 w) in
-    leftover_new k.store new shape k.sense k.next at need more (subst ArePages (sym f.1) a) makes takes l (λ n b. (let q = fits n b in let e : main_blocks k.store.pages n ≡ main_blocks h.store.pages n = ap (λ z. main_blocks z n) f.1 in omega (arith, q, e))) k.phase before
-leftover_change h after g c need more a l fits (Does_join m) w = leftover_more h.store h.phase need more l w
-leftover_change h after g c need more a l fits (Does_leave m k clears) w =
-    let f = clears_shrink h (first_slot g.limits m) g.limits.slots k clears in
-    leftover_phase k.store h.phase k.phase more (clears_pages h (first_slot g.limits m) g.limits.slots k clears).1 (leftover_same h.store k.store h.phase more f (clears_pages h (first_slot g.limits m) g.limits.slots k clears).0 (leftover_more h.store h.phase need more l w))
-  where
-    clears_shrink : (h : HeapState) (first n : ℕ) (k : HeapState) → Clears h first n k → Shrinks h.store k.store
-    clears_shrink h first n k Clears_none = shrinks_none h.store
-    clears_shrink h first n k (Clears_next n0 j k0 c r) = shrinks_then h.store j.store k0.store (clears_shrink h first n0 j c) (shrinks_records j k0 _ r).0
+leftover_change h after g c need more a l fits does w = subst (λ p. IsLeftover after.store p more) (sym (change_left h after g c does).phase) (leftover_goes h.store after.store need more (change_goes h after g c need more a l fits does) h.phase w)
 
 -- and how few pages there are
 pub few_made : (pages : List (Option Page)) (p : Phase) (first made more : ℕ → ℕ) → ((k : ℕ) → made k ≡ more k) → IsFew pages p first made → IsFew pages p first more

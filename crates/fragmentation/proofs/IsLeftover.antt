@@ -36,42 +36,56 @@ one_leaving class o = if leaves class o then 1 else 0
 abbrev pub kept_pages : List (Option Page) → ℕ → ℕ → ℕ
 kept_pages pages class page = staying_pages pages class + one_leaving class (page_at pages page)
 
+-- they are on this page only; and while it leaves, so many blocks fill a page
+pub record LeftOn (s : Store) (class need page : ℕ) : Type 0 where
+  pub only : StrandedOn s class page
+  pub some : leaves class (page_at s.pages page) ≡ true → blocks_in class ≤ need
+
 -- A class has no more pages, with the one that was left, than so many blocks take, and that one.
 pub record IsSettled (s : Store) (class need : ℕ) : Type 0 where
   pub page : ℕ
-  pub only : StrandedOn s class page
+  pub left : LeftOn s class need page
   pub few : kept_pages s.pages class page ≤ gathered_pages class need
-  pub some : leaves class (page_at s.pages page) ≡ true → blocks_in class ≤ need
 
 -- in moving: a class with a page that was left is tight
 pub record WasLeft (s : Store) (class need : ℕ) : Type 0 where
   pub page : ℕ
-  pub only : StrandedOn s class page
+  pub left : LeftOn s class need page
   pub tight : IsTight s.pages class
-  pub some : leaves class (page_at s.pages page) ≡ true → blocks_in class ≤ need
 
 abbrev pub IsMoved : Store → ℕ → ℕ → Type 0
 IsMoved s class need = NoneStranded s class ⊎ WasLeft s class need
 
--- the main copies of the page that is emptied stand at its next block or behind it
-abbrev pub StandsBehind : Store → ℕ → ℕ → Type 0
-StandsBehind s page address = (b : ℕ) → is_held s b ≡ true → (node_of s b).forward ≡ b → b / PAGE_WORDS ≡ page → address ≤ b
+-- while a page of a class is emptied: its main copies on leaving pages stand there, at the next block or behind it
+pub record IsEmptied (s : Store) (class page block : ℕ) (Other : ℕ → Type 0) : Type 0 where
+  pub small : class < CLASSES
+  pub on : leaves class (page_at s.pages page) ≡ true
+  pub only : StrandedOn s class page
+  pub behind : (b : ℕ) → IsStranded s class b → address_of class page block ≤ b
+  pub others : (k : ℕ) → k < CLASSES → (class == k) ≡ false → Other k
 
 pub record IsEmptying (s : Store) (page block chosen : ℕ) (need : ℕ → ℕ) : Type 0 where
-  pub source : Page
-  pub at : page_at s.pages page ≡ Some source
-  pub leaving : source.leaving ≡ true
-  pub others : (class : ℕ) → class < CLASSES → (source.class == class) ≡ false → IsMoved s class (need class)
-  pub only : StrandedOn s source.class page
-  pub behind : StandsBehind s page (address_of source.class page block)
-  pub some : 0 < staying_pages s.pages source.class
+  pub class : ℕ
+  pub emptied : IsEmptied s class page block (λ k. IsMoved s k (need k))
+  pub some : 0 < staying_pages s.pages class
   pub count : chosen ≤ leaving_pages s.pages
 
--- what holds in each phase
+-- what holds outside moving; in a pass, when so many pages were chosen; and where a page is emptied from a block on
+abbrev pub ByPhase : Type 0 → (ℕ → Type 0) → (ℕ → ℕ → ℕ → Type 0) → Phase → Type 0
+ByPhase Still Pass Emptying phases.Idle = Still
+ByPhase Still Pass Emptying (phases.Roots next) = Still
+ByPhase Still Pass Emptying (phases.Marking part cell) = Still
+ByPhase Still Pass Emptying (phases.Sweeping page block) = Still
+ByPhase Still Pass Emptying (phases.Moving (moves.Pass class page best chosen)) = Pass chosen
+ByPhase Still Pass Emptying (phases.Moving (moves.Emptying class page block chosen)) = Emptying page block chosen
+
+abbrev pub AreSettled : Store → (ℕ → ℕ) → Type 0
+AreSettled s need = (class : ℕ) → class < CLASSES → IsSettled s class (need class)
+
+-- at a look of a pass
+pub record AtLook (s : Store) (chosen : ℕ) (need : ℕ → ℕ) : Type 0 where
+  pub moved : (class : ℕ) → class < CLASSES → IsMoved s class (need class)
+  pub count : chosen ≤ leaving_pages s.pages
+
 abbrev pub IsLeftover : Store → Phase → (ℕ → ℕ) → Type 0
-IsLeftover s phases.Idle need = (class : ℕ) → class < CLASSES → IsSettled s class (need class)
-IsLeftover s (phases.Roots next) need = (class : ℕ) → class < CLASSES → IsSettled s class (need class)
-IsLeftover s (phases.Marking part cell) need = (class : ℕ) → class < CLASSES → IsSettled s class (need class)
-IsLeftover s (phases.Sweeping page block) need = (class : ℕ) → class < CLASSES → IsSettled s class (need class)
-IsLeftover s (phases.Moving (moves.Pass k page best chosen)) need = ((class : ℕ) → class < CLASSES → IsMoved s class (need class)) × (chosen ≤ leaving_pages s.pages)
-IsLeftover s (phases.Moving (moves.Emptying k page block chosen)) need = IsEmptying s page block chosen need
+IsLeftover s p need = ByPhase (AreSettled s need) (λ chosen. AtLook s chosen need) (λ page block chosen. IsEmptying s page block chosen need) p

@@ -4,6 +4,7 @@ use Rattle.std.specs.Prelude.{count_by, slice_get}
 use Rattle.std.proofs.lemmas.Bool.{eq-eqb}
 use Rattle.std.proofs.lemmas.List.Sums.{sum_by-cons}
 use Rattle.std.proofs.lemmas.Option.{slice_get_within, slice_get-get_or, get_or_from_slice_get, same_Some}
+use Rattle.std.proofs.Math.Bool.{and-false}
 use Rattle.std.proofs.Math.Nat.{mul-le-mul_right, mul-le-mul_left}
 use Rattle.graph_heap.specs.Graph.{Graph}
 use Rattle.size_classes.specs.declared.class.TheConstants.{CLASSES}
@@ -13,7 +14,7 @@ use Rattle.heap_model.specs.declared.phase.Phase.{Phase}
 use Rattle.heap_model.specs.declared.phase.Phase.TheVariants as phases
 use Rattle.heap_model.specs.declared.phase.Moving.TheVariants as moves
 use Rattle.heap_model.specs.declared.phase.Candidate.{Candidate}
-use Rattle.heap_model.specs.Pages.{Page, IsPage, ArePages, with_held, page_at, free_blocks}
+use Rattle.heap_model.specs.Pages.{Page, ArePages, with_held, page_at, free_blocks}
 use Rattle.heap_model.specs.Store.{Store, is_held, address_of}
 use Rattle.heap_model.specs.State.{HeapState, is_leaving}
 use Rattle.heap_model.specs.Marks.{HasNoMark}
@@ -27,10 +28,8 @@ use Rattle.space.proofs.Counts.{one_if, own, both_true}
 use Rattle.space.proofs.Tidying.{Shrinks, shrinks_keeps, closes_main, place_page}
 use Rattle.fragmentation.specs.Tight.{IsTight, staying_pages}
 use Rattle.fragmentation.specs.Suffice.{gathered_pages}
-use Rattle.fragmentation.proofs.IsLeftover.{leaves, IsStranded, StrandedOn, NoneStranded, one_leaving, kept_pages, IsSettled, IsMoved, IsEmptying, IsLeftover}
-
-abbrev stay_on : ℕ → Option Page → ℕ
-stay_on class o = one_if (stays class o)
+use Rattle.fragmentation.proofs.Paging.{gathered_more}
+use Rattle.fragmentation.proofs.IsLeftover.{leaves, IsStranded, NoneStranded, one_leaving, kept_pages, LeftOn, IsSettled, IsMoved, IsEmptied, IsEmptying, ByPhase, AtLook, IsLeftover}
 
 -- one page for another in the list
 module _ (old new : List (Option Page)) (page : ℕ) (o v : Option Page) (l : page < length old) (at : page_at old page ≡ o) (is : new ≡ set old page v) where
@@ -40,68 +39,113 @@ module _ (old new : List (Option Page)) (page : ℕ) (o v : Option Page) (l : pa
   pub page_set : (k : ℕ) → page_at new k ≡ (if k == page then v else page_at old k)
   page_set k = ap (λ z. page_at z k) is ∙ set_page old page k v l
 
--- no more blocks that are stranded
+-- from one store to another no main copy comes to be stranded, and no page of the class comes to leave
 pub record Strands (s t : Store) (class : ℕ) : Type 0 where
   pub less : (b : ℕ) → IsStranded t class b → IsStranded s class b
+  pub on : (k : ℕ) → leaves class (page_at t.pages k) ≡ true → leaves class (page_at s.pages k) ≡ true
 
-pub none_strands : (s t : Store) (class : ℕ) → Strands s t class → NoneStranded s class → NoneStranded t class
-none_strands s t class f n b w = n b (f.less b w)
+pub strands_shrink : (s t : Store) (class : ℕ) → Shrinks s t → ((k : ℕ) → leaves class (page_at t.pages k) ≡ true → leaves class (page_at s.pages k) ≡ true) → Strands s t class
+strands_shrink s t class f l = record { less = λ b w. record { held = f.held b w.held; main = sym (f.head b w.held).forward ∙ w.main; on = l (b / 2048) w.on }; on = l }
 
-pub strands_on : (s t : Store) (class page : ℕ) → Strands s t class → StrandedOn s class page → StrandedOn t class page
-strands_on s t class page f n b w = n b (f.less b w)
+one_fewer : (s t : Store) (class page : ℕ) → Strands s t class → one_leaving class (page_at t.pages page) ≤ one_leaving class (page_at s.pages page)
+one_fewer s t class page f = by_leaves (leaves class (page_at t.pages page)) refl
+  where
+    by_leaves : (b : Bool) → leaves class (page_at t.pages page) ≡ b → (if b then 1 else 0) ≤ one_leaving class (page_at s.pages page)
+    by_leaves true x = let y : one_leaving class (page_at s.pages page) ≡ 1 = ap (λ b. if b then 1 else 0) (f.on page x) in omega (arith, y)
+    by_leaves false x = omega arith
 
-strands_shrink : (s t : Store) (class : ℕ) → Shrinks s t → ((b : ℕ) → is_held t b ≡ true → leaves class (page_at t.pages (b / 2048)) ≡ true → leaves class (page_at s.pages (b / 2048)) ≡ true) → Strands s t class
-strands_shrink s t class f l = record { less = λ b w. record { held = f.held b w.held; main = sym (f.head b w.held).forward ∙ w.main; on = l b w.held w.on } }
+strands_left : (s t : Store) (class m n page : ℕ) → Strands s t class → m ≤ n → LeftOn s class m page → LeftOn t class n page
+strands_left s t class m n page f l w = record { only = λ b x. w.only b (f.less b x); some = λ on. (let x = w.some (f.on page on) in omega (arith, x, l)) }
 
-pub strands_same : (s t : Store) (class : ℕ) → Shrinks s t → t.pages ≡ s.pages → Strands s t class
-strands_same s t class f e = strands_shrink s t class f (λ b l on. sym (ap (λ z. leaves class (page_at z (b / 2048))) e) ∙ on)
-
--- the same pages
-pub settled_same : (s t : Store) (class need : ℕ) → Shrinks s t → t.pages ≡ s.pages → IsSettled s class need → IsSettled t class need
-settled_same s t class need f e w = record {
+-- with no more pages that stay, a class that is settled stays so; and so does one that moving has come past
+pub settled_less : (s t : Store) (class need : ℕ) → Strands s t class → staying_pages t.pages class ≤ staying_pages s.pages class → IsSettled s class need → IsSettled t class need
+settled_less s t class need f l w = record {
   page = w.page;
-  only = strands_on s t class w.page (strands_same s t class f e) w.only;
-  few = subst (λ z. kept_pages z class w.page ≤ gathered_pages class need) (sym e) w.few;
-  some = λ on. w.some (sym (ap (λ z. leaves class (page_at z w.page)) e) ∙ on);
+  left = strands_left s t class need need w.page f (omega arith) w.left;
+  few = (let a = w.few in let b = one_fewer s t class w.page f in omega (arith, a, b, l));
 }
 
-pub moved_same : (s t : Store) (class need : ℕ) → Shrinks s t → t.pages ≡ s.pages → IsMoved s class need → IsMoved t class need
-moved_same s t class need f e (inl n) = inl (none_strands s t class (strands_same s t class f e) n)
-moved_same s t class need f e (inr w) = inr (record {
-  page = w.page;
-  only = strands_on s t class w.page (strands_same s t class f e) w.only;
-  tight = subst (λ z. IsTight z class) (sym e) w.tight;
-  some = λ on. w.some (sym (ap (λ z. leaves class (page_at z w.page)) e) ∙ on);
-})
+pub moved_less : (s t : Store) (class m n : ℕ) → Strands s t class → (IsTight s.pages class → IsTight t.pages class) → m ≤ n → IsMoved s class m → IsMoved t class n
+moved_less s t class m n f tight l (inl none) = inl (λ b x. none b (f.less b x))
+moved_less s t class m n f tight l (inr w) = inr (record { page = w.page; left = strands_left s t class m n w.page f l w.left; tight = tight w.tight })
 
-pub emptying_same : (s t : Store) (page block chosen : ℕ) (need : ℕ → ℕ) → Shrinks s t → t.pages ≡ s.pages → IsEmptying s page block chosen need → IsEmptying t page block chosen need
-emptying_same s t page block chosen need f e w = record {
-  source = w.source;
-  at = ap (λ z. page_at z page) e ∙ w.at;
-  leaving = w.leaving;
-  others = λ class l ne. moved_same s t class (need class) f e (w.others class l ne);
-  only = strands_on s t w.source.class page (strands_same s t w.source.class f e) w.only;
-  behind = λ b l main here. w.behind b (f.held b l) (sym (f.head b l).forward ∙ main) here;
-  some = subst (λ z. 0 < staying_pages z w.source.class) (sym e) w.some;
-  count = subst (λ z. chosen ≤ leaving_pages z) (sym e) w.count;
+-- phase by phase
+pub by_phase : {A B : Type 0} {P Q : ℕ → Type 0} {E F : ℕ → ℕ → ℕ → Type 0} (p : Phase) → (A → B) → ((n : ℕ) → P n → Q n) → ((page block n : ℕ) → E page block n → F page block n) → ByPhase A P E p → ByPhase B Q F p
+by_phase phases.Idle a p e w = a w
+by_phase (phases.Roots next) a p e w = a w
+by_phase (phases.Marking part cell) a p e w = a w
+by_phase (phases.Sweeping page block) a p e w = a w
+by_phase (phases.Moving (moves.Pass class page best chosen)) a p e w = p chosen w
+by_phase (phases.Moving (moves.Emptying class page block chosen)) a p e w = e page block chosen w
+
+-- From one store to another, in any phase, where no less is needed: each class keeps to its pages, those that stay are no
+-- fewer, and neither are those that leave.
+pub record Goes (s t : Store) (need more : ℕ → ℕ) : Type 0 where
+  pub strands : (k : ℕ) → Strands s t k
+  pub stays : (k page : ℕ) → leaves k (page_at s.pages page) ≡ true → leaves k (page_at t.pages page) ≡ true
+  pub kept : (k page : ℕ) → k < CLASSES → kept_pages s.pages k page ≤ gathered_pages k (need k) → (leaves k (page_at s.pages page) ≡ true → blocks_in k ≤ need k) → kept_pages t.pages k page ≤ gathered_pages k (more k)
+  pub tight : (k : ℕ) → IsTight s.pages k → IsTight t.pages k
+  pub staying : (k : ℕ) → staying_pages s.pages k ≤ staying_pages t.pages k
+  pub leaving : leaving_pages s.pages ≤ leaving_pages t.pages
+  pub less : (k : ℕ) → k < CLASSES → need k ≤ more k
+
+module _ (s t : Store) (need more : ℕ → ℕ) (g : Goes s t need more) where
+  pub settled_goes : (k : ℕ) → k < CLASSES → IsSettled s k (need k) → IsSettled t k (more k)
+  settled_goes k l w = record { page = w.page; left = strands_left s t k (need k) (more k) w.page (g.strands k) (g.less k l) w.left; few = g.kept k w.page l w.few w.left.some }
+
+  pub moved_goes : (k : ℕ) → k < CLASSES → IsMoved s k (need k) → IsMoved t k (more k)
+  moved_goes k l w = moved_less s t k (need k) (more k) (g.strands k) (g.tight k) (g.less k l) w
+
+  pub emptied_goes : (class page block : ℕ) (Other Then : ℕ → Type 0) → ((k : ℕ) → k < CLASSES → Other k → Then k) → IsEmptied s class page block Other → IsEmptied t class page block Then
+  emptied_goes class page block Other Then keep w = record {
+    small = w.small;
+    on = g.stays class page w.on;
+    only = λ b x. w.only b ((g.strands class).less b x);
+    behind = λ b x. w.behind b ((g.strands class).less b x);
+    others = λ k l ne. keep k l (w.others k l ne);
+  }
+
+  emptying_goes : (page block chosen : ℕ) → IsEmptying s page block chosen need → IsEmptying t page block chosen more
+  emptying_goes page block chosen w = record {
+    class = w.class;
+    emptied = emptied_goes w.class page block _ _ moved_goes w.emptied;
+    some = (let a = w.some in let b = g.staying w.class in omega (arith, a, b));
+    count = (let a = w.count in let b = g.leaving in omega (arith, a, b));
+  }
+
+  pub leftover_goes : (p : Phase) → IsLeftover s p need → IsLeftover t p more
+  leftover_goes p w = by_phase p (λ a k l. settled_goes k l (a k l)) (λ n a. record { moved = λ k l. moved_goes k l (a.moved k l); count = (let c = a.count in let b = g.leaving in omega (arith, c, b)) }) emptying_goes w
+
+-- the same pages
+pub goes_same : (s t : Store) (need more : ℕ → ℕ) → Shrinks s t → t.pages ≡ s.pages → ((k : ℕ) → k < CLASSES → need k ≤ more k) → Goes s t need more
+goes_same s t need more f e less = record {
+  strands = λ k. strands_shrink s t k f (λ page on. sym (ap (λ z. leaves k (page_at z page)) e) ∙ on);
+  stays = λ k page on. ap (λ z. leaves k (page_at z page)) e ∙ on;
+  kept = λ k page l few some. (let a : kept_pages t.pages k page ≡ kept_pages s.pages k page = ap (λ z. kept_pages z k page) e in let b = gathered_more k (need k) (more k) l (less k l) in omega (arith, a, b, few));
+  tight = λ k w. subst (λ z. IsTight z k) (sym e) w;
+  staying = λ k. (let a : staying_pages t.pages k ≡ staying_pages s.pages k = ap (λ z. staying_pages z k) e in omega (arith, a));
+  leaving = (let a : leaving_pages t.pages ≡ leaving_pages s.pages = ap leaving_pages e in omega (arith, a));
+  less = less;
+}
+
+pub goes_then : (s t u : Store) (need mid more : ℕ → ℕ) → Goes s t need mid → Goes t u mid more → Goes s u need more
+goes_then s t u need mid more f g = record {
+  strands = λ k. record { less = λ b x. (f.strands k).less b ((g.strands k).less b x); on = λ page on. (f.strands k).on page ((g.strands k).on page on) };
+  stays = λ k page on. g.stays k page (f.stays k page on);
+  kept = λ k page l few some. g.kept k page l (f.kept k page l few some) (λ on. (let x = some ((f.strands k).on page on) in let y = f.less k l in omega (arith, x, y)));
+  tight = λ k w. g.tight k (f.tight k w);
+  staying = λ k. (let x = f.staying k in let y = g.staying k in omega (arith, x, y));
+  leaving = (let x = f.leaving in let y = g.leaving in omega (arith, x, y));
+  less = λ k l. (let x = f.less k l in let y = g.less k l in omega (arith, x, y));
 }
 
 pub leftover_same : (s t : Store) (p : Phase) (need : ℕ → ℕ) → Shrinks s t → t.pages ≡ s.pages → IsLeftover s p need → IsLeftover t p need
-leftover_same s t phases.Idle need f e w = λ class l. settled_same s t class (need class) f e (w class l)
-leftover_same s t (phases.Roots next) need f e w = λ class l. settled_same s t class (need class) f e (w class l)
-leftover_same s t (phases.Marking part cell) need f e w = λ class l. settled_same s t class (need class) f e (w class l)
-leftover_same s t (phases.Sweeping page block) need f e w = λ class l. settled_same s t class (need class) f e (w class l)
-leftover_same s t (phases.Moving (moves.Pass k page best chosen)) need f e w = (λ class l. moved_same s t class (need class) f e (w.0 class l), subst (λ z. chosen ≤ leaving_pages z) (sym e) w.1)
-leftover_same s t (phases.Moving (moves.Emptying k page block chosen)) need f e w = emptying_same s t page block chosen need f e w
+leftover_same s t p need f e w = leftover_goes s t need need (goes_same s t need need f e (λ k l. omega arith)) p w
 
 -- a block that is freed: its page keeps its class and its marks
 pub settled_freed : (s t : Store) (page block class need : ℕ) (p : Page) → Shrinks s t → page_at s.pages page ≡ Some p → t.pages ≡ set s.pages page (Some (with_held p block false)) → IsSettled s class need → IsSettled t class need
-settled_freed s t page block class need p f at is w = record {
-  page = w.page;
-  only = strands_on s t class w.page (strands_shrink s t class f (λ b l on. sym (same (b / 2048)) ∙ on)) w.only;
-  few = (let z = staying_set s.pages t.pages page (Some p) (Some (with_held p block false)) l at is class in let c : one_leaving class (page_at t.pages w.page) ≡ one_leaving class (page_at s.pages w.page) = ap (λ b. if b then 1 else 0) (same w.page) in let k = w.few in omega (arith, z, c, k));
-  some = λ on. w.some (sym (same w.page) ∙ on);
-}
+settled_freed s t page block class need p f at is w =
+    settled_less s t class need (strands_shrink s t class f (λ k on. sym (same k) ∙ on)) (let z = staying_set s.pages t.pages page (Some p) (Some (with_held p block false)) l at is class in omega (arith, z)) w
   where
     l : page < length s.pages
     l = page_within s.pages page p at
@@ -136,9 +180,8 @@ pub settled_closed : (h : HeapState) (present snapshot : Graph) (page block clas
     → KeepsBlocks h.store t → t.pages ≡ set h.store.pages page (closed (page_at h.store.pages page)) → IsSettled h.store class need → IsSettled t class need
 settled_closed h present snapshot page block class need t small st e l looked keeps is w = record {
   page = w.page;
-  only = strands_on h.store t class w.page (strands_shrink h.store t class (shrinks_keeps h.store t keeps) (λ b m on. still (b / 2048) on)) w.only;
+  left = strands_left h.store t class need need w.page strands (omega arith) w.left;
   few = by_page (page_at h.store.pages page) refl;
-  some = λ on. w.some (still w.page on);
 }
   where
     o : Option Page
@@ -148,13 +191,9 @@ settled_closed h present snapshot page block class need t small st e l looked ke
     closed_stays None = refl
     closed_stays (Some p) = by_held (held_on (Some p) == 0)
       where
-        off : (b : Bool) → (b && false) ≡ false
-        off true = refl
-        off false = refl
-
         by_held : (b : Bool) → leaves class (if b then None else Some (record p { leaving = false; receiving = false })) ≡ false
         by_held true = refl
-        by_held false = off (p.class == class)
+        by_held false = and-false (p.class == class)
 
     at : (k : ℕ) → page_at t.pages k ≡ (if k == page then closed o else page_at h.store.pages k)
     at k = page_set h.store.pages t.pages page o (closed o) l refl is k
@@ -169,17 +208,12 @@ settled_closed h present snapshot page block class need t small st e l looked ke
     s : staying_pages t.pages class + one_if (stays class o) ≡ staying_pages h.store.pages class + one_if (stays class (closed o))
     s = staying_set h.store.pages t.pages page o (closed o) l refl is class
 
-    few_one : (b : Bool) → (if b then 1 else 0) ≤ 1
-    few_one true = omega arith
-    few_one false = omega arith
+    strands : Strands h.store t class
+    strands = strands_shrink h.store t class (shrinks_keeps h.store t keeps) still
 
     -- the page that was left is no more
     not_more : one_leaving class (page_at t.pages w.page) ≤ one_leaving class (page_at h.store.pages w.page)
-    not_more = by_leaves (leaves class (page_at t.pages w.page)) refl
-      where
-        by_leaves : (b : Bool) → leaves class (page_at t.pages w.page) ≡ b → (if b then 1 else 0) ≤ one_leaving class (page_at h.store.pages w.page)
-        by_leaves true x = let z = still w.page x in let y : one_leaving class (page_at h.store.pages w.page) ≡ 1 = ap (λ b. if b then 1 else 0) z in omega (arith, y)
-        by_leaves false x = omega arith
+    not_more = one_fewer h.store t class w.page strands
 
     Goal : Type 0
     Goal = kept_pages t.pages class w.page ≤ gathered_pages class need
@@ -232,7 +266,7 @@ settled_closed h present snapshot page block class need t small st e l looked ke
                 let here : address / 2048 ≡ page = place_page h.store page i.0 p st.pages x (slice_get_within p.held i.0 true i.1) in
                 let main = closes_main h present snapshot page block st.pages st.consistent e looked address here there in
                 let lv : leaves class (page_at h.store.pages (address / 2048)) ≡ true = ap (λ k. leaves class (page_at h.store.pages k)) here ∙ ap (leaves class) x ∙ y in
-                let same : address / 2048 ≡ w.page = w.only address (record { held = there; main = main; on = lv }) in
+                let same : address / 2048 ≡ w.page = w.left.only address (record { held = there; main = main; on = lv }) in
                 let k : page ≡ w.page = sym here ∙ same in
                 let before : one_leaving class (page_at h.store.pages w.page) ≡ 1 = ap (λ b. if b then 1 else 0) (ap (λ k. leaves class (page_at h.store.pages k)) (sym k) ∙ ap (leaves class) x ∙ y) in
                 let gone : page_at t.pages w.page ≡ closed o = ap (page_at t.pages) (sym k) ∙ at page ∙ ap (λ b. if b then closed o else page_at h.store.pages page) (eq-eqb page page refl) in
@@ -284,7 +318,35 @@ on_page s page b p at held here =
       address = q.2.address ∙ ap (λ z. address_of q.0.class z q.1) here ∙ ap (λ (z : Page). address_of z.class page q.1) same;
     }
 
--- a page that is done
+-- the page that is emptied is of its class
+pub emptied_own : (s : Store) (class page block : ℕ) (Other : ℕ → Type 0) (p : Page) → page_at s.pages page ≡ Some p → IsEmptied s class page block Other → p.class ≡ class
+emptied_own s class page block Other p at w = same_number p.class class (both_true (p.class == class) p.leaving (sym (ap (leaves class) at) ∙ w.on)).0
+
+-- a page that is done: none of its main copies was left, or none of its class's blocks is free
+pub done_left : (s : Store) (class page block need : ℕ) (Other : ℕ → Type 0) (p : Page) → ArePages s.pages → page_at s.pages page ≡ Some p → IsDone s.pages p block → (free_blocks s.pages class ≡ 0 → blocks_in class ≤ need) → IsEmptied s class page block Other → IsMoved s class need
+done_left s class page block need Other p a at done enough w = elim done [
+  | inl none ↦ inl (λ b x. (
+      let q = on_page s page b p at x.held (w.only b x) in
+      let low : address_of p.class page block ≤ b = subst (λ k. address_of k page block ≤ b) (sym own_class) (w.behind b x) in
+      let i = behind_index page block q.index (size_of p.class) b (size_some p (a.each page p at)) low q.address in
+      none q.index i q.held))
+  | inr nowhere ↦ inr (
+      let z : free_blocks s.pages class ≡ 0 = subst (λ k. free_blocks s.pages k ≡ 0) own_class (no_blocks s.pages p.class nowhere) in
+      let some = blocks_some class w.small in
+      record { page = page; left = record { only = w.only; some = λ on. enough z }; tight = omega (arith, z, some) })
+]
+  where
+    own_class : p.class ≡ class
+    own_class = emptied_own s class page block Other p at w
+
+-- what holds of the class and of the others holds of each
+pub emptied_all : (s : Store) (class page block : ℕ) (Other Each : ℕ → Type 0) → ((k : ℕ) → Other k → Each k) → IsEmptied s class page block Other → Each class → (k : ℕ) → k < CLASSES → Each k
+emptied_all s class page block Other Each each w here k l = by_class (class == k) refl
+  where
+    by_class : (b : Bool) → (class == k) ≡ b → Each k
+    by_class true e = subst Each (same_number class k e) here
+    by_class false e = each k (w.others k l e)
+
 staying_held : (pages : List (Option Page)) (class : ℕ) → ArePages pages → 0 < staying_pages pages class → free_blocks pages class ≡ 0 → blocks_in class ≤ main_blocks pages class
 staying_held pages class a some none =
     let o = own class pages a in
@@ -294,44 +356,10 @@ staying_held pages class a some none =
     one_most : 0 < staying_pages pages class → 1 ≤ staying_pages pages class
     one_most l = omega (arith, l)
 
-pub done_moved : (s : Store) (page block chosen : ℕ) (need : ℕ → ℕ) → ArePages s.pages → ((class : ℕ) → class < CLASSES → main_blocks s.pages class ≤ need class) → (w : IsEmptying s page block chosen need) → IsDone s.pages w.source block → (class : ℕ) → class < CLASSES → IsMoved s class (need class)
-done_moved s page block chosen need a census w done class small = by_class (w.source.class == class) refl
-  where
-    p : Page
-    p = w.source
-
-    isp : IsPage p
-    isp = a.each page p w.at
-
-    own_class : IsMoved s p.class (need p.class)
-    own_class = elim done [
-      | inl none ↦ inl (λ b x. (
-          let here = w.only b x in
-          let q = on_page s page b p w.at x.held here in
-          let low = w.behind b x.held x.main here in
-          let i = behind_index page block q.index (size_of p.class) b (size_some p isp) low q.address in
-          none q.index i q.held))
-      | inr nowhere ↦ inr (
-          let z = no_blocks s.pages p.class nowhere in
-          let c = isp.class in
-          let some = blocks_some p.class c in
-          record { page = page; only = w.only; tight = omega (arith, z, some); some = λ on. (let m = staying_held s.pages p.class a w.some z in let n = census p.class c in omega (arith, m, n)) })
-    ]
-
-    by_class : (b : Bool) → (p.class == class) ≡ b → IsMoved s class (need class)
-    by_class true e = subst (λ z. IsMoved s z (need z)) (same_number p.class class e) own_class
-    by_class false e = w.others class small e
-
 -- at a look of a pass
-pub record AtLook (s : Store) (chosen : ℕ) (need : ℕ → ℕ) : Type 0 where
-  pub moved : (class : ℕ) → class < CLASSES → IsMoved s class (need class)
-  pub count : chosen ≤ leaving_pages s.pages
-
 pub at_look : (h : HeapState) (class page : ℕ) (best : Option Candidate) (chosen : ℕ) (need : ℕ → ℕ) → ArePages h.store.pages → ((class : ℕ) → class < CLASSES → main_blocks h.store.pages class ≤ need class) → IsLeftover h.store h.phase need → AtPass h class page best chosen → AtLook h.store chosen need
-at_look h class page best chosen need a census w (In_pass class0 page0 best0 chosen0 e) =
-    let q : ((class : ℕ) → class < CLASSES → IsMoved h.store class (need class)) × (chosen ≤ leaving_pages h.store.pages) = subst (λ z. IsLeftover h.store z need) e w in
-    record { moved = q.0; count = q.1 }
+at_look h class page best chosen need a census w (In_pass class0 page0 best0 chosen0 e) = subst (λ z. IsLeftover h.store z need) e w
 at_look h class page best chosen need a census w (After_page class0 page0 block chosen0 p e at on done few) =
     let q : IsEmptying h.store page0 block chosen need = subst (λ z. IsLeftover h.store z need) e w in
-    let same : p ≡ q.source = same_Some p q.source (sym at ∙ q.at) in
-    record { moved = done_moved h.store page0 block chosen need a census q (subst (λ z. IsDone h.store.pages z block) same done); count = q.count }
+    let enough : free_blocks h.store.pages q.class ≡ 0 → blocks_in q.class ≤ need q.class = λ none. (let m = staying_held h.store.pages q.class a q.some none in let n = census q.class q.emptied.small in omega (arith, m, n)) in
+    record { moved = emptied_all h.store q.class page0 block _ (λ k. IsMoved h.store k (need k)) (λ k o. o) q.emptied (done_left h.store q.class page0 block (need q.class) _ p a at done enough q.emptied); count = q.count }

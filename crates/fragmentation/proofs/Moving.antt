@@ -4,15 +4,13 @@ use Rattle.std.proofs.lemmas.List.{drop_all}
 use Rattle.size_classes.specs.declared.class.TheConstants.{CLASSES}
 use Rattle.size_classes.specs.Sizes.{blocks_in}
 use Rattle.graph_heap.specs.declared.command.Command.{Command}
-use Rattle.graph_heap.specs.declared.command.Command.TheVariants as commands
 use Rattle.graph_heap.specs.declared.command.Reply.{Reply}
 use Rattle.graph_heap.specs.declared.command.Change.{Change}
 use Rattle.graph_heap.specs.Graph.{Object, Graph, opening}
-use Rattle.graph_heap.specs.Effect.{reply_of, slot_at, fitting, next_identity, admitted}
-use Rattle.size_classes.specs.Need.{needed}
+use Rattle.graph_heap.specs.Effect.{reply_of}
 use Rattle.heap_model.specs.declared.phase.Phase.{Phase}
 use Rattle.heap_model.specs.declared.phase.Phase.TheVariants as phases
-use Rattle.heap_model.specs.Pages.{ArePages, has_room, free_blocks, whole_pages}
+use Rattle.heap_model.specs.Pages.{ArePages, free_blocks, whole_pages}
 use Rattle.heap_model.specs.State.{HeapState}
 use Rattle.heap_model.specs.Opening.{IsOpening}
 use Rattle.heap_model.specs.Settings.{HeapSettings, settings_of}
@@ -24,10 +22,8 @@ use Rattle.space.specs.Demand.{blocks_of, asked_for, asked_by}
 use Rattle.space.specs.Tally.{is_tracing, FindsRoom, NewFindsRoom, EveryNewFindsRoom}
 use Rattle.space.specs.Counts.{is_of, main_blocks, used_pages}
 use Rattle.space.proofs.Counts.{class_sum_le}
-use Rattle.space.proofs.Census.{census}
 use Rattle.space.proofs.Pacing.{more_since}
-use Rattle.space.proofs.Roomless.{admitted_other, slot_other, fitting_other, next_other}
-use Rattle.space.proofs.Running.{rest_only, new_has_room}
+use Rattle.space.proofs.Running.{rest_only}
 use Rattle.fragmentation.specs.Tight.{IsTight}
 use Rattle.fragmentation.specs.Gathering.{IsGathering}
 use Rattle.fragmentation.specs.Season.{Season, Lives, opening_season, made_since, needed_since, season_swept, season_after, Keeps, AllKeep}
@@ -38,8 +34,9 @@ use Rattle.fragmentation.proofs.Paging.{whole_more}
 use Rattle.fragmentation.proofs.FewTaken.{few_room}
 use Rattle.fragmentation.proofs.Gathering.{gather_change}
 use Rattle.fragmentation.proofs.Growing.{leftover_change, leftover_more, few_made}
-use Rattle.fragmentation.proofs.Acting.{IsGoing, gathers_settings, Before, Behind, Out, came_chain, out_chain, few_change}
-use Rattle.fragmentation.proofs.Counted.{IsCounted, counted_held, objects_then, needed_more, all_find_room, count_none, opening_counted, opening_settled}
+use Rattle.fragmentation.proofs.Few.{not_both}
+use Rattle.fragmentation.proofs.Acting.{IsGoing, gathers_settings, Stage, Behind, came_chain, out_chain, few_change}
+use Rattle.fragmentation.proofs.Counted.{IsCounted, held_since, counted_held, objects_then, needed_more, all_find_room, command_room, count_none, opening_counted, opening_settled}
 
 -- room for a command
 module _ (h : HeapState) (g : Graph) (s : Season) (first made : ℕ → ℕ) (a : ArePages h.store.pages) (w : IsFew h.store.pages h.phase first made) (same : s.graph ≡ g)
@@ -53,15 +50,9 @@ module _ (h : HeapState) (g : Graph) (s : Season) (first made : ℕ → ℕ) (a 
       omega (arith, x, p)))
 
   season_room : (m : ℕ) (c : Command) → season_pages s (asked_for s.graph m c) ≤ length h.store.pages → FindsRoom c (reply_of (room_for h c) g m c) × (change_by (room_for h c) g m c ≡ change_by true g m c)
-  unfolding reply_of
-  season_room m (commands.New dst shape) fits =
-      new_has_room (admitted g m (commands.New dst shape)) (slot_at g.limits m dst) (fitting shape) (next_identity g) shape
-      (admitted_other g m (commands.New dst shape)) (slot_other g.limits m dst) (fitting_other shape) (next_other g)
-      (has_room h.store.pages (needed shape))
-      (λ e. few_room h.store.pages h.phase first made (needed shape) a w (
-      let l = season_more (needed shape) (asked_for s.graph m (commands.New dst shape)) (λ k. (let x = e k in let y : asked_for s.graph m (commands.New dst shape) k ≡ asked_for g m (commands.New dst shape) k = ap (λ z. asked_for z m (commands.New dst shape) k) same in omega (arith, x, y))) in
+  season_room m c fits = command_room h g m c (λ need e. few_room h.store.pages h.phase first made need a w (
+      let l = season_more need (asked_for s.graph m c) (λ k. (let x = e k in let y : asked_for s.graph m c k ≡ asked_for g m c k = ap (λ z. asked_for z m c k) same in omega (arith, x, y))) in
       omega (arith, l, fits)))
-  season_room m _ fits = (tt, refl)
 
 left_same : (r : Course) (need more : ℕ → ℕ) → ((k : ℕ) → need k ≡ more k) → IsLeftover r.heap.store r.heap.phase need → IsLeftover r.heap.store r.heap.phase more
 left_same r need more e w = leftover_more r.heap.store r.heap.phase need more (λ k l. (let x = e k in omega (arith, x))) w
@@ -146,10 +137,7 @@ module _ (live : Lives) (pages : ℕ) (r new : Course) (budget units : ℕ) (pha
 
   counted : (j : HeapState) → IsGoing j g (snapshot_of r) → is_tracing j.phase ≡ false → (class : ℕ) → class < CLASSES → main_blocks j.store.pages class ≤ resting class
   counted j y off class l =
-      let only = rest_only j g (snapshot_of r) i.begun.ids y.stands off i.begun.reached in
-      let x = census j.store y.stands.pages class g.objects y.tidy (snapshot_of r).objects i.begun.ids i.kept_last only in
-      let z = i.begun.blocks class l in
-      omega (arith, x, z)
+      held_since j.store g.objects (snapshot_of r) (live s.cycles) i.begun.live y.stands.pages y.tidy i.begun.kept (rest_only j g (snapshot_of r) i.begun.live.ids y.stands off i.begun.live.reached) class l
 
   out_phase : is_tracing new.heap.phase ≡ is_tracing phase
   out_phase = ap is_tracing q.ends
@@ -160,46 +148,35 @@ module _ (live : Lives) (pages : ℕ) (r new : Course) (budget units : ℕ) (pha
   made_now : (class : ℕ) → made class ≡ blocks_of (drop s.swept (present_of new).objects) class
   made_now class = ap (λ (z : Graph). blocks_of (drop s.swept z.objects) class) (sym present)
 
-  room_now : GathersAll new.heap → length new.heap.store.pages ≡ length r.heap.store.pages → pages ≤ length new.heap.store.pages
-  room_now all n = let x = k.room in omega (arith, x, n)
-
   same_count : length new.heap.store.pages ≡ length r.heap.store.pages
   same_count = ap (λ (z : HeapSettings). z.pages) (does_settings r (Quantum_done budget units phase) new q)
+
+  -- what is kept in any season, where its few pages and what is left are known
+  kept : IsGoing new.heap g (snapshot_of r) → (t : Season) (first : ℕ → ℕ) → ((class : ℕ) → class < CLASSES → first class ≤ gathered_pages class (t.before class)) → IsFew new.heap.store.pages new.heap.phase first (λ class. blocks_of (drop t.swept (present_of new).objects) class)
+      → IsLeftover new.heap.store new.heap.phase (needed_since live t) → IsMoving live pages new t
+  kept y t first most few left = record { room = (let x = k.room in omega (arith, x, same_count)); gathering = y.gathering; all = y.all; first = first; most = most; few = few; left = left }
 
   -- the sweep of a cycle that is on hasn't ended before
   module _ (on : s.tracing ≡ true) where
     abbrev Came : Type 0
-    Came = IsGoing new.heap g (snapshot_of r) × (Before new.heap k.first made (needed_since live s) ⊎ Behind new.heap (needed_since live s) resting)
+    Came = IsGoing new.heap g (snapshot_of r) × (Stage true new.heap k.first made (needed_since live s) ⊎ Behind new.heap (needed_since live s) resting)
 
     came : Came
     came = came_chain g (snapshot_of r) k.first made (needed_since live s) resting counted r.heap new.heap units going q.turn.chain (inl (record { tracing = sym i.tracing ∙ on; few = k.few; left = k.left }))
 
-    goes_on : IsGoing new.heap g (snapshot_of r) → Before new.heap k.first made (needed_since live s) → IsMoving live pages new s
-    goes_on y b = record {
-      room = room_now y.all same_count;
-      gathering = y.gathering;
-      all = y.all;
-      first = k.first;
-      most = k.most;
-      few = few_made new.heap.store.pages new.heap.phase k.first made _ made_now b.few;
-      left = b.left;
-    }
+    goes_on : IsGoing new.heap g (snapshot_of r) → Stage true new.heap k.first made (needed_since live s) → IsMoving live pages new s
+    goes_on y b = kept y s k.first k.most (few_made new.heap.store.pages new.heap.phase k.first made _ made_now b.few) b.left
 
     ends : IsGoing new.heap g (snapshot_of r) → Behind new.heap (needed_since live s) resting → IsMoving live pages new (season_swept live s)
-    ends y b = record {
-      room = room_now y.all same_count;
-      gathering = y.gathering;
-      all = y.all;
-      first = b.first;
-      most = b.most;
-      few = few_made new.heap.store.pages new.heap.phase b.first _ _ (λ class. sym (ap (λ z. blocks_of (drop z (present_of new).objects) class) (ap (λ (z : Graph). length z.objects) (i.graph ∙ sym present)) ∙ none_since (present_of new).objects class)) b.few;
-      left = leftover_more new.heap.store new.heap.phase resting (needed_since live (season_swept live s)) (λ class l. (let x : made_since s.last s class ≡ blocks_of (drop (length (snapshot_of r).objects) g.objects) class = ap (λ z. made_since z s class) i.last ∙ ap (λ (z : Graph). blocks_of (drop (length (snapshot_of r).objects) z.objects) class) i.graph in omega (arith, x))) b.left;
-    }
+    ends y b =
+        kept y (season_swept live s) b.first b.most
+        (few_made new.heap.store.pages new.heap.phase b.first _ _ (λ class. sym (ap (λ z. blocks_of (drop z (present_of new).objects) class) (ap (λ (z : Graph). length z.objects) (i.graph ∙ sym present)) ∙ none_since (present_of new).objects class)) b.stage.few)
+        (leftover_more new.heap.store new.heap.phase resting (needed_since live (season_swept live s)) (λ class l. (let x : made_since s.last s class ≡ blocks_of (drop (length (snapshot_of r).objects) g.objects) class = ap (λ z. made_since z s class) i.last ∙ ap (λ (z : Graph). blocks_of (drop (length (snapshot_of r).objects) z.objects) class) i.graph in omega (arith, x))) b.stage.left)
 
     by_end : Came → (t : Bool) → is_tracing phase ≡ t → IsMoving live pages new (if t then s else (if s.tracing then season_swept live s else s))
     by_end (y, inl b) true e = goes_on y b
-    by_end (y, inl b) false e = absurd (let z : true ≡ false = sym b.tracing ∙ out_phase ∙ e in cc)
-    by_end (y, inr b) true e = absurd (let z : false ≡ true = sym b.tracing ∙ out_phase ∙ e in cc)
+    by_end (y, inl b) false e = absurd (not_both _ b.tracing (out_phase ∙ e))
+    by_end (y, inr b) true e = absurd (not_both _ (out_phase ∙ e) b.stage.tracing)
     by_end (y, inr b) false e = subst (λ z. IsMoving live pages new (if z then season_swept live s else s)) (sym on) (ends y b)
 
   -- it has ended before
@@ -211,22 +188,14 @@ module _ (live : Lives) (pages : ℕ) (r new : Course) (budget units : ℕ) (pha
         let b : made_since s.base s class ≡ blocks_of (drop (length (snapshot_of r).objects) g.objects) class = ap (λ n. made_since n s class) (z.0 ∙ i.last) ∙ ap (λ (z : Graph). blocks_of (drop (length (snapshot_of r).objects) z.objects) class) i.graph in
         omega (arith, a, b)
 
-    out : IsGoing new.heap g (snapshot_of r) × Out g (snapshot_of r) k.first made (needed_since live s) resting counted new.heap
+    out : IsGoing new.heap g (snapshot_of r) × Stage false new.heap k.first made resting
     out = out_chain g (snapshot_of r) k.first made (needed_since live s) resting counted r.heap new.heap units going q.turn.chain (record { tracing = sym i.tracing ∙ off; few = k.few; left = left_same r (needed_since live s) resting rest_same k.left })
 
     rests : IsMoving live pages new s
-    rests = record {
-      room = room_now out.0.all same_count;
-      gathering = out.0.gathering;
-      all = out.0.all;
-      first = k.first;
-      most = k.most;
-      few = few_made new.heap.store.pages new.heap.phase k.first made _ made_now out.1.few;
-      left = left_same new resting (needed_since live s) (λ class. sym (rest_same class)) out.1.left;
-    }
+    rests = kept out.0 s k.first k.most (few_made new.heap.store.pages new.heap.phase k.first made _ made_now out.1.few) (left_same new resting (needed_since live s) (λ class. sym (rest_same class)) out.1.left)
 
     by_out : (t : Bool) → is_tracing phase ≡ t → IsMoving live pages new (if t then s else (if s.tracing then season_swept live s else s))
-    by_out true e = absurd (let z : false ≡ true = sym out.1.tracing ∙ out_phase ∙ e in cc)
+    by_out true e = absurd (not_both _ (out_phase ∙ e) out.1.tracing)
     by_out false e = subst (λ z. IsMoving live pages new (if z then season_swept live s else s)) (sym off) rests
 
   by_start : (b : Bool) → s.tracing ≡ b → IsMoving live pages new (season_after live s (Quantum_done budget units phase))

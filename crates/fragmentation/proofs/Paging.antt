@@ -1,11 +1,12 @@
 -- Pages that grow with the blocks that take them.
-use Rattle.std.proofs.Common.{◌≡◌, ℕ, ◌+◌, ◌-◌, ◌*◌, ◌/◌, ◌<◌, ◌≤◌, ◌⊎◌, inl, inr, Bool, true, false, if◌then◌else◌, nat_lt, ap, arith, refl}
+use Rattle.std.proofs.Common.{◌≡◌, ℕ, zero, suc, ◌+◌, ◌-◌, ◌*◌, ◌/◌, ◌<◌, ◌≤◌, ◌⊎◌, inl, inr, Bool, true, false, if◌then◌else◌, nat_lt, List, Option, ap, arith, refl}
 use Rattle.std.proofs.lemmas.Nat.{le-div}
 use Rattle.std.proofs.Math.Nat.{div-eq_of_lt, div-mul-le_self, lt-div-mul-add, mul-le-mul_right}
 use Rattle.size_classes.specs.declared.class.TheConstants.{CLASSES}
 use Rattle.size_classes.specs.Sizes.{blocks_in}
 use Rattle.size_classes.proofs.Table.{blocks_some}
-use Rattle.heap_model.specs.Pages.{whole_pages}
+use Rattle.heap_model.specs.Pages.{Page, free_blocks, whole_pages, pages_needed}
+use Rattle.space.specs.Space.{class_sum}
 use Rattle.space.proofs.Counts.{class_sum_le, class_sum_both, zeros}
 use Rattle.fragmentation.specs.Suffice.{gathered_pages, pages_of}
 
@@ -88,3 +89,8 @@ pages_none =
     let l = class_sum_le (λ k. whole_pages k 0) (λ k. 0) CLASSES (λ k l. (let h = whole_none k l in omega (arith, h))) in
     let z = zeros CLASSES in
     omega (arith, l, z)
+
+-- the pages that are needed and others are no more than so many, where they are so for each class
+pub needed_sums : (pages : List (Option Page)) (need others most : ℕ → ℕ) (n : ℕ) → ((k : ℕ) → k < n → whole_pages k (need k - free_blocks pages k) + others k ≤ most k) → pages_needed pages need n + class_sum others n ≤ class_sum most n
+needed_sums pages need others most zero each = omega arith
+needed_sums pages need others most (suc n) each = let r = needed_sums pages need others most n (λ k l. each k (omega (arith, l))) in let x = each n (omega arith) in omega (arith, r, x)

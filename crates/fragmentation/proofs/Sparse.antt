@@ -1,104 +1,84 @@
 -- However many pages a cycle may empty: through each action and each change.
-use Rattle.std.proofs.Common.{◌≡◌, ℕ, zero, suc, ◌+◌, ◌-◌, ◌*◌, ◌<◌, ◌≤◌, inl, inr, Bool, true, false, not, ◌&&◌, cond, ◌==◌, if◌then◌else◌, nat_lt, Option, Some, None, length, set, ap, ◌∙◌, sym, subst, arith, refl}
-use Rattle.std.specs.Prelude.{count_by, slice_get}
-use Rattle.std.proofs.lemmas.Bool.{eq-eqb}
-use Rattle.std.proofs.lemmas.List.Sums.{get_or-le-sum_by}
+use Rattle.std.proofs.Common.{◌≡◌, ℕ, ◌+◌, ◌-◌, ◌*◌, ◌<◌, ◌≤◌, inl, Bool, true, false, if◌then◌else◌, nat_lt, Option, Some, None, length, set, ap, ◌∙◌, sym, subst, arith, refl}
+use Rattle.std.specs.Prelude.{slice_get}
 use Rattle.std.proofs.lemmas.List.Quantifiers.{position-Some}
-use Rattle.std.proofs.lemmas.Option.{same_Some}
 use Rattle.std.proofs.Math.Nat.{div-mul-le_self, lt_of_mul-lt-mul_left}
 use Rattle.graph_heap.specs.Graph.{Graph}
 use Rattle.size_classes.specs.declared.class.TheConstants.{CLASSES}
-use Rattle.size_classes.specs.Sizes.{size_of, blocks_in}
+use Rattle.size_classes.specs.Sizes.{blocks_in}
 use Rattle.size_classes.proofs.Table.{blocks_some}
 use Rattle.heap_model.specs.declared.phase.Phase.{Phase}
 use Rattle.heap_model.specs.declared.phase.Phase.TheVariants as phases
 use Rattle.heap_model.specs.declared.phase.Moving.TheVariants as moves
 use Rattle.heap_model.specs.declared.phase.Candidate.{Candidate}
-use Rattle.heap_model.specs.Pages.{Page, IsPage, ArePages, is_usable, with_held, page_at, free_blocks, whole_pages}
+use Rattle.heap_model.specs.Pages.{Page, ArePages, is_usable, with_held, page_at, free_blocks, whole_pages}
 use Rattle.heap_model.specs.Store.{Store, address_of}
 use Rattle.heap_model.specs.State.{HeapState}
 use Rattle.heap_model.specs.Marks.{HasNoMark, AreClosed}
 use Rattle.heap_model.specs.Standing.{Stands, is_sweeping}
 use Rattle.heap_model.specs.Action.{KeepsBlocks, MovesBlock, IsNext, IsDone, Action, Scans_root, Ends_roots, Scans_header, Scans_cell, Ends_marking, Frees_block, Passes_block, Closes_page, Ends_sweep, Looks_at_page, Chooses_page, Chooses_none, Moves_block, Ends_moving, AtPass, In_pass, After_page, MovingDone, No_class, No_page, is_sparse, is_choosable}
-use Rattle.heap_model.proofs.Held.{page_within, size_some}
-use Rattle.heap_model.proofs.Rooms.{no_blocks}
 use Rattle.heap_model.proofs.Marks.{no_mark}
-use Rattle.heap_model.proofs.Moved.{same_number}
-use Rattle.space.specs.Counts.{stays, main_on, main_blocks}
-use Rattle.space.proofs.Counts.{one_if, own, both_true}
+use Rattle.space.proofs.Counts.{both_true}
 use Rattle.space.proofs.Tidying.{Shrinks, shrinks_then, shrinks_writes, shrinks_shades, shrinks_frees}
 use Rattle.fragmentation.specs.Tight.{IsTight, staying_pages}
 use Rattle.fragmentation.specs.Gathering.{AreUsed, IsGathering}
 use Rattle.fragmentation.specs.Suffice.{gathered_pages}
-use Rattle.fragmentation.proofs.IsLeftover.{leaves, StrandedOn, NoneStranded, one_leaving, kept_pages, IsSettled, StandsBehind}
-use Rattle.fragmentation.proofs.IsSparse.{IsPassed, Empties, IsSparse}
-use Rattle.fragmentation.proofs.Emptied.{ChosenPage, chosen_page, MovedBlock, moved_block}
-use Rattle.fragmentation.proofs.Free.{Choosable, choosable_is, choosable_all, chosen_free}
+use Rattle.fragmentation.proofs.IsLeftover.{one_leaving, IsSettled, IsEmptied, AreSettled}
+use Rattle.fragmentation.proofs.IsSparse.{IsPassed, ArePassed, Empties, IsSparse}
+use Rattle.fragmentation.proofs.Emptied.{chosen_staying, chosen_two, chosen_emptied, moved_store, moved_emptied}
+use Rattle.fragmentation.proofs.Free.{chosen_free}
 use Rattle.fragmentation.proofs.Few.{moving_not}
 use Rattle.fragmentation.proofs.Passing.{in_pass}
 use Rattle.fragmentation.proofs.Gathering.{tight_action}
-use Rattle.fragmentation.proofs.Leftover.{staying_set, settled_same, settled_freed, settled_closed, none_leaves, none_strands, strands_on, strands_same, on_page, behind_index}
+use Rattle.fragmentation.proofs.Leftover.{Strands, settled_less, moved_less, by_phase, Goes, settled_goes, moved_goes, emptied_goes, goes_same, settled_freed, settled_closed, settled_used, none_leaves, done_left, emptied_all}
+use Rattle.fragmentation.proofs.Leaving.{none_left}
 
-passed_same : (s t : Store) (class need : ℕ) → Shrinks s t → t.pages ≡ s.pages → IsPassed s class need → IsPassed t class need
-passed_same s t class need f e w = record {
-  settled = settled_same s t class need f e w.settled;
-  left = elim w.left [ inl n ↦ inl (none_strands s t class (strands_same s t class f e) n) | inr q ↦ inr (subst (λ z. IsTight z class) (sym e) q) ];
-}
+passed_less : (s t : Store) (class need : ℕ) → Strands s t class → staying_pages t.pages class ≤ staying_pages s.pages class → (IsTight s.pages class → IsTight t.pages class) → IsPassed s class need → IsPassed t class need
+passed_less s t class need f l tight w = record { settled = settled_less s t class need f l w.settled; moved = moved_less s t class need need f tight (omega arith) w.moved }
+
+module _ (s t : Store) (need more : ℕ → ℕ) (g : Goes s t need more) where
+  passed_goes : (k : ℕ) → k < CLASSES → IsPassed s k (need k) → IsPassed t k (more k)
+  passed_goes k l w = record { settled = settled_goes s t need more g k l w.settled; moved = moved_goes s t need more g k l w.moved }
+
+  empties_goes : (page block chosen : ℕ) → Empties s page block need → Empties t page block more
+  empties_goes page block chosen w = record {
+    class = w.class;
+    emptied = emptied_goes s t need more g w.class page block _ _ passed_goes w.emptied;
+    few = g.kept w.class page w.emptied.small w.few (λ on. w.enough);
+    enough = (let a = w.enough in let b = g.less w.class w.emptied.small in omega (arith, a, b));
+  }
+
+  pub sparse_goes : (p : Phase) → IsSparse s p need → IsSparse t p more
+  sparse_goes p w = by_phase p (λ a k l. settled_goes s t need more g k l (a k l)) (λ n a k l. passed_goes k l (a k l)) empties_goes w
 
 pub sparse_same : (s t : Store) (p : Phase) (need : ℕ → ℕ) → Shrinks s t → t.pages ≡ s.pages → IsSparse s p need → IsSparse t p need
-sparse_same s t phases.Idle need f e w = λ class l. settled_same s t class (need class) f e (w class l)
-sparse_same s t (phases.Roots next) need f e w = λ class l. settled_same s t class (need class) f e (w class l)
-sparse_same s t (phases.Marking part cell) need f e w = λ class l. settled_same s t class (need class) f e (w class l)
-sparse_same s t (phases.Sweeping page block) need f e w = λ class l. settled_same s t class (need class) f e (w class l)
-sparse_same s t (phases.Moving (moves.Pass k page best chosen)) need f e w = λ class l. passed_same s t class (need class) f e (w class l)
-sparse_same s t (phases.Moving (moves.Emptying k page block chosen)) need f e w = record {
-  source = w.source;
-  at = ap (λ z. page_at z page) e ∙ w.at;
-  leaving = w.leaving;
-  others = λ class l ne. passed_same s t class (need class) f e (w.others class l ne);
-  only = strands_on s t w.source.class page (strands_same s t w.source.class f e) w.only;
-  behind = λ b l main here. w.behind b (f.held b l) (sym (f.head b l).forward ∙ main) here;
-  few = subst (λ z. kept_pages z w.source.class page ≤ gathered_pages w.source.class (need w.source.class)) (sym e) w.few;
-  enough = w.enough;
-}
+sparse_same s t p need f e w = sparse_goes s t need need (goes_same s t need need f e (λ k l. omega arith)) p w
 
 pub sparse_phase : (s : Store) (p q : Phase) (need : ℕ → ℕ) → p ≡ q → IsSparse s p need → IsSparse s q need
 sparse_phase s p q need e w = subst (λ z. IsSparse s z need) e w
 
+-- each class is settled, in each phase
+empties_settled : (s : Store) (page block : ℕ) (need : ℕ → ℕ) → (w : Empties s page block need) → IsSettled s w.class (need w.class)
+empties_settled s page block need w = record { page = page; left = record { only = w.emptied.only; some = λ on. w.enough }; few = w.few }
+
+pub all_settled : (s : Store) (p : Phase) (need : ℕ → ℕ) → IsSparse s p need → AreSettled s need
+all_settled s phases.Idle need w = w
+all_settled s (phases.Roots next) need w = w
+all_settled s (phases.Marking part cell) need w = w
+all_settled s (phases.Sweeping page block) need w = w
+all_settled s (phases.Moving (moves.Pass class page best chosen)) need w = λ k l. (w k l).settled
+all_settled s (phases.Moving (moves.Emptying class page block chosen)) need w = emptied_all s w.class page block _ (λ k. IsSettled s k (need k)) (λ k o. o.settled) w.emptied (empties_settled s page block need w)
+
 -- a page that is done
-done_passed : (s : Store) (page block : ℕ) (need : ℕ → ℕ) → ArePages s.pages → (w : Empties s page block need) → IsDone s.pages w.source block → (class : ℕ) → class < CLASSES → IsPassed s class (need class)
-done_passed s page block need a w done class small = by_class (w.source.class == class) refl
-  where
-    p : Page
-    p = w.source
+done_passed : (s : Store) (page block : ℕ) (p : Page) (need : ℕ → ℕ) → ArePages s.pages → page_at s.pages page ≡ Some p → IsDone s.pages p block → Empties s page block need → ArePassed s need
+done_passed s page block p need a at done w = emptied_all s w.class page block _ (λ k. IsPassed s k (need k)) (λ k o. o) w.emptied (record {
+  settled = empties_settled s page block need w;
+  moved = done_left s w.class page block (need w.class) _ p a at done (λ none. w.enough) w.emptied;
+})
 
-    isp : IsPage p
-    isp = a.each page p w.at
-
-    own_class : IsPassed s p.class (need p.class)
-    own_class = record {
-      settled = record { page = page; only = w.only; few = w.few; some = λ on. w.enough };
-      left = elim done [
-        | inl none ↦ inl (λ b x. (
-            let here = w.only b x in
-            let q = on_page s page b p w.at x.held here in
-            let low = w.behind b x.held x.main here in
-            let i = behind_index page block q.index (size_of p.class) b (size_some p isp) low q.address in
-            none q.index i q.held))
-        | inr nowhere ↦ inr (let z = no_blocks s.pages p.class nowhere in let some = blocks_some p.class isp.class in omega (arith, z, some))
-      ];
-    }
-
-    by_class : (b : Bool) → (p.class == class) ≡ b → IsPassed s class (need class)
-    by_class true e = subst (λ z. IsPassed s z (need z)) (same_number p.class class e) own_class
-    by_class false e = w.others class small e
-
-pass_sparse : (h : HeapState) (class page : ℕ) (best : Option Candidate) (chosen : ℕ) (need : ℕ → ℕ) → ArePages h.store.pages → IsSparse h.store h.phase need → AtPass h class page best chosen → (k : ℕ) → k < CLASSES → IsPassed h.store k (need k)
+pass_sparse : (h : HeapState) (class page : ℕ) (best : Option Candidate) (chosen : ℕ) (need : ℕ → ℕ) → ArePages h.store.pages → IsSparse h.store h.phase need → AtPass h class page best chosen → ArePassed h.store need
 pass_sparse h class page best chosen need a w (In_pass class0 page0 best0 chosen0 e) = sparse_phase h.store h.phase (phases.Moving (moves.Pass class page best chosen)) need e w
-pass_sparse h class page best chosen need a w (After_page class0 page0 block chosen0 p e at on done few) =
-    let q : Empties h.store page0 block need = sparse_phase h.store h.phase (phases.Moving (moves.Emptying class page0 block chosen)) need e w in
-    let same : p ≡ q.source = same_Some p q.source (sym at ∙ q.at) in
-    done_passed h.store page0 block need a q (subst (λ z. IsDone h.store.pages z block) same done)
+pass_sparse h class page best chosen need a w (After_page class0 page0 block chosen0 p e at on done few) = done_passed h.store page0 block p need a at done (sparse_phase h.store h.phase (phases.Moving (moves.Emptying class page0 block chosen)) need e w)
 
 -- with two pages of a class there are as many blocks of it as one has
 two_pages : (class need n : ℕ) → class < CLASSES → 2 ≤ n → n ≤ gathered_pages class need → blocks_in class ≤ need
@@ -125,130 +105,33 @@ two_pages class need n small two l = by_test (nat_lt need (blocks_in class)) ref
 
 -- a page that is chosen
 chosen_sparse : (s t : Store) (class page : ℕ) (p : Page) (need : ℕ → ℕ) → ArePages s.pages → AreUsed s.pages (length s.pages) → page_at s.pages page ≡ Some p → is_choosable class (Some p) ≡ true → blocks_in class ≤ free_blocks s.pages class → class < CLASSES
-    → KeepsBlocks s t → t.pages ≡ set s.pages page (Some (record p { leaving = true })) → ((k : ℕ) → IsTight s.pages k → IsTight t.pages k) → ((k : ℕ) → k < CLASSES → IsPassed s k (need k)) → Empties t page 0 need
+    → KeepsBlocks s t → t.pages ≡ set s.pages page (Some (record p { leaving = true })) → ((k : ℕ) → IsTight s.pages k → IsTight t.pages k) → ArePassed s need → Empties t page 0 need
 chosen_sparse s t class page p need a used at good free small keeps is tight w = record {
-  source = v;
-  at = z.now;
-  leaving = refl;
-  others = others;
-  only = z.only pure;
-  behind = z.behind;
-  few = subst (λ k. kept_pages t.pages k page ≤ gathered_pages k (need k)) (sym z.own) few;
-  enough = subst (λ k. blocks_in k ≤ need k) (sym z.own) enough;
+  class = class;
+  emptied = emptied;
+  few = (let x = chosen_staying s t class page p at good keeps is in let y : one_leaving class (page_at t.pages page) ≡ 1 = ap (λ b. if b then 1 else 0) emptied.on in let m = few in omega (arith, x, y, m));
+  enough = two_pages class (need class) (staying_pages s.pages class) small (chosen_two s t class page p at good keeps is a used free) few;
 }
   where
-    v : Page
-    v = record p { leaving = true }
+    emptied : IsEmptied t class page 0 (λ k. IsPassed t k (need k))
+    emptied = chosen_emptied s t class page p at good keeps is _ small (none_left s class (need class) free (w class small).moved) (λ k l f n. passed_less s t k (need k) f n (tight k) (w k l))
 
-    within : page < length s.pages
-    within = page_within s.pages page p at
-
-    c : Choosable class p
-    c = choosable_is class p good
-
-    z : ChosenPage s t class page p
-    z = chosen_page s t class page p at good keeps is
-
-    own_class : IsPassed s class (need class)
-    own_class = w class small
-
-    pure : NoneStranded s class
-    pure = elim own_class.left [ inl n ↦ n | inr y ↦ absurd (omega (arith, y, free)) ]
-
-    stays_p : ((p.class == class) && not p.leaving) ≡ true
-    stays_p = grind (arith, c.own, c.leaving)
-
-    off : (b : Bool) → (b && false) ≡ false
-    off true = refl
-    off false = refl
-
-    -- the page goes from those that stay to that which is emptied
-    moves_over : staying_pages t.pages class + 1 ≡ staying_pages s.pages class
-    moves_over =
-        let u = staying_set s.pages t.pages page (Some p) (Some v) within at is class in
-        let x : one_if (stays class (Some p)) ≡ 1 = ap one_if stays_p in
-        let y : one_if (stays class (Some v)) ≡ 0 = ap one_if (off (p.class == class)) in
-        omega (arith, u, x, y)
-
-    on_page_now : one_leaving class (page_at t.pages page) ≡ 1
-    on_page_now = let x : (p.class == class) ≡ true = ap (λ y. y == class) c.own ∙ eq-eqb class class refl in ap (λ y. if leaves class y then 1 else 0) z.now ∙ ap (λ b. if b && true then 1 else 0) x
-
-    few : kept_pages t.pages class page ≤ gathered_pages class (need class)
-    few = let k = own_class.settled.few in omega (arith, moves_over, on_page_now, k)
-
-    two : 2 ≤ staying_pages s.pages class
-    two =
-        let o = own class s.pages a in
-        let all = choosable_all class p (a.each page p at) good in
-        let h = used page p within at in
-        let m : count_by (λ b. b) p.held ≤ main_blocks s.pages class = main_some in
-        at_least (free_blocks s.pages class) (main_blocks s.pages class) (blocks_in class) (staying_pages s.pages class) o free (omega (arith, h, m))
-      where
-        main_some : count_by (λ b. b) p.held ≤ main_blocks s.pages class
-        main_some =
-            let u = get_or-le-sum_by (main_on class) s.pages page None within in
-            let x : main_on class (page_at s.pages page) ≡ count_by (λ b. b) p.held = ap (main_on class) at ∙ ap (λ b. cond b (count_by (λ b. b) p.held) 0) stays_p in
-            omega (arith, u, x)
-
-        at_least : (x y b n : ℕ) → x + y ≡ b * n → b ≤ x → 0 < y → 2 ≤ n
-        at_least x y b zero e l m = absurd (let z : b * 0 ≡ 0 = omega arith in omega (arith, e, z, m))
-        at_least x y b (suc zero) e l m = absurd (let z : b * 1 ≡ b = omega arith in omega (arith, e, z, l, m))
-        at_least x y b (suc (suc n)) e l m = omega arith
-
-    enough : blocks_in class ≤ need class
-    enough = let k = own_class.settled.few in two_pages class (need class) (staying_pages s.pages class) small two (omega (arith, k))
-
-    others : (k : ℕ) → k < CLASSES → (v.class == k) ≡ false → IsPassed t k (need k)
-    others k l ne = record {
-      settled = record {
-        page = q.page;
-        only = λ b x. q.only b (z.before k b ne x);
-        few = (
-            let u = staying_set s.pages t.pages page (Some p) (Some v) within at is k in
-            let x : one_if (stays k (Some p)) ≡ 0 = ap (λ b. one_if (b && not p.leaving)) ne in
-            let y : one_if (stays k (Some v)) ≡ 0 = ap (λ b. one_if (b && false)) ne in
-            let o : one_leaving k (page_at t.pages q.page) ≡ one_leaving k (page_at s.pages q.page) = ap (λ b. if b then 1 else 0) (z.others k q.page ne) in
-            let m = q.few in omega (arith, u, x, y, o, m));
-        some = λ on. q.some (sym (z.others k q.page ne) ∙ on);
-      };
-      left = elim (w k l).left [ inl n ↦ inl (λ b x. n b (z.before k b ne x)) | inr y ↦ inr (tight k y) ];
-    }
-      where
-        q : IsSettled s k (need k)
-        q = (w k l).settled
+    few : staying_pages s.pages class ≤ gathered_pages class (need class)
+    few = settled_used s class (need class) (w class small).settled
 
 -- a block that is moved
 moved_sparse : (s t : Store) (page block i to j : ℕ) (p q : Page) (need : ℕ → ℕ) → ArePages s.pages → page_at s.pages page ≡ Some p → p.leaving ≡ true → IsNext p block i → is_usable p.class (Some q) ≡ true → page_at s.pages to ≡ Some q → slice_get q.held j ≡ Some false
     → MovesBlock s t (address_of p.class page i) (address_of p.class to j) → t.pages ≡ set s.pages to (Some (record (with_held q j true) { receiving = true })) → ((k : ℕ) → IsTight s.pages k → IsTight t.pages k)
     → Empties s page block need → Empties t page (i + 1) need
 moved_sparse s t page block i to j p q need a at leaving next usable there empty m is tight w = record {
-  source = p;
-  at = z.now;
-  leaving = leaving;
-  others = λ k l ne. others k (w.others k l (ap (λ (z : Page). z.class == k) (sym same) ∙ ne));
-  only = λ b x. subst (λ (z : Page). StrandedOn s z.class page) (sym same) w.only b (z.before p.class b x);
-  behind = z.behind (subst (λ (y : Page). StandsBehind s page (address_of y.class page block)) (sym same) w.behind);
-  few = (let x : kept_pages s.pages p.class page ≤ gathered_pages p.class (need p.class) = subst (λ (z : Page). kept_pages s.pages z.class page ≤ gathered_pages z.class (need z.class)) (sym same) w.few in let k = kept_same p.class page in omega (arith, x, k));
-  enough = subst (λ (z : Page). blocks_in z.class ≤ need z.class) (sym same) w.enough;
+  class = w.class;
+  emptied = moved_emptied s t page block i to j p q a at leaving next usable there empty m is w.class _ _ (passed_goes s t need need g) w.emptied;
+  few = g.kept w.class page w.emptied.small w.few (λ on. w.enough);
+  enough = w.enough;
 }
   where
-    v : Page
-    v = record (with_held q j true) { receiving = true }
-
-    same : p ≡ w.source
-    same = same_Some p w.source (sym at ∙ w.at)
-
-    z : MovedBlock s t page block i p
-    z = moved_block s t page block i to j p q a at leaving next usable there empty m is
-
-    kept_same : (k n : ℕ) → kept_pages t.pages k n ≡ kept_pages s.pages k n
-    kept_same k n = let u = staying_set s.pages t.pages to (Some q) (Some v) (page_within s.pages to q there) there is k in let y : one_leaving k (page_at t.pages n) ≡ one_leaving k (page_at s.pages n) = ap (λ b. if b then 1 else 0) (z.same k n) in omega (arith, u, y)
-
-    others : (k : ℕ) → IsPassed s k (need k) → IsPassed t k (need k)
-    others k o = record {
-      settled = record { page = o.settled.page; only = λ b x. o.settled.only b (z.before k b x); few = (let f = o.settled.few in let y = kept_same k o.settled.page in omega (arith, f, y)); some = λ on. o.settled.some (sym (z.same k o.settled.page) ∙ on) };
-      left = elim o.left [ inl n ↦ inl (λ b x. n b (z.before k b x)) | inr y ↦ inr (tight k y) ];
-    }
+    g : Goes s t need need
+    g = moved_store s t page block i to j p q a at leaving next usable there empty m is need tight
 
 -- each action
 pub sparse_action : (h after : HeapState) (cost : ℕ) (present snapshot : Graph) (need : ℕ → ℕ) → Stands h present snapshot → IsGathering h.store.pages (length h.store.pages) h.phase → Action h cost after → IsSparse h.store h.phase need → IsSparse after.store after.phase need
@@ -275,7 +158,7 @@ sparse_action h after cost g s need st ga (Ends_sweep page block e l) w = by_spa
     none = no_mark h.store.pages page (subst (AreClosed h.store.pages) e st.closed) l
 
     by_sparse : (b : Bool) → IsSparse h.store (if b then phases.Moving (moves.Pass 0 0 None 0) else phases.Idle) need
-    by_sparse true = λ class small. record { settled = q class small; left = inl (none_leaves h.store class none) }
+    by_sparse true = λ class small. record { settled = q class small; moved = inl (none_leaves h.store class none) }
     by_sparse false = q
 sparse_action h after cost g s need st ga (Looks_at_page class page best chosen at few more) w = pass_sparse h class page best chosen need st.pages w at
 sparse_action h after cost g s need st ga (Chooses_page class page best chosen k p new at few last is good there w0 pages) w =
@@ -293,8 +176,7 @@ sparse_action h after cost g s need st ga (Ends_moving done) w = ended done
   where
     ended : MovingDone h → (class : ℕ) → class < CLASSES → IsSettled h.store class (need class)
     ended (No_class page best chosen e) class small =
-        let q : (k : ℕ) → k < CLASSES → IsPassed h.store k (need k) = sparse_phase h.store h.phase (phases.Moving (moves.Pass CLASSES page best chosen)) need e w in (q class small).settled
+        let q : ArePassed h.store need = sparse_phase h.store h.phase (phases.Moving (moves.Pass CLASSES page best chosen)) need e w in (q class small).settled
     ended (No_page k page block chosen p e at done most) class small =
         let q : Empties h.store page block need = sparse_phase h.store h.phase (phases.Moving (moves.Emptying k page block chosen)) need e w in
-        let same : p ≡ q.source = same_Some p q.source (sym at ∙ q.at) in
-        (done_passed h.store page block need st.pages q (subst (λ z. IsDone h.store.pages z block) same done) class small).settled
+        (done_passed h.store page block p need st.pages at done q class small).settled

@@ -6,7 +6,7 @@ use mathlib.Core.List.{IsPrefix}
 use prog.Atomic.{either}
 use Rattle.logbook.specs.Pages.{Cell, cell, keeps, no_nib, step, Moves, Goes}
 use Rattle.graph_heap.specs.declared.command.Entry.{Entry}
-use Rattle.heap_server.specs.Place.{IsLength, Adds, Commits}
+use Rattle.heap_server.specs.Place.{IsLength, Appends, Commits}
 use Rattle.heap_server.proofs.Fronts.{prefix_whole, prefix_trans, prefix_length}
 
 abbrev pub shown : List Entry → List Entry
@@ -17,7 +17,7 @@ moved xs ys n = Unit {0}
 
 pub adds_goes : (log v : List Entry) (e : Entry) (old : ℕ) → old ≤ length v → IsPrefix v log
     → (b : Bool) → (length log == old) ≡ b
-    → Goes IsLength shown moved 0 (v, (no_nib, None)) (λ n. either (n == old) (old + 1) n) (Adds (step 0 old (old + 1) e) (v, (no_nib, None))) ((length log, true) ∷ []) log
+    → Goes IsLength shown moved 0 (v, (no_nib, None)) (λ n. either (n == old) (old + 1) n) (Appends (step 0 old (old + 1) e) (v, (no_nib, None))) ((length log, true) ∷ []) log
 adds_goes log v e old len pre true is =
     let here : length log ≡ old = grind (arith, nat_tests) in
     let same : v ≡ log = prefix_whole v log pre (omega arith) in
@@ -44,9 +44,9 @@ adds_goes log v e old len pre false is =
 
 -- whatever the book is, the exchange adds the entry to all that was seen, or finds that the log has another length
 pub adds_moves : (v : List Entry) (e : Entry) (old : ℕ) → old ≤ length v
-    → Moves IsLength shown moved 0 (v, (no_nib, None)) (λ n. either (n == old) (old + 1) n) (Adds (step 0 old (old + 1) e) (v, (no_nib, None)))
+    → Moves IsLength shown moved 0 (v, (no_nib, None)) (λ n. either (n == old) (old + 1) n) (Appends (step 0 old (old + 1) e) (v, (no_nib, None)))
 adds_moves v e old len cs log kept pre away =
-    let P : List Cell → Type 0 = λ c. (0 < length c) × ((cell c 0).1 ≡ true) × Goes IsLength shown moved 0 (v, (no_nib, None)) (λ n. either (n == old) (old + 1) n) (Adds (step 0 old (old + 1) e) (v, (no_nib, None))) c log in
+    let P : List Cell → Type 0 = λ c. (0 < length c) × ((cell c 0).1 ≡ true) × Goes IsLength shown moved 0 (v, (no_nib, None)) (λ n. either (n == old) (old + 1) n) (Appends (step 0 old (old + 1) e) (v, (no_nib, None))) c log in
     subst P (sym kept) (omega arith, refl, adds_goes log v e old len pre (length log == old) refl)
 
 torn_from : (A B : Type 0) (n m : ℕ) → n ≢ m → (b : Bool) → (n == m) ≡ b → MatchBool b A B → B

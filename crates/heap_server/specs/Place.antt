@@ -15,14 +15,15 @@ IsLength cells log = cells ≡ (length log, true) ∷ []
 abbrev pub word_of : Book → Named
 word_of b = record { tracked = true; key = 0; book = b }
 
--- a load: the log so far was seen, and its length found
-abbrev pub Looks : Step Entry → View Entry ℕ → ℕ → View Entry ℕ → Type 0
-Looks s v found w = found ≡ length w.0
+-- the log so far was seen, and its length found
+abbrev pub Loads : Step Entry → View Entry ℕ → ℕ → View Entry ℕ → Type 0
+Loads s v found w = found ≡ length w.0
 
 -- An exchange: the entry was added to all that had been seen, which was the whole log; or the log had another
 -- length, and was seen.
-abbrev pub Adds : Step Entry → View Entry ℕ → ℕ → View Entry ℕ → Type 0
-Adds s v found w = MatchBool (found == s.old) ((w.0 ≡ v.0 ++ s.ask ∷ []) × (length v.0 ≡ s.old)) (found ≡ length w.0)
+abbrev pub Appends : Step Entry → View Entry ℕ → ℕ → View Entry ℕ → Type 0
+Appends s v found w =
+    MatchBool (found == s.old) ((w.0 ≡ v.0 ++ s.ask ∷ []) × (length v.0 ≡ s.old)) (found ≡ length w.0)
 
 -- the entry that a command of mutator m gets where it is done at this heap with its history
 abbrev pub next_entry : Course → ℕ → Command → Entry

@@ -14,7 +14,7 @@ ghost use Rattle.heap_server.specs.declared.fault.ServerFault.TheVariants as fau
 
 use crate::fault::ServerFault;
 use crate::naming::{Begun, Calls, Ended, Naming, Quanta, Units};
-use crate::place::{Front, Next, Place};
+use crate::place::{Front, PendingEntry, Place};
 use graph_heap::{Command, NoMemory};
 use heap_model::phase::Phase;
 use machine::{BudgetOutOfRange, Busy, Receipt, Recorded, Spent};
@@ -180,7 +180,7 @@ impl<N: Naming> Locked<N> {
     {
         self.make_ready()?;
         self.calls.audit(&mut seat.calls);
-        let next = Next::of(&self.recorded, seat.mutator, command);
+        let next = PendingEntry::of(&self.recorded, seat.mutator, command);
         let at = self.recorded.history().len() as u64;
         let found = self.front.commit(place, &mut seat.front, at, &next);
         if found != at {

@@ -11,9 +11,9 @@ use std::marker::{Model, PhantomData};
 use std::snapshot::Snapshot;
 
 /// The rule of the place word: it is the length of the log of entries, and no more.
-pub struct Law;
+pub struct LengthRule;
 
-impl Rule<Entry, u64> for Law {
+impl Rule<Entry, u64> for LengthRule {
     ghost use Rattle.std.specs.Prelude.{[]};
     ghost use base.Fml.{ftrue};
     ghost use Rattle.heap_server.specs.Place.{IsLength};
@@ -32,42 +32,42 @@ impl Rule<Entry, u64> for Law {
 }
 
 /// Nothing is traded in a step.
-pub struct Nothing;
+pub struct NoGain;
 
-impl Gain<Entry, u64> for Nothing {
+impl Gain<Entry, u64> for NoGain {
     ghost use base.Fml.{ftrue};
 
     ghost after = { λ names about answer. ftrue };
 }
 
 /// The log at the start.
-pub struct Empty;
+pub struct EmptyLog;
 
-impl logbook::Opening<u64, Entry> for Empty {
+impl logbook::Opening<u64, Entry> for EmptyLog {
     ghost use Rattle.std.specs.Prelude.{[]};
 
     ghost log = { λ count about. [] };
 }
 
-/// A step that looks.
-pub struct Look;
+/// A step that loads the word.
+pub struct LoadStep;
 
-impl Play<Entry, u64> for Look {
-    ghost use Rattle.heap_server.specs.Place.{Looks};
+impl Play<Entry, u64> for LoadStep {
+    ghost use Rattle.heap_server.specs.Place.{Loads};
 
-    ghost then = { Looks };
+    ghost then = { Loads };
 }
 
-/// A step that adds an entry.
-pub struct Add;
+/// A step that appends an entry to the log, where its length is still the one that was loaded.
+pub struct AppendStep;
 
-impl Play<Entry, u64> for Add {
-    ghost use Rattle.heap_server.specs.Place.{Adds};
+impl Play<Entry, u64> for AppendStep {
+    ghost use Rattle.heap_server.specs.Place.{Appends};
 
-    ghost then = { Adds };
+    ghost then = { Appends };
 }
 
-impl Plain<u64, Entry, u64> for Look {
+impl Plain<u64, Entry, u64> for LoadStep {
     ghost use Rattle.std.specs.Prelude.{None};
     ghost use Rattle.graph_heap.specs.declared.command.Command.TheVariants as commands;
     ghost use Rattle.graph_heap.specs.declared.command.Reply.TheVariants as replies;
@@ -77,7 +77,7 @@ impl Plain<u64, Entry, u64> for Look {
     ghost state = { λ n. None };
 }
 
-impl Plain<Next, Entry, u64> for Add {
+impl Plain<PendingEntry, Entry, u64> for AppendStep {
     ghost use Rattle.std.specs.Prelude.{None};
 
     ghost ask = { λ entry. entry };
@@ -88,13 +88,13 @@ impl Plain<Next, Entry, u64> for Add {
 /// A command that is about to be done at a heap, for proofs alone: contracts see the entry that it will get. So
 /// the entry can be added to the log before the command is planned.
 #[derive(Drop)]
-pub struct Next {
+pub struct PendingEntry {
     recorded: Snapshot<Recorded>,
     mutator: u32,
     command: Command,
 }
 
-impl Model for Next {
+impl Model for PendingEntry {
     ghost use Rattle.graph_heap.specs.declared.command.Entry.{Entry};
     ghost use Rattle.heap_server.specs.Place.{next_entry};
 
@@ -103,12 +103,12 @@ impl Model for Next {
     ghost view = { λ n. next_entry n.recorded.value.course n.mutator n.command };
 }
 
-impl Next {
+impl PendingEntry {
     /// The command, at this heap with its history.
-    pub fn of(recorded: &Recorded, mutator: u32, command: Command) -> Next
+    pub fn of(recorded: &Recorded, mutator: u32, command: Command) -> PendingEntry
         ensures { result ≡ next_entry recorded.now.course mutator command }
     {
-        Next {
+        PendingEntry {
             recorded: Snapshot::of(recorded),
             mutator,
             command,
@@ -119,8 +119,8 @@ impl Next {
 /// A place word with an empty log, which has no name yet.
 #[derive(Drop)]
 pub struct Opened {
-    word: Word<Entry, u64, Law>,
-    seen: Seen<Entry, u64, Law>,
+    word: Word<Entry, u64, LengthRule>,
+    seen: Seen<Entry, u64, LengthRule>,
     ghost empty: { seen.log ≡ [] },
     ghost word_is: { word ≡ word_of seen.book },
 }
@@ -128,7 +128,7 @@ pub struct Opened {
 impl Opened {
     /// A word that is 0.
     pub fn new() -> Opened {
-        let (seen, mut pens) = Seen::open_row::<u64, Empty>(&0, Start::alone(), 1);
+        let (seen, mut pens) = Seen::open_row::<u64, EmptyLog>(&0, Start::alone(), 1);
         let mut pen = pens.take();
         Opened {
             word: Word::tracked(0, &mut pen),
@@ -158,7 +158,7 @@ impl Opened {
 /// The word that all threads share: the length of the running history.
 #[derive(Drop)]
 pub struct Place<N: Naming> {
-    word: Word<Entry, u64, Law>,
+    word: Word<Entry, u64, LengthRule>,
     of: PhantomData<N>,
     ghost word_is: { word ≡ word_of N.names.book },
 }
@@ -166,7 +166,7 @@ pub struct Place<N: Naming> {
 /// A beginning of the running history that was seen. It takes no bytes: contracts see its entries.
 #[derive(Drop)]
 pub struct Front<N: Naming> {
-    seen: Seen<Entry, u64, Law>,
+    seen: Seen<Entry, u64, LengthRule>,
     of: PhantomData<N>,
 }
 
@@ -205,25 +205,35 @@ impl<N: Naming> Front<N> {
         ensures found { result ≡ length self.new }
         ensures grows { IsPrefix self.old self.new }
     {
-        let mut offer: Offer<Entry, u64, Law, Nothing> = self.seen.plain::<Nothing, u64, Look>(&0);
-        place.word.load::<Look, Nothing>(&mut self.seen, &mut offer)
+        let mut offer: Offer<Entry, u64, LengthRule, NoGain> = self
+            .seen
+            .plain::<NoGain, u64, LoadStep>(&0);
+        place
+            .word
+            .load::<LoadStep, NoGain>(&mut self.seen, &mut offer)
     }
 
     /// One exchange, which adds the entry if the log has the length given, and answers the length found.
-    pub(crate) fn add(&mut self, place: &Place<N>, at: u64, next: &Next) -> u64
+    pub(crate) fn add(&mut self, place: &Place<N>, at: u64, next: &PendingEntry) -> u64
         requires room { at + 1 < 2 ^ 64 }
         requires known { at ≤ length self.old }
         ensures grows { IsPrefix self.old self.new }
         ensures added { MatchBool (result == at) ((self.new ≡ self.old ++ next.now ∷ []) × (length self.old ≡ at))
             (result ≡ length self.new) }
     {
-        let mut offer: Offer<Entry, u64, Law, Nothing> = self
+        let mut offer: Offer<Entry, u64, LengthRule, NoGain> = self
             .seen
-            .plain::<Nothing, Next, Add>(next);
+            .plain::<NoGain, PendingEntry, AppendStep>(next);
         let mut pen = self.seen.no_pen();
         place
             .word
-            .compare_exchange::<Add, Nothing>(at, at + 1, &mut self.seen, &mut offer, &mut pen)
+            .compare_exchange::<AppendStep, NoGain>(
+                at,
+                at + 1,
+                &mut self.seen,
+                &mut offer,
+                &mut pen,
+            )
     }
 
     /// One exchange, which adds the entry if this front, of the length given, is the whole log. Both fronts then
@@ -233,7 +243,7 @@ impl<N: Naming> Front<N> {
         place: &Place<N>,
         mine: &mut Front<N>,
         at: u64,
-        next: &Next,
+        next: &PendingEntry,
     ) -> u64
         requires room { at + 1 < 2 ^ 64 }
         requires whole { at ≡ length self.old }

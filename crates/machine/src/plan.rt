@@ -51,6 +51,13 @@ pub enum Write {
     Leave { mutator: u32 },
 }
 
+/// A kind of cells of an object: of references or of words.
+#[derive(Clone, Copy, Debug, PartialEq, Eq)]
+pub enum Kind {
+    Ref,
+    Word,
+}
+
 /// Where a cell of an object stands: in a block, a main copy of a part of the object, by its number
 /// among the cells there.
 #[derive(Clone, Copy, Debug, PartialEq, Eq)]

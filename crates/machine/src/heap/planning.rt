@@ -4,7 +4,7 @@ ghost use Rattle.std.specs.Prelude.{◌≡◌, ◌<◌, Ok};
 ghost use Rattle.machine.specs.Plan.{Deeds};
 
 use super::Heap;
-use crate::plan::{Planned, Write};
+use crate::plan::{Kind, Planned, Write};
 use graph_heap::{Command, Refusal, Reply, Shape};
 use size_classes::parts_of;
 
@@ -75,7 +75,7 @@ impl Heap {
     {
         let cell = self.raw.roots.slot(mutator, dst)?;
         let root = self.raw.roots.slot(mutator, obj)?;
-        let at = self.find_ref(root, i)?;
+        let at = self.find(root, Kind::Ref, i)?;
         let value = self.held_in(at);
         Ok(Planned {
             reply: Reply::Ref(value.identity),
@@ -99,7 +99,7 @@ impl Heap {
     {
         let root = self.raw.roots.slot(mutator, obj)?;
         let source = self.raw.roots.slot(mutator, src)?;
-        let at = self.find_ref(root, i)?;
+        let at = self.find(root, Kind::Ref, i)?;
         Ok(Planned {
             reply: Reply::Done,
             write: Write::Ref {
@@ -124,7 +124,7 @@ impl Heap {
         let root = self.raw.roots.slot(mutator, obj)?;
         let expected = self.raw.roots.slot(mutator, expect)?;
         let source = self.raw.roots.slot(mutator, new)?;
-        let at = self.find_ref(root, i)?;
+        let at = self.find(root, Kind::Ref, i)?;
         let value = self.held_in(at);
         if value.identity != self.held(expected).identity {
             return Ok(Planned::reply(Reply::Kept(value.identity)));
@@ -144,7 +144,7 @@ impl Heap {
         ensures { Deeds self.now mutator (Command.Get obj i) result }
     {
         let root = self.raw.roots.slot(mutator, obj)?;
-        let at = self.find_word(root, i)?;
+        let at = self.find(root, Kind::Word, i)?;
         Ok(Planned::reply(Reply::Word(self.word_in(at))))
     }
 
@@ -160,7 +160,7 @@ impl Heap {
         ensures { Deeds self.now mutator (Command.Put obj i word) result }
     {
         let root = self.raw.roots.slot(mutator, obj)?;
-        let at = self.find_word(root, i)?;
+        let at = self.find(root, Kind::Word, i)?;
         Ok(Planned {
             reply: Reply::Done,
             write: Write::Word { at, word },
@@ -180,7 +180,7 @@ impl Heap {
         ensures { Deeds self.now mutator (Command.ComparePut obj i old new) result }
     {
         let root = self.raw.roots.slot(mutator, obj)?;
-        let at = self.find_word(root, i)?;
+        let at = self.find(root, Kind::Word, i)?;
         let word = self.word_in(at);
         if word != old {
             return Ok(Planned::reply(Reply::KeptWord(word)));

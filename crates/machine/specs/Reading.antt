@@ -3,7 +3,7 @@ use Rattle.std.specs.Prelude.{◌≡◌, ℕ, ◌+◌, ◌<◌, length, slice_in
 use Rattle.graph_heap.specs.declared.command.Refusal.{Refusal}
 use Rattle.graph_heap.specs.declared.command.Shape.{Shape}
 use Rattle.graph_heap.specs.Graph.{Graph, Object, object_of}
-use Rattle.graph_heap.specs.Effect.{object_at, ref_at, word_at}
+use Rattle.graph_heap.specs.Effect.{slot_at, object_at, ref_at, word_at}
 use Rattle.graph_heap.specs.Reach.{Reaches}
 use Rattle.size_classes.specs.Parts.{cells_of, part_in, column_in}
 use Rattle.heap_model.specs.Store.{node_of}
@@ -25,6 +25,12 @@ pub record Names (h : HeapState) (g : Graph) (id : ℕ) (r : Referent) : Type 0 
   pub identity : id ≡ r.identity
   pub known : IsKnown g id
   pub main : IsMain (seen h) r.reference (name_of id)
+
+-- What a slot of a mutator holds is named so.
+pub record HoldsBy (h : HeapState) (g : Graph) (m slot : ℕ) (r : Referent) : Type 0 where
+  pub cell : ℕ
+  pub place : Ok cell ≡ slot_at h.limits m slot
+  pub names : Names h g (slice_index g.roots cell) r
 
 -- The object of an identity was found, by its main copy.
 pub record IsFound (h : HeapState) (g : Graph) (id : ℕ) (f : Found) : Type 0 where

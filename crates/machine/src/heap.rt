@@ -9,8 +9,7 @@ ghost use Rattle.heap_model.specs.Change.{DoesChange};
 ghost use Rattle.heap_model.specs.Event.{change_by, room_for};
 ghost use Rattle.machine.specs.Plan.{CanSettle, SettlesEach, Steps};
 
-use crate::plan::Planned;
-use graph_heap::{Command, NoMemory, Refusal, Reply, Shape};
+use graph_heap::{Command, NoMemory, Reply, Shape};
 use raw_heap::RawHeap;
 use size_classes::Config;
 use std::alloc::Global;
@@ -23,6 +22,7 @@ mod planning;
 mod reading;
 mod writing;
 
+use planning::Plan;
 use writing::do_write;
 
 /// A heap of objects, with its roots. Contracts see the heap as it lies in words.
@@ -261,7 +261,7 @@ impl Heap {
         ensures { Steps self.old mutator Command.Join result self.new }
     {
         match self.raw.roots.admit(mutator, true) {
-            Ok(_) => self.settle(mutator, Ok(self.plan_join(mutator))),
+            Ok(_) => self.settle(mutator, self.plan_join(mutator)),
             Err(refusal) => Reply::Refused(refusal),
         }
     }
@@ -272,14 +272,14 @@ impl Heap {
         ensures { Steps self.old mutator Command.Leave result self.new }
     {
         match self.raw.roots.admit(mutator, false) {
-            Ok(_) => self.settle(mutator, Ok(self.plan_leave(mutator))),
+            Ok(_) => self.settle(mutator, self.plan_leave(mutator)),
             Err(refusal) => Reply::Refused(refusal),
         }
     }
 
     /// Does what was planned for a mutator, and replies.
     #[inline(always)]
-    fn settle(&mut self, mutator: u32, planned: Result<Planned, Refusal>) -> Reply
+    fn settle(&mut self, mutator: u32, planned: Plan) -> Reply
         requires mutator { mutator < self.old.limits.mutators }
         requires planned { CanSettle self.old planned }
         ensures { SettlesEach self.old planned result self.new }

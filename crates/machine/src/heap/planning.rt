@@ -13,6 +13,8 @@ use graph_heap::{Command, Refusal, Reply, Shape};
 use nodes::Referent;
 use size_classes::parts_of;
 
+mod commands;
+
 /// What a command does, or why it is refused.
 pub(super) type Plan = Result<Planned, Refusal>;
 
@@ -53,7 +55,7 @@ impl Heap {
 
     /// A new object is planned.
     #[inline(always)]
-    pub(super) fn plan_new(&self, mutator: u32, dst: u32, shape: Shape) -> Plan
+    fn plan_new(&self, mutator: u32, dst: u32, shape: Shape) -> Plan
         ensures { Deeds self.now mutator (Command.New dst shape) result }
     {
         let cell = self.raw.roots.slot(mutator, dst)?;
@@ -72,7 +74,7 @@ impl Heap {
 
     /// A reference cell is loaded into a slot.
     #[inline(always)]
-    pub(super) fn plan_load(&self, mutator: u32, dst: u32, obj: u32, i: u32) -> Plan
+    fn plan_load(&self, mutator: u32, dst: u32, obj: u32, i: u32) -> Plan
         ensures { Deeds self.now mutator (Command.Load dst obj i) result }
     {
         let cell = self.raw.roots.slot(mutator, dst)?;
@@ -90,7 +92,7 @@ impl Heap {
 
     /// A reference cell gets what a slot holds.
     #[inline(always)]
-    pub(super) fn plan_store(&self, mutator: u32, obj: u32, i: u32, src: u32) -> Plan
+    fn plan_store(&self, mutator: u32, obj: u32, i: u32, src: u32) -> Plan
         ensures { Deeds self.now mutator (Command.Store obj i src) result }
     {
         let root = self.raw.roots.slot(mutator, obj)?;
@@ -104,14 +106,7 @@ impl Heap {
 
     /// A reference cell is compared with a slot, and gets what another holds if they are the same.
     #[inline(always)]
-    pub(super) fn plan_compare_store(
-        &self,
-        mutator: u32,
-        obj: u32,
-        i: u32,
-        expect: u32,
-        new: u32,
-    ) -> Plan
+    fn plan_compare_store(&self, mutator: u32, obj: u32, i: u32, expect: u32, new: u32) -> Plan
         ensures { Deeds self.now mutator (Command.CompareStore obj i expect new) result }
     {
         let root = self.raw.roots.slot(mutator, obj)?;
@@ -123,7 +118,7 @@ impl Heap {
 
     /// A word cell is read.
     #[inline(always)]
-    pub(super) fn plan_get(&self, mutator: u32, obj: u32, i: u32) -> Plan
+    fn plan_get(&self, mutator: u32, obj: u32, i: u32) -> Plan
         ensures { Deeds self.now mutator (Command.Get obj i) result }
     {
         let root = self.raw.roots.slot(mutator, obj)?;
@@ -133,7 +128,7 @@ impl Heap {
 
     /// A word cell is written.
     #[inline(always)]
-    pub(super) fn plan_put(&self, mutator: u32, obj: u32, i: u32, word: u64) -> Plan
+    fn plan_put(&self, mutator: u32, obj: u32, i: u32, word: u64) -> Plan
         ensures { Deeds self.now mutator (Command.Put obj i word) result }
     {
         let root = self.raw.roots.slot(mutator, obj)?;
@@ -143,14 +138,7 @@ impl Heap {
 
     /// A word cell is compared with a word, and gets another if they are the same.
     #[inline(always)]
-    pub(super) fn plan_compare_put(
-        &self,
-        mutator: u32,
-        obj: u32,
-        i: u32,
-        old: u64,
-        new: u64,
-    ) -> Plan
+    fn plan_compare_put(&self, mutator: u32, obj: u32, i: u32, old: u64, new: u64) -> Plan
         ensures { Deeds self.now mutator (Command.ComparePut obj i old new) result }
     {
         let root = self.raw.roots.slot(mutator, obj)?;
@@ -167,7 +155,7 @@ impl Heap {
 
     /// A slot gets what another holds.
     #[inline(always)]
-    pub(super) fn plan_copy(&self, mutator: u32, dst: u32, src: u32) -> Plan
+    fn plan_copy(&self, mutator: u32, dst: u32, src: u32) -> Plan
         ensures { Deeds self.now mutator (Command.Copy dst src) result }
     {
         let cell = self.raw.roots.slot(mutator, dst)?;
@@ -180,7 +168,7 @@ impl Heap {
 
     /// A slot gets null.
     #[inline(always)]
-    pub(super) fn plan_clear(&self, mutator: u32, dst: u32) -> Plan
+    fn plan_clear(&self, mutator: u32, dst: u32) -> Plan
         ensures { Deeds self.now mutator (Command.Clear dst) result }
     {
         let cell = self.raw.roots.slot(mutator, dst)?;
@@ -189,7 +177,7 @@ impl Heap {
 
     /// A slot gets what a static holds.
     #[inline(always)]
-    pub(super) fn plan_load_static(&self, mutator: u32, dst: u32, k: u32) -> Plan
+    fn plan_load_static(&self, mutator: u32, dst: u32, k: u32) -> Plan
         ensures { Deeds self.now mutator (Command.LoadStatic dst k) result }
     {
         let cell = self.raw.roots.slot(mutator, dst)?;
@@ -206,7 +194,7 @@ impl Heap {
 
     /// A static gets what a slot holds.
     #[inline(always)]
-    pub(super) fn plan_store_static(&self, mutator: u32, k: u32, src: u32) -> Plan
+    fn plan_store_static(&self, mutator: u32, k: u32, src: u32) -> Plan
         ensures { Deeds self.now mutator (Command.StoreStatic k src) result }
     {
         let value = self.held_by(mutator, src)?;
@@ -219,7 +207,7 @@ impl Heap {
 
     /// A static is compared with a slot, and gets what another holds if they are the same.
     #[inline(always)]
-    pub(super) fn plan_compare_static(&self, mutator: u32, k: u32, expect: u32, new: u32) -> Plan
+    fn plan_compare_static(&self, mutator: u32, k: u32, expect: u32, new: u32) -> Plan
         ensures { Deeds self.now mutator (Command.CompareStatic k expect new) result }
     {
         let expected = self.held_by(mutator, expect)?;
@@ -230,7 +218,7 @@ impl Heap {
 
     /// Two slots are compared, by the identities that they hold.
     #[inline(always)]
-    pub(super) fn plan_same(&self, mutator: u32, a: u32, b: u32) -> Plan
+    fn plan_same(&self, mutator: u32, a: u32, b: u32) -> Plan
         ensures { Deeds self.now mutator (Command.Same a b) result }
     {
         let first = self.held_by(mutator, a)?;
@@ -240,7 +228,7 @@ impl Heap {
 
     /// The identity and the shape of an object are told.
     #[inline(always)]
-    pub(super) fn plan_describe(&self, mutator: u32, a: u32) -> Plan
+    fn plan_describe(&self, mutator: u32, a: u32) -> Plan
         ensures { Deeds self.now mutator (Command.Describe a) result }
     {
         let root = self.raw.roots.slot(mutator, a)?;
@@ -250,7 +238,7 @@ impl Heap {
 
     /// A mutator is to be live.
     #[inline(always)]
-    pub(super) fn plan_join(&self, mutator: u32) -> Plan
+    fn plan_join(&self, mutator: u32) -> Plan
         requires { mutator < self.now.limits.mutators }
         ensures { Deeds self.now mutator Command.Join result }
     {
@@ -259,7 +247,7 @@ impl Heap {
 
     /// A mutator is to be live no more.
     #[inline(always)]
-    pub(super) fn plan_leave(&self, mutator: u32) -> Plan
+    fn plan_leave(&self, mutator: u32) -> Plan
         requires { mutator < self.now.limits.mutators }
         ensures { Deeds self.now mutator Command.Leave result }
     {

@@ -1,5 +1,4 @@
-use Rattle.std.proofs.Common.{inl, inr, ap, sym, subst, refl}
-use Rattle.machine.specs.Plan.{Compares}
+use Rattle.std.proofs.Common.{inl, inr, refl}
 use Rattle.machine.proofs.Finding.{root_names}
 use Rattle.machine.proofs.heap.Heap.compared.Goals as goal
 

@@ -1,4 +1,4 @@
-use Rattle.std.proofs.Common.{true, length, set, refl, sym, subst, ap}
+use Rattle.std.proofs.Common.{length, refl, sym, subst, ap}
 use Rattle.graph_heap.specs.declared.command.Change.{Change}
 use Rattle.heap_model.specs.Change.{DoesChange, Does_nothing}
 use Rattle.machine.specs.Plan.{CanPerform, DoesEach}

@@ -8,7 +8,7 @@ use Rattle.graph_heap.specs.declared.command.Refusal.{Refusal}
 use Rattle.graph_heap.specs.declared.command.Refusal.TheVariants as refusals
 use Rattle.graph_heap.specs.Shape.{fits, ref_cells, word_cells, takes_refs, takes_words}
 use Rattle.graph_heap.specs.Graph.{Graph, Object, object_of}
-use Rattle.graph_heap.specs.Effect.{◌>>=◌, ref_at, ref_cell, word_at, word_cell}
+use Rattle.graph_heap.specs.Effect.{◌>>=◌, object_at, ref_at, ref_cell, word_at, word_cell}
 use Rattle.size_classes.specs.Parts.{cells_of, pieces_of, spines_of, parts_in, first_by, count_by, part_cells, part_in, column_in, holder_of, seat_of}
 use Rattle.size_classes.proofs.Cutting.{pieces_are, spines_are, cell_stands}
 use Rattle.heap_model.specs.Store.{node_of}
@@ -23,7 +23,9 @@ use Rattle.heap_model.proofs.Cut.{part_below, word_below}
 use Rattle.arraylets.specs.declared.place.Place.{Place}
 use Rattle.arraylets.specs.Place.{ref_place, word_place}
 use Rattle.machine.specs.declared.plan.Found.{Found}
-use Rattle.machine.specs.Reading.{IsFound, FindsRef, FindsWord}
+use Rattle.machine.specs.declared.plan.Kind.{Kind}
+use Rattle.machine.specs.declared.plan.Kind.TheVariants as kinds
+use Rattle.machine.specs.Reading.{IsFound, FindsRef, FindsWord, place_of, FindsCell}
 
 -- a cell of each kind stands within its part
 column_within : (n i : ℕ) → i < n → column_in i < part_cells n (part_in n i)
@@ -122,101 +124,113 @@ module _ (h : HeapState) (g : Graph) (a : Agrees h g) (id : ℕ) (f : Found) (w 
         ∙ ap (part_cells (cells_of o.shape)) part_main.part
 
   module _ (i : ℕ) where
+    -- a cell of a kind, of which the object has n: what its place tells
+    record IsCell (n column : ℕ) (takes : Bool) (place : Place) : Type 0 where
+      taken : takes ≡ true
+      below : i < n
+      counted : nat_lt i n ≡ true
+      part : place.part < count_of o
+      main : IsMainCopy h.store (block_of h.store (cells_of f.shape) f.block place.part) (record { identity = id; part = part_in (cells_of o.shape) i })
+      column_is : place.cell ≡ column
+      within : column < part_cells (cells_of o.shape) (part_in (cells_of o.shape) i) → IsWhole h.store → place.cell < length (node_of h.store (block_of h.store (cells_of f.shape) f.block place.part)).cells
+
+    module _ (takes : Shape → Bool) (cells column : Shape → ℕ) (n : ℕ) (is : n ≡ cells o.shape) (low : i < n → part_in (length o.refs + length o.words) i < count_of o) (place : Place)
+        (at : cond (takes f.shape) (cond (nat_lt i (cells f.shape)) (Ok (record { part = part_in (cells_of f.shape) i; cell = column f.shape })) (Err refusals.BadIndex)) (Err refusals.WrongKind) ≡ Ok place) where
+      parts : (takes f.shape ≡ true) × (nat_lt i (cells f.shape) ≡ true) × (record { part = part_in (cells_of f.shape) i; cell = column f.shape } ≡ place)
+      parts = place_parts (takes f.shape) (nat_lt i (cells f.shape)) (record { part = part_in (cells_of f.shape) i; cell = column f.shape }) place at
+
+      part_is : place.part ≡ part_in (cells_of o.shape) i
+      part_is = sym (ap (λ (x : Place). x.part) parts.2) ∙ ap (λ s. part_in (cells_of s) i) w.shape
+
+      cell_is : place.cell ≡ column o.shape
+      cell_is = sym (ap (λ (x : Place). x.cell) parts.2) ∙ ap column w.shape
+
+      cell_low : i < n
+      cell_low = subst (λ z. i < z) (ap cells w.shape ∙ sym is) (ltb-true i (cells f.shape) parts.1)
+
+      part_low : place.part < count_of o
+      part_low = subst (λ p. p < count_of o) (ap (λ n. part_in n i) sum ∙ sym part_is) (low cell_low)
+
+      cell_within : column o.shape < part_cells (cells_of o.shape) (part_in (cells_of o.shape) i) → IsWhole h.store → place.cell < length (node_of h.store (block_of h.store (cells_of f.shape) f.block place.part)).cells
+      cell_within column_low whole =
+          let n = part_length place.part part_low whole in
+          let q : part_cells (cells_of o.shape) place.part ≡ part_cells (cells_of o.shape) (part_in (cells_of o.shape) i) = ap (part_cells (cells_of o.shape)) part_is in
+          omega (arith, n, q, cell_is, column_low)
+
+      cell_there : IsCell n (column o.shape) (takes o.shape) place
+      cell_there = record {
+        taken = ap takes (sym w.shape) ∙ parts.0;
+        below = cell_low;
+        counted = lt-ltb i n cell_low;
+        part = part_low;
+        main = subst (λ p. IsMainCopy h.store (block_of h.store (cells_of f.shape) f.block place.part) (record { identity = id; part = p })) part_is (part_main place.part part_low);
+        column_is = cell_is;
+        within = cell_within;
+      }
+
     -- a reference cell
     module _ (place : Place) (at : ref_place f.shape i ≡ Ok place) where
-      ref_parts : (takes_refs f.shape ≡ true) × (nat_lt i (ref_cells f.shape) ≡ true) × (record { part = part_in (cells_of f.shape) i; cell = column_in i } ≡ place)
-      ref_parts = place_parts (takes_refs f.shape) (nat_lt i (ref_cells f.shape)) (record { part = part_in (cells_of f.shape) i; cell = column_in i }) place at
-
-      ref_part : place.part ≡ part_in (cells_of o.shape) i
-      ref_part = sym (ap (λ (x : Place). x.part) ref_parts.2) ∙ ap (λ s. part_in (cells_of s) i) w.shape
-
-      ref_column : place.cell ≡ column_in i
-      ref_column = sym (ap (λ (x : Place). x.cell) ref_parts.2) ∙ ap (λ s. column_in i) w.shape
-
-      ref_within : i < length o.refs
-      ref_within =
-          let n = (a.given id w.reaches).cells.refs in
-          let l = ltb-true i (ref_cells f.shape) ref_parts.1 in
-          subst (λ z. i < z) (ap ref_cells w.shape ∙ sym n) l
-
-      pub ref_below : place.part < count_of o
-      ref_below = subst (λ p. p < count_of o) (ap (λ n. part_in n i) sum ∙ sym ref_part) (part_below o i ref_within)
-
-      ref_copy : IsMainCopy h.store (block_of h.store (cells_of f.shape) f.block place.part) (record { identity = id; part = part_in (cells_of o.shape) i })
-      ref_copy = subst (λ p. IsMainCopy h.store (block_of h.store (cells_of f.shape) f.block place.part) (record { identity = id; part = p })) ref_part (part_main place.part ref_below)
+      ref_there : IsCell (length o.refs) (column_in i) (takes_refs o.shape) place
+      ref_there = cell_there takes_refs ref_cells (λ s. column_in i) (length o.refs) (a.given id w.reaches).cells.refs (part_below o i) place at
 
       ref_cell_within : IsWhole h.store → place.cell < length (node_of h.store (block_of h.store (cells_of f.shape) f.block place.part)).cells
-      ref_cell_within whole =
-          let n = part_length place.part ref_below whole in
-          let l : i < cells_of o.shape = (let r = ref_within in omega (arith, r, sum)) in
-          let c = column_within (cells_of o.shape) i l in
-          let q : part_cells (cells_of o.shape) place.part ≡ part_cells (cells_of o.shape) (part_in (cells_of o.shape) i) = ap (part_cells (cells_of o.shape)) ref_part in
-          omega (arith, n, c, q, ref_column)
+      ref_cell_within =
+          let l : i < cells_of o.shape = (let r = ref_there.below in omega (arith, r, sum)) in
+          ref_there.within (column_within (cells_of o.shape) i l)
 
       ref_at_is : ref_at g.objects id i ≡ Ok (get_or o.refs i 0)
-      ref_at_is =
-          let t : takes_refs o.shape ≡ true = ap takes_refs (sym w.shape) ∙ ref_parts.0 in
-          let l : nat_lt i (length o.refs) ≡ true = lt-ltb i (length o.refs) ref_within in
-          ap (λ z. z >>= λ o. ref_cell o i) w.object ∙ rw (t, l) refl
+      ref_at_is = ap (λ z. z >>= λ o. ref_cell o i) w.object ∙ rw (ref_there.taken, ref_there.counted) refl
 
-      pub found_ref : IsWhole h.store → FindsRef h g id i (Ok (record { block = block_of h.store (cells_of f.shape) f.block place.part; index = place.cell }))
-      found_ref whole = (ref_at_is, (w.reaches, record { below = ref_within; main = copy_main h (block_of h.store (cells_of f.shape) f.block place.part) _ ref_copy; index = ref_column; within = ref_cell_within whole }))
+      found_ref : IsWhole h.store → FindsRef h g id i (Ok (record { block = block_of h.store (cells_of f.shape) f.block place.part; index = place.cell }))
+      found_ref whole = (ref_at_is, (w.reaches, record { below = ref_there.below; main = copy_main h (block_of h.store (cells_of f.shape) f.block place.part) _ ref_there.main; index = ref_there.column_is; within = ref_cell_within whole }))
 
     -- a word cell
     module _ (place : Place) (at : word_place f.shape i ≡ Ok place) where
-      word_parts : (takes_words f.shape ≡ true) × (nat_lt i (word_cells f.shape) ≡ true)
-          × (record { part = part_in (cells_of f.shape) i; cell = width_in (ref_cells f.shape) (word_cells f.shape) (part_in (cells_of f.shape) i) + column_in i } ≡ place)
-      word_parts = place_parts (takes_words f.shape) (nat_lt i (word_cells f.shape)) (record { part = part_in (cells_of f.shape) i; cell = width_in (ref_cells f.shape) (word_cells f.shape) (part_in (cells_of f.shape) i) + column_in i }) place at
-
-      word_part : place.part ≡ part_in (cells_of o.shape) i
-      word_part = sym (ap (λ (x : Place). x.part) word_parts.2) ∙ ap (λ s. part_in (cells_of s) i) w.shape
-
-      word_cell_is : place.cell ≡ width_in (ref_cells o.shape) (word_cells o.shape) (part_in (cells_of o.shape) i) + column_in i
-      word_cell_is = sym (ap (λ (x : Place). x.cell) word_parts.2) ∙ ap (λ s. width_in (ref_cells s) (word_cells s) (part_in (cells_of s) i) + column_in i) w.shape
-
-      word_within : i < length o.words
-      word_within =
-          let n = (a.given id w.reaches).cells.words in
-          let l = ltb-true i (word_cells f.shape) word_parts.1 in
-          subst (λ z. i < z) (ap word_cells w.shape ∙ sym n) l
-
-      pub word_part_below : place.part < count_of o
-      word_part_below = subst (λ p. p < count_of o) (ap (λ n. part_in n i) sum ∙ sym word_part) (word_below o i word_within)
-
-      word_copy : IsMainCopy h.store (block_of h.store (cells_of f.shape) f.block place.part) (record { identity = id; part = part_in (cells_of o.shape) i })
-      word_copy = subst (λ p. IsMainCopy h.store (block_of h.store (cells_of f.shape) f.block place.part) (record { identity = id; part = p })) word_part (part_main place.part word_part_below)
+      word_there : IsCell (length o.words) (width_in (ref_cells o.shape) (word_cells o.shape) (part_in (cells_of o.shape) i) + column_in i) (takes_words o.shape) place
+      word_there = cell_there takes_words word_cells (λ s. width_in (ref_cells s) (word_cells s) (part_in (cells_of s) i) + column_in i) (length o.words) (a.given id w.reaches).cells.words (word_below o i) place at
 
       word_column : place.cell ≡ width_at (node_of h.store (block_of h.store (cells_of f.shape) f.block place.part)) + column_in i
       word_column =
-          word_cell_is ∙ ap (λ n. n + column_in i)
-          (sym (ap (λ s. width_in (ref_cells s) (word_cells s) (node_of h.store (block_of h.store (cells_of f.shape) f.block place.part)).part) (part_shape place.part word_part_below) ∙ ap (width_in (ref_cells o.shape) (word_cells o.shape)) word_copy.part))
-
-      word_cell_within : fits f.shape ≡ true → IsWhole h.store → place.cell < length (node_of h.store (block_of h.store (cells_of f.shape) f.block place.part)).cells
-      word_cell_within fit whole =
-          let n = part_length place.part word_part_below whole in
-          let l = ltb-true i (word_cells f.shape) word_parts.1 in
-          let c = subst (λ s. width_in (ref_cells s) (word_cells s) (part_in (cells_of s) i) + column_in i < part_cells (cells_of s) (part_in (cells_of s) i)) w.shape (word_within_part f.shape i fit l) in
-          let q : part_cells (cells_of o.shape) place.part ≡ part_cells (cells_of o.shape) (part_in (cells_of o.shape) i) = ap (part_cells (cells_of o.shape)) word_part in
-          omega (arith, n, c, q, word_cell_is)
+          word_there.column_is ∙ ap (λ n. n + column_in i)
+          (sym (ap (λ s. width_in (ref_cells s) (word_cells s) (node_of h.store (block_of h.store (cells_of f.shape) f.block place.part)).part) (part_shape place.part word_there.part) ∙ ap (width_in (ref_cells o.shape) (word_cells o.shape)) word_there.main.part))
 
       word_at_is : word_at g.objects id i ≡ Ok (get_or o.words i 0)
-      word_at_is =
-          let t : takes_words o.shape ≡ true = ap takes_words (sym w.shape) ∙ word_parts.0 in
-          let l : nat_lt i (length o.words) ≡ true = lt-ltb i (length o.words) word_within in
-          ap (λ z. z >>= λ o. word_cell o i) w.object ∙ rw (t, l) refl
+      word_at_is = ap (λ z. z >>= λ o. word_cell o i) w.object ∙ rw (word_there.taken, word_there.counted) refl
 
-      pub found_word : fits f.shape ≡ true → IsWhole h.store → FindsWord h g id i (Ok (record { block = block_of h.store (cells_of f.shape) f.block place.part; index = place.cell }))
-      found_word fit whole = (word_at_is, (w.reaches, record { below = word_within; main = copy_main h (block_of h.store (cells_of f.shape) f.block place.part) _ word_copy; index = word_column; within = word_cell_within fit whole }))
+      found_word : fits f.shape ≡ true → IsWhole h.store → FindsWord h g id i (Ok (record { block = block_of h.store (cells_of f.shape) f.block place.part; index = place.cell }))
+      found_word fit whole =
+          let few = subst (λ s. fits s ≡ true) w.shape fit in
+          let l : i < word_cells o.shape = subst (λ z. i < z) (a.given id w.reaches).cells.words word_there.below in
+          (word_at_is, (w.reaches, record { below = word_there.below; main = copy_main h (block_of h.store (cells_of f.shape) f.block place.part) _ word_there.main; index = word_column; within = word_there.within (word_within_part o.shape i few l) whole }))
 
     -- the graph heap refuses as the place does
-    pub ref_refused : (e : Refusal) → ref_place f.shape i ≡ Err e → ref_at g.objects id i ≡ Err e
+    ref_refused : (e : Refusal) → ref_place f.shape i ≡ Err e → ref_at g.objects id i ≡ Err e
     ref_refused e at =
         let n : length o.refs ≡ ref_cells f.shape = (a.given id w.reaches).cells.refs ∙ ap ref_cells (sym w.shape) in
         ap (λ z. z >>= λ o. ref_cell o i) w.object
         ∙ refused_by (takes_refs o.shape) (takes_refs f.shape) (nat_lt i (length o.refs)) (nat_lt i (ref_cells f.shape)) (get_or o.refs i 0) _ e (ap takes_refs (sym w.shape)) (ap (nat_lt i) n) at
 
-    pub word_refused : (e : Refusal) → word_place f.shape i ≡ Err e → word_at g.objects id i ≡ Err e
+    word_refused : (e : Refusal) → word_place f.shape i ≡ Err e → word_at g.objects id i ≡ Err e
     word_refused e at =
         let n : length o.words ≡ word_cells f.shape = (a.given id w.reaches).cells.words ∙ ap word_cells (sym w.shape) in
         ap (λ z. z >>= λ o. word_cell o i) w.object
         ∙ refused_by (takes_words o.shape) (takes_words f.shape) (nat_lt i (length o.words)) (nat_lt i (word_cells f.shape)) (get_or o.words i 0) _ e (ap takes_words (sym w.shape)) (ap (nat_lt i) n) at
+
+    -- of either kind
+    pub cell_below : (kind : Kind) (place : Place) → place_of kind f.shape i ≡ Ok place → place.part < count_of o
+    cell_below kinds.Ref place at = (ref_there place at).part
+    cell_below kinds.Word place at = (word_there place at).part
+
+    pub found_cell : (kind : Kind) (place : Place) → place_of kind f.shape i ≡ Ok place → fits f.shape ≡ true → IsWhole h.store
+        → FindsCell h g kind id i (Ok (record { block = block_of h.store (cells_of f.shape) f.block place.part; index = place.cell }))
+    found_cell kinds.Ref place at fit whole = found_ref place at whole
+    found_cell kinds.Word place at fit whole = found_word place at fit whole
+
+    pub cell_refused : (kind : Kind) (e : Refusal) → place_of kind f.shape i ≡ Err e → FindsCell h g kind id i (Err e)
+    cell_refused kinds.Ref e at = ref_refused e at
+    cell_refused kinds.Word e at = word_refused e at
+
+-- an object that isn't there has no cell
+pub no_cell : (h : HeapState) (g : Graph) (kind : Kind) (id i : ℕ) (e : Refusal) → object_at g.objects id ≡ Err e → FindsCell h g kind id i (Err e)
+no_cell h g kinds.Ref id i e none = ap (λ z. z >>= λ o. ref_cell o i) none
+no_cell h g kinds.Word id i e none = ap (λ z. z >>= λ o. word_cell o i) none

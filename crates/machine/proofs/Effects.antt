@@ -54,12 +54,20 @@ module _ (h : HeapState) (g : Graph) (a : Agrees h g) (m : ℕ) where
       ∙ ap (λ z. z >>= λ v. Ok (replies.Ref v, changes.Root d v)) w.0
       ∙ ap (λ k. Ok (replies.Ref k, changes.Root d (ref_in r i))) n.identity
 
-  pub store_effect : (obj i src r s : ℕ) (at : Cell) → Ok r ≡ slot_at h.limits m obj → Ok s ≡ slot_at h.limits m src → FindsRef h g (root r) i (Ok at)
-      → deed_of true g m (commands.Store obj i src) ≡ Ok (replies.Done, changes.Ref (root r) i (root s))
-  store_effect obj i src r s at er es w =
+  store_as : (obj i src r s : ℕ) (x : Result ℕ Refusal) → Ok r ≡ slot_at h.limits m obj → Ok s ≡ slot_at h.limits m src → ref_at g.objects (root r) i ≡ x
+      → deed_of true g m (commands.Store obj i src) ≡ (x >>= λ v. Ok (replies.Done, changes.Ref (root r) i (root s)))
+  store_as obj i src r s x er es w =
       one_slot obj r (λ o. slot_at g.limits m src >>= λ c. ref_at g.objects (root o) i >>= λ v. Ok (replies.Done, changes.Ref (root o) i (root c))) er
       ∙ one_slot src s (λ c. ref_at g.objects (root r) i >>= λ v. Ok (replies.Done, changes.Ref (root r) i (root c))) es
-      ∙ ap (λ z. z >>= λ v. Ok (replies.Done, changes.Ref (root r) i (root s))) w.0
+      ∙ ap (λ z. z >>= λ v. Ok (replies.Done, changes.Ref (root r) i (root s))) w
+
+  pub store_effect : (obj i src r s : ℕ) (at : Cell) → Ok r ≡ slot_at h.limits m obj → Ok s ≡ slot_at h.limits m src → FindsRef h g (root r) i (Ok at)
+      → deed_of true g m (commands.Store obj i src) ≡ Ok (replies.Done, changes.Ref (root r) i (root s))
+  store_effect obj i src r s at er es w = store_as obj i src r s (Ok (ref_in r i)) er es w.0
+
+  -- the cell that would be written isn't there
+  pub store_refused : (obj i src r s : ℕ) (e : Refusal) → Ok r ≡ slot_at h.limits m obj → Ok s ≡ slot_at h.limits m src → FindsRef h g (root r) i (Err e) → deed_of true g m (commands.Store obj i src) ≡ Err e
+  store_refused obj i src r s e er es w = store_as obj i src r s (Err e) er es w
 
   -- the cell that would be compared isn't there
   pub compare_refused : (obj i expect new r e s : ℕ) (refusal : Refusal) → Ok r ≡ slot_at h.limits m obj → Ok e ≡ slot_at h.limits m expect → Ok s ≡ slot_at h.limits m new → FindsRef h g (root r) i (Err refusal)

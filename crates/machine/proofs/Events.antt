@@ -1,5 +1,5 @@
 -- What a call does to a heap is one event.
-use Rattle.std.proofs.Common.{◌≡◌, ℕ, ◌∷◌, ◌++◌, [], List, Ok, Err, length, refl, sym}
+use Rattle.std.proofs.Common.{◌≡◌, ℕ, ◌∷◌, ◌++◌, [], Ok, Err, length, refl, sym}
 use Rattle.std.specs.Prelude.{Result}
 use Rattle.graph_heap.specs.declared.command.Command.{Command}
 use Rattle.graph_heap.specs.declared.command.Entry.{Entry}

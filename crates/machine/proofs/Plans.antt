@@ -1,7 +1,9 @@
 -- Plans, from what was found.
-use Rattle.std.proofs.Common.{◌≡◌, ℕ, ◌<◌, length, Ok, sym, subst, refl}
+use Rattle.std.proofs.Common.{◌≡◌, ◌≢◌, ℕ, ◌<◌, length, Ok, inl, inr, sym, subst, refl}
 use Rattle.graph_heap.specs.declared.command.Command.{Command}
 use Rattle.graph_heap.specs.declared.command.Reply.{Reply}
+use Rattle.graph_heap.specs.declared.command.Reply.TheVariants as replies
+use Rattle.graph_heap.specs.declared.command.Change.{Change}
 use Rattle.graph_heap.specs.declared.command.Change.TheVariants as changes
 use Rattle.graph_heap.specs.Graph.{Graph}
 use Rattle.graph_heap.specs.Effect.{slot_at, static_at, deed_of}
@@ -9,10 +11,11 @@ use Rattle.heap_model.specs.State.{HeapState}
 use Rattle.nodes.specs.declared.nodes.Referent.{Referent}
 use Rattle.machine.specs.declared.plan.Planned.{Planned}
 use Rattle.machine.specs.declared.plan.Cell.{Cell}
+use Rattle.machine.specs.declared.plan.Write.{Write}
 use Rattle.machine.specs.declared.plan.Write.TheVariants as writes
 use Rattle.machine.specs.Reading.{Names, FindsRef, FindsWord}
 use Rattle.heap_model.specs.Event.{room_for}
-use Rattle.machine.specs.Plan.{PlansBy}
+use Rattle.machine.specs.Plan.{IsPlanned, PlansBy, Compares}
 
 -- what is known of the fields h, of the value t
 module _ {h t : HeapState} (is : h ≡ t) where
@@ -43,3 +46,9 @@ module _ (h : HeapState) (g : Graph) (m : ℕ) (c : Command) where
   -- a write of a word cell
   pub word_plans : (reply : Reply) (id i word : ℕ) (at : Cell) → deed_of (room_for h c) g m c ≡ Ok (reply, changes.Word id i word) → FindsWord h g id i (Ok at) → PlansBy h g (deed_of (room_for h c) g m c) (Ok (record { reply = reply; write = writes.Word at word }))
   word_plans reply id i word at effect found = (changes.Word id i word, effect, (id, i, refl, found.1))
+
+  -- a comparison
+  pub compared_plans : (held expected : ℕ) (write : Write) (p : Planned) (change : Change) → Compares held expected write p → (held ≢ expected → deed_of (room_for h c) g m c ≡ Ok (replies.Kept held, changes.Nothing))
+      → (held ≡ expected → deed_of (room_for h c) g m c ≡ Ok (replies.Stored, change)) → IsPlanned h g change write → PlansBy h g (deed_of (room_for h c) g m c) (Ok p)
+  compared_plans held expected write p change (inl kept) keeps stores planned = reply_plans (replies.Kept held) p kept.1 (keeps kept.0)
+  compared_plans held expected write p change (inr stored) keeps stores planned = subst (λ (q : Planned). PlansBy h g (deed_of (room_for h c) g m c) (Ok q)) (sym stored.1) (change, stores stored.0, planned)

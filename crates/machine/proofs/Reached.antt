@@ -9,12 +9,12 @@ use Rattle.heap_model.specs.State.{HeapState}
 use Rattle.heap_model.specs.Agreement.{Agrees}
 use Rattle.heap_model.specs.Reading.{Refers, spine_at, block_of}
 use Rattle.arraylets.specs.declared.place.Place.{Place}
-use Rattle.arraylets.specs.Place.{ref_place, word_place}
 use Rattle.machine.specs.declared.plan.Found.{Found}
+use Rattle.machine.specs.declared.plan.Kind.{Kind}
 use Rattle.raw_heap.specs.Heap.{IsHeap}
-use Rattle.machine.specs.Reading.{IsFound, FindsRef, FindsWord}
+use Rattle.machine.specs.Reading.{IsFound, place_of, FindsCell}
 use Rattle.machine.proofs.Doing.{present_agrees, at_present}
-use Rattle.machine.proofs.Cells.{parts_below, spine_refers, part_refers, ref_below, found_ref, word_part_below, found_word}
+use Rattle.machine.proofs.Cells.{parts_below, spine_refers, part_refers, cell_below, found_cell}
 
 module _ (h t : HeapState) (is : h ≡ t) (w : IsHeap h) (root i : ℕ) (f : Found) (finds : (g : Graph) → Agrees t g → IsFound t g (get_or g.roots root 0) f) where
   -- of each graph heap
@@ -30,15 +30,9 @@ module _ (h t : HeapState) (is : h ≡ t) (w : IsHeap h) (root i : ℕ) (f : Fou
   found_now : IsFound h w.present present_id f
   found_now = at_present (λ x g. IsFound x g (get_or g.roots root 0) f) h t is w finds
 
-  -- the part that has the cell
+  -- a part of the object
   abbrev IsPart : ℕ → Type 0
   IsPart p = p < count_of (object_of w.present.objects present_id)
-
-  ref_part : (place : Place) → ref_place f.shape i ≡ Ok place → IsPart place.part
-  ref_part place at = ref_below h w.present (present_agrees h w) present_id f found_now i place at
-
-  word_part : (place : Place) → word_place f.shape i ≡ Ok place → IsPart place.part
-  word_part place at = word_part_below h w.present (present_agrees h w) present_id f found_now i place at
 
   -- what it takes to find the block of a part
   abbrev CanReach : ℕ → Type 0
@@ -59,20 +53,13 @@ module _ (h t : HeapState) (is : h ≡ t) (w : IsHeap h) (root i : ℕ) (f : Fou
     can_reach : CanReach p
     can_reach = (within_parts, to_spine, to_part)
 
-  pub ref_reached : (place : Place) → ref_place f.shape i ≡ Ok place → CanReach place.part
-  ref_reached place at = can_reach place.part (ref_part place at)
+  module _ (kind : Kind) where
+    pub reached : (place : Place) → place_of kind f.shape i ≡ Ok place → CanReach place.part
+    reached place at = can_reach place.part (cell_below h w.present (present_agrees h w) present_id f found_now i kind place at)
 
-  pub word_reached : (place : Place) → word_place f.shape i ≡ Ok place → CanReach place.part
-  word_reached place at = can_reach place.part (word_part place at)
-
-  -- the cell
-  module _ (place : Place) (block : ℕ) (eb : block ≡ block_of h.store (cells_of f.shape) f.block place.part) where
-    pub finds_ref : ref_place f.shape i ≡ Ok place → (g : Graph) → Agrees t g → FindsRef t g (get_or g.roots root 0) i (Ok (record { block = block; index = place.cell }))
-    finds_ref at g a =
-        subst (λ (y : HeapState). FindsRef y g (get_or g.roots root 0) i (Ok (record { block = block; index = place.cell }))) is
-        (subst (λ b. FindsRef h g (get_or g.roots root 0) i (Ok (record { block = b; index = place.cell }))) (sym eb) (found_ref h g (agrees_here g a) _ f (found_here g a) i place at w.stands.consistent.whole))
-
-    pub finds_word : word_place f.shape i ≡ Ok place → fits f.shape ≡ true → (g : Graph) → Agrees t g → FindsWord t g (get_or g.roots root 0) i (Ok (record { block = block; index = place.cell }))
-    finds_word at fit g a =
-        subst (λ (y : HeapState). FindsWord y g (get_or g.roots root 0) i (Ok (record { block = block; index = place.cell }))) is
-        (subst (λ b. FindsWord h g (get_or g.roots root 0) i (Ok (record { block = b; index = place.cell }))) (sym eb) (found_word h g (agrees_here g a) _ f (found_here g a) i place at fit w.stands.consistent.whole))
+    -- the cell
+    pub finds_cell : (place : Place) (block : ℕ) → block ≡ block_of h.store (cells_of f.shape) f.block place.part → place_of kind f.shape i ≡ Ok place → fits f.shape ≡ true → (g : Graph) → Agrees t g
+        → FindsCell t g kind (get_or g.roots root 0) i (Ok (record { block = block; index = place.cell }))
+    finds_cell place block eb at fit g a =
+        subst (λ (y : HeapState). FindsCell y g kind (get_or g.roots root 0) i (Ok (record { block = block; index = place.cell }))) is
+        (subst (λ b. FindsCell h g kind (get_or g.roots root 0) i (Ok (record { block = b; index = place.cell }))) (sym eb) (found_cell h g (agrees_here g a) _ f (found_here g a) i kind place at fit w.stands.consistent.whole))

@@ -4,5 +4,6 @@ pub mod Plan
 pub mod Reading
 pub mod Recorded
 pub mod Buffers
+pub mod Writing
 pub mod Space
 pub mod Copies

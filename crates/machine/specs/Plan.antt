@@ -1,5 +1,5 @@
 -- What it is to plan a command, and to do what was planned.
-use Rattle.std.specs.Prelude.{◌≡◌, ℕ, ◌^◌, ◌<◌, true, length, Result, Ok, Err}
+use Rattle.std.specs.Prelude.{◌≡◌, ◌≢◌, ◌⊎◌, ℕ, ◌^◌, ◌<◌, true, length, Result, Ok, Err}
 use Rattle.graph_heap.specs.declared.command.Command.{Command}
 use Rattle.graph_heap.specs.declared.command.Refusal.{Refusal}
 use Rattle.graph_heap.specs.declared.command.Reply.{Reply}
@@ -20,6 +20,8 @@ use Rattle.heap_model.specs.Written.{IsKnown}
 use Rattle.heap_model.specs.Event.{room_for, change_by}
 use Rattle.machine.specs.Reading.{IsRefPlace, IsWordPlace}
 use Rattle.machine.specs.declared.plan.Planned.{Planned}
+use Rattle.machine.specs.declared.plan.Target.{Target}
+use Rattle.machine.specs.declared.plan.Target.TheVariants as targets
 use Rattle.machine.specs.declared.plan.Write.{Write}
 use Rattle.machine.specs.declared.plan.Write.TheVariants as writes
 
@@ -47,6 +49,16 @@ PlansBy h g done (Err e) = done ≡ Err e
 abbrev pub planned_reply : Result Planned Refusal → Reply
 planned_reply (Ok p) = p.reply
 planned_reply (Err e) = replies.Refused e
+
+-- the write by which a root, or a reference cell, gets a reference
+abbrev pub write_to : Target → ℕ → Write
+write_to (targets.Root cell) x = writes.Root cell x
+write_to (targets.Ref at) x = writes.Ref at x
+
+-- the plan of a comparison: what was held is kept, or, where it was expected, it gives way by a write
+abbrev pub Compares : ℕ → ℕ → Write → Planned → Type 0
+Compares held expected write p = ((held ≢ expected) × (p ≡ record { reply = replies.Kept held; write = writes.Nothing }))
+    ⊎ ((held ≡ expected) × (p ≡ record { reply = replies.Stored; write = write }))
 
 -- the plan of a command that is admitted, for each graph heap with which the heap agrees
 abbrev pub Deeds : HeapState → ℕ → Command → Result Planned Refusal → Type 0

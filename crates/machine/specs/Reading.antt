@@ -1,8 +1,9 @@
 -- How commands read the words of the heap.
 use Rattle.std.specs.Prelude.{◌≡◌, ℕ, ◌+◌, ◌<◌, length, slice_index, Result, Ok, Err}
 use Rattle.graph_heap.specs.declared.command.Refusal.{Refusal}
+use Rattle.graph_heap.specs.declared.command.Shape.{Shape}
 use Rattle.graph_heap.specs.Graph.{Graph, Object, object_of}
-use Rattle.graph_heap.specs.Effect.{object_at, ref_at, word_at}
+use Rattle.graph_heap.specs.Effect.{slot_at, object_at, ref_at, word_at}
 use Rattle.graph_heap.specs.Reach.{Reaches}
 use Rattle.size_classes.specs.Parts.{cells_of, part_in, column_in}
 use Rattle.heap_model.specs.Store.{node_of}
@@ -12,14 +13,24 @@ use Rattle.heap_model.specs.State.{HeapState, seen, width_at}
 use Rattle.heap_model.specs.Written.{IsKnown}
 use Rattle.heap_model.specs.Reading.{IsMainCopy}
 use Rattle.nodes.specs.declared.nodes.Referent.{Referent}
+use Rattle.arraylets.specs.declared.place.Place.{Place}
+use Rattle.arraylets.specs.Place.{ref_place, word_place}
 use Rattle.machine.specs.declared.plan.Found.{Found}
 use Rattle.machine.specs.declared.plan.Cell.{Cell}
+use Rattle.machine.specs.declared.plan.Kind.{Kind}
+use Rattle.machine.specs.declared.plan.Kind.TheVariants as kinds
 
 -- What a root or a cell holds, an identity or null, is named by it and by the reference of its main copy.
 pub record Names (h : HeapState) (g : Graph) (id : ℕ) (r : Referent) : Type 0 where
   pub identity : id ≡ r.identity
   pub known : IsKnown g id
   pub main : IsMain (seen h) r.reference (name_of id)
+
+-- What a slot of a mutator holds is named so.
+pub record HoldsBy (h : HeapState) (g : Graph) (m slot : ℕ) (r : Referent) : Type 0 where
+  pub cell : ℕ
+  pub place : Ok cell ≡ slot_at h.limits m slot
+  pub names : Names h g (slice_index g.roots cell) r
 
 -- The object of an identity was found, by its main copy.
 pub record IsFound (h : HeapState) (g : Graph) (id : ℕ) (f : Found) : Type 0 where
@@ -65,3 +76,13 @@ abbrev pub FindsWord : HeapState → Graph → ℕ → ℕ → Result Cell Refus
 FindsWord h g id i (Ok at) = (word_at g.objects id i ≡ Ok (slice_index (object_of g.objects id).words i))
     × IsWordPlace h g id i at
 FindsWord h g id i (Err e) = word_at g.objects id i ≡ Err e
+
+-- where cell i of a kind stands in its object
+abbrev pub place_of : Kind → Shape → ℕ → Result Place Refusal
+place_of kinds.Ref shape i = ref_place shape i
+place_of kinds.Word shape i = word_place shape i
+
+-- a cell of a kind was found, or the graph heap's refusal
+abbrev pub FindsCell : HeapState → Graph → Kind → ℕ → ℕ → Result Cell Refusal → Type 0
+FindsCell h g kinds.Ref id i result = FindsRef h g id i result
+FindsCell h g kinds.Word id i result = FindsWord h g id i result

@@ -7,10 +7,9 @@ ghost use Rattle.heap_model.specs.Settings.{settings_of, settings_by};
 ghost use Rattle.heap_model.specs.Agreement.{Agrees};
 ghost use Rattle.heap_model.specs.Change.{DoesChange};
 ghost use Rattle.heap_model.specs.Event.{change_by, room_for};
-ghost use Rattle.machine.specs.Plan.{CanSettle, SettlesEach, Steps};
+ghost use Rattle.machine.specs.Plan.{CanSettle, SettlesEach};
 
-use crate::plan::Planned;
-use graph_heap::{Command, NoMemory, Refusal, Reply, Shape};
+use graph_heap::{Command, NoMemory, Reply};
 use raw_heap::RawHeap;
 use size_classes::Config;
 use std::alloc::Global;
@@ -23,6 +22,7 @@ mod planning;
 mod reading;
 mod writing;
 
+use planning::Plan;
 use writing::do_write;
 
 /// A heap of objects, with its roots. Contracts see the heap as it lies in words.
@@ -98,188 +98,9 @@ impl Heap {
         }
     }
 
-    /// A new object, with null references and zero words, into slot dst.
-    #[inline(always)]
-    pub fn make(&mut self, mutator: u32, dst: u32, shape: Shape) -> Reply
-        ensures { Steps self.old mutator (Command.New dst shape) result self.new }
-    {
-        match self.raw.roots.admit(mutator, false) {
-            Ok(_) => self.settle(mutator, self.plan_new(mutator, dst, shape)),
-            Err(refusal) => Reply::Refused(refusal),
-        }
-    }
-
-    /// A reference cell into slot dst.
-    #[inline(always)]
-    pub fn load(&mut self, mutator: u32, dst: u32, obj: u32, i: u32) -> Reply
-        ensures { Steps self.old mutator (Command.Load dst obj i) result self.new }
-    {
-        match self.raw.roots.admit(mutator, false) {
-            Ok(_) => self.settle(mutator, self.plan_load(mutator, dst, obj, i)),
-            Err(refusal) => Reply::Refused(refusal),
-        }
-    }
-
-    /// What slot src holds into a reference cell.
-    #[inline(always)]
-    pub fn store(&mut self, mutator: u32, obj: u32, i: u32, src: u32) -> Reply
-        ensures { Steps self.old mutator (Command.Store obj i src) result self.new }
-    {
-        match self.raw.roots.admit(mutator, false) {
-            Ok(_) => self.settle(mutator, self.plan_store(mutator, obj, i, src)),
-            Err(refusal) => Reply::Refused(refusal),
-        }
-    }
-
-    /// What slot new holds into a reference cell, if that holds what slot expect does.
-    #[inline(always)]
-    pub fn compare_store(&mut self, mutator: u32, obj: u32, i: u32, expect: u32, new: u32) -> Reply
-        ensures { Steps self.old mutator (Command.CompareStore obj i expect new) result self.new }
-    {
-        match self.raw.roots.admit(mutator, false) {
-            Ok(_) => self.settle(
-                mutator,
-                self.plan_compare_store(mutator, obj, i, expect, new),
-            ),
-            Err(refusal) => Reply::Refused(refusal),
-        }
-    }
-
-    /// Reads a word cell.
-    #[inline(always)]
-    pub fn get(&mut self, mutator: u32, obj: u32, i: u32) -> Reply
-        ensures { Steps self.old mutator (Command.Get obj i) result self.new }
-    {
-        match self.raw.roots.admit(mutator, false) {
-            Ok(_) => self.settle(mutator, self.plan_get(mutator, obj, i)),
-            Err(refusal) => Reply::Refused(refusal),
-        }
-    }
-
-    /// Writes a word cell.
-    #[inline(always)]
-    pub fn put(&mut self, mutator: u32, obj: u32, i: u32, word: u64) -> Reply
-        ensures { Steps self.old mutator (Command.Put obj i word) result self.new }
-    {
-        match self.raw.roots.admit(mutator, false) {
-            Ok(_) => self.settle(mutator, self.plan_put(mutator, obj, i, word)),
-            Err(refusal) => Reply::Refused(refusal),
-        }
-    }
-
-    /// Writes a word cell, if that is old.
-    #[inline(always)]
-    pub fn compare_put(&mut self, mutator: u32, obj: u32, i: u32, old: u64, new: u64) -> Reply
-        ensures { Steps self.old mutator (Command.ComparePut obj i old new) result self.new }
-    {
-        match self.raw.roots.admit(mutator, false) {
-            Ok(_) => self.settle(mutator, self.plan_compare_put(mutator, obj, i, old, new)),
-            Err(refusal) => Reply::Refused(refusal),
-        }
-    }
-
-    /// What slot src holds into slot dst.
-    #[inline(always)]
-    pub fn copy(&mut self, mutator: u32, dst: u32, src: u32) -> Reply
-        ensures { Steps self.old mutator (Command.Copy dst src) result self.new }
-    {
-        match self.raw.roots.admit(mutator, false) {
-            Ok(_) => self.settle(mutator, self.plan_copy(mutator, dst, src)),
-            Err(refusal) => Reply::Refused(refusal),
-        }
-    }
-
-    /// Null into slot dst.
-    #[inline(always)]
-    pub fn clear(&mut self, mutator: u32, dst: u32) -> Reply
-        ensures { Steps self.old mutator (Command.Clear dst) result self.new }
-    {
-        match self.raw.roots.admit(mutator, false) {
-            Ok(_) => self.settle(mutator, self.plan_clear(mutator, dst)),
-            Err(refusal) => Reply::Refused(refusal),
-        }
-    }
-
-    /// What static k holds into slot dst.
-    #[inline(always)]
-    pub fn load_static(&mut self, mutator: u32, dst: u32, k: u32) -> Reply
-        ensures { Steps self.old mutator (Command.LoadStatic dst k) result self.new }
-    {
-        match self.raw.roots.admit(mutator, false) {
-            Ok(_) => self.settle(mutator, self.plan_load_static(mutator, dst, k)),
-            Err(refusal) => Reply::Refused(refusal),
-        }
-    }
-
-    /// What slot src holds into static k.
-    #[inline(always)]
-    pub fn store_static(&mut self, mutator: u32, k: u32, src: u32) -> Reply
-        ensures { Steps self.old mutator (Command.StoreStatic k src) result self.new }
-    {
-        match self.raw.roots.admit(mutator, false) {
-            Ok(_) => self.settle(mutator, self.plan_store_static(mutator, k, src)),
-            Err(refusal) => Reply::Refused(refusal),
-        }
-    }
-
-    /// What slot new holds into static k, if that holds what slot expect does.
-    #[inline(always)]
-    pub fn compare_static(&mut self, mutator: u32, k: u32, expect: u32, new: u32) -> Reply
-        ensures { Steps self.old mutator (Command.CompareStatic k expect new) result self.new }
-    {
-        match self.raw.roots.admit(mutator, false) {
-            Ok(_) => self.settle(mutator, self.plan_compare_static(mutator, k, expect, new)),
-            Err(refusal) => Reply::Refused(refusal),
-        }
-    }
-
-    /// Whether two slots hold the same identity, or both null.
-    #[inline(always)]
-    pub fn same(&mut self, mutator: u32, a: u32, b: u32) -> Reply
-        ensures { Steps self.old mutator (Command.Same a b) result self.new }
-    {
-        match self.raw.roots.admit(mutator, false) {
-            Ok(_) => self.settle(mutator, self.plan_same(mutator, a, b)),
-            Err(refusal) => Reply::Refused(refusal),
-        }
-    }
-
-    /// The identity and the shape of the object in slot a.
-    #[inline(always)]
-    pub fn describe(&mut self, mutator: u32, a: u32) -> Reply
-        ensures { Steps self.old mutator (Command.Describe a) result self.new }
-    {
-        match self.raw.roots.admit(mutator, false) {
-            Ok(_) => self.settle(mutator, self.plan_describe(mutator, a)),
-            Err(refusal) => Reply::Refused(refusal),
-        }
-    }
-
-    /// The mutator comes to be live.
-    #[inline(always)]
-    pub fn join(&mut self, mutator: u32) -> Reply
-        ensures { Steps self.old mutator Command.Join result self.new }
-    {
-        match self.raw.roots.admit(mutator, true) {
-            Ok(_) => self.settle(mutator, Ok(self.plan_join(mutator))),
-            Err(refusal) => Reply::Refused(refusal),
-        }
-    }
-
-    /// Null into each slot of the mutator, which is live no more.
-    #[inline(always)]
-    pub fn leave(&mut self, mutator: u32) -> Reply
-        ensures { Steps self.old mutator Command.Leave result self.new }
-    {
-        match self.raw.roots.admit(mutator, false) {
-            Ok(_) => self.settle(mutator, Ok(self.plan_leave(mutator))),
-            Err(refusal) => Reply::Refused(refusal),
-        }
-    }
-
     /// Does what was planned for a mutator, and replies.
     #[inline(always)]
-    fn settle(&mut self, mutator: u32, planned: Result<Planned, Refusal>) -> Reply
+    fn settle(&mut self, mutator: u32, planned: Plan) -> Reply
         requires mutator { mutator < self.old.limits.mutators }
         requires planned { CanSettle self.old planned }
         ensures { SettlesEach self.old planned result self.new }

@@ -1,6 +1,6 @@
 //! What a command is going to do.
 ghost use Rattle.std.specs.Prelude.{◌≡◌};
-ghost use Rattle.machine.specs.Plan.{planned_reply};
+ghost use Rattle.machine.specs.Plan.{planned_reply, write_to};
 
 use graph_heap::{Refusal, Reply, Shape};
 
@@ -12,6 +12,17 @@ pub struct Planned {
 }
 
 impl Planned {
+    /// A write that is done.
+    #[inline(always)]
+    pub fn done(write: Write) -> Planned
+        ensures { result ≡ record { reply = Reply.Done; write = write } }
+    {
+        Planned {
+            reply: Reply::Done,
+            write,
+        }
+    }
+
     /// Only a reply.
     pub fn reply(reply: Reply) -> Planned
         ensures { result ≡ record { reply = reply; write = Write.Nothing } }
@@ -49,6 +60,33 @@ pub enum Write {
     Join { mutator: u32 },
     /// The slots of a mutator get null, one after the other, and it is live no more.
     Leave { mutator: u32 },
+}
+
+/// What may get a reference: a root, or a reference cell of an object.
+#[derive(Clone, Copy, Debug, PartialEq, Eq)]
+pub enum Target {
+    Root(usize),
+    Ref(Cell),
+}
+
+impl Target {
+    /// The write by which it gets a reference.
+    #[inline(always)]
+    pub fn write(self, reference: u64) -> Write
+        ensures { result ≡ write_to self reference }
+    {
+        match self {
+            Target::Root(cell) => Write::Root { cell, reference },
+            Target::Ref(at) => Write::Ref { at, reference },
+        }
+    }
+}
+
+/// A kind of cells of an object: of references or of words.
+#[derive(Clone, Copy, Debug, PartialEq, Eq)]
+pub enum Kind {
+    Ref,
+    Word,
 }
 
 /// Where a cell of an object stands: in a block, a main copy of a part of the object, by its number

@@ -1,16 +1,26 @@
 //! What each command does: its reply and its one write, by reading alone. The tests stand in the order
 //! of the refusals.
-ghost use Rattle.std.specs.Prelude.{◌≡◌, ◌<◌, Ok};
-ghost use Rattle.machine.specs.Plan.{Deeds};
+ghost use Rattle.std.specs.Prelude.{◌≡◌, ◌<◌, Ok, Err, length, slice_index, IfOk, IfErr};
+ghost use Rattle.graph_heap.specs.Graph.{Graph};
+ghost use Rattle.graph_heap.specs.Effect.{slot_at};
+ghost use Rattle.heap_model.specs.Agreement.{Agrees};
+ghost use Rattle.machine.specs.Plan.{write_to, Compares, Deeds};
+ghost use Rattle.machine.specs.Reading.{HoldsBy, Names};
 
 use super::Heap;
-use crate::plan::{Planned, Write};
+use crate::plan::{Kind, Planned, Target, Write};
 use graph_heap::{Command, Refusal, Reply, Shape};
+use nodes::Referent;
 use size_classes::parts_of;
+
+mod commands;
+
+/// What a command does, or why it is refused.
+pub(super) type Plan = Result<Planned, Refusal>;
 
 impl Heap {
     /// What a command that is admitted does.
-    pub(super) fn plan(&self, mutator: u32, command: &Command) -> Result<Planned, Refusal>
+    pub(super) fn plan(&self, mutator: u32, command: &Command) -> Plan
         requires { mutator < self.now.limits.mutators }
         ensures { Deeds self.now mutator command.now result }
     {
@@ -38,14 +48,14 @@ impl Heap {
             }
             Command::Same { a, b } => self.plan_same(mutator, a, b),
             Command::Describe { a } => self.plan_describe(mutator, a),
-            Command::Join => Ok(self.plan_join(mutator)),
-            Command::Leave => Ok(self.plan_leave(mutator)),
+            Command::Join => self.plan_join(mutator),
+            Command::Leave => self.plan_leave(mutator),
         }
     }
 
     /// A new object is planned.
     #[inline(always)]
-    pub(super) fn plan_new(&self, mutator: u32, dst: u32, shape: Shape) -> Result<Planned, Refusal>
+    fn plan_new(&self, mutator: u32, dst: u32, shape: Shape) -> Plan
         ensures { Deeds self.now mutator (Command.New dst shape) result }
     {
         let cell = self.raw.roots.slot(mutator, dst)?;
@@ -64,18 +74,12 @@ impl Heap {
 
     /// A reference cell is loaded into a slot.
     #[inline(always)]
-    pub(super) fn plan_load(
-        &self,
-        mutator: u32,
-        dst: u32,
-        obj: u32,
-        i: u32,
-    ) -> Result<Planned, Refusal>
+    fn plan_load(&self, mutator: u32, dst: u32, obj: u32, i: u32) -> Plan
         ensures { Deeds self.now mutator (Command.Load dst obj i) result }
     {
         let cell = self.raw.roots.slot(mutator, dst)?;
         let root = self.raw.roots.slot(mutator, obj)?;
-        let at = self.find_ref(root, i)?;
+        let at = self.find(root, Kind::Ref, i)?;
         let value = self.held_in(at);
         Ok(Planned {
             reply: Reply::Ref(value.identity),
@@ -88,99 +92,57 @@ impl Heap {
 
     /// A reference cell gets what a slot holds.
     #[inline(always)]
-    pub(super) fn plan_store(
-        &self,
-        mutator: u32,
-        obj: u32,
-        i: u32,
-        src: u32,
-    ) -> Result<Planned, Refusal>
+    fn plan_store(&self, mutator: u32, obj: u32, i: u32, src: u32) -> Plan
         ensures { Deeds self.now mutator (Command.Store obj i src) result }
     {
         let root = self.raw.roots.slot(mutator, obj)?;
-        let source = self.raw.roots.slot(mutator, src)?;
-        let at = self.find_ref(root, i)?;
-        Ok(Planned {
-            reply: Reply::Done,
-            write: Write::Ref {
-                at,
-                reference: self.held(source).reference,
-            },
-        })
+        let value = self.held_by(mutator, src)?;
+        let at = self.find(root, Kind::Ref, i)?;
+        Ok(Planned::done(Write::Ref {
+            at,
+            reference: value.reference,
+        }))
     }
 
     /// A reference cell is compared with a slot, and gets what another holds if they are the same.
     #[inline(always)]
-    pub(super) fn plan_compare_store(
-        &self,
-        mutator: u32,
-        obj: u32,
-        i: u32,
-        expect: u32,
-        new: u32,
-    ) -> Result<Planned, Refusal>
+    fn plan_compare_store(&self, mutator: u32, obj: u32, i: u32, expect: u32, new: u32) -> Plan
         ensures { Deeds self.now mutator (Command.CompareStore obj i expect new) result }
     {
         let root = self.raw.roots.slot(mutator, obj)?;
-        let expected = self.raw.roots.slot(mutator, expect)?;
+        let expected = self.held_by(mutator, expect)?;
         let source = self.raw.roots.slot(mutator, new)?;
-        let at = self.find_ref(root, i)?;
-        let value = self.held_in(at);
-        if value.identity != self.held(expected).identity {
-            return Ok(Planned::reply(Reply::Kept(value.identity)));
-        }
-        Ok(Planned {
-            reply: Reply::Stored,
-            write: Write::Ref {
-                at,
-                reference: self.held(source).reference,
-            },
-        })
+        let at = self.find(root, Kind::Ref, i)?;
+        Ok(self.compared(self.held_in(at), expected, source, Target::Ref(at)))
     }
 
     /// A word cell is read.
     #[inline(always)]
-    pub(super) fn plan_get(&self, mutator: u32, obj: u32, i: u32) -> Result<Planned, Refusal>
+    fn plan_get(&self, mutator: u32, obj: u32, i: u32) -> Plan
         ensures { Deeds self.now mutator (Command.Get obj i) result }
     {
         let root = self.raw.roots.slot(mutator, obj)?;
-        let at = self.find_word(root, i)?;
+        let at = self.find(root, Kind::Word, i)?;
         Ok(Planned::reply(Reply::Word(self.word_in(at))))
     }
 
     /// A word cell is written.
     #[inline(always)]
-    pub(super) fn plan_put(
-        &self,
-        mutator: u32,
-        obj: u32,
-        i: u32,
-        word: u64,
-    ) -> Result<Planned, Refusal>
+    fn plan_put(&self, mutator: u32, obj: u32, i: u32, word: u64) -> Plan
         ensures { Deeds self.now mutator (Command.Put obj i word) result }
     {
         let root = self.raw.roots.slot(mutator, obj)?;
-        let at = self.find_word(root, i)?;
-        Ok(Planned {
-            reply: Reply::Done,
-            write: Write::Word { at, word },
-        })
+        let at = self.find(root, Kind::Word, i)?;
+        Ok(Planned::done(Write::Word { at, word }))
     }
 
     /// A word cell is compared with a word, and gets another if they are the same.
     #[inline(always)]
-    pub(super) fn plan_compare_put(
-        &self,
-        mutator: u32,
-        obj: u32,
-        i: u32,
-        old: u64,
-        new: u64,
-    ) -> Result<Planned, Refusal>
+    fn plan_compare_put(&self, mutator: u32, obj: u32, i: u32, old: u64, new: u64) -> Plan
         ensures { Deeds self.now mutator (Command.ComparePut obj i old new) result }
     {
         let root = self.raw.roots.slot(mutator, obj)?;
-        let at = self.find_word(root, i)?;
+        let at = self.find(root, Kind::Word, i)?;
         let word = self.word_in(at);
         if word != old {
             return Ok(Planned::reply(Reply::KeptWord(word)));
@@ -193,40 +155,29 @@ impl Heap {
 
     /// A slot gets what another holds.
     #[inline(always)]
-    pub(super) fn plan_copy(&self, mutator: u32, dst: u32, src: u32) -> Result<Planned, Refusal>
+    fn plan_copy(&self, mutator: u32, dst: u32, src: u32) -> Plan
         ensures { Deeds self.now mutator (Command.Copy dst src) result }
     {
         let cell = self.raw.roots.slot(mutator, dst)?;
-        let source = self.raw.roots.slot(mutator, src)?;
-        Ok(Planned {
-            reply: Reply::Done,
-            write: Write::Root {
-                cell,
-                reference: self.held(source).reference,
-            },
-        })
+        let value = self.held_by(mutator, src)?;
+        Ok(Planned::done(Write::Root {
+            cell,
+            reference: value.reference,
+        }))
     }
 
     /// A slot gets null.
     #[inline(always)]
-    pub(super) fn plan_clear(&self, mutator: u32, dst: u32) -> Result<Planned, Refusal>
+    fn plan_clear(&self, mutator: u32, dst: u32) -> Plan
         ensures { Deeds self.now mutator (Command.Clear dst) result }
     {
         let cell = self.raw.roots.slot(mutator, dst)?;
-        Ok(Planned {
-            reply: Reply::Done,
-            write: Write::Root { cell, reference: 0 },
-        })
+        Ok(Planned::done(Write::Root { cell, reference: 0 }))
     }
 
     /// A slot gets what a static holds.
     #[inline(always)]
-    pub(super) fn plan_load_static(
-        &self,
-        mutator: u32,
-        dst: u32,
-        k: u32,
-    ) -> Result<Planned, Refusal>
+    fn plan_load_static(&self, mutator: u32, dst: u32, k: u32) -> Plan
         ensures { Deeds self.now mutator (Command.LoadStatic dst k) result }
     {
         let cell = self.raw.roots.slot(mutator, dst)?;
@@ -243,91 +194,89 @@ impl Heap {
 
     /// A static gets what a slot holds.
     #[inline(always)]
-    pub(super) fn plan_store_static(
-        &self,
-        mutator: u32,
-        k: u32,
-        src: u32,
-    ) -> Result<Planned, Refusal>
+    fn plan_store_static(&self, mutator: u32, k: u32, src: u32) -> Plan
         ensures { Deeds self.now mutator (Command.StoreStatic k src) result }
     {
-        let source = self.raw.roots.slot(mutator, src)?;
+        let value = self.held_by(mutator, src)?;
         let cell = self.raw.roots.static_cell(k)?;
-        Ok(Planned {
-            reply: Reply::Done,
-            write: Write::Root {
-                cell,
-                reference: self.held(source).reference,
-            },
-        })
+        Ok(Planned::done(Write::Root {
+            cell,
+            reference: value.reference,
+        }))
     }
 
     /// A static is compared with a slot, and gets what another holds if they are the same.
     #[inline(always)]
-    pub(super) fn plan_compare_static(
-        &self,
-        mutator: u32,
-        k: u32,
-        expect: u32,
-        new: u32,
-    ) -> Result<Planned, Refusal>
+    fn plan_compare_static(&self, mutator: u32, k: u32, expect: u32, new: u32) -> Plan
         ensures { Deeds self.now mutator (Command.CompareStatic k expect new) result }
     {
-        let expected = self.raw.roots.slot(mutator, expect)?;
+        let expected = self.held_by(mutator, expect)?;
         let source = self.raw.roots.slot(mutator, new)?;
         let cell = self.raw.roots.static_cell(k)?;
-        let held = self.held(cell);
-        if held.identity != self.held(expected).identity {
-            return Ok(Planned::reply(Reply::Kept(held.identity)));
-        }
-        Ok(Planned {
-            reply: Reply::Stored,
-            write: Write::Root {
-                cell,
-                reference: self.held(source).reference,
-            },
-        })
+        Ok(self.compared(self.held(cell), expected, source, Target::Root(cell)))
     }
 
     /// Two slots are compared, by the identities that they hold.
     #[inline(always)]
-    pub(super) fn plan_same(&self, mutator: u32, a: u32, b: u32) -> Result<Planned, Refusal>
+    fn plan_same(&self, mutator: u32, a: u32, b: u32) -> Plan
         ensures { Deeds self.now mutator (Command.Same a b) result }
     {
-        let first = self.raw.roots.slot(mutator, a)?;
-        let second = self.raw.roots.slot(mutator, b)?;
-        let same = self.held(first).identity == self.held(second).identity;
-        Ok(Planned::reply(Reply::Is(same)))
+        let first = self.held_by(mutator, a)?;
+        let second = self.held_by(mutator, b)?;
+        Ok(Planned::reply(Reply::Is(first.identity == second.identity)))
     }
 
     /// The identity and the shape of an object are told.
     #[inline(always)]
-    pub(super) fn plan_describe(&self, mutator: u32, a: u32) -> Result<Planned, Refusal>
+    fn plan_describe(&self, mutator: u32, a: u32) -> Plan
         ensures { Deeds self.now mutator (Command.Describe a) result }
     {
         let root = self.raw.roots.slot(mutator, a)?;
         let found = self.object(root)?;
         Ok(Planned::reply(Reply::Described(found.id, found.shape)))
     }
+
     /// A mutator is to be live.
-    pub(super) fn plan_join(&self, mutator: u32) -> Planned
+    #[inline(always)]
+    fn plan_join(&self, mutator: u32) -> Plan
         requires { mutator < self.now.limits.mutators }
-        ensures { Deeds self.now mutator Command.Join (Ok result) }
+        ensures { Deeds self.now mutator Command.Join result }
     {
-        Planned {
-            reply: Reply::Done,
-            write: Write::Join { mutator },
-        }
+        Ok(Planned::done(Write::Join { mutator }))
     }
 
     /// A mutator is to be live no more.
-    pub(super) fn plan_leave(&self, mutator: u32) -> Planned
+    #[inline(always)]
+    fn plan_leave(&self, mutator: u32) -> Plan
         requires { mutator < self.now.limits.mutators }
-        ensures { Deeds self.now mutator Command.Leave (Ok result) }
+        ensures { Deeds self.now mutator Command.Leave result }
     {
+        Ok(Planned::done(Write::Leave { mutator }))
+    }
+
+    /// What a slot of a mutator holds.
+    #[inline(always)]
+    fn held_by(&self, mutator: u32, slot: u32) -> Result<Referent, Refusal>
+        ensures names { (g : Graph) → Agrees self.now g → IfOk result (HoldsBy self.now g mutator slot) }
+        ensures refused { IfErr result (λ e. slot_at self.now.limits mutator slot ≡ Err e) }
+    {
+        let root = self.raw.roots.slot(mutator, slot)?;
+        Ok(self.held(root))
+    }
+
+    /// What a target holds is compared with what was expected: the same gives way to what a root holds.
+    #[inline(always)]
+    fn compared(&self, held: Referent, expected: Referent, source: usize, target: Target) -> Planned
+        requires { source < length self.now.roots }
+        ensures { (g : Graph) → Agrees self.now g → (s : Referent) × Names self.now g (slice_index g.roots source) s
+            × Compares held.identity expected.identity (write_to target s.reference) result }
+    {
+        if held.identity != expected.identity {
+            return Planned::reply(Reply::Kept(held.identity));
+        }
         Planned {
-            reply: Reply::Done,
-            write: Write::Leave { mutator },
+            reply: Reply::Stored,
+            write: target.write(self.held(source).reference),
         }
     }
 }

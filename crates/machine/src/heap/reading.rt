@@ -4,12 +4,12 @@ ghost use Rattle.graph_heap.specs.Graph.{Graph, object_of};
 ghost use Rattle.graph_heap.specs.Shape.{fits};
 ghost use Rattle.heap_model.specs.Store.{is_held};
 ghost use Rattle.heap_model.specs.Agreement.{Agrees};
-ghost use Rattle.machine.specs.Reading.{Names, Finds, FindsRef, FindsWord, IsRefPlace, IsWordPlace};
+ghost use Rattle.machine.specs.Reading.{Names, Finds, place_of, FindsCell, IsRefPlace, IsWordPlace};
 
 use super::Heap;
-use crate::plan::{Cell, Found};
-use arraylets::{part_block, ref_place, word_place};
-use graph_heap::Refusal;
+use crate::plan::{Cell, Found, Kind};
+use arraylets::{Place, part_block, ref_place, word_place};
+use graph_heap::{Refusal, Shape};
 use nodes::Referent;
 
 impl Heap {
@@ -44,29 +44,14 @@ impl Heap {
         })
     }
 
-    /// Where reference cell i of the object that a root holds stands.
+    /// Where cell i of a kind stands, of the object that a root holds.
     #[inline(always)]
-    pub(super) fn find_ref(&self, root: usize, i: u32) -> Result<Cell, Refusal>
+    pub(super) fn find(&self, root: usize, kind: Kind, i: u32) -> Result<Cell, Refusal>
         requires { root < length self.now.roots }
-        ensures { (g : Graph) → Agrees self.now g → FindsRef self.now g (slice_index g.roots root) i result }
+        ensures { (g : Graph) → Agrees self.now g → FindsCell self.now g kind (slice_index g.roots root) i result }
     {
         let found = self.object(root)?;
-        let place = ref_place(found.shape, i)?;
-        let block = part_block(&self.raw.nodes, found.shape, found.block, place.part);
-        Ok(Cell {
-            block,
-            index: place.cell,
-        })
-    }
-
-    /// Where word cell i of the object that a root holds stands.
-    #[inline(always)]
-    pub(super) fn find_word(&self, root: usize, i: u32) -> Result<Cell, Refusal>
-        requires { root < length self.now.roots }
-        ensures { (g : Graph) → Agrees self.now g → FindsWord self.now g (slice_index g.roots root) i result }
-    {
-        let found = self.object(root)?;
-        let place = word_place(found.shape, i)?;
+        let place = place_of(kind, found.shape, i)?;
         let block = part_block(&self.raw.nodes, found.shape, found.block, place.part);
         Ok(Cell {
             block,
@@ -94,5 +79,17 @@ impl Heap {
             → result ≡ slice_index (object_of g.objects id).words i }
     {
         self.raw.nodes.cell(at.block, at.index)
+    }
+}
+
+/// Where cell i of a kind stands in an object of a shape, or why there is none.
+#[inline(always)]
+fn place_of(kind: Kind, shape: Shape, i: u32) -> Result<Place, Refusal>
+    requires { fits shape ≡ true }
+    ensures { result ≡ place_of kind shape i }
+{
+    match kind {
+        Kind::Ref => ref_place(shape, i),
+        Kind::Word => word_place(shape, i),
     }
 }

@@ -1,10 +1,11 @@
 //! The writes of the heap. Each does one change of the graph heap, after it has recorded what it
 //! overwrites.
-ghost use Rattle.std.specs.Prelude.{◌≡◌, ◌+◌, ◌<◌, ◌≤◌, length};
+ghost use Rattle.std.specs.Prelude.{◌+◌, ◌<◌, ◌≤◌, length, slice_index};
 ghost use Rattle.heap_model.specs.Change.{Clears};
 ghost use Rattle.raw_heap.specs.Heap.{state_of, IsRawHeap};
 ghost use Rattle.machine.specs.Plan.{CanPerform, DoesEach};
-ghost use Rattle.machine.specs.Buffers.{buffers_by, AreBuffersBy, AreOwn};
+ghost use Rattle.machine.specs.Buffers.{AreOwn};
+ghost use Rattle.machine.specs.Writing.{CanWrite, IsWritten, IsRecorded};
 
 use crate::plan::{Cell, Write};
 use arraylets::new_object;
@@ -15,11 +16,8 @@ use satb_barrier::record;
 /// Does a write of a mutator.
 #[inline(always)]
 pub fn do_write(heap: &mut RawHeap, mutator: u32, write: &Write)
-    requires heap { IsRawHeap heap.old }
-    requires mutator { mutator < heap.old.roots.limits.mutators }
-    requires write { CanPerform (state_of heap.old) write.now }
-    ensures does { DoesEach (state_of heap.old) write.now (state_of heap.new) }
-    ensures buffers { AreBuffersBy heap.old mutator write.now heap.new.grey }
+    requires { CanWrite heap.old mutator write.now }
+    ensures { IsWritten heap.old mutator write.now heap.new }
 {
     match *write {
         Write::Nothing => {}
@@ -32,28 +30,33 @@ pub fn do_write(heap: &mut RawHeap, mutator: u32, write: &Write)
     }
 }
 
+/// Records what a root holds, before it is overwritten.
+#[inline(always)]
+fn record_root(heap: &mut RawHeap, mutator: u32, root: usize)
+    requires heap { IsRawHeap heap.old }
+    requires mutator { mutator < heap.old.roots.limits.mutators }
+    requires root { root < length heap.old.roots.cells }
+    ensures { IsRecorded heap.old mutator (slice_index heap.old.roots.cells root) heap.new }
+{
+    let before = heap.roots.get(root);
+    record(heap, mutator, before);
+}
+
 /// A root gets a reference.
 #[inline(always)]
 fn write_root(heap: &mut RawHeap, mutator: u32, cell: usize, reference: u64)
-    requires heap { IsRawHeap heap.old }
-    requires mutator { mutator < heap.old.roots.limits.mutators }
-    requires write { CanPerform (state_of heap.old) (Write.Root cell reference) }
-    ensures does { DoesEach (state_of heap.old) (Write.Root cell reference) (state_of heap.new) }
-    ensures buffers { heap.new.grey.buffers ≡ buffers_by heap.old mutator (Write.Root cell reference) }
+    requires { CanWrite heap.old mutator (Write.Root cell reference) }
+    ensures { IsWritten heap.old mutator (Write.Root cell reference) heap.new }
 {
-    let before = heap.roots.get(cell);
-    record(heap, mutator, before);
+    record_root(heap, mutator, cell);
     heap.roots.set(cell, reference);
 }
 
 /// A reference cell of an object gets a reference.
 #[inline(always)]
 fn write_ref(heap: &mut RawHeap, mutator: u32, at: Cell, reference: u64)
-    requires heap { IsRawHeap heap.old }
-    requires mutator { mutator < heap.old.roots.limits.mutators }
-    requires write { CanPerform (state_of heap.old) (Write.Ref at reference) }
-    ensures does { DoesEach (state_of heap.old) (Write.Ref at reference) (state_of heap.new) }
-    ensures buffers { heap.new.grey.buffers ≡ buffers_by heap.old mutator (Write.Ref at reference) }
+    requires { CanWrite heap.old mutator (Write.Ref at reference) }
+    ensures { IsWritten heap.old mutator (Write.Ref at reference) heap.new }
 {
     let before = heap.nodes.cell(at.block, at.index);
     record(heap, mutator, before);
@@ -63,14 +66,10 @@ fn write_ref(heap: &mut RawHeap, mutator: u32, at: Cell, reference: u64)
 /// An object is made, and a root gets its reference.
 #[inline(always)]
 fn write_new(heap: &mut RawHeap, mutator: u32, root: usize, shape: Shape)
-    requires heap { IsRawHeap heap.old }
-    requires mutator { mutator < heap.old.roots.limits.mutators }
-    requires write { CanPerform (state_of heap.old) (Write.New root shape) }
-    ensures does { DoesEach (state_of heap.old) (Write.New root shape) (state_of heap.new) }
-    ensures buffers { heap.new.grey.buffers ≡ buffers_by heap.old mutator (Write.New root shape) }
+    requires { CanWrite heap.old mutator (Write.New root shape) }
+    ensures { IsWritten heap.old mutator (Write.New root shape) heap.new }
 {
-    let before = heap.roots.get(root);
-    record(heap, mutator, before);
+    record_root(heap, mutator, root);
     let block = new_object(&mut heap.nodes, shape, heap.sense, heap.next);
     heap.roots.set(root, block as u64 + 1);
     heap.next += 1;

@@ -1,4 +1,4 @@
-use Rattle.std.proofs.Common.{true, Ok, refl}
+use Rattle.std.proofs.Common.{true, refl}
 use Rattle.raw_heap.specs.Heap.{state_of}
 use Rattle.machine.proofs.Replying.{admitted_steps, refused_steps}
 use Rattle.machine.proofs.heap.Heap.join.Goals as goal
@@ -9,7 +9,7 @@ settle-requires-clause-planned c g a = (_, c.plan_join.ensures g a)
 pub returns-in-Ok : goal.returns-in-Ok
 returns-in-Ok c =
     admitted_steps (state_of c.self.inside.raw) c.args.self.now c.self.view_is c.args.mutator _ true refl c.admit.result c.admit.ensures.admitted
-    c.in-Ok.field-0 c.in-Ok.is (Ok c.plan_join.result) c.plan_join.ensures c.settle.result c.settle.new.self c.settle.ensures
+    c.in-Ok.field-0 c.in-Ok.is c.plan_join.result c.plan_join.ensures c.settle.result c.settle.new.self c.settle.ensures
 
 pub returns-in-Err : goal.returns-in-Err
 returns-in-Err c =

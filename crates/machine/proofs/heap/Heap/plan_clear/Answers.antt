@@ -5,7 +5,7 @@ use Rattle.machine.proofs.Plans.{placed, within}
 use Rattle.machine.proofs.heap.Heap.plan_clear.Goals as goal
 
 pub returns : goal.returns
-returns c g a = (
+returns c g a = rw c.done.ensures (
   changes.Root c.in_ok-cell.cell 0,
   clear_effect c.args.self.now g a c.args.mutator c.args.dst c.in_ok-cell.cell (placed c.self.view_is c.args.mutator c.args.dst c.in_ok-cell.cell c.in_ok-cell.ensures.place),
   (0, refl, within c.self.view_is c.in_ok-cell.cell c.in_ok-cell.ensures.within, inl refl, record { held = refl; forward = refl; name = refl }),

@@ -6,5 +6,6 @@ use Rattle.machine.proofs.heap.Heap.plan_put.Goals as goal
 
 pub returns : goal.returns
 returns c g a =
-    word_plans c.args.self.now g c.args.mutator (commands.Put c.args.obj c.args.i c.args.word) replies.Done _ c.args.i c.args.word c.in_ok-at.at
-    (put_effect c.args.self.now g a c.args.mutator c.args.obj c.args.i c.args.word c.in_ok-root.root c.in_ok-at.at (placed c.self.view_is c.args.mutator c.args.obj c.in_ok-root.root c.in_ok-root.ensures.place) (c.in_ok-at.ensures g a)) (c.in_ok-at.ensures g a)
+    rw c.done.ensures
+    (word_plans c.args.self.now g c.args.mutator (commands.Put c.args.obj c.args.i c.args.word) replies.Done _ c.args.i c.args.word c.in_ok-at.at
+    (put_effect c.args.self.now g a c.args.mutator c.args.obj c.args.i c.args.word c.in_ok-root.root c.in_ok-at.at (placed c.self.view_is c.args.mutator c.args.obj c.in_ok-root.root c.in_ok-root.ensures.place) (c.in_ok-at.ensures g a)) (c.in_ok-at.ensures g a))

@@ -1,10 +1,12 @@
 use Rattle.graph_heap.specs.declared.command.Command.TheVariants as commands
 use Rattle.graph_heap.specs.declared.command.Reply.TheVariants as replies
 use Rattle.machine.proofs.Effects.{store_static_effect}
-use Rattle.machine.proofs.Plans.{placed, placed_static, root_plans, within}
+use Rattle.machine.proofs.Plans.{placed_static, root_plans, within}
 use Rattle.machine.proofs.heap.Heap.plan_store_static.Goals as goal
 
 pub returns : goal.returns
 returns c g a =
-    root_plans c.args.self.now g c.args.mutator (commands.StoreStatic c.args.k c.args.src) replies.Done c.in_ok-cell.cell _ c.held.result
-    (store_static_effect c.args.self.now g a c.args.mutator c.args.k c.args.src c.in_ok-source.source c.in_ok-cell.cell (placed c.self.view_is c.args.mutator c.args.src c.in_ok-source.source c.in_ok-source.ensures.place) (placed_static c.self.view_is c.args.k c.in_ok-cell.cell c.in_ok-cell.ensures.place)) (within c.self.view_is c.in_ok-cell.cell c.in_ok-cell.ensures.within) (c.held.ensures g a)
+    let value = c.in_ok-value.ensures.names g a in
+    rw c.done.ensures
+    (root_plans c.args.self.now g c.args.mutator (commands.StoreStatic c.args.k c.args.src) replies.Done c.in_ok-cell.cell _ c.in_ok-value.value
+    (store_static_effect c.args.self.now g a c.args.mutator c.args.k c.args.src value.cell c.in_ok-cell.cell value.place (placed_static c.self.view_is c.args.k c.in_ok-cell.cell c.in_ok-cell.ensures.place)) (within c.self.view_is c.in_ok-cell.cell c.in_ok-cell.ensures.within) value.names)

@@ -1,4 +1,4 @@
-use Rattle.std.proofs.Common.{Result, sym, subst}
+use Rattle.std.proofs.Common.{◌<◌, Result, sym, subst}
 use Rattle.graph_heap.specs.declared.command.Refusal.{Refusal}
 use Rattle.graph_heap.specs.declared.command.Reply.TheVariants as replies
 use Rattle.heap_model.specs.State.{HeapState}
@@ -9,9 +9,12 @@ use Rattle.machine.proofs.Writing.{written_heap, performs, count_by}
 use Rattle.machine.proofs.Replying.{can_write, settles_ok, settles_err}
 use Rattle.machine.proofs.heap.Heap.settle.Goals as goal
 
-pub do_write-requires-clause-write : goal.do_write-requires-clause-write
-do_write-requires-clause-write c =
-    subst (λ (x : HeapState). CanPerform x c.in-Ok.planned.write) (sym c.self.view_is) (can_write c.args.self.now c.in-Ok.planned (subst (CanSettle c.args.self.now) c.in-Ok.is c.requires.planned))
+pub do_write-requires : goal.do_write-requires
+do_write-requires c = record {
+  heap = c.self.invariant;
+  mutator = subst (λ (x : HeapState). c.args.mutator < x.limits.mutators) (sym c.self.view_is) c.requires.mutator;
+  write = subst (λ (x : HeapState). CanPerform x c.in-Ok.planned.write) (sym c.self.view_is) (can_write c.args.self.now c.in-Ok.planned (subst (CanSettle c.args.self.now) c.in-Ok.is c.requires.planned));
+}
 
 pub invariant_of-self : goal.invariant_of-self
 invariant_of-self c =

@@ -10,15 +10,12 @@ use Rattle.machine.proofs.heap.writing.null_roots.Goals as goal
 pub loop-i-init : goal.loop-i-init
 loop-i-init c = (c.requires.heap, Clears_none, own_none c.args.mutator c.args.heap.now.grey)
 
-pub write_root-requires-clause-heap : goal.write_root-requires-clause-heap
-write_root-requires-clause-heap c = c.loop-i.invariant.0
-
-pub write_root-requires-clause-mutator : goal.write_root-requires-clause-mutator
-write_root-requires-clause-mutator c = subst (λ (l : Limits). c.args.mutator < l.mutators) (sym (clears_row (state_of c.args.heap.now) c.args.first c.loop-i.i (state_of c.loop-i.heap) c.loop-i.invariant.1).1) c.requires.mutator
-
-pub write_root-requires-clause-write : goal.write_root-requires-clause-write
-write_root-requires-clause-write c =
-    null_can (state_of c.loop-i.heap) (c.args.first + c.loop-i.i) (next_within (state_of c.args.heap.now) (state_of c.loop-i.heap) c.args.first c.loop-i.i c.args.count c.loop-i.invariant.1 c.requires.within c.loop-i-test.true)
+pub write_root-requires : goal.write_root-requires
+write_root-requires c = record {
+  heap = c.loop-i.invariant.0;
+  mutator = subst (λ (l : Limits). c.args.mutator < l.mutators) (sym (clears_row (state_of c.args.heap.now) c.args.first c.loop-i.i (state_of c.loop-i.heap) c.loop-i.invariant.1).1) c.requires.mutator;
+  write = null_can (state_of c.loop-i.heap) (c.args.first + c.loop-i.i) (next_within (state_of c.args.heap.now) (state_of c.loop-i.heap) c.args.first c.loop-i.i c.args.count c.loop-i.invariant.1 c.requires.within c.loop-i-test.true);
+}
 
 pub loop-i-preserved : goal.loop-i-preserved
 loop-i-preserved c =

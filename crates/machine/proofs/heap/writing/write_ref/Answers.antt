@@ -38,11 +38,12 @@ set_cell-requires-clause-within c =
     let held = ref_held (state_of c.args.heap.now) w.present (present_agrees _ w) p.1.0 p.1.1 c.args.at p.1.4 in
     subst (λ z. c.args.at.index < length z) (sym (records_cells (state_of c.args.heap.now) (state_of c.record.new.heap) c.cell-before.result c.args.at.block c.record.ensures.records held)) p.1.4.1.within
 
-pub returns-clause-does : goal.returns-clause-does
-returns-clause-does c =
+pub returns : goal.returns
+returns c =
     let a = c.args.heap.now in let rec = c.record.new.heap in
-    subst (DoesEach (state_of a) (writes.Ref c.args.at c.args.reference)) (sym (store_kept rec c.record.ensures.held c.set_cell.new.self (ap length c.set_cell.ensures.written.pages) c.set_cell.ensures.links))
-    (ref_does (state_of a) (state_of rec) c.cell-before.result c.record.ensures.records c.args.at c.args.reference _ c.cell-before.ensures c.set_cell.ensures.written)
-
-pub returns-clause-buffers : goal.returns-clause-buffers
-returns-clause-buffers c = c.record.ensures.buffers ∙ ap (buffers_after c.args.heap.now c.args.mutator) c.cell-before.ensures
+    record {
+      does =
+          subst (DoesEach (state_of a) (writes.Ref c.args.at c.args.reference)) (sym (store_kept rec c.record.ensures.held c.set_cell.new.self (ap length c.set_cell.ensures.written.pages) c.set_cell.ensures.links))
+          (ref_does (state_of a) (state_of rec) c.cell-before.result c.record.ensures.records c.args.at c.args.reference _ c.cell-before.ensures c.set_cell.ensures.written);
+      buffers = c.record.ensures.buffers ∙ ap (buffers_after a c.args.mutator) c.cell-before.ensures;
+    }

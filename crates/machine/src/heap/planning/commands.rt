@@ -1,0 +1,165 @@
+//! Each command as a method of the heap: a mutator that may ask for it gets what was planned.
+ghost use Rattle.machine.specs.Plan.{Steps};
+
+use crate::heap::Heap;
+use graph_heap::{Command, Reply, Shape};
+
+/// Does what is planned for a mutator, if that may ask for it. Nothing is planned before it is known that it may.
+macro_rules! settled {
+    ($heap:expr, $mutator:expr, $joins:expr, $plan:expr) => {
+        match $heap.raw.roots.admit($mutator, $joins) {
+            Ok(_) => $heap.settle($mutator, $plan),
+            Err(refusal) => Reply::Refused(refusal),
+        }
+    };
+}
+
+impl Heap {
+    /// A new object, with null references and zero words, into slot dst.
+    #[inline(always)]
+    pub fn make(&mut self, mutator: u32, dst: u32, shape: Shape) -> Reply
+        ensures { Steps self.old mutator (Command.New dst shape) result self.new }
+    {
+        settled!(self, mutator, false, self.plan_new(mutator, dst, shape))
+    }
+
+    /// A reference cell into slot dst.
+    #[inline(always)]
+    pub fn load(&mut self, mutator: u32, dst: u32, obj: u32, i: u32) -> Reply
+        ensures { Steps self.old mutator (Command.Load dst obj i) result self.new }
+    {
+        settled!(self, mutator, false, self.plan_load(mutator, dst, obj, i))
+    }
+
+    /// What slot src holds into a reference cell.
+    #[inline(always)]
+    pub fn store(&mut self, mutator: u32, obj: u32, i: u32, src: u32) -> Reply
+        ensures { Steps self.old mutator (Command.Store obj i src) result self.new }
+    {
+        settled!(self, mutator, false, self.plan_store(mutator, obj, i, src))
+    }
+
+    /// What slot new holds into a reference cell, if that holds what slot expect does.
+    #[inline(always)]
+    pub fn compare_store(&mut self, mutator: u32, obj: u32, i: u32, expect: u32, new: u32) -> Reply
+        ensures { Steps self.old mutator (Command.CompareStore obj i expect new) result self.new }
+    {
+        settled!(
+            self,
+            mutator,
+            false,
+            self.plan_compare_store(mutator, obj, i, expect, new)
+        )
+    }
+
+    /// Reads a word cell.
+    #[inline(always)]
+    pub fn get(&mut self, mutator: u32, obj: u32, i: u32) -> Reply
+        ensures { Steps self.old mutator (Command.Get obj i) result self.new }
+    {
+        settled!(self, mutator, false, self.plan_get(mutator, obj, i))
+    }
+
+    /// Writes a word cell.
+    #[inline(always)]
+    pub fn put(&mut self, mutator: u32, obj: u32, i: u32, word: u64) -> Reply
+        ensures { Steps self.old mutator (Command.Put obj i word) result self.new }
+    {
+        settled!(self, mutator, false, self.plan_put(mutator, obj, i, word))
+    }
+
+    /// Writes a word cell, if that is old.
+    #[inline(always)]
+    pub fn compare_put(&mut self, mutator: u32, obj: u32, i: u32, old: u64, new: u64) -> Reply
+        ensures { Steps self.old mutator (Command.ComparePut obj i old new) result self.new }
+    {
+        settled!(
+            self,
+            mutator,
+            false,
+            self.plan_compare_put(mutator, obj, i, old, new)
+        )
+    }
+
+    /// What slot src holds into slot dst.
+    #[inline(always)]
+    pub fn copy(&mut self, mutator: u32, dst: u32, src: u32) -> Reply
+        ensures { Steps self.old mutator (Command.Copy dst src) result self.new }
+    {
+        settled!(self, mutator, false, self.plan_copy(mutator, dst, src))
+    }
+
+    /// Null into slot dst.
+    #[inline(always)]
+    pub fn clear(&mut self, mutator: u32, dst: u32) -> Reply
+        ensures { Steps self.old mutator (Command.Clear dst) result self.new }
+    {
+        settled!(self, mutator, false, self.plan_clear(mutator, dst))
+    }
+
+    /// What static k holds into slot dst.
+    #[inline(always)]
+    pub fn load_static(&mut self, mutator: u32, dst: u32, k: u32) -> Reply
+        ensures { Steps self.old mutator (Command.LoadStatic dst k) result self.new }
+    {
+        settled!(self, mutator, false, self.plan_load_static(mutator, dst, k))
+    }
+
+    /// What slot src holds into static k.
+    #[inline(always)]
+    pub fn store_static(&mut self, mutator: u32, k: u32, src: u32) -> Reply
+        ensures { Steps self.old mutator (Command.StoreStatic k src) result self.new }
+    {
+        settled!(
+            self,
+            mutator,
+            false,
+            self.plan_store_static(mutator, k, src)
+        )
+    }
+
+    /// What slot new holds into static k, if that holds what slot expect does.
+    #[inline(always)]
+    pub fn compare_static(&mut self, mutator: u32, k: u32, expect: u32, new: u32) -> Reply
+        ensures { Steps self.old mutator (Command.CompareStatic k expect new) result self.new }
+    {
+        settled!(
+            self,
+            mutator,
+            false,
+            self.plan_compare_static(mutator, k, expect, new)
+        )
+    }
+
+    /// Whether two slots hold the same identity, or both null.
+    #[inline(always)]
+    pub fn same(&mut self, mutator: u32, a: u32, b: u32) -> Reply
+        ensures { Steps self.old mutator (Command.Same a b) result self.new }
+    {
+        settled!(self, mutator, false, self.plan_same(mutator, a, b))
+    }
+
+    /// The identity and the shape of the object in slot a.
+    #[inline(always)]
+    pub fn describe(&mut self, mutator: u32, a: u32) -> Reply
+        ensures { Steps self.old mutator (Command.Describe a) result self.new }
+    {
+        settled!(self, mutator, false, self.plan_describe(mutator, a))
+    }
+
+    /// The mutator comes to be live.
+    #[inline(always)]
+    pub fn join(&mut self, mutator: u32) -> Reply
+        ensures { Steps self.old mutator Command.Join result self.new }
+    {
+        settled!(self, mutator, true, self.plan_join(mutator))
+    }
+
+    /// Null into each slot of the mutator, which is live no more.
+    #[inline(always)]
+    pub fn leave(&mut self, mutator: u32) -> Reply
+        ensures { Steps self.old mutator Command.Leave result self.new }
+    {
+        settled!(self, mutator, false, self.plan_leave(mutator))
+    }
+}

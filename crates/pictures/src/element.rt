@@ -1,7 +1,7 @@
 //! The elements of a picture. All lengths are in units of the picture, with x from the left and y from
 //! the top.
 ghost use Rattle.std.specs.Prelude.{◌≡◌, ◌≤◌, ◌<◌, ◌+◌, ◌++◌, length, take, codes, decimal};
-ghost use Rattle.pictures.specs.Elements.{colour_code, open_line, title_line, group_line, box_text, anchor_name, anchor_text, point_text, text_line, element_line};
+ghost use Rattle.pictures.specs.Elements.{colour_code, open_line, title_text, box_text, anchor_name, anchor_text, point_text, text_line, element_line};
 
 use crate::caption::{Caption, Words, put_caption};
 use crate::colour::Colour;
@@ -99,24 +99,13 @@ fn put_open(out: &mut [u8], width: u32, height: u32) -> usize
     put(out, end, b" font-family='sans-serif'>")
 }
 
-/// Puts the title of the document.
-fn put_title(out: &mut [u8], words: Words) -> usize
-    requires { 256 ≤ length out.old }
-    ensures text { take result out.new ≡ title_line words }
-    ensures place { result < 256 }
+/// Puts a title.
+fn put_title(out: &mut [u8], at: usize, caption: Caption) -> usize
+    requires { at + 145 ≤ length out.old }
+    ensures text { take result out.new ≡ take at out.old ++ title_text caption }
+    ensures place { result ≤ at + 145 }
 {
-    let end = put(out, 0, b"<title>");
-    let end = put(out, end, words.text());
-    put(out, end, b"</title>")
-}
-
-/// Puts the beginning of elements that belong together.
-fn put_group(out: &mut [u8], caption: Caption) -> usize
-    requires { 256 ≤ length out.old }
-    ensures text { take result out.new ≡ group_line caption }
-    ensures place { result < 256 }
-{
-    let end = put(out, 0, b"<g><title>");
+    let end = put(out, at, b"<title>");
     let end = put_caption(out, end, caption);
     put(out, end, b"</title>")
 }
@@ -172,8 +161,11 @@ pub(crate) fn put_element(out: &mut [u8], element: Element) -> usize
 {
     match element {
         Element::Open(width, height) => put_open(out, width, height),
-        Element::Title(words) => put_title(out, words),
-        Element::Group(caption) => put_group(out, caption),
+        Element::Title(words) => put_title(out, 0, Caption::Words(words)),
+        Element::Group(caption) => {
+            let end = put(out, 0, b"<g>");
+            put_title(out, end, caption)
+        }
         Element::Rectangle(x, y, width, height, fill) => {
             let end = put_box(out, x, y, width, height);
             put_colour(out, end, b"' fill='", fill)

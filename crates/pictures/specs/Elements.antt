@@ -1,7 +1,6 @@
 -- The elements of a picture, as text: SVG, version 1.1. Lengths are in units of the picture, with x from the
 -- left and y from the top.
-use Rattle.std.specs.Prelude.{ℕ, ◌+◌, List, [], ◌∷◌, ◌++◌, map, codes, decimal}
-use Rattle.trace.specs.Streams.{text_of}
+use Rattle.std.specs.Prelude.{ℕ, List, ◌++◌, codes, decimal}
 use Rattle.pictures.specs.declared.colour.Colour.{Colour}
 use Rattle.pictures.specs.declared.colour.Colour.TheVariants as colours
 use Rattle.pictures.specs.declared.caption.Caption.{Caption}
@@ -11,6 +10,7 @@ use Rattle.pictures.specs.declared.element.Anchor.TheVariants as anchors
 use Rattle.pictures.specs.declared.element.Element.{Element}
 use Rattle.pictures.specs.declared.element.Element.TheVariants.{Open, Title, Group, Rectangle, Veil, Text, Line, Dot, GroupEnd, Close}
 use Rattle.pictures.specs.Captions.{caption_text}
+use Rattle.pictures.specs.Lines.{lines_text}
 
 -- a colour as SVG names it
 abbrev pub colour_code : Colour → List ℕ
@@ -107,11 +107,6 @@ element_line (Dot x y fill) = dot_line x y fill
 element_line GroupEnd = codes "</g>"
 element_line Close = codes "</svg>"
 
--- what is drawn of each item of a list by its place, from one on
-abbrev pub each_from : {A : Type 0} → (ℕ → A → List Element) → ℕ → List A → List Element
-each_from drawn place [] = []
-each_from drawn place (x ∷ later) = drawn place x ++ each_from drawn (place + 1) later
-
 -- the text of elements: each is a line, with LF (byte 10) after it
-unfoldable pub svg_text : List Element → List ℕ
-svg_text elements = text_of (map element_line elements)
+abbrev pub svg_text : List Element → List ℕ
+svg_text = lines_text element_line

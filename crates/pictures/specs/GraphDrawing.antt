@@ -1,5 +1,5 @@
 -- What is drawn of a graph heap: the objects nearest to its roots, and the references between them.
-use Rattle.std.specs.Prelude.{ℕ, ◌+◌, ◌-◌, ◌*◌, ◌/◌, ◌%◌, ◌==◌, nat_eq, nat_lt, if◌then◌else◌, List, [], ◌∷◌, ◌++◌, length, map, take, flat_map}
+use Rattle.std.specs.Prelude.{ℕ, ◌-◌, ◌*◌, ◌/◌, ◌%◌, ◌==◌, nat_eq, nat_lt, if◌then◌else◌, List, [], ◌∷◌, ◌++◌, length, map, take, flat_map}
 use Rattle.std.specs.Set.{is_member}
 use Rattle.graph_heap.specs.declared.command.Limits.{Limits}
 use Rattle.graph_heap.specs.Graph.{Graph, object_of}
@@ -8,16 +8,12 @@ use Rattle.pictures.specs.declared.graph.statement.Root.{Root}
 use Rattle.pictures.specs.declared.graph.statement.Root.TheVariants.{Slot, Static}
 use Rattle.pictures.specs.declared.graph.statement.Statement.{Statement}
 use Rattle.pictures.specs.declared.graph.statement.Statement.TheVariants.{Open, Box, Holds, Object, Cell, LeftOut, Close}
+use Rattle.pictures.specs.Lines.{each_from}
 use Rattle.pictures.specs.Statements.{dot_text}
 
 -- the identities of the first objects of those that were found, at most so many
 abbrev pub shown_of : ℕ → List Found → List ℕ
 shown_of most found = map (λ f. f.id) (take most found)
-
--- what is drawn of each cell of a row by its place, from one on
-abbrev pub each_from : (ℕ → ℕ → List Statement) → ℕ → List ℕ → List Statement
-each_from drawn place [] = []
-each_from drawn place (id ∷ ids) = drawn place id ++ each_from drawn (place + 1) ids
 
 -- the root at a place of the row of roots: the slots of each mutator, and then the statics
 abbrev pub root_at : Limits → ℕ → Root

@@ -1,5 +1,6 @@
 pub mod Axes
 pub mod Captions
+pub mod Lines
 pub mod Elements
 pub mod Frame
 pub mod PageMap

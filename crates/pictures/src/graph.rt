@@ -2,7 +2,6 @@
 mod drawing;
 mod fault;
 mod statement;
-mod writing;
 
 pub use drawing::draw_graph;
 pub use fault::DrawFault;

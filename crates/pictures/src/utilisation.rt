@@ -1,7 +1,8 @@
 //! The picture of the mutators' least shares of windows of some lengths.
 ghost use Rattle.std.specs.Prelude.{◌≡◌, ◌<◌, ◌≤◌, ◌+◌, ◌++◌, List, length, OnOk, OnErr};
 ghost use Rattle.trace.specs.Streams.{GrowsByPart, failed};
-ghost use Rattle.pictures.specs.Elements.{each_from, svg_text};
+ghost use Rattle.pictures.specs.Elements.{svg_text};
+ghost use Rattle.pictures.specs.Lines.{each_from};
 ghost use Rattle.pictures.specs.Utilisation as utilisation;
 ghost use Rattle.pictures.specs.Utilisation.{AreShares, log_of, window_x, share_y, window_number, window_points, shares_shown, utilisation_picture};
 
@@ -11,7 +12,7 @@ use crate::element::{Anchor, Element};
 use crate::frame::{meaning, swatch, write_head};
 use crate::measuring::put_shares;
 use crate::share::{Share, WINDOWS};
-use crate::writing::{write_close, write_elements};
+use crate::writing::{write_line, write_lines};
 use quanta::Schedule;
 use size_classes::Config;
 use trace::{Sink, WriteFailed};
@@ -80,7 +81,7 @@ fn write_numbers<K: Sink>(last: u32, windows: &[u64], sink: &mut K) -> Result<()
     ensures cause { K.failures sink.new ≡ K.failures sink.old + failed result }
 {
     for (place, window) in windows.iter().enumerate() {
-        write_elements(sink, &number(last, place as u32, *window))?;
+        write_lines(sink, &number(last, place as u32, *window))?;
     }
     Ok(())
 }
@@ -110,7 +111,7 @@ fn write_points<K: Sink>(last: u32, shares: &[Share], sink: &mut K) -> Result<()
     ensures cause { K.failures sink.new ≡ K.failures sink.old + failed result }
 {
     for (place, share) in shares.iter().enumerate() {
-        write_elements(sink, &points(last, place as u32, share))?;
+        write_lines(sink, &points(last, place as u32, share))?;
     }
     Ok(())
 }
@@ -176,7 +177,7 @@ fn draw_shares<K: Sink>(shares: &[Share], sink: &mut K) -> Result<(), WriteFaile
 {
     write_head(1200, 490, Words::LeastUtilisation, &axes(), sink)?;
     write_shown(shares, sink)?;
-    write_close(sink)
+    write_line(sink, Element::Close)
 }
 
 /// Writes the mutators' shares of windows of 1, 2, 5, 10, 20, 50 ticks and so on, up to the time that has

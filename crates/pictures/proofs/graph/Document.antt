@@ -7,10 +7,11 @@ use Rattle.trace.specs.Streams.{GrowsByPart}
 use Rattle.pictures.specs.declared.graph.statement.Statement.{Statement}
 use Rattle.pictures.specs.declared.graph.statement.Statement.TheVariants.{Open, Close}
 use Rattle.pictures.specs.Statements.{dot_text}
-use Rattle.pictures.specs.GraphDrawing.{shown_of, each_from, root_drawn, objects_drawn, left_out, graph_drawn, graph_picture}
+use Rattle.pictures.specs.GraphDrawing.{shown_of, root_drawn, objects_drawn, left_out, graph_drawn, graph_picture}
+use Rattle.pictures.specs.Lines.{each_from}
 use Rattle.pictures.proofs.graph.Drawn.{roots_are, objects_are, left_is}
 use Rattle.pictures.proofs.Parts.{SoFar, none_yet, further, cut_short, all_of}
-use Rattle.pictures.proofs.graph.Statements.{dot_is}
+use Rattle.pictures.proofs.Lines.{dot_is}
 
 -- the line that opens it
 module _ (g : Graph) (most : ℕ) (all : List Found) (t0 t1 : List ℕ) where

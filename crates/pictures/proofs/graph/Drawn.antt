@@ -11,7 +11,8 @@ use Rattle.graph_heap.specs.Graph.{Graph, object_of}
 use Rattle.pictures.specs.declared.reachability.found.Found.{Found}
 use Rattle.pictures.specs.declared.graph.statement.Root.{Root}
 use Rattle.pictures.specs.declared.graph.statement.Statement.TheVariants.{Box, Holds, Object, Cell, LeftOut}
-use Rattle.pictures.specs.GraphDrawing.{each_from, root_at, root_drawn, cell_drawn, object_drawn, objects_drawn, left_out}
+use Rattle.pictures.specs.GraphDrawing.{root_at, root_drawn, cell_drawn, object_drawn, objects_drawn, left_out}
+use Rattle.pictures.specs.Lines.{each_from}
 
 -- a result that is this error
 pub failed_so : {A E : Type 0} (r : Result A E) (why : E) → IsErrAnd r (λ e. e ≡ why) → r ≡ Err why

@@ -5,13 +5,14 @@ ghost use Rattle.trace.specs.Streams.{GrowsByPart, failed, taken_by};
 ghost use Rattle.pictures.specs.Distance.{AreOnce};
 ghost use Rattle.pictures.specs.Statements.{dot_text};
 ghost use Rattle.pictures.specs.GraphDrawing as drawings;
-ghost use Rattle.pictures.specs.GraphDrawing.{shown_of, each_from, root_drawn, cell_drawn, object_drawn, objects_drawn, graph_picture};
+ghost use Rattle.pictures.specs.GraphDrawing.{shown_of, root_drawn, cell_drawn, object_drawn, objects_drawn, graph_picture};
+ghost use Rattle.pictures.specs.Lines.{each_from};
 ghost use Rattle.pictures.specs.GraphDrawn.{GraphDrawn, writes_failed};
 
 use crate::graph::fault::DrawFault;
 use crate::graph::statement::{Root, Statement};
-use crate::graph::writing::write_statement;
 use crate::reachability::{Found, Search, search};
+use crate::writing::write_line;
 use graph_heap::{Limits, Reference};
 use std::alloc::Global;
 use trace::{Sink, WriteFailed};
@@ -61,8 +62,8 @@ fn write_root<K: Sink>(
         return Ok(());
     }
     let root = root_at(limits, place);
-    write_statement(sink, Statement::Box(root))?;
-    write_statement(sink, Statement::Holds(root, id))
+    write_line(sink, Statement::Box(root))?;
+    write_line(sink, Statement::Holds(root, id))
 }
 
 /// Writes the roots of a row that hold shown objects.
@@ -106,7 +107,7 @@ fn write_cell<K: Sink>(
     if !is_shown(search, most, id) {
         return Ok(());
     }
-    write_statement(sink, Statement::Cell(from, cell as u64, id))
+    write_line(sink, Statement::Cell(from, cell as u64, id))
 }
 
 /// Writes the reference cells of an object that hold shown objects.
@@ -145,7 +146,7 @@ fn write_object<K: Sink>(
         (dot_text (object_drawn graph.now (shown_of most search.now.found) id))) }
     ensures cause { K.failures sink.new ≡ K.failures sink.old + failed result }
 {
-    write_statement(sink, Statement::Object(id, graph.shape(id)))?;
+    write_line(sink, Statement::Object(id, graph.shape(id)))?;
     write_cells(search, most, id, graph.refs(id), sink)
 }
 
@@ -179,7 +180,7 @@ fn write_left_out<K: Sink>(n: usize, sink: &mut K) -> Result<(), WriteFailed>
     if n == 0 {
         return Ok(());
     }
-    write_statement(sink, Statement::LeftOut(n as u64))
+    write_line(sink, Statement::LeftOut(n as u64))
 }
 
 /// Writes the document of the first objects of those that were found, at most so many.
@@ -197,11 +198,11 @@ fn write_graph<K: Sink>(
 {
     let found = search.found();
     let count = most.min(found.len());
-    write_statement(sink, Statement::Open)?;
+    write_line(sink, Statement::Open)?;
     write_roots(search, most, graph.limits(), graph.roots(), sink)?;
     write_objects(graph, search, most, &found[..count], sink)?;
     write_left_out(found.len().saturating_sub(most), sink)?;
-    write_statement(sink, Statement::Close)
+    write_line(sink, Statement::Close)
 }
 
 /// Writes a graph heap to a sink as a DOT document, which Graphviz lays out, in lines that end with LF: the objects

@@ -1,22 +1,22 @@
 use Rattle.std.proofs.Common.{refl, arith}
-use Rattle.pictures.specs.Elements.{each_from}
+use Rattle.pictures.specs.Lines.{each_from}
 use Rattle.pictures.specs.Utilisation.{window_points}
 use Rattle.pictures.proofs.Parts.{at_err, none_yet, further, cut_short}
-use Rattle.pictures.proofs.Drawing.{svg_is, each_on}
+use Rattle.pictures.proofs.Lines.{svg_is, each_on}
 use Rattle.pictures.proofs.utilisation.write_points.Goals as goal
 
 pub loop-place-init : goal.loop-place-init
 loop-place-init g c = record { written = none_yet svg_is (g.K.Sink.taken c.args.sink.now) (each_from (window_points c.args.last) 0 c.args.shares.now); failures = refl }
 
-pub returns-in_err-write_elements-clause-err : goal.returns-in_err-write_elements-clause-err
-returns-in_err-write_elements-clause-err g c =
+pub returns-in_err-write_lines-clause-err : goal.returns-in_err-write_lines-clause-err
+returns-in_err-write_lines-clause-err g c =
     let on = each_on (window_points c.args.last) c.args.shares.now c.index-shares-place.result c.index-shares-place.result c.loop-place.place c.points.result c.loop-place-test.true c.index-shares-place.is c.points.ensures in
-    at_err c.from_residual.result _ (cut_short svg_is _ _ _ _ c.loop-place.invariant.written _ _ on _ c.in_err-write_elements.ensures.err)
+    at_err c.from_residual.result _ (cut_short svg_is _ _ _ _ c.loop-place.invariant.written _ _ on _ c.in_err-write_lines.ensures.err)
 
 pub loop-place-preserved : goal.loop-place-preserved
 loop-place-preserved g c =
     let on = each_on (window_points c.args.last) c.args.shares.now c.index-shares-place.result c.index-shares-place.result c.loop-place.place c.points.result c.loop-place-test.true c.index-shares-place.is c.points.ensures in
     record {
-      written = further svg_is _ _ _ _ c.loop-place.invariant.written _ _ on _ c.in_ok-write_elements.ensures.ok;
-      failures = omega (arith, c.in_ok-write_elements.ensures.cause, c.loop-place.invariant.failures);
+      written = further svg_is _ _ _ _ c.loop-place.invariant.written _ _ on _ c.in_ok-write_lines.ensures.ok;
+      failures = omega (arith, c.in_ok-write_lines.ensures.cause, c.loop-place.invariant.failures);
     }

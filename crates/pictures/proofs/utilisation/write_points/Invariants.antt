@@ -1,5 +1,5 @@
 use Rattle.std.proofs.Common.{◌≡◌, drop}
-use Rattle.pictures.specs.Elements.{each_from}
+use Rattle.pictures.specs.Lines.{each_from}
 use Rattle.pictures.specs.Utilisation.{window_points}
 use Rattle.pictures.specs.Elements.{svg_text}
 use Rattle.pictures.proofs.Parts.{SoFar}

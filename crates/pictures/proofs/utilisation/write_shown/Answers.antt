@@ -1,9 +1,9 @@
 use Rattle.std.proofs.Common.{[], sym, refl, append-nil}
 use Rattle.std.proofs.lemmas.Result.{on_err_weaker, on_ok_weaker}
-use Rattle.pictures.specs.Elements.{each_from}
+use Rattle.pictures.specs.Lines.{each_from}
 use Rattle.pictures.specs.Utilisation.{window_points}
 use Rattle.pictures.proofs.Parts.{at_err, none_yet, further, cut_short, all_of}
-use Rattle.pictures.proofs.Drawing.{svg_is}
+use Rattle.pictures.proofs.Lines.{svg_is}
 use Rattle.pictures.proofs.Shares.{shown_is}
 use Rattle.pictures.proofs.utilisation.write_shown.Goals as goal
 

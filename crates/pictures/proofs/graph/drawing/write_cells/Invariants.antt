@@ -1,5 +1,6 @@
 use Rattle.std.proofs.Common.{◌≡◌, drop}
-use Rattle.pictures.specs.GraphDrawing.{shown_of, each_from, cell_drawn}
+use Rattle.pictures.specs.GraphDrawing.{shown_of, cell_drawn}
+use Rattle.pictures.specs.Lines.{each_from}
 use Rattle.pictures.specs.Statements.{dot_text}
 use Rattle.pictures.proofs.Parts.{SoFar}
 use Rattle.pictures.proofs.graph.drawing.write_cells.Given as goal

@@ -3,7 +3,7 @@ use Rattle.std.proofs.lemmas.List.{drop_all}
 use Rattle.pictures.specs.GraphDrawing.{shown_of, objects_drawn}
 use Rattle.pictures.proofs.graph.Drawn.{objects_on}
 use Rattle.pictures.proofs.Parts.{at_err, none_yet, further, cut_short, all_of}
-use Rattle.pictures.proofs.graph.Statements.{dot_is}
+use Rattle.pictures.proofs.Lines.{dot_is}
 use Rattle.pictures.proofs.graph.drawing.write_objects.Goals as goal
 
 pub loop-object-init : goal.loop-object-init

@@ -1,6 +1,6 @@
 use Rattle.std.proofs.Common.{◌≡◌, ℕ, List, ◌++◌, ap, ◌∙◌, sym, codes, decimal, append_assoc}
 use Rattle.pictures.specs.Elements.{colour_code, element_line}
-use Rattle.pictures.proofs.element.put_element.Goals as goal
+use Rattle.pictures.proofs.element.ElementDocumentLine.put.Goals as goal
 
 regroup : (a b c d : List ℕ) → a ++ (b ++ c ++ d) ≡ a ++ b ++ c ++ d
 regroup a b c d = ap (λ t. a ++ t) (append_assoc b c d) ∙ sym (append_assoc a b (c ++ d)) ∙ sym (append_assoc (a ++ b) c d)

@@ -1,21 +1,21 @@
 //! Drawing a graph heap.
 ghost use Rattle.std.specs.Prelude.{◌≡◌, ◌+◌, ◌++◌, OnOk, OnErr, nat_eq};
 ghost use Rattle.std.specs.Set.{is_member};
+ghost use Rattle.trace.specs.GoneOver.{writes_failed};
 ghost use Rattle.trace.specs.Streams.{GrowsByPart, failed, taken_by};
 ghost use Rattle.pictures.specs.Distance.{AreOnce};
 ghost use Rattle.pictures.specs.Statements.{dot_text};
 ghost use Rattle.pictures.specs.GraphDrawing as drawings;
 ghost use Rattle.pictures.specs.GraphDrawing.{shown_of, root_drawn, cell_drawn, object_drawn, objects_drawn, graph_picture};
 ghost use Rattle.pictures.specs.Lines.{each_from};
-ghost use Rattle.pictures.specs.GraphDrawn.{GraphDrawn, writes_failed};
+ghost use Rattle.pictures.specs.GraphDrawn.{GraphDrawn};
 
-use crate::graph::fault::DrawFault;
 use crate::graph::statement::{Root, Statement};
 use crate::reachability::{Found, Search, search};
 use crate::writing::write_line;
 use graph_heap::{Limits, Reference};
 use std::alloc::Global;
-use trace::{Sink, WriteFailed};
+use trace::{Sink, TextFault, WriteFailed};
 
 /// Whether an object is among the first of those that were found, at most so many.
 fn is_shown(search: &Search, most: usize, id: u64) -> bool
@@ -208,18 +208,20 @@ fn write_graph<K: Sink>(
 /// Writes a graph heap to a sink as a DOT document, which Graphviz lays out, in lines that end with LF: the objects
 /// that can be reached, at most so many of them, nearest to the roots first, each with its identity and its shape; a
 /// box for each root that holds one of them; each reference between them, with the index of its cell; and how many
-/// objects aren't drawn, if there are any. It takes memory for the search alone, before the first write. After an error
-/// of the sink, that has taken a beginning of the document.
+/// objects aren't drawn, if there are any. It takes memory for the search alone, before the first write. It fails where a
+/// write failed, and then the sink has taken a beginning of the document, or where memory was refused.
 pub fn draw_graph<K: Sink>(
     alloc: Global,
     graph: &Reference,
     most: u32,
     sink: &mut K,
-) -> Result<(), DrawFault>
+) -> Result<(), TextFault>
     ensures drawn { GraphDrawn graph.now most (taken_by K.taken sink.old sink.new) result }
     ensures cause { K.failures sink.new ≡ K.failures sink.old + writes_failed result }
 {
     let search = search(alloc, graph)?;
-    write_graph(graph, &search, most as usize, sink)?;
-    Ok(())
+    match write_graph(graph, &search, most as usize, sink) {
+        Ok(()) => Ok(()),
+        Err(WriteFailed) => Err(TextFault::Write),
+    }
 }

@@ -63,6 +63,15 @@ module _ {A : Type 0} {text : List A → List ℕ} (w : IsText text) where
         let Part : List A → Type 0 = λ xs. GrowsByPart old new (text xs) in
         subst Part (sym split) (part old mid so.done so.written new here behind g)
 
+  module _ (old mid : List ℕ) (all rest : List A) (so : SoFar text old mid all rest) (new : List ℕ) where
+    -- with all that was to come
+    pub to_last : new ≡ mid ++ text rest → new ≡ old ++ text all
+    to_last e = more old mid so.done so.written new rest e ∙ ap (λ xs. old ++ text xs) (sym so.still)
+
+    -- with a part of it
+    pub in_last : GrowsByPart mid new (text rest) → GrowsByPart old new (text all)
+    in_last g = cut_short old mid all rest so rest [] (sym (append-nil rest)) new g
+
 -- all are written
 pub all_of : {A : Type 0} {text : List A → List ℕ} (old new : List ℕ) (all rest : List A) → SoFar text old new all rest → rest ≡ [] → new ≡ old ++ text all
 all_of {text = text} old new all rest so e = so.written ∙ ap (λ xs. old ++ text xs) (sym (so.still ∙ ap (λ xs. so.done ++ xs) e ∙ append-nil so.done))

@@ -11,6 +11,7 @@ pub mod Samples
 pub mod Sampler
 pub mod Taking
 pub mod GraphDrawing
+pub mod Drawing
 pub mod GraphDrawn
 pub mod Statements
 pub mod Distance

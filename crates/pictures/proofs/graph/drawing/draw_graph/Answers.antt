@@ -20,9 +20,6 @@ returns-in_err-search-clause-cause g c =
     let none : n ≡ n + 0 = omega arith in
     subst Failed (sym (failed_so c.from_residual.result NoMemory c.from_residual.ensures.1)) none
 
-pub write_graph-requires : goal.write_graph-requires
-write_graph-requires g c = c.in_ok-search.ensures.once
-
 pub returns-in-Ok-clause-drawn : goal.returns-in-Ok-clause-drawn
 returns-in-Ok-clause-drawn g c = (c.in_ok-search.search.found, c.in_ok-search.ensures, c.in-Ok.ensures.ok)
 

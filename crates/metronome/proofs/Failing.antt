@@ -12,7 +12,7 @@ use Rattle.trace.specs.declared.version.Version.{Version}
 use Rattle.trace.specs.declared.version.Version.TheVariants.{First, Second}
 use Rattle.trace.specs.GoneOver.{Reached, Ends, reads_failed, writes_failed}
 use Rattle.trace.specs.TextLine.{Text}
-use Rattle.trace.specs.Streams.{Given}
+use Rattle.trace.specs.Streams.{Given, Taken}
 use Rattle.trace.specs.declared.transcripts.histories.Checked.{Checked}
 use Rattle.trace.specs.Histories.{EntriesChecked, HistoryStops}
 use Rattle.trace.specs.Scripts.{ReadScripts, AreScripts, ScriptsRead, ScriptStops}
@@ -21,6 +21,7 @@ use Rattle.player.specs.Player.{entries_in}
 use Rattle.player.specs.Playing.{Stage, stage, Played, text_written}
 use Rattle.player.proofs.Lines.{ends_otherwise, nothing_written}
 use Rattle.pictures.specs.declared.timeline.samples.Samples.{Samples}
+use Rattle.pictures.specs.GraphDrawn.{GraphDrawn}
 use Rattle.pictures.specs.Taking.{SamplesTaken}
 use Rattle.inspector.specs.declared.cycles.cycle.Cycles.{Cycles}
 use Rattle.inspector.specs.Taking.{CyclesTaken}
@@ -34,10 +35,7 @@ use Rattle.command_line.specs.declared.fault.ReadFault.{ReadFault}
 use Rattle.command_line.specs.declared.fault.ReadFault.TheVariants as settings
 use Rattle.metronome.specs.declared.fault.RunFault.{RunFault}
 use Rattle.metronome.specs.declared.fault.RunFault.TheVariants.{Write, NoMemory}
-use Rattle.pictures.specs.declared.graph.fault.DrawFault.{DrawFault}
-use Rattle.pictures.specs.declared.graph.fault.DrawFault.TheVariants as drawings
-use Rattle.pictures.specs.GraphDrawn.{writes_failed as graph_writes_failed}
-use Rattle.metronome.specs.Faults.{of_settings, of_text, of_drawing, IsUnread, failed_reads, failed_writes}
+use Rattle.metronome.specs.Faults.{of_settings, of_text, IsUnread, failed_reads, failed_writes}
 use Rattle.metronome.specs.Jobs.{finish}
 use Rattle.metronome.proofs.Finishing.{failed_so}
 
@@ -95,20 +93,10 @@ memory_unread r h = reads_so r NoMemory h
 pub memory_unwritten : {A : Type 0} (r : Result A RunFault) → IsErrAnd r (λ e. e ≡ NoMemory) → failed_writes r ≡ 0
 memory_unwritten r h = writes_so r NoMemory h
 
--- one that ends in a fault of a drawn graph
-drawing_reads : (why : DrawFault) → failed_reads {A = Unit {0}} (Err (of_drawing why)) ≡ 0
-drawing_reads drawings.Write = refl
-drawing_reads drawings.NoMemory = refl
-
-drawing_writes : (why : DrawFault) → failed_writes {A = Unit {0}} (Err (of_drawing why)) ≡ graph_writes_failed (Err why)
-drawing_writes drawings.Write = refl
-drawing_writes drawings.NoMemory = refl
-
-pub drawing_unread : {A : Type 0} (r : Result A RunFault) (why : DrawFault) → IsErrAnd r (λ e. e ≡ of_drawing why) → failed_reads r ≡ 0
-drawing_unread r why h = reads_so r (of_drawing why) h ∙ drawing_reads why
-
-pub writes_drawing : {A : Type 0} (r : Result A RunFault) (why : DrawFault) → IsErrAnd r (λ e. e ≡ of_drawing why) → failed_writes r ≡ graph_writes_failed (Err why)
-writes_drawing r why h = writes_so r (of_drawing why) h ∙ drawing_writes why
+-- one that draws a graph
+pub drawn_unread : (g : Graph) (most : ℕ) (taken : Taken) (how : Result (Unit {0}) TextFault) → GraphDrawn g most taken how → reads_failed how ≡ 0
+drawn_unread g most taken (Err texts.Read) h = elim h [ ]
+drawn_unread g most taken how h = refl
 
 -- and one of scripts
 pub finished_unread : (all : Bool) → failed_reads (finish all) ≡ 0

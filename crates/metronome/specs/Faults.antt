@@ -2,8 +2,6 @@
 use Rattle.std.specs.Prelude.{ℕ, ◌≡◌, ◌⊎◌, ◌+◌, Result, Err}
 use Rattle.command_line.specs.declared.fault.ReadFault.{ReadFault}
 use Rattle.command_line.specs.declared.fault.ReadFault.TheVariants as settings
-use Rattle.pictures.specs.declared.graph.fault.DrawFault.{DrawFault}
-use Rattle.pictures.specs.declared.graph.fault.DrawFault.TheVariants as drawings
 use Rattle.sizing.specs.declared.load_file.fault.LoadFault.{LoadFault}
 use Rattle.sizing.specs.declared.load_file.fault.LoadFault.TheVariants as loads
 use Rattle.trace.specs.declared.fault.TextFault.{TextFault}
@@ -27,11 +25,6 @@ of_text (texts.Line number why) = Line number why
 of_text texts.Read = Read
 of_text texts.Write = Write
 of_text texts.NoMemory = NoMemory
-
--- the fault of a run whose graph can't be drawn
-abbrev pub of_drawing : DrawFault → RunFault
-of_drawing drawings.Write = Write
-of_drawing drawings.NoMemory = NoMemory
 
 -- the faults of a load or a trace that can't be read into memory
 abbrev pub IsUnread : RunFault → Type 0

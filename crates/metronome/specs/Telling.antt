@@ -5,6 +5,7 @@ use Rattle.heap_model.specs.Event.{Course, present_of}
 use Rattle.heap_model.specs.State.{HeapState}
 use Rattle.nodes.specs.Copies.{HasBlock}
 use Rattle.quanta.specs.Timetable.{Timetable}
+use Rattle.trace.specs.declared.fault.TextFault.{TextFault}
 use Rattle.trace.specs.Streams.{Taken, GrowsByPart}
 use Rattle.player.specs.Player.{PlayerState}
 use Rattle.pictures.specs.Text.{PathTold}
@@ -14,7 +15,6 @@ use Rattle.command_line.specs.declared.job.Picture.{Picture}
 use Rattle.command_line.specs.declared.job.Picture.TheVariants as pictures
 use Rattle.command_line.specs.declared.job.Report.{Report}
 use Rattle.command_line.specs.declared.job.Report.TheVariants as reports
-use Rattle.pictures.specs.declared.graph.fault.DrawFault.{DrawFault}
 use Rattle.pictures.specs.declared.share.Share.{Share}
 use Rattle.pictures.specs.GraphDrawn.{GraphDrawn}
 use Rattle.pictures.specs.PageMap.{pages_picture}
@@ -25,7 +25,7 @@ use Rattle.metronome.specs.declared.fault.Ending.{Ending}
 use Rattle.metronome.specs.declared.fault.Ending.TheVariants.{Done}
 use Rattle.metronome.specs.declared.fault.RunFault.{RunFault}
 use Rattle.metronome.specs.declared.fault.RunFault.TheVariants.{Write}
-use Rattle.metronome.specs.Faults.{of_drawing}
+use Rattle.metronome.specs.Faults.{of_text}
 use Rattle.metronome.specs.Told.{ReportTold}
 use Rattle.metronome.specs.Windows.{AllTold, FirstTold}
 
@@ -51,13 +51,13 @@ PictureDrawn picture config p taken result = (text : List ℕ) × IsPicture pict
     × ReportWritten text taken result
 
 -- a job that is done where its drawing is
-abbrev pub drawn_as : Result (Unit {0}) DrawFault → Result Ending RunFault
+abbrev pub drawn_as : Result (Unit {0}) TextFault → Result Ending RunFault
 drawn_as (Ok drawn) = Ok Done
-drawn_as (Err fault) = Err (of_drawing fault)
+drawn_as (Err fault) = Err (of_text fault)
 
 -- the graph heap to which a history led is drawn, at most so many objects
 abbrev pub GraphTold : ℕ → Course → Taken → Result Ending RunFault → Type 0
-GraphTold most r taken result = (how : Result (Unit {0}) DrawFault) × GraphDrawn (present_of r) most taken how
+GraphTold most r taken result = (how : Result (Unit {0}) TextFault) × GraphDrawn (present_of r) most taken how
     × (result ≡ drawn_as how)
 
 -- the text that tells why an object is alive in the graph heap to which a history led, and whether the heap holds a

@@ -1,13 +1,12 @@
 //! How a run ends.
 ghost use Rattle.std.specs.Prelude.{◌≡◌};
 ghost use Rattle.metronome.specs.declared.fault.RunFault.TheVariants as faults;
-ghost use Rattle.metronome.specs.Faults.{of_settings, of_load, of_text, of_drawing};
+ghost use Rattle.metronome.specs.Faults.{of_settings, of_load, of_text};
 ghost use Rattle.metronome.specs.Status.{ending_status, fault_status};
 
 use command_line::ReadFault;
 use graph_heap::NoMemory;
 use inspector::WriteFault;
-use pictures::graph::DrawFault;
 use size_classes::ConfigFault;
 use sizing::{DocumentFault, LoadFault};
 use std::alloc::{AllocError, AllocFailed};
@@ -152,16 +151,5 @@ impl From<WriteFault> for RunFault {
 
     fn from(_fault: WriteFault) -> RunFault {
         RunFault::Write
-    }
-}
-
-impl From<DrawFault> for RunFault {
-    ghost from_gives = { λ why fault. fault ≡ of_drawing why };
-
-    fn from(fault: DrawFault) -> RunFault {
-        match fault {
-            DrawFault::Write => RunFault::Write,
-            DrawFault::NoMemory => RunFault::NoMemory,
-        }
     }
 }

@@ -1,4 +1,5 @@
 pub mod Parts
+pub mod Lines
 pub mod Drawing
 pub mod SquareLemmas
 pub mod Shares

@@ -1,5 +1,5 @@
 -- Parts of a text that are written one behind the other.
-use Rattle.std.proofs.Common.{◌≡◌, ℕ, ◌+◌, ◌<◌, ◌≤◌, List, [], ◌∷◌, ◌++◌, length, take, ap, ◌∙◌, sym, subst, arith, append-nil, append_assoc, length-append, refl}
+use Rattle.std.proofs.Common.{◌≡◌, ℕ, ◌+◌, ◌<◌, ◌≤◌, List, [], ◌++◌, length, take, ap, ◌∙◌, sym, subst, arith, append-nil, append_assoc, length-append, refl}
 use Rattle.std.specs.Prelude.{Result, Ok, Err, OnErr}
 use Rattle.std.proofs.lemmas.List.{take-append-le}
 use Rattle.std.proofs.Math.Seq.{take-append-add}
@@ -62,6 +62,15 @@ module _ {A : Type 0} {text : List A → List ℕ} (w : IsText text) where
     cut_short g =
         let Part : List A → Type 0 = λ xs. GrowsByPart old new (text xs) in
         subst Part (sym split) (part old mid so.done so.written new here behind g)
+
+  module _ (old mid : List ℕ) (all rest : List A) (so : SoFar text old mid all rest) (new : List ℕ) where
+    -- with all that was to come
+    pub to_last : new ≡ mid ++ text rest → new ≡ old ++ text all
+    to_last e = more old mid so.done so.written new rest e ∙ ap (λ xs. old ++ text xs) (sym so.still)
+
+    -- with a part of it
+    pub in_last : GrowsByPart mid new (text rest) → GrowsByPart old new (text all)
+    in_last g = cut_short old mid all rest so rest [] (sym (append-nil rest)) new g
 
 -- all are written
 pub all_of : {A : Type 0} {text : List A → List ℕ} (old new : List ℕ) (all rest : List A) → SoFar text old new all rest → rest ≡ [] → new ≡ old ++ text all

@@ -8,7 +8,7 @@ use Rattle.size_classes.specs.declared.config.Config.{Config}
 use Rattle.quanta.specs.Timetable.{Timetable}
 use Rattle.pictures.specs.declared.share.Share.{Share}
 use Rattle.pictures.specs.declared.share.TheConstants.{WINDOWS}
-use Rattle.pictures.specs.Elements.{each_from}
+use Rattle.pictures.specs.Lines.{each_from}
 use Rattle.pictures.specs.Utilisation.{span_of, IsShare, AreShares, end_place, window_number, window_points, shares_shown}
 
 -- one pair more

@@ -8,7 +8,7 @@ use Rattle.pictures.specs.Axes.{axis_numbers}
 use Rattle.pictures.specs.Elements.{svg_text}
 use Rattle.pictures.specs.OverTime.{samples_from, time_shown}
 use Rattle.pictures.proofs.Parts.{SoFar, none_yet, further}
-use Rattle.pictures.proofs.Drawing.{svg_is}
+use Rattle.pictures.proofs.Lines.{svg_is}
 
 module _ (s : Scale) (samples : List Sample) where
   -- what follows the first axis

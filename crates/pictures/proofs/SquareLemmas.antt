@@ -6,7 +6,7 @@ use Rattle.pages.specs.View.{view_of}
 use Rattle.pages.specs.declared.view.PageView.{PageView}
 use Rattle.pictures.specs.declared.element.Element.{Element}
 use Rattle.pictures.specs.declared.squares.Squares.{Squares}
-use Rattle.pictures.specs.Elements.{each_from}
+use Rattle.pictures.specs.Lines.{each_from}
 use Rattle.pictures.specs.PageMap.{row_number, page_square, square}
 use Rattle.pictures.specs.Squares.{square_x, square_y, scale_of}
 

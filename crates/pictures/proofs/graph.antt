@@ -1,5 +1,4 @@
 pub mod Document
 pub mod Drawn
 pub mod Joined
-pub mod Statements
 pub mod Shown

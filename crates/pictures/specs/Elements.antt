@@ -1,16 +1,16 @@
 -- The elements of a picture, as text: SVG, version 1.1. Lengths are in units of the picture, with x from the
 -- left and y from the top.
-use Rattle.std.specs.Prelude.{ℕ, ◌+◌, List, [], ◌∷◌, ◌++◌, map, codes, decimal}
-use Rattle.trace.specs.Streams.{text_of}
+use Rattle.std.specs.Prelude.{ℕ, List, ◌++◌, codes, decimal}
 use Rattle.pictures.specs.declared.colour.Colour.{Colour}
 use Rattle.pictures.specs.declared.colour.Colour.TheVariants as colours
-use Rattle.pictures.specs.declared.caption.Words.{Words}
 use Rattle.pictures.specs.declared.caption.Caption.{Caption}
+use Rattle.pictures.specs.declared.caption.Caption.TheVariants as captions
 use Rattle.pictures.specs.declared.element.Anchor.{Anchor}
 use Rattle.pictures.specs.declared.element.Anchor.TheVariants as anchors
 use Rattle.pictures.specs.declared.element.Element.{Element}
 use Rattle.pictures.specs.declared.element.Element.TheVariants.{Open, Title, Group, Rectangle, Veil, Text, Line, Dot, GroupEnd, Close}
-use Rattle.pictures.specs.Captions.{words_text, caption_text}
+use Rattle.pictures.specs.Captions.{caption_text}
+use Rattle.pictures.specs.Lines.{lines_text}
 
 -- a colour as SVG names it
 abbrev pub colour_code : Colour → List ℕ
@@ -39,13 +39,13 @@ open_line width height =
     codes "<svg xmlns='http://www.w3.org/2000/svg' version='1.1'" ++ extent_text width height ++ view_text width height
     ++ codes " font-family='sans-serif'>"
 
--- the title of a picture
-abbrev pub title_line : Words → List ℕ
-title_line words = codes "<title>" ++ words_text words ++ codes "</title>"
+-- a title
+abbrev pub title_text : Caption → List ℕ
+title_text caption = codes "<title>" ++ caption_text caption ++ codes "</title>"
 
 -- the beginning of elements that belong together, of which this is told where the pointer is
 abbrev pub group_line : Caption → List ℕ
-group_line caption = codes "<g><title>" ++ caption_text caption ++ codes "</title>"
+group_line caption = codes "<g>" ++ title_text caption
 
 -- the lengths of a rectangle, by its upper left corner
 abbrev pub box_text : ℕ → ℕ → ℕ → ℕ → List ℕ
@@ -97,7 +97,7 @@ dot_line x y fill =
 -- an element as a line of text
 abbrev pub element_line : Element → List ℕ
 element_line (Open width height) = open_line width height
-element_line (Title words) = title_line words
+element_line (Title words) = title_text (captions.Words words)
 element_line (Group caption) = group_line caption
 element_line (Rectangle x y width height fill) = rectangle_line x y width height fill
 element_line (Veil x y width height fill) = veil_line x y width height fill
@@ -107,11 +107,6 @@ element_line (Dot x y fill) = dot_line x y fill
 element_line GroupEnd = codes "</g>"
 element_line Close = codes "</svg>"
 
--- what is drawn of each item of a list by its place, from one on
-abbrev pub each_from : {A : Type 0} → (ℕ → A → List Element) → ℕ → List A → List Element
-each_from drawn place [] = []
-each_from drawn place (x ∷ later) = drawn place x ++ each_from drawn (place + 1) later
-
 -- the text of elements: each is a line, with LF (byte 10) after it
-unfoldable pub svg_text : List Element → List ℕ
-svg_text elements = text_of (map element_line elements)
+abbrev pub svg_text : List Element → List ℕ
+svg_text = lines_text element_line

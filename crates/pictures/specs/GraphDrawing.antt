@@ -1,23 +1,22 @@
 -- What is drawn of a graph heap: the objects nearest to its roots, and the references between them.
-use Rattle.std.specs.Prelude.{ℕ, ◌+◌, ◌-◌, ◌*◌, ◌/◌, ◌%◌, ◌==◌, nat_eq, nat_lt, if◌then◌else◌, List, [], ◌∷◌, ◌++◌, length, map, take, flat_map}
+use Rattle.std.specs.Prelude.{ℕ, ◌-◌, ◌*◌, ◌/◌, ◌%◌, ◌==◌, nat_eq, nat_lt, if◌then◌else◌, List, [], ◌∷◌, ◌++◌, length, map, take, flat_map, Option, None, Some}
 use Rattle.std.specs.Set.{is_member}
 use Rattle.graph_heap.specs.declared.command.Limits.{Limits}
 use Rattle.graph_heap.specs.Graph.{Graph, object_of}
 use Rattle.pictures.specs.declared.reachability.found.Found.{Found}
+use Rattle.pictures.specs.declared.reachability.found.Holder.{Holder}
+use Rattle.pictures.specs.declared.reachability.found.Holder.TheVariants as holds
 use Rattle.pictures.specs.declared.graph.statement.Root.{Root}
 use Rattle.pictures.specs.declared.graph.statement.Root.TheVariants.{Slot, Static}
 use Rattle.pictures.specs.declared.graph.statement.Statement.{Statement}
 use Rattle.pictures.specs.declared.graph.statement.Statement.TheVariants.{Open, Box, Holds, Object, Cell, LeftOut, Close}
+use Rattle.pictures.specs.Lines.{each_from}
+use Rattle.pictures.specs.Search.{holders}
 use Rattle.pictures.specs.Statements.{dot_text}
 
 -- the identities of the first objects of those that were found, at most so many
 abbrev pub shown_of : ℕ → List Found → List ℕ
 shown_of most found = map (λ f. f.id) (take most found)
-
--- what is drawn of each cell of a row by its place, from one on
-abbrev pub each_from : (ℕ → ℕ → List Statement) → ℕ → List ℕ → List Statement
-each_from drawn place [] = []
-each_from drawn place (id ∷ ids) = drawn place id ++ each_from drawn (place + 1) ids
 
 -- the root at a place of the row of roots: the slots of each mutator, and then the statics
 abbrev pub root_at : Limits → ℕ → Root
@@ -25,19 +24,23 @@ root_at l place =
     if nat_lt place (l.mutators * l.slots) then Slot (place / l.slots) (place % l.slots)
     else Static (place - l.mutators * l.slots)
 
--- a root that holds a shown object: its box, and what it holds
-abbrev pub root_drawn : Limits → List ℕ → ℕ → ℕ → List Statement
-root_drawn l shown place id =
-    if is_member nat_eq shown id then Box (root_at l place) ∷ Holds (root_at l place) id ∷ [] else []
+-- a holder, and the object that it holds: a root has a box, and a reference cell is told with its object
+abbrev pub holder_drawn : Limits → Holder → ℕ → List Statement
+holder_drawn l (holds.Root place) id = Box (root_at l place) ∷ Holds (root_at l place) id ∷ []
+holder_drawn l (holds.Cell from cell) id = Cell from cell id ∷ []
 
--- a reference cell of an object, where it holds a shown object
-abbrev pub cell_drawn : List ℕ → ℕ → ℕ → ℕ → List Statement
-cell_drawn shown from cell id = if is_member nat_eq shown id then Cell from cell id ∷ [] else []
+-- of cells with these holders, one by its place, where it holds a shown object
+abbrev pub cell_drawn : Limits → List ℕ → (ℕ → Holder) → ℕ → ℕ → List Statement
+cell_drawn l shown holder place id = if is_member nat_eq shown id then holder_drawn l (holder place) id else []
+
+-- the cells of an object, or else the roots, where they hold shown objects
+abbrev pub cells_drawn : Limits → List ℕ → Option ℕ → List ℕ → List Statement
+cells_drawn l shown object cells = each_from (cell_drawn l shown (holders object)) 0 cells
 
 -- an object, and its reference cells
 abbrev pub object_drawn : Graph → List ℕ → ℕ → List Statement
 object_drawn g shown id =
-    Object id (object_of g.objects id).shape ∷ each_from (cell_drawn shown id) 0 (object_of g.objects id).refs
+    Object id (object_of g.objects id).shape ∷ cells_drawn g.limits shown (Some id) (object_of g.objects id).refs
 
 -- objects of those that were found
 abbrev pub objects_drawn : Graph → List ℕ → List Found → List Statement
@@ -52,7 +55,7 @@ abbrev pub graph_drawn : Graph → ℕ → List Found → List Statement
 graph_drawn g most found =
     let shown = shown_of most found in
     (Open ∷ [])
-    ++ (each_from (root_drawn g.limits shown) 0 g.roots
+    ++ (cells_drawn g.limits shown None g.roots
     ++ (objects_drawn g shown (take most found) ++ (left_out (length found - most) ++ Close ∷ [])))
 
 -- the text of the document

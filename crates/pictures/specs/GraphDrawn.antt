@@ -1,24 +1,19 @@
 -- What comes of drawing a graph heap.
 use Rattle.std.specs.Prelude.{◌≡◌, ℕ, List, ◌++◌, Result, Ok, Err}
+use Rattle.trace.specs.declared.fault.TextFault.{TextFault}
+use Rattle.trace.specs.declared.fault.TextFault.TheVariants.{Write, NoMemory}
 use Rattle.trace.specs.Streams.{Taken, GrowsByPart}
 use Rattle.graph_heap.specs.Graph.{Graph}
 use Rattle.pictures.specs.declared.reachability.found.Found.{Found}
 use Rattle.pictures.specs.Distance.{FindsAll}
-use Rattle.pictures.specs.declared.graph.fault.DrawFault.{DrawFault}
-use Rattle.pictures.specs.declared.graph.fault.DrawFault.TheVariants.{Write, NoMemory}
 use Rattle.pictures.specs.GraphDrawing.{graph_picture}
 
 -- Of the objects that can be reached, the nearest to the roots are drawn, at most so many; or a part of this is written
--- and then a write failed; or memory was refused, and nothing is written.
-abbrev pub GraphDrawn : Graph → ℕ → Taken → Result (Unit {0}) DrawFault → Type 0
+-- and then a write failed; or memory was refused, and nothing is written. There is no other fault.
+abbrev pub GraphDrawn : Graph → ℕ → Taken → Result (Unit {0}) TextFault → Type 0
 GraphDrawn g most taken (Ok drawn) =
     (found : List Found) × FindsAll g found × (taken.after ≡ taken.before ++ graph_picture g most found)
 GraphDrawn g most taken (Err Write) =
     (found : List Found) × FindsAll g found × GrowsByPart taken.before taken.after (graph_picture g most found)
 GraphDrawn g most taken (Err NoMemory) = taken.after ≡ taken.before
-
--- how many writes failed
-abbrev pub writes_failed : Result (Unit {0}) DrawFault → ℕ
-writes_failed (Ok drawn) = 0
-writes_failed (Err Write) = 1
-writes_failed (Err NoMemory) = 0
+GraphDrawn g most taken (Err fault) = ⊥

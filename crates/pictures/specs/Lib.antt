@@ -1,5 +1,6 @@
 pub mod Axes
 pub mod Captions
+pub mod Lines
 pub mod Elements
 pub mod Frame
 pub mod PageMap
@@ -10,6 +11,7 @@ pub mod Samples
 pub mod Sampler
 pub mod Taking
 pub mod GraphDrawing
+pub mod Drawing
 pub mod GraphDrawn
 pub mod Statements
 pub mod Distance

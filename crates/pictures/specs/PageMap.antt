@@ -16,8 +16,9 @@ use Rattle.pictures.specs.declared.element.Element.{Element}
 use Rattle.pictures.specs.declared.element.Element.TheVariants.{Group, Rectangle, Text, GroupEnd, Close}
 use Rattle.pictures.specs.declared.squares.Squares.{Squares}
 use Rattle.pictures.specs.Captions.{phase_words}
-use Rattle.pictures.specs.Elements.{each_from, svg_text}
+use Rattle.pictures.specs.Elements.{svg_text}
 use Rattle.pictures.specs.Frame.{frame, swatch, meaning}
+use Rattle.pictures.specs.Lines.{each_from}
 use Rattle.pictures.specs.Squares.{squares_for, scale_of, square_x, square_y, map_height}
 
 -- the number of a page whose square is the first of a row

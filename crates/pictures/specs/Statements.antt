@@ -1,13 +1,13 @@
 -- The statements of a drawn graph, as text: DOT, the language of Graphviz. Names and values stand in quotes, and none
 -- has a quote within.
-use Rattle.std.specs.Prelude.{ℕ, List, ◌++◌, map, codes, decimal}
+use Rattle.std.specs.Prelude.{ℕ, List, ◌++◌, codes, decimal}
 use Rattle.graph_heap.specs.declared.command.Shape.{Shape}
 use Rattle.graph_heap.specs.declared.command.Shape.TheVariants.{Plain, RefArray, WordArray}
-use Rattle.trace.specs.Streams.{text_of}
 use Rattle.pictures.specs.declared.graph.statement.Root.{Root}
 use Rattle.pictures.specs.declared.graph.statement.Root.TheVariants.{Slot, Static}
 use Rattle.pictures.specs.declared.graph.statement.Statement.{Statement}
 use Rattle.pictures.specs.declared.graph.statement.Statement.TheVariants.{Open, Box, Holds, Object, Cell, LeftOut, Close}
+use Rattle.pictures.specs.Lines.{lines_text}
 
 -- the name of a root
 abbrev pub root_name : Root → List ℕ
@@ -55,5 +55,5 @@ statement_line (LeftOut n) = left_out_line n
 statement_line Close = codes "}"
 
 -- the text of statements: each is a line, with LF (byte 10) after it
-unfoldable pub dot_text : List Statement → List ℕ
-dot_text statements = text_of (map statement_line statements)
+abbrev pub dot_text : List Statement → List ℕ
+dot_text = lines_text statement_line

@@ -12,8 +12,9 @@ use Rattle.pictures.specs.declared.element.Element.{Element}
 use Rattle.pictures.specs.declared.element.Element.TheVariants.{Rectangle, Line, Dot, Text, Close}
 use Rattle.pictures.specs.declared.share.Share.{Share}
 use Rattle.pictures.specs.declared.share.TheConstants.{WINDOWS}
-use Rattle.pictures.specs.Elements.{each_from, svg_text}
+use Rattle.pictures.specs.Elements.{svg_text}
 use Rattle.pictures.specs.Frame.{frame, swatch, meaning}
+use Rattle.pictures.specs.Lines.{each_from}
 
 -- so many powers of ten from one on, each with its double and its fivefold
 abbrev pub round_numbers : ℕ → ℕ → List ℕ

@@ -8,7 +8,7 @@ use crate::caption::Caption;
 use crate::colour::Colour;
 use crate::element::{Anchor, Element};
 use crate::share::WINDOWS;
-use crate::writing::write_elements;
+use crate::writing::write_lines;
 use trace::{Sink, WriteFailed};
 
 /// An axis of the picture over a run.
@@ -89,7 +89,7 @@ pub(crate) fn write_axis<K: Sink>(
 {
     let step = step(greatest);
     for place in 0..=greatest / step {
-        write_elements(sink, &number(axis, greatest, place * step))?;
+        write_lines(sink, &number(axis, greatest, place * step))?;
     }
     Ok(())
 }

@@ -1,10 +1,11 @@
 //! The elements of a picture. All lengths are in units of the picture, with x from the left and y from
 //! the top.
 ghost use Rattle.std.specs.Prelude.{◌≡◌, ◌≤◌, ◌<◌, ◌+◌, ◌++◌, length, take, codes, decimal};
-ghost use Rattle.pictures.specs.Elements.{colour_code, open_line, title_line, group_line, box_text, anchor_name, anchor_text, point_text, text_line, element_line};
+ghost use Rattle.pictures.specs.Elements.{colour_code, open_line, title_text, box_text, anchor_name, anchor_text, point_text, text_line, element_line};
 
 use crate::caption::{Caption, Words, put_caption};
 use crate::colour::Colour;
+use crate::writing::DocumentLine;
 use trace::{put, put_named};
 
 /// Which part of a text stands at its point.
@@ -99,24 +100,13 @@ fn put_open(out: &mut [u8], width: u32, height: u32) -> usize
     put(out, end, b" font-family='sans-serif'>")
 }
 
-/// Puts the title of the document.
-fn put_title(out: &mut [u8], words: Words) -> usize
-    requires { 256 ≤ length out.old }
-    ensures text { take result out.new ≡ title_line words }
-    ensures place { result < 256 }
+/// Puts a title.
+fn put_title(out: &mut [u8], at: usize, caption: Caption) -> usize
+    requires { at + 145 ≤ length out.old }
+    ensures text { take result out.new ≡ take at out.old ++ title_text caption }
+    ensures place { result ≤ at + 145 }
 {
-    let end = put(out, 0, b"<title>");
-    let end = put(out, end, words.text());
-    put(out, end, b"</title>")
-}
-
-/// Puts the beginning of elements that belong together.
-fn put_group(out: &mut [u8], caption: Caption) -> usize
-    requires { 256 ≤ length out.old }
-    ensures text { take result out.new ≡ group_line caption }
-    ensures place { result < 256 }
-{
-    let end = put(out, 0, b"<g><title>");
+    let end = put(out, at, b"<title>");
     let end = put_caption(out, end, caption);
     put(out, end, b"</title>")
 }
@@ -164,35 +154,39 @@ fn put_text(out: &mut [u8], x: u32, y: u32, size: u32, anchor: Anchor, caption: 
     put(out, end, b"</text>")
 }
 
-/// Puts an element at the front of an array, and answers the place after it.
-pub(crate) fn put_element(out: &mut [u8], element: Element) -> usize
-    requires { 256 ≤ length out.old }
-    ensures text { take result out.new ≡ element_line element }
-    ensures place { result < 256 }
-{
-    match element {
-        Element::Open(width, height) => put_open(out, width, height),
-        Element::Title(words) => put_title(out, words),
-        Element::Group(caption) => put_group(out, caption),
-        Element::Rectangle(x, y, width, height, fill) => {
-            let end = put_box(out, x, y, width, height);
-            put_colour(out, end, b"' fill='", fill)
+impl DocumentLine for Element {
+    ghost line = { element_line };
+
+    fn put(self, out: &mut [u8]) -> usize {
+        match self {
+            Element::Open(width, height) => put_open(out, width, height),
+            Element::Title(words) => put_title(out, 0, Caption::Words(words)),
+            Element::Group(caption) => {
+                let end = put(out, 0, b"<g>");
+                put_title(out, end, caption)
+            }
+            Element::Rectangle(x, y, width, height, fill) => {
+                let end = put_box(out, x, y, width, height);
+                put_colour(out, end, b"' fill='", fill)
+            }
+            Element::Veil(x, y, width, height, fill) => {
+                let end = put_box(out, x, y, width, height);
+                put_colour(out, end, b"' fill-opacity='0.46' fill='", fill)
+            }
+            Element::Text(x, y, size, anchor, caption) => put_text(
+                out, x, y, size, anchor, caption,
+            ),
+            Element::Line(x1, y1, x2, y2, stroke) => {
+                let end = put_two(out, 0, b"<line x1='", x1, b"' y1='", y1);
+                let end = put_two(out, end, b"' x2='", x2, b"' y2='", y2);
+                put_colour(out, end, b"' stroke='", stroke)
+            }
+            Element::Dot(x, y, fill) => {
+                let end = put_two(out, 0, b"<circle cx='", x, b"' cy='", y);
+                put_colour(out, end, b"' r='4' fill='", fill)
+            }
+            Element::GroupEnd => put(out, 0, b"</g>"),
+            Element::Close => put(out, 0, b"</svg>"),
         }
-        Element::Veil(x, y, width, height, fill) => {
-            let end = put_box(out, x, y, width, height);
-            put_colour(out, end, b"' fill-opacity='0.46' fill='", fill)
-        }
-        Element::Text(x, y, size, anchor, caption) => put_text(out, x, y, size, anchor, caption),
-        Element::Line(x1, y1, x2, y2, stroke) => {
-            let end = put_two(out, 0, b"<line x1='", x1, b"' y1='", y1);
-            let end = put_two(out, end, b"' x2='", x2, b"' y2='", y2);
-            put_colour(out, end, b"' stroke='", stroke)
-        }
-        Element::Dot(x, y, fill) => {
-            let end = put_two(out, 0, b"<circle cx='", x, b"' cy='", y);
-            put_colour(out, end, b"' r='4' fill='", fill)
-        }
-        Element::GroupEnd => put(out, 0, b"</g>"),
-        Element::Close => put(out, 0, b"</svg>"),
     }
 }

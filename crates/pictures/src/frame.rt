@@ -7,7 +7,7 @@ ghost use Rattle.pictures.specs.Frame as frames;
 use crate::caption::{Caption, Words};
 use crate::colour::Colour;
 use crate::element::{Anchor, Element};
-use crate::writing::write_elements;
+use crate::writing::write_lines;
 use trace::{Sink, WriteFailed};
 
 /// The beginning of a picture of this width and height, with a title.
@@ -58,6 +58,6 @@ pub(crate) fn write_head<K: Sink>(
         (svg_text (frames.frame width height title ++ told.now))) }
     ensures cause { K.failures sink.new ≡ K.failures sink.old + failed result }
 {
-    write_elements(sink, &frame(width, height, title))?;
-    write_elements(sink, told)
+    write_lines(sink, &frame(width, height, title))?;
+    write_lines(sink, told)
 }

@@ -1,8 +1,5 @@
 //! A graph heap as a DOT document: the objects nearest to its roots, and the references between them.
 mod drawing;
-mod fault;
 mod statement;
-mod writing;
 
 pub use drawing::draw_graph;
-pub use fault::DrawFault;

@@ -11,7 +11,7 @@ use crate::element::{Anchor, Element};
 use crate::frame::{meaning, swatch, write_head};
 use crate::look::look_of;
 use crate::sample::Sample;
-use crate::writing::{write_close, write_elements};
+use crate::writing::{write_line, write_lines};
 use trace::{Sink, WriteFailed};
 
 /// How many samples a picture has at most.
@@ -67,11 +67,11 @@ fn write_sample<K: Sink>(
     let (_, colour) = look_of(sample.phase);
     let phase = Element::Rectangle(x, 454, width, 14, colour);
     match sample.objects {
-        None => write_elements(sink, &[pages, phase]),
+        None => write_lines(sink, &[pages, phase]),
         Some(n) => {
             let y = 439 - height(n, scale.objects);
             let objects = Element::Rectangle(x, y, width, 3, Colour::Blue);
-            write_elements(sink, &[pages, phase, objects])
+            write_lines(sink, &[pages, phase, objects])
         }
     }
 }
@@ -147,7 +147,7 @@ fn draw_samples<K: Sink>(scale: &Scale, samples: &[Sample], sink: &mut K) -> Res
 {
     write_head(1200, 528, Words::HeapOverTime, &axes(), sink)?;
     write_shown(scale, samples, sink)?;
-    write_close(sink)
+    write_line(sink, Element::Close)
 }
 
 /// Writes the samples of a run to a sink, as an SVG document of lines that end with LF: from left to right the lines of

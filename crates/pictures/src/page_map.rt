@@ -12,7 +12,7 @@ use crate::element::{Anchor, Element};
 use crate::frame::{meaning, swatch, write_head};
 use crate::look::look_of;
 use crate::squares::{Squares, height};
-use crate::writing::{write_close, write_elements};
+use crate::writing::{write_line, write_lines};
 use machine::Heap;
 use pages::PageView;
 use trace::{Sink, WriteFailed};
@@ -35,7 +35,7 @@ fn write_number<K: Sink>(
         return Ok(());
     }
     let name = Caption::Number(u64::from(number));
-    write_elements(
+    write_lines(
         sink,
         &[Element::Text(32, y + 7 * scale, 8, Anchor::End, name)],
     )
@@ -105,8 +105,8 @@ fn write_page<K: Sink>(
     ensures cause { K.failures sink.new ≡ K.failures sink.old + failed result }
 {
     match page {
-        None => write_elements(sink, &free_page(x, y, scale, number)),
-        Some(page) => write_elements(sink, &used_page(x, y, scale, number, page)),
+        None => write_lines(sink, &free_page(x, y, scale, number)),
+        Some(page) => write_lines(sink, &used_page(x, y, scale, number, page)),
     }
 }
 
@@ -189,5 +189,5 @@ pub fn draw_pages<K: Sink>(heap: &Heap, sink: &mut K) -> Result<(), WriteFailed>
     let height = height(heap.pages());
     write_head(1200, height, Words::PagesOfTheHeap, &told(heap), sink)?;
     write_squares(heap, sink)?;
-    write_close(sink)
+    write_line(sink, Element::Close)
 }

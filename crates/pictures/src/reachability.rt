@@ -7,6 +7,7 @@ mod searching;
 mod text;
 
 pub use findings::Search;
+pub(crate) use findings::holder;
 pub use following::present;
 pub use found::{Found, Holder};
 pub use route::{Route, Standing, Step, shortest_path};

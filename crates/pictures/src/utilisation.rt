@@ -1,7 +1,8 @@
 //! The picture of the mutators' least shares of windows of some lengths.
-ghost use Rattle.std.specs.Prelude.{◌≡◌, ◌<◌, ◌≤◌, ◌+◌, ◌++◌, List, length, OnOk, OnErr};
+ghost use Rattle.std.specs.Prelude.{◌≡◌, ◌<◌, ◌≤◌, ◌+◌, ◌++◌, ℕ, List, length, OnOk, OnErr};
 ghost use Rattle.trace.specs.Streams.{GrowsByPart, failed};
-ghost use Rattle.pictures.specs.Elements.{each_from, svg_text};
+ghost use Rattle.pictures.specs.Elements.{svg_text};
+ghost use Rattle.pictures.specs.Lines.{each_from};
 ghost use Rattle.pictures.specs.Utilisation as utilisation;
 ghost use Rattle.pictures.specs.Utilisation.{AreShares, log_of, window_x, share_y, window_number, window_points, shares_shown, utilisation_picture};
 
@@ -11,7 +12,7 @@ use crate::element::{Anchor, Element};
 use crate::frame::{meaning, swatch, write_head};
 use crate::measuring::put_shares;
 use crate::share::{Share, WINDOWS};
-use crate::writing::{write_close, write_elements};
+use crate::writing::{write_line, write_lines};
 use quanta::Schedule;
 use size_classes::Config;
 use trace::{Sink, WriteFailed};
@@ -50,67 +51,63 @@ fn y_of(permille: u64) -> u32
     400 - (3 * permille / 10) as u32
 }
 
-/// A number of the axis.
-fn number(last: u32, place: u32, window: u64) -> [Element; 2]
-    requires some { 0 < last }
-    requires within { (place < 64) × (last < 64) }
-    ensures { result ≡ window_number last place window }
-{
-    let x = x_of(last, place);
-    let y = if last <= 18 {
-        430
-    } else {
-        430 + 13 * (place % 3)
-    };
-    [
-        Element::Line(x, 100, x, 406, Colour::Light),
-        Element::Text(x, y, 10, Anchor::Middle, Caption::Number(window)),
-    ]
+/// What is drawn of a window.
+trait Mark {
+    ghost use Rattle.pictures.specs.declared.element.Element.{Element};
+
+    /// Its elements, at a place of the axis that ends at a last one.
+    ghost drawn: { ℕ → ℕ → Self → List Element };
+
+    /// These elements.
+    fn elements(&self, last: u32, place: u32) -> [Element; 2]
+        requires some { 0 < last }
+        requires within { (place < 64) × (last < 64) }
+        ensures { result ≡ drawn last place self.now };
 }
 
-/// Writes the numbers of the axis.
-fn write_numbers<K: Sink>(last: u32, windows: &[u64], sink: &mut K) -> Result<(), WriteFailed>
-    requires some { 0 < last }
-    requires within { last < 64 }
-    requires few { length windows.now < 64 }
-    ensures ok { OnOk result (K.taken sink.new
-        ≡ K.taken sink.old ++ svg_text (each_from (window_number last) 0 windows.now)) }
-    ensures err { OnErr result (GrowsByPart (K.taken sink.old) (K.taken sink.new)
-        (svg_text (each_from (window_number last) 0 windows.now))) }
-    ensures cause { K.failures sink.new ≡ K.failures sink.old + failed result }
-{
-    for (place, window) in windows.iter().enumerate() {
-        write_elements(sink, &number(last, place as u32, *window))?;
+/// The length of a window is a number of the axis.
+impl Mark for u64 {
+    ghost drawn = { window_number };
+
+    fn elements(&self, last: u32, place: u32) -> [Element; 2] {
+        let x = x_of(last, place);
+        let y = if last <= 18 {
+            430
+        } else {
+            430 + 13 * (place % 3)
+        };
+        [
+            Element::Line(x, 100, x, 406, Colour::Light),
+            Element::Text(x, y, 10, Anchor::Middle, Caption::Number(*self)),
+        ]
     }
-    Ok(())
 }
 
-/// The points of a window.
-fn points(last: u32, place: u32, share: &Share) -> [Element; 2]
-    requires some { 0 < last }
-    requires within { (place < 64) × (last < 64) }
-    ensures { result ≡ window_points last place share.now }
-{
-    let x = x_of(last, place);
-    [
-        Element::Rectangle(x - 10, y_of(share.promised) - 4, 8, 8, Colour::Orange),
-        Element::Dot(x + 6, y_of(share.measured), Colour::Blue),
-    ]
+/// The shares of a window are points.
+impl Mark for Share {
+    ghost drawn = { window_points };
+
+    fn elements(&self, last: u32, place: u32) -> [Element; 2] {
+        let x = x_of(last, place);
+        [
+            Element::Rectangle(x - 10, y_of(self.promised) - 4, 8, 8, Colour::Orange),
+            Element::Dot(x + 6, y_of(self.measured), Colour::Blue),
+        ]
+    }
 }
 
-/// Writes the points of each window.
-fn write_points<K: Sink>(last: u32, shares: &[Share], sink: &mut K) -> Result<(), WriteFailed>
+/// Writes what is drawn of windows, the first at place 0.
+fn write_marks<K: Sink, M: Mark>(last: u32, marks: &[M], sink: &mut K) -> Result<(), WriteFailed>
     requires some { 0 < last }
     requires within { last < 64 }
-    requires few { length shares.now < 64 }
-    ensures ok { OnOk result (K.taken sink.new
-        ≡ K.taken sink.old ++ svg_text (each_from (window_points last) 0 shares.now)) }
+    requires few { length marks.now < 64 }
+    ensures ok { OnOk result (K.taken sink.new ≡ K.taken sink.old ++ svg_text (each_from (M.drawn last) 0 marks.now)) }
     ensures err { OnErr result (GrowsByPart (K.taken sink.old) (K.taken sink.new)
-        (svg_text (each_from (window_points last) 0 shares.now))) }
+        (svg_text (each_from (M.drawn last) 0 marks.now))) }
     ensures cause { K.failures sink.new ≡ K.failures sink.old + failed result }
 {
-    for (place, share) in shares.iter().enumerate() {
-        write_elements(sink, &points(last, place as u32, share))?;
+    for (place, mark) in marks.iter().enumerate() {
+        write_lines(sink, &mark.elements(last, place as u32))?;
     }
     Ok(())
 }
@@ -124,8 +121,8 @@ fn write_shown<K: Sink>(shares: &[Share], sink: &mut K) -> Result<(), WriteFaile
     ensures cause { K.failures sink.new ≡ K.failures sink.old + failed result }
 {
     let last = shares.len().clamp(1, 38);
-    write_numbers(last as u32, &WINDOWS[..last + 1], sink)?;
-    write_points(last as u32, shares, sink)
+    write_marks(last as u32, &WINDOWS[..last + 1], sink)?;
+    write_marks(last as u32, shares, sink)
 }
 
 /// What the colours mean, and the axis of shares.
@@ -176,7 +173,7 @@ fn draw_shares<K: Sink>(shares: &[Share], sink: &mut K) -> Result<(), WriteFaile
 {
     write_head(1200, 490, Words::LeastUtilisation, &axes(), sink)?;
     write_shown(shares, sink)?;
-    write_close(sink)
+    write_line(sink, Element::Close)
 }
 
 /// Writes the mutators' shares of windows of 1, 2, 5, 10, 20, 50 ticks and so on, up to the time that has

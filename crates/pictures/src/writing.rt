@@ -1,40 +1,45 @@
-//! Elements, written one after the other.
-ghost use Rattle.std.specs.Prelude.{◌≡◌, ◌+◌, ◌++◌, ◌∷◌, [], OnOk, OnErr};
+//! Documents, written line by line.
+ghost use Rattle.std.specs.Prelude.{◌≡◌, ◌≤◌, ◌<◌, ◌+◌, ◌++◌, ◌∷◌, ℕ, List, [], length, take, OnOk, OnErr};
 ghost use Rattle.trace.specs.Streams.{GrowsByPart, failed};
-ghost use Rattle.pictures.specs.Elements.{svg_text};
+ghost use Rattle.pictures.specs.Lines.{lines_text};
 
-use crate::element::{Element, put_element};
 use trace::{Sink, WriteFailed, end_line};
 
-/// Writes an element, as a line.
-#[tactic(auto, unfolding(crate::specs::Elements::svg_text))]
-fn write_element<K: Sink>(sink: &mut K, element: Element) -> Result<(), WriteFailed>
-    ensures ok { OnOk result (K.taken sink.new ≡ K.taken sink.old ++ svg_text (element ∷ [])) }
-    ensures err { OnErr result (GrowsByPart (K.taken sink.old) (K.taken sink.new) (svg_text (element ∷ []))) }
+/// What is a line of a document.
+pub(crate) trait DocumentLine: Copy {
+    /// The line, without its LF.
+    ghost line: { Self → List ℕ };
+
+    /// Puts it at the front of an array, and answers the place after it.
+    fn put(self, out: &mut [u8]) -> usize
+        requires { 256 ≤ length out.old }
+        ensures text { take result out.new ≡ line self }
+        ensures place { result < 256 };
+}
+
+/// Writes a line.
+#[tactic(auto, unfolding(crate::specs::Lines::lines_text))]
+pub(crate) fn write_line<K: Sink, L: DocumentLine>(sink: &mut K, line: L) -> Result<(), WriteFailed>
+    ensures ok { OnOk result (K.taken sink.new ≡ K.taken sink.old ++ lines_text L.line (line ∷ [])) }
+    ensures err { OnErr result (GrowsByPart (K.taken sink.old) (K.taken sink.new) (lines_text L.line (line ∷ []))) }
     ensures cause { K.failures sink.new ≡ K.failures sink.old + failed result }
 {
     let mut out = [0; 256];
-    let end = put_element(out.as_mut_slice(), element);
+    let end = line.put(out.as_mut_slice());
     end_line(sink, &mut out, end)
 }
 
-/// Writes elements, each as a line.
-pub(crate) fn write_elements<K: Sink>(sink: &mut K, elements: &[Element]) -> Result<(), WriteFailed>
-    ensures ok { OnOk result (K.taken sink.new ≡ K.taken sink.old ++ svg_text elements.now) }
-    ensures err { OnErr result (GrowsByPart (K.taken sink.old) (K.taken sink.new) (svg_text elements.now)) }
+/// Writes lines, one after the other.
+pub(crate) fn write_lines<K: Sink, L: DocumentLine>(
+    sink: &mut K,
+    lines: &[L],
+) -> Result<(), WriteFailed>
+    ensures ok { OnOk result (K.taken sink.new ≡ K.taken sink.old ++ lines_text L.line lines.now) }
+    ensures err { OnErr result (GrowsByPart (K.taken sink.old) (K.taken sink.new) (lines_text L.line lines.now)) }
     ensures cause { K.failures sink.new ≡ K.failures sink.old + failed result }
 {
-    for element in elements {
-        write_element(sink, *element)?;
+    for line in lines {
+        write_line(sink, *line)?;
     }
     Ok(())
-}
-
-/// Writes the end of a picture.
-pub(crate) fn write_close<K: Sink>(sink: &mut K) -> Result<(), WriteFailed>
-    ensures ok { OnOk result (K.taken sink.new ≡ K.taken sink.old ++ svg_text (Element.Close ∷ [])) }
-    ensures err { OnErr result (GrowsByPart (K.taken sink.old) (K.taken sink.new) (svg_text (Element.Close ∷ []))) }
-    ensures cause { K.failures sink.new ≡ K.failures sink.old + failed result }
-{
-    write_element(sink, Element::Close)
 }

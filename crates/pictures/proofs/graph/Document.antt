@@ -1,16 +1,15 @@
 -- The document of a graph heap, as one part after the other is written.
-use Rattle.std.proofs.Common.{◌≡◌, ℕ, ◌-◌, min, List, [], ◌∷◌, ◌++◌, length, take, ap, sym, append-nil, refl}
-use Rattle.graph_heap.specs.declared.command.Limits.{Limits}
+use Rattle.std.proofs.Common.{◌≡◌, ℕ, ◌-◌, min, None, List, [], ◌∷◌, ◌++◌, length, take, ap, sym, append-nil, refl}
 use Rattle.graph_heap.specs.Graph.{Graph}
 use Rattle.pictures.specs.declared.reachability.found.Found.{Found}
 use Rattle.trace.specs.Streams.{GrowsByPart}
 use Rattle.pictures.specs.declared.graph.statement.Statement.{Statement}
 use Rattle.pictures.specs.declared.graph.statement.Statement.TheVariants.{Open, Close}
 use Rattle.pictures.specs.Statements.{dot_text}
-use Rattle.pictures.specs.GraphDrawing.{shown_of, each_from, root_drawn, objects_drawn, left_out, graph_drawn, graph_picture}
-use Rattle.pictures.proofs.graph.Drawn.{roots_are, objects_are, left_is}
+use Rattle.pictures.specs.GraphDrawing.{shown_of, cells_drawn, objects_drawn, left_out, graph_drawn, graph_picture}
+use Rattle.pictures.proofs.graph.Drawn.{objects_are, left_is}
 use Rattle.pictures.proofs.Parts.{SoFar, none_yet, further, cut_short, all_of}
-use Rattle.pictures.proofs.graph.Statements.{dot_is}
+use Rattle.pictures.proofs.Lines.{dot_is}
 
 -- the line that opens it
 module _ (g : Graph) (most : ℕ) (all : List Found) (t0 t1 : List ℕ) where
@@ -24,7 +23,7 @@ module _ (g : Graph) (most : ℕ) (all : List Found) (t0 t1 : List ℕ) where
   behind_roots = objects_drawn g shown (take most all) ++ behind_objects
 
   abbrev behind_open : List Statement
-  behind_open = each_from (root_drawn g.limits shown) 0 g.roots ++ behind_roots
+  behind_open = cells_drawn g.limits shown None g.roots ++ behind_roots
 
   begun : SoFar dot_text t0 t0 (graph_drawn g most all) (graph_drawn g most all)
   begun = none_yet dot_is t0 (graph_drawn g most all)
@@ -33,15 +32,15 @@ module _ (g : Graph) (most : ℕ) (all : List Found) (t0 t1 : List ℕ) where
   in_open h = cut_short dot_is t0 t0 _ _ begun (Open ∷ []) behind_open refl t1 h
 
   -- the roots behind it
-  module _ (one : t1 ≡ t0 ++ dot_text (Open ∷ [])) (l : Limits) (rs : List ℕ) (limits : l ≡ g.limits) (row : rs ≡ g.roots) (t2 : List ℕ) where
+  module _ (one : t1 ≡ t0 ++ dot_text (Open ∷ [])) (rs : List ℕ) (row : rs ≡ g.roots) (t2 : List ℕ) where
     abbrev roots : List Statement
-    roots = each_from (root_drawn l shown) 0 rs
+    roots = cells_drawn g.limits shown None rs
 
     opened : SoFar dot_text t0 t1 (graph_drawn g most all) behind_open
     opened = further dot_is t0 t0 _ _ begun (Open ∷ []) behind_open refl t1 one
 
     to_roots : behind_open ≡ roots ++ behind_roots
-    to_roots = ap (λ xs. xs ++ behind_roots) (sym (roots_are shown l g.limits rs g.roots limits row))
+    to_roots = ap (λ xs. cells_drawn g.limits shown None xs ++ behind_roots) (sym row)
 
     pub in_roots : GrowsByPart t1 t2 (dot_text roots) → GrowsByPart t0 t2 (graph_picture g most all)
     in_roots h = cut_short dot_is t0 t1 _ _ opened roots behind_roots to_roots t2 h

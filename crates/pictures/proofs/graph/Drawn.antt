@@ -1,6 +1,6 @@
 -- What is drawn, in parts.
 use Rattle.std.proofs.Common.{◌≡◌, ◌≢◌, ℕ, zero, suc, ◌+◌, ◌-◌, ◌*◌, ◌<◌, min, Bool, true, false, if◌then◌else◌, List, [], ◌∷◌, ◌++◌, length, take, drop, get_or, ap, ◌∙◌, sym, arith}
-use Rattle.std.specs.Prelude.{nat_eq, Result, Ok, Err}
+use Rattle.std.specs.Prelude.{nat_eq, Some, Result, Ok, Err}
 use Rattle.std.specs.Result.{IsErrAnd}
 use Rattle.std.specs.Set.{is_member}
 use Rattle.std.proofs.lemmas.Bool.{ne_eqb}
@@ -9,9 +9,11 @@ use Rattle.graph_heap.specs.declared.command.Limits.{Limits}
 use Rattle.graph_heap.specs.declared.command.Shape.{Shape}
 use Rattle.graph_heap.specs.Graph.{Graph, object_of}
 use Rattle.pictures.specs.declared.reachability.found.Found.{Found}
+use Rattle.pictures.specs.declared.reachability.found.Holder.{Holder}
+use Rattle.pictures.specs.declared.reachability.found.Holder.TheVariants as holds
 use Rattle.pictures.specs.declared.graph.statement.Root.{Root}
-use Rattle.pictures.specs.declared.graph.statement.Statement.TheVariants.{Box, Holds, Object, Cell, LeftOut}
-use Rattle.pictures.specs.GraphDrawing.{each_from, root_at, root_drawn, cell_drawn, object_drawn, objects_drawn, left_out}
+use Rattle.pictures.specs.declared.graph.statement.Statement.TheVariants.{Box, Holds, Object, LeftOut}
+use Rattle.pictures.specs.GraphDrawing.{root_at, holder_drawn, cell_drawn, cells_drawn, object_drawn, objects_drawn, left_out}
 
 -- a result that is this error
 pub failed_so : {A E : Type 0} (r : Result A E) (why : E) → IsErrAnd r (λ e. e ≡ why) → r ≡ Err why
@@ -23,28 +25,23 @@ pub some_slots : (place mutators slots : ℕ) → place < mutators * slots → 0
 some_slots place mutators zero l = absurd (let none : mutators * 0 ≡ 0 = omega arith in omega (arith, l, none))
 some_slots place mutators (suc slots) l = omega arith
 
--- a root that holds no shown object, or one
-module _ (l : Limits) (shown : List ℕ) (place id : ℕ) where
-  pub root_hidden : is_member nat_eq shown id ≡ false → root_drawn l shown place id ≡ []
-  root_hidden h = ap (λ (b : Bool). if b then Box (root_at l place) ∷ Holds (root_at l place) id ∷ [] else []) h
-
-  pub root_shown : (root : Root) → root ≡ root_at l place → is_member nat_eq shown id ≡ true → root_drawn l shown place id ≡ (Box root ∷ []) ++ (Holds root id ∷ [])
-  root_shown root e h =
-      ap (λ (b : Bool). if b then Box (root_at l place) ∷ Holds (root_at l place) id ∷ [] else []) h ∙ ap (λ (r : Root). Box r ∷ Holds r id ∷ []) (sym e)
+-- a root and what it holds, by what its name is
+pub root_is : (l : Limits) (root : Root) (place id : ℕ) → root ≡ root_at l place → Box root ∷ Holds root id ∷ [] ≡ holder_drawn l (holds.Root place) id
+root_is l root place id e = ap (λ (r : Root). Box r ∷ Holds r id ∷ []) e
 
 -- a cell that holds no shown object, or one
-module _ (shown : List ℕ) (from cell id : ℕ) where
-  pub cell_hidden : is_member nat_eq shown id ≡ false → cell_drawn shown from cell id ≡ []
-  cell_hidden h = ap (λ (b : Bool). if b then Cell from cell id ∷ [] else []) h
+module _ (l : Limits) (shown : List ℕ) (holder : ℕ → Holder) (place id : ℕ) where
+  pub cell_hidden : is_member nat_eq shown id ≡ false → cell_drawn l shown holder place id ≡ []
+  cell_hidden h = ap (λ (b : Bool). if b then holder_drawn l (holder place) id else []) h
 
-  pub cell_shown : is_member nat_eq shown id ≡ true → cell_drawn shown from cell id ≡ Cell from cell id ∷ []
-  cell_shown h = ap (λ (b : Bool). if b then Cell from cell id ∷ [] else []) h
+  pub cell_shown : is_member nat_eq shown id ≡ true → cell_drawn l shown holder place id ≡ holder_drawn l (holder place) id
+  cell_shown h = ap (λ (b : Bool). if b then holder_drawn l (holder place) id else []) h
 
 -- an object, and its cells
 pub object_is : (g : Graph) (shown : List ℕ) (id : ℕ) (shape : Shape) (refs : List ℕ) → shape ≡ (object_of g.objects id).shape → refs ≡ (object_of g.objects id).refs
-    → object_drawn g shown id ≡ (Object id shape ∷ []) ++ each_from (cell_drawn shown id) 0 refs
+    → object_drawn g shown id ≡ (Object id shape ∷ []) ++ cells_drawn g.limits shown (Some id) refs
 object_is g shown id shape refs e f =
-    sym (ap (λ (s : Shape). Object id s ∷ each_from (cell_drawn shown id) 0 refs) e ∙ ap (λ (xs : List ℕ). Object id (object_of g.objects id).shape ∷ each_from (cell_drawn shown id) 0 xs) f)
+    sym (ap (λ (s : Shape). Object id s ∷ cells_drawn g.limits shown (Some id) refs) e ∙ ap (λ (xs : List ℕ). Object id (object_of g.objects id).shape ∷ cells_drawn g.limits shown (Some id) xs) f)
 
 -- the next object, and those behind it
 pub objects_on : (g : Graph) (shown : List ℕ) (objects : List Found) (k : ℕ) (none : Found) → k < length objects
@@ -60,9 +57,6 @@ some_left n h = ap (λ (b : Bool). if b then [] else LeftOut n ∷ []) (ne_eqb n
 
 -- the parts of a document, by what calls answered
 module _ (shown : List ℕ) where
-  pub roots_are : (l m : Limits) (rs ss : List ℕ) → l ≡ m → rs ≡ ss → each_from (root_drawn l shown) 0 rs ≡ each_from (root_drawn m shown) 0 ss
-  roots_are l m rs ss e f = ap (λ (x : Limits). each_from (root_drawn x shown) 0 rs) e ∙ ap (each_from (root_drawn m shown) 0) f
-
   pub objects_are : (g : Graph) (found all : List Found) (count most : ℕ) → found ≡ all → count ≡ min most (length found) → objects_drawn g shown (take count found) ≡ objects_drawn g shown (take most all)
   objects_are g found all count most e few =
       ap (λ n. objects_drawn g shown (take n found)) few ∙ ap (objects_drawn g shown) (take_min most found) ∙ ap (λ (xs : List Found). objects_drawn g shown (take most xs)) e

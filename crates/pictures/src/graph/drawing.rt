@@ -1,31 +1,19 @@
 //! Drawing a graph heap.
 ghost use Rattle.std.specs.Prelude.{◌≡◌, ◌+◌, ◌++◌, OnOk, OnErr, nat_eq};
 ghost use Rattle.std.specs.Set.{is_member};
+ghost use Rattle.trace.specs.GoneOver.{writes_failed};
 ghost use Rattle.trace.specs.Streams.{GrowsByPart, failed, taken_by};
-ghost use Rattle.pictures.specs.Distance.{AreOnce};
 ghost use Rattle.pictures.specs.Statements.{dot_text};
 ghost use Rattle.pictures.specs.GraphDrawing as drawings;
-ghost use Rattle.pictures.specs.GraphDrawing.{shown_of, each_from, root_drawn, cell_drawn, object_drawn, objects_drawn, graph_picture};
-ghost use Rattle.pictures.specs.GraphDrawn.{GraphDrawn, writes_failed};
+ghost use Rattle.pictures.specs.GraphDrawing.{holder_drawn, cells_drawn, object_drawn, objects_drawn, graph_picture};
+ghost use Rattle.pictures.specs.GraphDrawn.{GraphDrawn};
 
-use crate::graph::fault::DrawFault;
 use crate::graph::statement::{Root, Statement};
-use crate::graph::writing::write_statement;
-use crate::reachability::{Found, Search, search};
+use crate::reachability::{Found, Holder, Search, holder, search};
+use crate::writing::{write_line, write_lines};
 use graph_heap::{Limits, Reference};
 use std::alloc::Global;
-use trace::{Sink, WriteFailed};
-
-/// Whether an object is among the first of those that were found, at most so many.
-fn is_shown(search: &Search, most: usize, id: u64) -> bool
-    requires { AreOnce search.now.found }
-    ensures { result ≡ is_member nat_eq (shown_of most search.now.found) id }
-{
-    match search.place(id) {
-        Some(place) => place < most,
-        None => false,
-    }
-}
+use trace::{Sink, TextFault, WriteFailed};
 
 /// The root at a place of the row of roots.
 fn root_at(limits: &Limits, place: usize) -> Root
@@ -41,135 +29,6 @@ fn root_at(limits: &Limits, place: usize) -> Root
     }
 }
 
-/// Writes the root at a place of the row of roots, if it holds a shown object.
-fn write_root<K: Sink>(
-    search: &Search,
-    most: usize,
-    limits: &Limits,
-    place: usize,
-    id: u64,
-    sink: &mut K,
-) -> Result<(), WriteFailed>
-    requires { AreOnce search.now.found }
-    ensures ok { OnOk result (K.taken sink.new
-        ≡ K.taken sink.old ++ dot_text (root_drawn limits.now (shown_of most search.now.found) place id)) }
-    ensures err { OnErr result (GrowsByPart (K.taken sink.old) (K.taken sink.new)
-        (dot_text (root_drawn limits.now (shown_of most search.now.found) place id))) }
-    ensures cause { K.failures sink.new ≡ K.failures sink.old + failed result }
-{
-    if !is_shown(search, most, id) {
-        return Ok(());
-    }
-    let root = root_at(limits, place);
-    write_statement(sink, Statement::Box(root))?;
-    write_statement(sink, Statement::Holds(root, id))
-}
-
-/// Writes the roots of a row that hold shown objects.
-fn write_roots<K: Sink>(
-    search: &Search,
-    most: usize,
-    limits: &Limits,
-    roots: &[u64],
-    sink: &mut K,
-) -> Result<(), WriteFailed>
-    requires { AreOnce search.now.found }
-    ensures ok { OnOk result (K.taken sink.new
-        ≡ K.taken sink.old
-        ++ dot_text (each_from (root_drawn limits.now (shown_of most search.now.found)) 0 roots.now)) }
-    ensures err { OnErr result (GrowsByPart (K.taken sink.old) (K.taken sink.new)
-        (dot_text (each_from (root_drawn limits.now (shown_of most search.now.found)) 0 roots.now))) }
-    ensures cause { K.failures sink.new ≡ K.failures sink.old + failed result }
-{
-    for (place, id) in roots.iter().enumerate() {
-        write_root(search, most, limits, place, *id, sink)?;
-    }
-    Ok(())
-}
-
-/// Writes a reference cell of an object, if it holds a shown object.
-fn write_cell<K: Sink>(
-    search: &Search,
-    most: usize,
-    from: u64,
-    cell: usize,
-    id: u64,
-    sink: &mut K,
-) -> Result<(), WriteFailed>
-    requires { AreOnce search.now.found }
-    ensures ok { OnOk result (K.taken sink.new
-        ≡ K.taken sink.old ++ dot_text (cell_drawn (shown_of most search.now.found) from cell id)) }
-    ensures err { OnErr result (GrowsByPart (K.taken sink.old) (K.taken sink.new)
-        (dot_text (cell_drawn (shown_of most search.now.found) from cell id))) }
-    ensures cause { K.failures sink.new ≡ K.failures sink.old + failed result }
-{
-    if !is_shown(search, most, id) {
-        return Ok(());
-    }
-    write_statement(sink, Statement::Cell(from, cell as u64, id))
-}
-
-/// Writes the reference cells of an object that hold shown objects.
-fn write_cells<K: Sink>(
-    search: &Search,
-    most: usize,
-    from: u64,
-    cells: &[u64],
-    sink: &mut K,
-) -> Result<(), WriteFailed>
-    requires { AreOnce search.now.found }
-    ensures ok { OnOk result (K.taken sink.new
-        ≡ K.taken sink.old ++ dot_text (each_from (cell_drawn (shown_of most search.now.found) from) 0 cells.now)) }
-    ensures err { OnErr result (GrowsByPart (K.taken sink.old) (K.taken sink.new)
-        (dot_text (each_from (cell_drawn (shown_of most search.now.found) from) 0 cells.now))) }
-    ensures cause { K.failures sink.new ≡ K.failures sink.old + failed result }
-{
-    for (cell, id) in cells.iter().enumerate() {
-        write_cell(search, most, from, cell, *id, sink)?;
-    }
-    Ok(())
-}
-
-/// Writes an object, and its references.
-fn write_object<K: Sink>(
-    graph: &Reference,
-    search: &Search,
-    most: usize,
-    id: u64,
-    sink: &mut K,
-) -> Result<(), WriteFailed>
-    requires { AreOnce search.now.found }
-    ensures ok { OnOk result (K.taken sink.new
-        ≡ K.taken sink.old ++ dot_text (object_drawn graph.now (shown_of most search.now.found) id)) }
-    ensures err { OnErr result (GrowsByPart (K.taken sink.old) (K.taken sink.new)
-        (dot_text (object_drawn graph.now (shown_of most search.now.found) id))) }
-    ensures cause { K.failures sink.new ≡ K.failures sink.old + failed result }
-{
-    write_statement(sink, Statement::Object(id, graph.shape(id)))?;
-    write_cells(search, most, id, graph.refs(id), sink)
-}
-
-/// Writes objects of those that were found, and their references.
-fn write_objects<K: Sink>(
-    graph: &Reference,
-    search: &Search,
-    most: usize,
-    objects: &[Found],
-    sink: &mut K,
-) -> Result<(), WriteFailed>
-    requires { AreOnce search.now.found }
-    ensures ok { OnOk result (K.taken sink.new
-        ≡ K.taken sink.old ++ dot_text (objects_drawn graph.now (shown_of most search.now.found) objects.now)) }
-    ensures err { OnErr result (GrowsByPart (K.taken sink.old) (K.taken sink.new)
-        (dot_text (objects_drawn graph.now (shown_of most search.now.found) objects.now))) }
-    ensures cause { K.failures sink.new ≡ K.failures sink.old + failed result }
-{
-    for object in objects {
-        write_object(graph, search, most, object.id, sink)?;
-    }
-    Ok(())
-}
-
 /// Writes how many objects aren't drawn, if there are any.
 fn write_left_out<K: Sink>(n: usize, sink: &mut K) -> Result<(), WriteFailed>
     ensures ok { OnOk result (K.taken sink.new ≡ K.taken sink.old ++ dot_text (drawings.left_out n)) }
@@ -179,46 +38,141 @@ fn write_left_out<K: Sink>(n: usize, sink: &mut K) -> Result<(), WriteFailed>
     if n == 0 {
         return Ok(());
     }
-    write_statement(sink, Statement::LeftOut(n as u64))
+    write_line(sink, Statement::LeftOut(n as u64))
 }
 
-/// Writes the document of the first objects of those that were found, at most so many.
-fn write_graph<K: Sink>(
-    graph: &Reference,
-    search: &Search,
+/// A graph heap of which the first objects of those that were found are drawn, at most so many.
+#[derive(Drop)]
+struct Drawing<'a> {
+    graph: &'a Reference,
+    search: &'a Search,
     most: usize,
-    sink: &mut K,
-) -> Result<(), WriteFailed>
-    requires { AreOnce search.now.found }
-    ensures ok { OnOk result (K.taken sink.new ≡ K.taken sink.old ++ graph_picture graph.now most search.now.found) }
-    ensures err { OnErr result (GrowsByPart (K.taken sink.old) (K.taken sink.new)
-        (graph_picture graph.now most search.now.found)) }
-    ensures cause { K.failures sink.new ≡ K.failures sink.old + failed result }
-{
-    let found = search.found();
-    let count = most.min(found.len());
-    write_statement(sink, Statement::Open)?;
-    write_roots(search, most, graph.limits(), graph.roots(), sink)?;
-    write_objects(graph, search, most, &found[..count], sink)?;
-    write_left_out(found.len().saturating_sub(most), sink)?;
-    write_statement(sink, Statement::Close)
+}
+
+impl<'a> Drawing<'a> {
+    ghost use Rattle.pictures.specs.Drawing.{shown_in};
+
+    /// Whether an object is drawn.
+    fn shows(&self, id: u64) -> bool
+        ensures { result ≡ is_member nat_eq (shown_in self.now) id }
+    {
+        match self.search.place(id) {
+            Some(place) => place < self.most,
+            None => false,
+        }
+    }
+
+    /// Writes a holder, and the object that it holds.
+    fn write_holder<K: Sink>(
+        &self,
+        holder: Holder,
+        id: u64,
+        sink: &mut K,
+    ) -> Result<(), WriteFailed>
+        ensures ok { OnOk result (K.taken sink.new
+            ≡ K.taken sink.old ++ dot_text (holder_drawn self.now.graph.now.limits holder id)) }
+        ensures err { OnErr result (GrowsByPart (K.taken sink.old) (K.taken sink.new)
+            (dot_text (holder_drawn self.now.graph.now.limits holder id))) }
+        ensures cause { K.failures sink.new ≡ K.failures sink.old + failed result }
+    {
+        match holder {
+            Holder::Root(place) => {
+                let root = root_at(self.graph.limits(), place);
+                write_lines(sink, &[Statement::Box(root), Statement::Holds(root, id)])
+            }
+            Holder::Cell { object, cell } => {
+                write_line(sink, Statement::Cell(object, cell as u64, id))
+            }
+        }
+    }
+
+    /// Writes the cells that hold objects which are drawn. The cells are those of an object, or else they are the roots.
+    fn write_cells<K: Sink>(
+        &self,
+        object: Option<u64>,
+        cells: &[u64],
+        sink: &mut K,
+    ) -> Result<(), WriteFailed>
+        ensures ok { OnOk result (K.taken sink.new ≡ K.taken sink.old
+            ++ dot_text (cells_drawn self.now.graph.now.limits (shown_in self.now) object cells.now)) }
+        ensures err { OnErr result (GrowsByPart (K.taken sink.old) (K.taken sink.new)
+            (dot_text (cells_drawn self.now.graph.now.limits (shown_in self.now) object cells.now))) }
+        ensures cause { K.failures sink.new ≡ K.failures sink.old + failed result }
+    {
+        for (cell, id) in cells.iter().enumerate() {
+            if self.shows(*id) {
+                self.write_holder(holder(object, cell), *id, sink)?;
+            }
+        }
+        Ok(())
+    }
+
+    /// Writes an object, and its references.
+    fn write_object<K: Sink>(&self, id: u64, sink: &mut K) -> Result<(), WriteFailed>
+        ensures ok { OnOk result (K.taken sink.new
+            ≡ K.taken sink.old ++ dot_text (object_drawn self.now.graph.now (shown_in self.now) id)) }
+        ensures err { OnErr result (GrowsByPart (K.taken sink.old) (K.taken sink.new)
+            (dot_text (object_drawn self.now.graph.now (shown_in self.now) id))) }
+        ensures cause { K.failures sink.new ≡ K.failures sink.old + failed result }
+    {
+        write_line(sink, Statement::Object(id, self.graph.shape(id)))?;
+        self.write_cells(Some(id), self.graph.refs(id), sink)
+    }
+
+    /// Writes objects of those that were found, and their references.
+    fn write_objects<K: Sink>(&self, objects: &[Found], sink: &mut K) -> Result<(), WriteFailed>
+        ensures ok { OnOk result (K.taken sink.new
+            ≡ K.taken sink.old ++ dot_text (objects_drawn self.now.graph.now (shown_in self.now) objects.now)) }
+        ensures err { OnErr result (GrowsByPart (K.taken sink.old) (K.taken sink.new)
+            (dot_text (objects_drawn self.now.graph.now (shown_in self.now) objects.now))) }
+        ensures cause { K.failures sink.new ≡ K.failures sink.old + failed result }
+    {
+        for object in objects {
+            self.write_object(object.id, sink)?;
+        }
+        Ok(())
+    }
+
+    /// Writes the document.
+    fn write<K: Sink>(&self, sink: &mut K) -> Result<(), WriteFailed>
+        ensures ok { OnOk result (K.taken sink.new
+            ≡ K.taken sink.old ++ graph_picture self.now.graph.now self.now.most self.now.search.now.found) }
+        ensures err { OnErr result (GrowsByPart (K.taken sink.old) (K.taken sink.new)
+            (graph_picture self.now.graph.now self.now.most self.now.search.now.found)) }
+        ensures cause { K.failures sink.new ≡ K.failures sink.old + failed result }
+    {
+        let found = self.search.found();
+        let count = self.most.min(found.len());
+        write_line(sink, Statement::Open)?;
+        self.write_cells(None, self.graph.roots(), sink)?;
+        self.write_objects(&found[..count], sink)?;
+        write_left_out(found.len().saturating_sub(self.most), sink)?;
+        write_line(sink, Statement::Close)
+    }
 }
 
 /// Writes a graph heap to a sink as a DOT document, which Graphviz lays out, in lines that end with LF: the objects
 /// that can be reached, at most so many of them, nearest to the roots first, each with its identity and its shape; a
 /// box for each root that holds one of them; each reference between them, with the index of its cell; and how many
-/// objects aren't drawn, if there are any. It takes memory for the search alone, before the first write. After an error
-/// of the sink, that has taken a beginning of the document.
+/// objects aren't drawn, if there are any. It takes memory for the search alone, before the first write. It fails where a
+/// write failed, and then the sink has taken a beginning of the document, or where memory was refused.
 pub fn draw_graph<K: Sink>(
     alloc: Global,
     graph: &Reference,
     most: u32,
     sink: &mut K,
-) -> Result<(), DrawFault>
+) -> Result<(), TextFault>
     ensures drawn { GraphDrawn graph.now most (taken_by K.taken sink.old sink.new) result }
     ensures cause { K.failures sink.new ≡ K.failures sink.old + writes_failed result }
 {
     let search = search(alloc, graph)?;
-    write_graph(graph, &search, most as usize, sink)?;
-    Ok(())
+    let drawing = Drawing {
+        graph,
+        search: &search,
+        most: most as usize,
+    };
+    match drawing.write(sink) {
+        Ok(()) => Ok(()),
+        Err(WriteFailed) => Err(TextFault::Write),
+    }
 }

@@ -2,6 +2,7 @@
 ghost use Rattle.std.specs.Prelude.{◌≡◌, ◌≤◌, ◌<◌, ◌+◌, ◌++◌, length, take};
 ghost use Rattle.pictures.specs.Statements.{root_name, box_line, holds_line, shape_words, object_line, cell_line, left_out_line, statement_line};
 
+use crate::writing::DocumentLine;
 use graph_heap::Shape;
 use trace::{put, put_named};
 
@@ -122,19 +123,18 @@ fn put_left_out(out: &mut [u8], n: u64) -> usize
     put(out, end, b"\"];")
 }
 
-/// Puts a statement at the front of an array, and answers the place after it.
-pub(crate) fn put_statement(out: &mut [u8], statement: Statement) -> usize
-    requires { 256 ≤ length out.old }
-    ensures text { take result out.new ≡ statement_line statement }
-    ensures place { result < 256 }
-{
-    match statement {
-        Statement::Open => put(out, 0, b"digraph \"graph heap\" {"),
-        Statement::Box(root) => put_box(out, root),
-        Statement::Holds(root, id) => put_holds(out, root, id),
-        Statement::Object(id, shape) => put_object(out, id, shape),
-        Statement::Cell(from, cell, to) => put_cell(out, from, cell, to),
-        Statement::LeftOut(n) => put_left_out(out, n),
-        Statement::Close => put(out, 0, b"}"),
+impl DocumentLine for Statement {
+    ghost line = { statement_line };
+
+    fn put(self, out: &mut [u8]) -> usize {
+        match self {
+            Statement::Open => put(out, 0, b"digraph \"graph heap\" {"),
+            Statement::Box(root) => put_box(out, root),
+            Statement::Holds(root, id) => put_holds(out, root, id),
+            Statement::Object(id, shape) => put_object(out, id, shape),
+            Statement::Cell(from, cell, to) => put_cell(out, from, cell, to),
+            Statement::LeftOut(n) => put_left_out(out, n),
+            Statement::Close => put(out, 0, b"}"),
+        }
     }
 }

@@ -109,6 +109,7 @@ impl Search {
     pub fn place(&self, id: u64) -> Option<usize>
         ensures some { IfSome result (λ k. IsAt self.now.found id k) }
         ensures none { IsNone result → IsNowhere self.now.found id }
+        ensures once { AreOnce self.now.found }
     {
         if id == 0 || id as usize > self.places.len() {
             return None;
@@ -122,7 +123,7 @@ impl Search {
 }
 
 /// A cell of an object, or else a root.
-fn holder(object: Option<u64>, cell: usize) -> Holder
+pub(crate) fn holder(object: Option<u64>, cell: usize) -> Holder
     ensures { result ≡ holders object cell }
 {
     match object {

@@ -2,7 +2,7 @@ use Rattle.std.proofs.Common.{◌≡◌, ◌≤◌, ◌+◌, ◌-◌, ◌/◌, s
 use Rattle.std.proofs.Math.Nat.{div-mul-le_self}
 use Rattle.pictures.specs.Axes.{step_of, numbers_from}
 use Rattle.pictures.proofs.Parts.{at_err, none_yet, further, cut_short, all_of}
-use Rattle.pictures.proofs.Drawing.{svg_is}
+use Rattle.pictures.proofs.Lines.{svg_is}
 use Rattle.pictures.proofs.Samples.{numbers_by}
 use Rattle.pictures.proofs.axis.write_axis.Goals as goal
 
@@ -14,12 +14,12 @@ overflow_mul-place g c =
 pub loop-place-init : goal.loop-place-init
 loop-place-init g c = record { left = c.args.greatest / step_of c.args.greatest + 1; count = omega arith; written = none_yet svg_is _ _; failures = refl }
 
-pub returns-in_err-write_elements-clause-err : goal.returns-in_err-write_elements-clause-err
-returns-in_err-write_elements-clause-err g c =
+pub returns-in_err-write_lines-clause-err : goal.returns-in_err-write_lines-clause-err
+returns-in_err-write_lines-clause-err g c =
     let i = c.loop-place.invariant in
     let some : i.left ≡ suc (i.left - 1) = omega (arith, i.count, ap (λ s. c.args.greatest / s) c.step-step.ensures.step, c.loop-place-test.true) in
     let on = numbers_by c.args.axis c.args.greatest i.left c.loop-place.place _ _ some c.step-step.ensures.step c.number.ensures in
-    at_err c.from_residual.result _ (cut_short svg_is _ _ _ _ i.written _ _ on _ c.in_err-write_elements.ensures.err)
+    at_err c.from_residual.result _ (cut_short svg_is _ _ _ _ i.written _ _ on _ c.in_err-write_lines.ensures.err)
 
 pub loop-place-preserved : goal.loop-place-preserved
 loop-place-preserved g c =
@@ -29,8 +29,8 @@ loop-place-preserved g c =
     record {
       left = i.left - 1;
       count = omega (arith, i.count, some);
-      written = further svg_is _ _ _ _ i.written _ _ on _ c.in_ok-write_elements.ensures.ok;
-      failures = omega (arith, c.in_ok-write_elements.ensures.cause, i.failures);
+      written = further svg_is _ _ _ _ i.written _ _ on _ c.in_ok-write_lines.ensures.ok;
+      failures = omega (arith, c.in_ok-write_lines.ensures.cause, i.failures);
     }
 
 pub returns-clause-ok : goal.returns-clause-ok
@@ -40,10 +40,10 @@ returns-clause-ok g c =
     let none_left : i.left ≡ 0 = omega (arith, i.count, end, c.loop-place-test.false) in
     all_of _ _ _ _ i.written (ap (numbers_from c.args.axis c.args.greatest c.loop-place.place) none_left)
 
-pub returns-in_ok-write_elements-clause-ok : goal.returns-in_ok-write_elements-clause-ok
-returns-in_ok-write_elements-clause-ok g c =
+pub returns-in_ok-write_lines-clause-ok : goal.returns-in_ok-write_lines-clause-ok
+returns-in_ok-write_lines-clause-ok g c =
     let i = c.loop-place.invariant in
     let some : i.left ≡ suc (i.left - 1) = omega (arith, i.count, ap (λ s. c.args.greatest / s) c.step-step.ensures.step, c.loop-place-test.true) in
     let on = numbers_by c.args.axis c.args.greatest i.left c.loop-place.place _ _ some c.step-step.ensures.step c.number.ensures in
     let last : i.left - 1 ≡ 0 = omega (arith, i.count, ap (λ s. c.args.greatest / s) c.step-step.ensures.step) in
-    all_of _ _ _ _ (further svg_is _ _ _ _ i.written _ _ on _ c.in_ok-write_elements.ensures.ok) (ap (numbers_from c.args.axis c.args.greatest (c.loop-place.place + 1)) last)
+    all_of _ _ _ _ (further svg_is _ _ _ _ i.written _ _ on _ c.in_ok-write_lines.ensures.ok) (ap (numbers_from c.args.axis c.args.greatest (c.loop-place.place + 1)) last)

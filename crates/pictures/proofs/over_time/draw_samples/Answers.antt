@@ -18,9 +18,9 @@ returns-in_err-write_shown-clause-err g c =
 pub returns-clause-ok : goal.returns-clause-ok
 returns-clause-ok g c =
     let scale = c.args.scale.now in
-    on_ok_weaker c.write_close.result (to_end _ time_frame time_axes (time_shown scale c.args.samples.now) (ap (λ xs. time_frame ++ xs) c.axes.ensures) _ _ c.in_ok-write_head.ensures.ok _ c.in_ok-write_shown.ensures.ok _) c.write_close.ensures.ok
+    on_ok_weaker c.write_line.result (to_end _ time_frame time_axes (time_shown scale c.args.samples.now) (ap (λ xs. time_frame ++ xs) c.axes.ensures) _ _ c.in_ok-write_head.ensures.ok _ c.in_ok-write_shown.ensures.ok _) c.write_line.ensures.ok
 
 pub returns-clause-err : goal.returns-clause-err
 returns-clause-err g c =
     let scale = c.args.scale.now in
-    on_err_weaker c.write_close.result (in_end _ time_frame time_axes (time_shown scale c.args.samples.now) (ap (λ xs. time_frame ++ xs) c.axes.ensures) _ _ c.in_ok-write_head.ensures.ok _ c.in_ok-write_shown.ensures.ok _) c.write_close.ensures.err
+    on_err_weaker c.write_line.result (in_end _ time_frame time_axes (time_shown scale c.args.samples.now) (ap (λ xs. time_frame ++ xs) c.axes.ensures) _ _ c.in_ok-write_head.ensures.ok _ c.in_ok-write_shown.ensures.ok _) c.write_line.ensures.err

@@ -2,7 +2,7 @@ use Rattle.std.proofs.Common.{ap, refl, arith}
 use Rattle.std.proofs.lemmas.List.{drop_all}
 use Rattle.pictures.specs.OverTime.{samples_from}
 use Rattle.pictures.proofs.Parts.{at_err, none_yet, further, cut_short, all_of}
-use Rattle.pictures.proofs.Drawing.{svg_is}
+use Rattle.pictures.proofs.Lines.{svg_is}
 use Rattle.pictures.proofs.Samples.{samples_on}
 use Rattle.pictures.proofs.over_time.write_samples.Goals as goal
 

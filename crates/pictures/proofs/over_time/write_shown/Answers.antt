@@ -4,7 +4,7 @@ use Rattle.pictures.specs.declared.axis.Axis.TheVariants.{Lines, Pages, Objects}
 use Rattle.pictures.specs.Axes.{axis_numbers}
 use Rattle.pictures.specs.OverTime.{samples_from}
 use Rattle.pictures.proofs.Parts.{at_err, further, cut_short, all_of}
-use Rattle.pictures.proofs.Drawing.{svg_is}
+use Rattle.pictures.proofs.Lines.{svg_is}
 use Rattle.pictures.proofs.Shown.{behind_lines, none_shown, lines_shown, pages_shown, axes_shown}
 use Rattle.pictures.proofs.over_time.write_shown.Goals as goal
 

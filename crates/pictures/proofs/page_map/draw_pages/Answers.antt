@@ -26,9 +26,9 @@ returns-in_err-write_squares-clause-err g c =
 pub returns-clause-ok : goal.returns-clause-ok
 returns-clause-ok g c =
     let h = c.args.heap.now in
-    on_ok_weaker c.write_close.result (to_end _ (map_frame h) (map_told h) (map_shown h) (head_is h _ _ (c.height-height.ensures ∙ ap map_height c.pages.ensures.pages) c.told.ensures) _ _ c.in_ok-write_head.ensures.ok _ c.in_ok-write_squares.ensures.ok _) c.write_close.ensures.ok
+    on_ok_weaker c.write_line.result (to_end _ (map_frame h) (map_told h) (map_shown h) (head_is h _ _ (c.height-height.ensures ∙ ap map_height c.pages.ensures.pages) c.told.ensures) _ _ c.in_ok-write_head.ensures.ok _ c.in_ok-write_squares.ensures.ok _) c.write_line.ensures.ok
 
 pub returns-clause-err : goal.returns-clause-err
 returns-clause-err g c =
     let h = c.args.heap.now in
-    on_err_weaker c.write_close.result (in_end _ (map_frame h) (map_told h) (map_shown h) (head_is h _ _ (c.height-height.ensures ∙ ap map_height c.pages.ensures.pages) c.told.ensures) _ _ c.in_ok-write_head.ensures.ok _ c.in_ok-write_squares.ensures.ok _) c.write_close.ensures.err
+    on_err_weaker c.write_line.result (in_end _ (map_frame h) (map_told h) (map_shown h) (head_is h _ _ (c.height-height.ensures ∙ ap map_height c.pages.ensures.pages) c.told.ensures) _ _ c.in_ok-write_head.ensures.ok _ c.in_ok-write_squares.ensures.ok _) c.write_line.ensures.err

@@ -2,7 +2,7 @@ use Rattle.std.proofs.Common.{◌≡◌, [], ◌++◌, ap, ◌∙◌, sym, rules
 use Rattle.pictures.specs.Elements.{svg_text}
 use Rattle.pictures.specs.PageMap.{row_number}
 use Rattle.pictures.proofs.Parts.{none}
-use Rattle.pictures.proofs.Drawing.{svg_is}
+use Rattle.pictures.proofs.Lines.{svg_is}
 use Rattle.pictures.proofs.page_map.write_number.Goals as goal
 
 pub returns-then-x-ne36-clause-ok : goal.returns-then-x-ne36-clause-ok

@@ -2,7 +2,7 @@ use Rattle.std.proofs.Common.{[], sym, refl, append-nil}
 use Rattle.std.proofs.lemmas.Result.{on_err_weaker, on_ok_weaker}
 use Rattle.pictures.specs.PageMap.{page_square}
 use Rattle.pictures.proofs.Parts.{at_err, none_yet, further, cut_short, all_of}
-use Rattle.pictures.proofs.Drawing.{svg_is}
+use Rattle.pictures.proofs.Lines.{svg_is}
 use Rattle.pictures.proofs.SquareLemmas.{square_is}
 use Rattle.pictures.proofs.page_map.write_square.Goals as goal
 

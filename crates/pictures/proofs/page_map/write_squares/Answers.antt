@@ -1,9 +1,9 @@
 use Rattle.std.proofs.Common.{length, ap, ◌∙◌, refl, arith}
 use Rattle.std.proofs.lemmas.List.{drop_all}
-use Rattle.pictures.specs.Elements.{each_from}
+use Rattle.pictures.specs.Lines.{each_from}
 use Rattle.pictures.specs.Squares.{squares_for}
 use Rattle.pictures.proofs.Parts.{at_err, none_yet, further, cut_short, all_of}
-use Rattle.pictures.proofs.Drawing.{svg_is}
+use Rattle.pictures.proofs.Lines.{svg_is}
 use Rattle.pictures.proofs.SquareLemmas.{drawn_of, squares_on}
 use Rattle.pictures.proofs.page_map.write_squares.Goals as goal
 

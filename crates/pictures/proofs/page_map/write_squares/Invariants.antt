@@ -1,5 +1,5 @@
 use Rattle.std.proofs.Common.{◌≡◌, length, drop}
-use Rattle.pictures.specs.Elements.{each_from}
+use Rattle.pictures.specs.Lines.{each_from}
 use Rattle.pictures.specs.PageMap.{map_shown}
 use Rattle.pictures.specs.Squares.{squares_for}
 use Rattle.pictures.specs.Elements.{svg_text}

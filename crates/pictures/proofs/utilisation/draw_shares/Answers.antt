@@ -15,8 +15,8 @@ returns-in_err-write_shown-clause-err g c =
 
 pub returns-clause-ok : goal.returns-clause-ok
 returns-clause-ok g c =
-    on_ok_weaker c.write_close.result (to_end _ chart_frame axes (shares_shown c.args.shares.now) (ap (λ xs. chart_frame ++ xs) c.axes.ensures) _ _ c.in_ok-write_head.ensures.ok _ c.in_ok-write_shown.ensures.ok _) c.write_close.ensures.ok
+    on_ok_weaker c.write_line.result (to_end _ chart_frame axes (shares_shown c.args.shares.now) (ap (λ xs. chart_frame ++ xs) c.axes.ensures) _ _ c.in_ok-write_head.ensures.ok _ c.in_ok-write_shown.ensures.ok _) c.write_line.ensures.ok
 
 pub returns-clause-err : goal.returns-clause-err
 returns-clause-err g c =
-    on_err_weaker c.write_close.result (in_end _ chart_frame axes (shares_shown c.args.shares.now) (ap (λ xs. chart_frame ++ xs) c.axes.ensures) _ _ c.in_ok-write_head.ensures.ok _ c.in_ok-write_shown.ensures.ok _) c.write_close.ensures.err
+    on_err_weaker c.write_line.result (in_end _ chart_frame axes (shares_shown c.args.shares.now) (ap (λ xs. chart_frame ++ xs) c.axes.ensures) _ _ c.in_ok-write_head.ensures.ok _ c.in_ok-write_shown.ensures.ok _) c.write_line.ensures.err

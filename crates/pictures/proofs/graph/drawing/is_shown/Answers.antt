@@ -1,9 +1,0 @@
-use Rattle.std.proofs.Common.{refl}
-use Rattle.pictures.proofs.graph.Shown.{shown_by_place, nowhere_shown}
-use Rattle.pictures.proofs.graph.drawing.is_shown.Goals as goal
-
-pub returns-in-Some : goal.returns-in-Some
-returns-in-Some c = shown_by_place c.args.search.now.found c.args.most c.in-Some.place c.args.id c.requires c.in-Some.ensures.some
-
-pub returns-in-None : goal.returns-in-None
-returns-in-None c = nowhere_shown c.args.search.now.found c.args.most c.args.id (c.in-None.ensures.none refl)

@@ -1,0 +1,12 @@
+-- Documents in lines.
+use Rattle.std.specs.Prelude.{ℕ, ◌+◌, List, [], ◌∷◌, ◌++◌, map}
+use Rattle.trace.specs.Streams.{text_of}
+
+-- what is drawn of each item of a list by its place, from one on
+abbrev pub each_from : {A B : Type 0} → (ℕ → A → List B) → ℕ → List A → List B
+each_from drawn place [] = []
+each_from drawn place (x ∷ later) = drawn place x ++ each_from drawn (place + 1) later
+
+-- the text of items that are a line each, with LF (byte 10) after it
+unfoldable pub lines_text : {A : Type 0} → (A → List ℕ) → List A → List ℕ
+lines_text line items = text_of (map line items)

@@ -1,15 +1,16 @@
 -- The numbers and texts of what a call comes to.
-use Rattle.std.specs.Prelude.{ℕ, ◌+◌, ◌++◌, ◌==◌, List, Option, Some, None, codes, find}
+use Rattle.std.specs.Prelude.{ℕ, ◌+◌, ◌++◌, ◌==◌, List, [], ◌∷◌, map, Option, Some, None, codes, find}
 use Rattle.graph_heap.specs.declared.command.Refusal.TheVariants.{BadSlot, NullSlot, BadIndex, WrongKind, TooLarge, IdentitiesSpent, NoSpace, BadStatic, NotLive, AlreadyLive}
 use Rattle.graph_heap.specs.Refusal.{refusal_number}
 use Rattle.size_classes.specs.declared.key.Key.{Key}
 use Rattle.size_classes.specs.declared.key.Key.TheVariants.{Pages, Mutators, Slots, Statics, Identities, DefragBelow, DefragPages, CollectorTicks, MutatorTicks, Rate, Live}
+use Rattle.size_classes.specs.declared.key.TheConstants.Key.{ALL}
 use Rattle.size_classes.specs.Keys.{name_of}
 use Rattle.size_classes.specs.declared.fault.ConfigFault.{ConfigFault}
 use Rattle.size_classes.specs.declared.fault.ConfigFault.TheVariants as faults
 use Rattle.metronome_c.specs.declared.status.Status.{Status}
 use Rattle.metronome_c.specs.declared.status.Status.TheVariants as statuses
-use Rattle.metronome_c.specs.declared.status.TheConstants.Status.{ALL}
+use Rattle.metronome_c.specs.declared.status.TheConstants.Status.{BEFORE_SETTINGS}
 
 -- the place of a key among the settings
 abbrev pub key_number : Key → ℕ
@@ -39,9 +40,13 @@ status_number statuses.BadHandle = 19
 status_number (statuses.SettingOutOfRange key) = 20 + key_number key
 status_number statuses.OtherVersion = 40
 
--- the first of some statuses with a number
-abbrev pub status_numbered : ℕ → List Status → Option Status
-status_numbered number all = find (λ s. status_number s == number) all
+-- all statuses, in the order of their numbers: one for each setting, in the order of `Key::ALL`
+abbrev pub all_statuses : List Status
+all_statuses = (BEFORE_SETTINGS ++ map statuses.SettingOutOfRange ALL) ++ statuses.OtherVersion ∷ []
+
+-- the first of them with a number
+abbrev pub status_numbered : ℕ → Option Status
+status_numbered number = find (λ s. status_number s == number) all_statuses
 
 -- the status of a fault of a configuration: a setting that is out of its range, or the budget of a quantum
 abbrev pub fault_status : ConfigFault → Status
@@ -82,4 +87,4 @@ text_or_none None = codes "no such status"
 
 -- the text of a number, none where it is no status's
 abbrev pub text_of : ℕ → List ℕ
-text_of number = text_or_none (status_numbered number ALL)
+text_of number = text_or_none (status_numbered number)

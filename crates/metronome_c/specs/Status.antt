@@ -1,9 +1,10 @@
 -- The numbers and texts of what a call comes to.
 use Rattle.std.specs.Prelude.{ℕ, ◌+◌, ◌++◌, ◌==◌, List, [], ◌∷◌, map, Option, Some, None, codes, find}
+use Rattle.std.specs.List.{position_or_len}
 use Rattle.graph_heap.specs.declared.command.Refusal.TheVariants.{BadSlot, NullSlot, BadIndex, WrongKind, TooLarge, IdentitiesSpent, NoSpace, BadStatic, NotLive, AlreadyLive}
 use Rattle.graph_heap.specs.Refusal.{refusal_number}
 use Rattle.size_classes.specs.declared.key.Key.{Key}
-use Rattle.size_classes.specs.declared.key.Key.TheVariants.{Pages, Mutators, Slots, Statics, Identities, DefragBelow, DefragPages, CollectorTicks, MutatorTicks, Rate, Live}
+use Rattle.size_classes.specs.contracts.key.KeyPartialEq.TheImpl as same_key
 use Rattle.size_classes.specs.declared.key.TheConstants.Key.{ALL}
 use Rattle.size_classes.specs.Keys.{name_of}
 use Rattle.size_classes.specs.declared.fault.ConfigFault.{ConfigFault}
@@ -12,19 +13,9 @@ use Rattle.metronome_c.specs.declared.status.Status.{Status}
 use Rattle.metronome_c.specs.declared.status.Status.TheVariants as statuses
 use Rattle.metronome_c.specs.declared.status.TheConstants.Status.{BEFORE_SETTINGS}
 
--- the place of a key among the settings
+-- the place of a key among the settings, from 0: that in `Key::ALL`
 abbrev pub key_number : Key → ℕ
-key_number Pages = 0
-key_number Mutators = 1
-key_number Slots = 2
-key_number Statics = 3
-key_number Identities = 4
-key_number DefragBelow = 5
-key_number DefragPages = 6
-key_number CollectorTicks = 7
-key_number MutatorTicks = 8
-key_number Rate = 9
-key_number Live = 10
+key_number key = position_or_len (same_key.ghosts.eq key) ALL
 
 -- the number of a status: a refusal of a command has its own
 abbrev pub status_number : Status → ℕ

@@ -3,6 +3,7 @@ pub mod Holding
 pub mod Stepping
 pub mod Telling
 pub mod Values
+pub mod Moving
 pub mod Making
 pub mod Beginning
 pub mod Calling

@@ -1,29 +1,21 @@
 -- The numbers and texts of what a call comes to.
-use Rattle.std.specs.Prelude.{ℕ, ◌+◌, ◌++◌, ◌==◌, List, Option, Some, None, codes, find}
+use Rattle.std.specs.Prelude.{ℕ, ◌+◌, ◌++◌, ◌==◌, List, [], ◌∷◌, map, Option, Some, None, codes, find}
+use Rattle.std.specs.List.{position_or_len}
 use Rattle.graph_heap.specs.declared.command.Refusal.TheVariants.{BadSlot, NullSlot, BadIndex, WrongKind, TooLarge, IdentitiesSpent, NoSpace, BadStatic, NotLive, AlreadyLive}
 use Rattle.graph_heap.specs.Refusal.{refusal_number}
 use Rattle.size_classes.specs.declared.key.Key.{Key}
-use Rattle.size_classes.specs.declared.key.Key.TheVariants.{Pages, Mutators, Slots, Statics, Identities, DefragBelow, DefragPages, CollectorTicks, MutatorTicks, Rate, Live}
+use Rattle.size_classes.specs.contracts.key.KeyPartialEq.TheImpl as same_key
+use Rattle.size_classes.specs.declared.key.TheConstants.Key.{ALL}
 use Rattle.size_classes.specs.Keys.{name_of}
 use Rattle.size_classes.specs.declared.fault.ConfigFault.{ConfigFault}
 use Rattle.size_classes.specs.declared.fault.ConfigFault.TheVariants as faults
 use Rattle.metronome_c.specs.declared.status.Status.{Status}
 use Rattle.metronome_c.specs.declared.status.Status.TheVariants as statuses
-use Rattle.metronome_c.specs.declared.status.TheConstants.Status.{ALL}
+use Rattle.metronome_c.specs.declared.status.TheConstants.Status.{BEFORE_SETTINGS}
 
--- the place of a key among the settings
+-- the place of a key among the settings, from 0: that in `Key::ALL`
 abbrev pub key_number : Key → ℕ
-key_number Pages = 0
-key_number Mutators = 1
-key_number Slots = 2
-key_number Statics = 3
-key_number Identities = 4
-key_number DefragBelow = 5
-key_number DefragPages = 6
-key_number CollectorTicks = 7
-key_number MutatorTicks = 8
-key_number Rate = 9
-key_number Live = 10
+key_number key = position_or_len (same_key.ghosts.eq key) ALL
 
 -- the number of a status: a refusal of a command has its own
 abbrev pub status_number : Status → ℕ
@@ -39,9 +31,13 @@ status_number statuses.BadHandle = 19
 status_number (statuses.SettingOutOfRange key) = 20 + key_number key
 status_number statuses.OtherVersion = 40
 
--- the first of some statuses with a number
-abbrev pub status_numbered : ℕ → List Status → Option Status
-status_numbered number all = find (λ s. status_number s == number) all
+-- all statuses, in the order of their numbers: one for each setting, in the order of `Key::ALL`
+abbrev pub all_statuses : List Status
+all_statuses = (BEFORE_SETTINGS ++ map statuses.SettingOutOfRange ALL) ++ statuses.OtherVersion ∷ []
+
+-- the first of them with a number
+abbrev pub status_numbered : ℕ → Option Status
+status_numbered number = find (λ s. status_number s == number) all_statuses
 
 -- the status of a fault of a configuration: a setting that is out of its range, or the budget of a quantum
 abbrev pub fault_status : ConfigFault → Status
@@ -82,4 +78,4 @@ text_or_none None = codes "no such status"
 
 -- the text of a number, none where it is no status's
 abbrev pub text_of : ℕ → List ℕ
-text_of number = text_or_none (status_numbered number ALL)
+text_of number = text_or_none (status_numbered number)

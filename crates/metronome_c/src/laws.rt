@@ -12,10 +12,10 @@ ghost use Rattle.heap_model.specs.State.{HeapState};
 ghost use Rattle.metronome_c.specs.Calls.{Call, Calls, AreEvents, IsPromised};
 ghost use Rattle.metronome_c.specs.Lifetime.{Creates};
 ghost use Rattle.metronome_c.specs.Limit.{limit_of};
+ghost use Rattle.metronome_c.specs.Status.{all_statuses};
 ghost use Rattle.metronome_c.specs.declared.metronome.TheConstants.{CHECK_WORD};
 ghost use Rattle.metronome_c.specs.declared.status.Status.{Status};
 ghost use Rattle.metronome_c.specs.declared.status.Status.TheVariants.{Done, Refused, NoMemory, Busy, BudgetOutOfRange, Closed, Open, ScheduleOutOfRange, BadHandle, SettingOutOfRange, OtherVersion};
-ghost use Rattle.metronome_c.specs.declared.status.TheConstants.Status.{ALL};
 
 /// Where a heap was just made of a closed handle, and a program calls the library as it likes, the calls are events
 /// that the heap does one after the other, with a history that only grows: each call tells what its event came to, and
@@ -37,8 +37,8 @@ pub fn limits_are_those_of_heaps()
 
 /// The order of the statuses. A number is told as the first status that has it.
 pub fn statuses_are_in_order()
-    ensures { ALL ≡ Done ∷ Refused refusals.BadSlot ∷ Refused refusals.NullSlot ∷ Refused refusals.BadIndex
-        ∷ Refused refusals.WrongKind ∷ Refused refusals.TooLarge ∷ Refused refusals.IdentitiesSpent
+    ensures { all_statuses ≡ Done ∷ Refused refusals.BadSlot ∷ Refused refusals.NullSlot
+        ∷ Refused refusals.BadIndex ∷ Refused refusals.WrongKind ∷ Refused refusals.TooLarge ∷ Refused refusals.IdentitiesSpent
         ∷ Refused refusals.NoSpace ∷ Refused refusals.BadStatic ∷ NoMemory ∷ Busy ∷ BudgetOutOfRange
         ∷ Refused refusals.NotLive ∷ Refused refusals.AlreadyLive ∷ Closed ∷ Open ∷ ScheduleOutOfRange ∷ BadHandle
         ∷ SettingOutOfRange keys.Pages ∷ SettingOutOfRange keys.Mutators ∷ SettingOutOfRange keys.Slots

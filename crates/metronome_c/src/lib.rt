@@ -2,18 +2,16 @@
 #![tactic(auto)]
 
 mod answer;
-mod cells;
 mod collector;
+mod commands;
 mod figures;
 mod handle;
 mod laws;
 mod lifetime;
 mod limit;
 mod metronome;
-mod objects;
 mod page;
 mod phase;
 mod settings;
-mod slots;
 mod status;
 mod text;

@@ -1,7 +1,7 @@
 //! What a cycle takes at most.
 ghost use Rattle.std.specs.Prelude.{◌≡◌};
 ghost use Rattle.metronome_c.specs.Lifetime.{settings_from};
-ghost use Rattle.metronome_c.specs.Limit.{quanta_of, TellsLimit};
+ghost use Rattle.metronome_c.specs.Limit.{limit_of, TellsLimit};
 
 use crate::settings::MetronomeSettings;
 use crate::status::Status;
@@ -15,12 +15,17 @@ pub struct CycleLimit {
     pub quanta: u64,
 }
 
-/// The quanta of the schedule that a cycle takes at most: each spends all of its budget but 255 units, or more.
-fn quanta(config: &Config) -> u64
-    ensures { result ≡ quanta_of config.now }
-{
-    let spent = config.budget() - (LEAST_BUDGET - 1);
-    config.cycle_limit() / u64::from(spent) + 1
+impl CycleLimit {
+    /// The limit of a configuration. Each quantum of its schedule spends all of its budget but 255 units, or more.
+    fn of(config: &Config) -> CycleLimit
+        ensures { result ≡ limit_of config.now }
+    {
+        let spent = config.budget() - (LEAST_BUDGET - 1);
+        CycleLimit {
+            units: config.cycle_limit(),
+            quanta: config.cycle_limit() / u64::from(spent) + 1,
+        }
+    }
 }
 
 /// Tells what a cycle takes at most in a heap of these settings. It makes none.
@@ -30,10 +35,7 @@ pub extern "C" fn metronome_cycle_limit(settings: &MetronomeSettings, limit: &mu
 {
     match Config::check(&settings.settings()) {
         Ok(config) => {
-            *limit = CycleLimit {
-                units: config.cycle_limit(),
-                quanta: quanta(&config),
-            };
+            *limit = CycleLimit::of(&config);
             Status::Done.number()
         }
         Err(fault) => Status::of_fault(fault).number(),

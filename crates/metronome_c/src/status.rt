@@ -2,10 +2,10 @@
 ghost use Rattle.std.specs.Prelude.{◌≡◌};
 ghost use Rattle.metronome_c.specs.Status as statuses;
 ghost use Rattle.metronome_c.specs.Status.{status_number, status_numbered, fault_status};
-ghost use Rattle.metronome_c.specs.declared.status.TheConstants.Status.{ALL};
 
 use graph_heap::Refusal;
 use size_classes::{ConfigFault, Key};
+use std::iter::once;
 
 /// What a call comes to.
 #[derive(Clone, Copy, Debug, PartialEq, Eq)]
@@ -38,8 +38,8 @@ fn key_number(key: Key) -> u32
 }
 
 impl Status {
-    /// All of them, in the order of their numbers.
-    pub const ALL: [Status; 30] = [
+    /// Those before the settings out of their ranges, in the order of their numbers.
+    pub const BEFORE_SETTINGS: [Status; 18] = [
         Status::Done,
         Status::Refused(Refusal::BadSlot),
         Status::Refused(Refusal::NullSlot),
@@ -58,18 +58,6 @@ impl Status {
         Status::Open,
         Status::ScheduleOutOfRange,
         Status::BadHandle,
-        Status::SettingOutOfRange(Key::Pages),
-        Status::SettingOutOfRange(Key::Mutators),
-        Status::SettingOutOfRange(Key::Slots),
-        Status::SettingOutOfRange(Key::Statics),
-        Status::SettingOutOfRange(Key::Identities),
-        Status::SettingOutOfRange(Key::DefragBelow),
-        Status::SettingOutOfRange(Key::DefragPages),
-        Status::SettingOutOfRange(Key::CollectorTicks),
-        Status::SettingOutOfRange(Key::MutatorTicks),
-        Status::SettingOutOfRange(Key::Rate),
-        Status::SettingOutOfRange(Key::Live),
-        Status::OtherVersion,
     ];
 
     /// The number by which C is told.
@@ -93,9 +81,15 @@ impl Status {
 
     /// The status of a number, if it is one of a status.
     pub fn numbered(number: u32) -> Option<Status>
-        ensures { result ≡ status_numbered number ALL }
+        ensures { result ≡ status_numbered number }
     {
-        first_numbered(number, &Status::ALL)
+        let settings = Key::ALL.iter().map(|key| Status::SettingOutOfRange(*key));
+        Status::BEFORE_SETTINGS
+            .iter()
+            .copied()
+            .chain(settings)
+            .chain(once(Status::OtherVersion))
+            .find(|status| status.number() == number)
     }
 
     /// The status of a fault of a configuration.
@@ -135,13 +129,6 @@ impl Status {
             Status::OtherVersion => "the program was built for another version",
         }
     }
-}
-
-/// The first status with a number.
-fn first_numbered(number: u32, all: &[Status]) -> Option<Status>
-    ensures { result ≡ status_numbered number all.now }
-{
-    all.iter().find(|s| s.number() == number).copied()
 }
 
 /// Which setting is out of its range.

@@ -1,0 +1,226 @@
+//! The commands of mutators, each with a function for C, in the order of `graph_heap::Command`.
+ghost use Rattle.graph_heap.specs.declared.command.Command.TheVariants as commands;
+ghost use Rattle.graph_heap.specs.declared.command.Shape.TheVariants as shapes;
+ghost use Rattle.metronome_c.specs.Held.{held};
+ghost use Rattle.metronome_c.specs.Steps.{Steps, TellsShape};
+
+use crate::answer::{Answer, MetronomeShape};
+use crate::metronome::Metronome;
+use graph_heap::Shape;
+
+/// A new object of reference cells and word cells, into slot dst.
+#[unsafe(no_mangle)]
+pub extern "C" fn metronome_new_plain(
+    heap: &mut Metronome,
+    mutator: u32,
+    dst: u32,
+    refs: u32,
+    words: u32,
+) -> Answer
+    ensures { Steps (held heap.old) mutator (commands.New dst (shapes.Plain refs words)) (held heap.new) result }
+{
+    let shape = Shape::Plain { refs, words };
+    heap.told(|inner| inner.make(mutator, dst, shape))
+}
+
+/// A new array of reference cells, into slot dst.
+#[unsafe(no_mangle)]
+pub extern "C" fn metronome_new_refs(
+    heap: &mut Metronome,
+    mutator: u32,
+    dst: u32,
+    refs: u32,
+) -> Answer
+    ensures { Steps (held heap.old) mutator (commands.New dst (shapes.RefArray refs)) (held heap.new) result }
+{
+    let shape = Shape::RefArray(refs);
+    heap.told(|inner| inner.make(mutator, dst, shape))
+}
+
+/// A new array of word cells, into slot dst.
+#[unsafe(no_mangle)]
+pub extern "C" fn metronome_new_words(
+    heap: &mut Metronome,
+    mutator: u32,
+    dst: u32,
+    words: u32,
+) -> Answer
+    ensures { Steps (held heap.old) mutator (commands.New dst (shapes.WordArray words)) (held heap.new) result }
+{
+    let shape = Shape::WordArray(words);
+    heap.told(|inner| inner.make(mutator, dst, shape))
+}
+
+/// What a reference cell holds into slot dst.
+#[unsafe(no_mangle)]
+pub extern "C" fn metronome_load(
+    heap: &mut Metronome,
+    mutator: u32,
+    dst: u32,
+    obj: u32,
+    i: u32,
+) -> Answer
+    ensures { Steps (held heap.old) mutator (commands.Load dst obj i) (held heap.new) result }
+{
+    heap.told(|inner| inner.load(mutator, dst, obj, i))
+}
+
+/// What slot src holds into a reference cell.
+#[unsafe(no_mangle)]
+pub extern "C" fn metronome_store(
+    heap: &mut Metronome,
+    mutator: u32,
+    obj: u32,
+    i: u32,
+    src: u32,
+) -> Answer
+    ensures { Steps (held heap.old) mutator (commands.Store obj i src) (held heap.new) result }
+{
+    heap.told(|inner| inner.store(mutator, obj, i, src))
+}
+
+/// What slot new holds into a reference cell, if that holds what slot expect does.
+#[unsafe(no_mangle)]
+pub extern "C" fn metronome_compare_store(
+    heap: &mut Metronome,
+    mutator: u32,
+    obj: u32,
+    i: u32,
+    expect: u32,
+    new: u32,
+) -> Answer
+    ensures { Steps (held heap.old) mutator (commands.CompareStore obj i expect new) (held heap.new) result }
+{
+    heap.told(|inner| inner.compare_store(mutator, obj, i, expect, new))
+}
+
+/// Reads a word cell.
+#[unsafe(no_mangle)]
+pub extern "C" fn metronome_get(heap: &mut Metronome, mutator: u32, obj: u32, i: u32) -> Answer
+    ensures { Steps (held heap.old) mutator (commands.Get obj i) (held heap.new) result }
+{
+    heap.told(|inner| inner.get(mutator, obj, i))
+}
+
+/// Writes a word cell.
+#[unsafe(no_mangle)]
+pub extern "C" fn metronome_put(
+    heap: &mut Metronome,
+    mutator: u32,
+    obj: u32,
+    i: u32,
+    word: u64,
+) -> Answer
+    ensures { Steps (held heap.old) mutator (commands.Put obj i word) (held heap.new) result }
+{
+    heap.told(|inner| inner.put(mutator, obj, i, word))
+}
+
+/// Writes a word cell, if that is old.
+#[unsafe(no_mangle)]
+pub extern "C" fn metronome_compare_put(
+    heap: &mut Metronome,
+    mutator: u32,
+    obj: u32,
+    i: u32,
+    old: u64,
+    new: u64,
+) -> Answer
+    ensures { Steps (held heap.old) mutator (commands.ComparePut obj i old new) (held heap.new) result }
+{
+    heap.told(|inner| inner.compare_put(mutator, obj, i, old, new))
+}
+
+/// What slot src holds into slot dst.
+#[unsafe(no_mangle)]
+pub extern "C" fn metronome_copy(heap: &mut Metronome, mutator: u32, dst: u32, src: u32) -> Answer
+    ensures { Steps (held heap.old) mutator (commands.Copy dst src) (held heap.new) result }
+{
+    heap.told(|inner| inner.copy(mutator, dst, src))
+}
+
+/// Null into slot dst.
+#[unsafe(no_mangle)]
+pub extern "C" fn metronome_clear(heap: &mut Metronome, mutator: u32, dst: u32) -> Answer
+    ensures { Steps (held heap.old) mutator (commands.Clear dst) (held heap.new) result }
+{
+    heap.told(|inner| inner.clear(mutator, dst))
+}
+
+/// What static k holds into slot dst.
+#[unsafe(no_mangle)]
+pub extern "C" fn metronome_load_static(
+    heap: &mut Metronome,
+    mutator: u32,
+    dst: u32,
+    k: u32,
+) -> Answer
+    ensures { Steps (held heap.old) mutator (commands.LoadStatic dst k) (held heap.new) result }
+{
+    heap.told(|inner| inner.load_static(mutator, dst, k))
+}
+
+/// What slot src holds into static k.
+#[unsafe(no_mangle)]
+pub extern "C" fn metronome_store_static(
+    heap: &mut Metronome,
+    mutator: u32,
+    k: u32,
+    src: u32,
+) -> Answer
+    ensures { Steps (held heap.old) mutator (commands.StoreStatic k src) (held heap.new) result }
+{
+    heap.told(|inner| inner.store_static(mutator, k, src))
+}
+
+/// What slot new holds into static k, if that holds what slot expect does.
+#[unsafe(no_mangle)]
+pub extern "C" fn metronome_compare_static(
+    heap: &mut Metronome,
+    mutator: u32,
+    k: u32,
+    expect: u32,
+    new: u32,
+) -> Answer
+    ensures { Steps (held heap.old) mutator (commands.CompareStatic k expect new) (held heap.new) result }
+{
+    heap.told(|inner| inner.compare_static(mutator, k, expect, new))
+}
+
+/// Whether slots a and b hold the same object, or both null.
+#[unsafe(no_mangle)]
+pub extern "C" fn metronome_same(heap: &mut Metronome, mutator: u32, a: u32, b: u32) -> Answer
+    ensures { Steps (held heap.old) mutator (commands.Same a b) (held heap.new) result }
+{
+    heap.told(|inner| inner.same(mutator, a, b))
+}
+
+/// The identity of slot a's object, and its shape.
+#[unsafe(no_mangle)]
+pub extern "C" fn metronome_describe(
+    heap: &mut Metronome,
+    mutator: u32,
+    a: u32,
+    shape: &mut MetronomeShape,
+) -> Answer
+    ensures steps { Steps (held heap.old) mutator (commands.Describe a) (held heap.new) result }
+    ensures shape { TellsShape (held heap.old) mutator (commands.Describe a) shape.old shape.new }
+{
+    heap.told_with_shape(shape, |inner| inner.describe(mutator, a))
+}
+
+/// The mutator comes to be live.
+#[unsafe(no_mangle)]
+pub extern "C" fn metronome_join(heap: &mut Metronome, mutator: u32) -> Answer
+    ensures { Steps (held heap.old) mutator commands.Join (held heap.new) result }
+{
+    heap.told(|inner| inner.join(mutator))
+}
+
+/// Null into each slot of the mutator, which is live no more.
+#[unsafe(no_mangle)]
+pub extern "C" fn metronome_leave(heap: &mut Metronome, mutator: u32) -> Answer
+    ensures { Steps (held heap.old) mutator commands.Leave (held heap.new) result }
+{
+    heap.told(|inner| inner.leave(mutator))
+}

@@ -42,23 +42,24 @@ struct Subcommand {
     more: &'static [Given],
 }
 
-const CONFIG: Given = Given {
-    name: "CONFIG",
-    form: Form::Place,
-    help: "The configuration, in TOML",
-};
+/// What each subcommand has beside its file: its configuration, and whether the progress is told.
+const EACH: [Given; 2] = [
+    Given {
+        name: "CONFIG",
+        form: Form::Place,
+        help: "The configuration, in TOML",
+    },
+    Given {
+        name: "progress",
+        form: Form::Flag,
+        help: "Tell on standard error how many lines were read",
+    },
+];
 
 const TRACE: Given = Given {
     name: "TRACE",
     form: Form::Place,
     help: "The trace, or - for standard input",
-};
-
-/// Whether the progress is told, which each subcommand may be asked for.
-const PROGRESS: Given = Given {
-    name: "progress",
-    form: Form::Flag,
-    help: "Tell on standard error how many lines were read",
 };
 
 /// How many event lines are played, if not all.
@@ -218,9 +219,9 @@ pub fn program<'a>(alloc: Global) -> Result<Command<'a>, AllocError> {
 
 /// A subcommand, with its arguments.
 fn command_of<'a>(alloc: Global, row: &Subcommand) -> Result<Command<'a>, AllocError> {
-    let first = [CONFIG, row.file, PROGRESS];
     let command = Command::new(alloc, row.name).about(row.about);
-    with_arguments(alloc, with_arguments(alloc, command, &first)?, row.more)
+    let command = with_arguments(alloc, command, &EACH)?.arg(argument(alloc, &row.file))?;
+    with_arguments(alloc, command, row.more)
 }
 
 /// A command with more arguments.

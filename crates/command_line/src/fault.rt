@@ -1,7 +1,6 @@
 //! Why a configuration file or a command line is refused.
 use crate::toml_table::OpenFault;
 use size_classes::ConfigFault;
-use std::alloc::{AllocError, AllocFailed};
 use thiserror::Error;
 
 /// Why a file gives no configuration. Its text is what a user reads.
@@ -42,26 +41,4 @@ pub enum WordsFault {
     /// Memory was refused while the words were read.
     #[error("no memory")]
     NoMemory,
-}
-
-impl From<AllocError> for WordsFault {
-    ghost use Rattle.std.specs.Prelude.{◌≡◌};
-    ghost use Rattle.command_line.specs.declared.fault.WordsFault.TheVariants as faults;
-
-    ghost from_gives = { λ refused fault. fault ≡ faults.NoMemory };
-
-    fn from(_refused: AllocError) -> WordsFault {
-        WordsFault::NoMemory
-    }
-}
-
-impl<T: Drop> From<AllocFailed<T>> for WordsFault {
-    ghost use Rattle.std.specs.Prelude.{◌≡◌};
-    ghost use Rattle.command_line.specs.declared.fault.WordsFault.TheVariants as faults;
-
-    ghost from_gives = { λ refused fault. fault ≡ faults.NoMemory };
-
-    fn from(_refused: AllocFailed<T>) -> WordsFault {
-        WordsFault::NoMemory
-    }
 }

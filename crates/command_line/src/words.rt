@@ -1,6 +1,6 @@
 //! The words of the command line.
 ghost use Rattle.std.specs.Prelude.{◌≡◌, ◌<◌, ◌≤◌, None, IfOk, OnOk, length};
-ghost use Rattle.std.specs.List.{All};
+ghost use Rattle.std.specs.List.{All, Any};
 ghost use Rattle.command_line.specs.Job.{IsDrawing, IsInRange, IsWindow, picture_name, report_name};
 
 use crate::commands::program;
@@ -11,13 +11,17 @@ use clap::error::ErrorKind;
 use size_classes::{LEAST_BUDGET, MOST_BUDGET};
 use std::alloc::Global;
 use std::convert::AsStr;
+use std::fmt::Display;
 
 /// What the words ask for, of which the first is the program's name. Where they ask for help, or are
 /// refused, the answer is the text for the user.
 pub fn read_words<'a, S: AsStr>(alloc: Global, words: &'a [S]) -> Result<Request<'a>, WordsFault>
     ensures { IfOk result (λ request. IsInRange request.job) }
 {
-    let matches = match program(alloc)?.try_get_matches_from(words) {
+    let Ok(command) = program(alloc) else {
+        return Err(WordsFault::NoMemory);
+    };
+    let matches = match command.try_get_matches_from(words) {
         Ok(matches) => matches,
         Err(error) => return Err(fault_of(alloc, &error)),
     };
@@ -35,16 +39,10 @@ fn job_of<'a>(alloc: Global, name: &str, found: &ArgMatches<'a>) -> Result<Job<'
     ensures { IfOk result IsInRange }
 {
     match name {
-        "play" => play(alloc, found),
         "check" => check(alloc, found),
         "threads" => threads(alloc, found),
-        "inspect" => inspect(alloc, found),
-        "cycles" => cycles(alloc, found),
-        "path" => path(alloc, found),
-        "mmu" => mmu(alloc, found),
-        "draw" => draw(alloc, found),
-        "pages" => pages(alloc, found),
-        _ => Err(refused(alloc, "a subcommand is missing")),
+        "inspect" | "path" | "draw" => heap_job(alloc, name, found),
+        _ => run_job(alloc, name, found),
     }
 }
 
@@ -61,21 +59,11 @@ fn fault_of(alloc: Global, error: &clap::Error) -> WordsFault {
 }
 
 /// A refusal in the form of those of `clap`.
-fn refused(alloc: Global, why: &str) -> WordsFault {
+fn refused<T: Display + Drop>(alloc: Global, why: T) -> WordsFault {
     match format!(in alloc; "error: {why}\n\nFor more information, try '--help'.\n") {
         Ok(text) => WordsFault::Refused(text),
         Err(_) => WordsFault::NoMemory,
     }
-}
-
-fn play<'a>(alloc: Global, found: &ArgMatches<'a>) -> Result<Job<'a>, WordsFault>
-    ensures { IfOk result IsInRange }
-{
-    Ok(Job::Play {
-        config: file(alloc, found, "CONFIG")?,
-        trace: file(alloc, found, "TRACE")?,
-        history: found.get_flag("history"),
-    })
 }
 
 fn check<'a>(alloc: Global, found: &ArgMatches<'a>) -> Result<Job<'a>, WordsFault>
@@ -104,79 +92,95 @@ fn threads<'a>(alloc: Global, found: &ArgMatches<'a>) -> Result<Job<'a>, WordsFa
     })
 }
 
-fn inspect<'a>(alloc: Global, found: &ArgMatches<'a>) -> Result<Job<'a>, WordsFault>
+/// What a subcommand over a whole trace asks for.
+fn run_job<'a>(alloc: Global, name: &str, found: &ArgMatches<'a>) -> Result<Job<'a>, WordsFault>
     ensures { IfOk result IsInRange }
 {
-    // (clap gives it its default where it isn't named)
-    let by = found.get_str("by").unwrap_or("");
-    Ok(Job::Inspect {
-        config: file(alloc, found, "CONFIG")?,
-        trace: file(alloc, found, "TRACE")?,
-        by: report(alloc, by)?,
-        after: found.get_one("after"),
-    })
+    let (config, trace) = files(alloc, found)?;
+    match name {
+        "play" => Ok(Job::Play {
+            config,
+            trace,
+            history: found.get_flag("history"),
+        }),
+        "cycles" => Ok(Job::Cycles {
+            config,
+            trace,
+            csv: found.get_flag("csv"),
+        }),
+        "mmu" => Ok(Job::Mmu {
+            config,
+            trace,
+            windows: windows_of(alloc, found.get_strs("WINDOW").unwrap_or(&[]))?,
+        }),
+        "pages" => Ok(Job::Pages {
+            config,
+            trace,
+            by: sizing(alloc, found.get_flag("pace"), found.get_str("load"))?,
+        }),
+        _ => Err(refused(alloc, "a subcommand is missing")),
+    }
+}
+
+/// What a subcommand over the heap after some event lines, or all, asks for.
+fn heap_job<'a>(alloc: Global, name: &str, found: &ArgMatches<'a>) -> Result<Job<'a>, WordsFault>
+    ensures { IfOk result IsInRange }
+{
+    let (config, trace) = files(alloc, found)?;
+    let after = found.get_one("after");
+    match name {
+        // (clap gives `by` its default where it isn't named)
+        "inspect" => Ok(Job::Inspect {
+            config,
+            trace,
+            by: report(alloc, found.get_str("by").unwrap_or(""))?,
+            after,
+        }),
+        // (clap has refused what is no such number)
+        "path" => Ok(Job::Path {
+            config,
+            trace,
+            id: found.get_one("ID").unwrap_or_default(),
+            after,
+        }),
+        _ => {
+            let picture = found.get_str("as").unwrap_or("");
+            drawing(alloc, config, trace, picture, after, found.get_one("most"))
+        }
+    }
+}
+
+/// What a word stands for, of the choices of an argument.
+fn chosen<T: Copy>(
+    alloc: Global,
+    word: &str,
+    choices: &[(&str, T)],
+    argument: &str,
+    told: &str,
+) -> Result<T, WordsFault>
+    ensures { IfOk result (λ choice. Any (λ row. (row.0.now ≡ word.now) × (row.1 ≡ choice)) choices.now) }
+{
+    for (name, choice) in choices {
+        if *name == word {
+            return Ok(*choice);
+        }
+    }
+    let why = format_args!("invalid value '{word}' for '{argument}': it is {told}");
+    Err(refused(alloc, why))
 }
 
 /// The report of a heap of a name.
 fn report(alloc: Global, name: &str) -> Result<Report, WordsFault>
     ensures { IfOk result (λ report. name.now ≡ report_name report) }
 {
-    match name {
-        "page" => Ok(Report::Pages),
-        "size" => Ok(Report::Sizes),
-        _ => {
-            let why = format!(in alloc;
-                "invalid value '{name}' for '--by <PART>': it is neither page nor size"
-            )?;
-            Err(refused(alloc, why.as_str()))
-        }
-    }
-}
-
-fn cycles<'a>(alloc: Global, found: &ArgMatches<'a>) -> Result<Job<'a>, WordsFault>
-    ensures { IfOk result IsInRange }
-{
-    Ok(Job::Cycles {
-        config: file(alloc, found, "CONFIG")?,
-        trace: file(alloc, found, "TRACE")?,
-        csv: found.get_flag("csv"),
-    })
-}
-
-fn path<'a>(alloc: Global, found: &ArgMatches<'a>) -> Result<Job<'a>, WordsFault>
-    ensures { IfOk result IsInRange }
-{
-    Ok(Job::Path {
-        config: file(alloc, found, "CONFIG")?,
-        trace: file(alloc, found, "TRACE")?,
-        // (clap has refused what is no such number)
-        id: found.get_one("ID").unwrap_or_default(),
-        after: found.get_one("after"),
-    })
-}
-
-fn mmu<'a>(alloc: Global, found: &ArgMatches<'a>) -> Result<Job<'a>, WordsFault>
-    ensures { IfOk result IsInRange }
-{
-    let windows = windows_of(alloc, found.get_strs("WINDOW").unwrap_or(&[]))?;
-    if windows.is_empty() {
-        return Err(refused(alloc, "a window is missing"));
-    }
-    Ok(Job::Mmu {
-        config: file(alloc, found, "CONFIG")?,
-        trace: file(alloc, found, "TRACE")?,
-        windows,
-    })
-}
-
-fn draw<'a>(alloc: Global, found: &ArgMatches<'a>) -> Result<Job<'a>, WordsFault>
-    ensures { IfOk result IsInRange }
-{
-    let config = file(alloc, found, "CONFIG")?;
-    let trace = file(alloc, found, "TRACE")?;
-    let name = found.get_str("as").unwrap_or("");
-    let after = found.get_one("after");
-    drawing(alloc, config, trace, name, after, found.get_one("most"))
+    let reports = [("page", Report::Pages), ("size", Report::Sizes)];
+    chosen(
+        alloc,
+        name,
+        &reports,
+        "--by <PART>",
+        "neither page nor size",
+    )
 }
 
 /// What draws the picture of a name. A picture over the events is of all of them, and objects are counted of a graph
@@ -223,18 +227,8 @@ fn without(alloc: Global, number: Option<u32>, argument: &str, name: &str) -> Re
     if number.is_none() {
         return Ok(());
     }
-    let why = format!(in alloc; "the argument '{argument}' cannot be used with '--as {name}'")?;
-    Err(refused(alloc, why.as_str()))
-}
-
-fn pages<'a>(alloc: Global, found: &ArgMatches<'a>) -> Result<Job<'a>, WordsFault>
-    ensures { IfOk result IsInRange }
-{
-    Ok(Job::Pages {
-        config: file(alloc, found, "CONFIG")?,
-        trace: file(alloc, found, "TRACE")?,
-        by: sizing(alloc, found.get_flag("pace"), found.get_str("load"))?,
-    })
+    let why = format_args!("the argument '{argument}' cannot be used with '--as {name}'");
+    Err(refused(alloc, why))
 }
 
 /// By what pages are told: one way at most is asked for.
@@ -254,21 +248,17 @@ fn sizing<'a>(alloc: Global, pace: bool, load: Option<&'a str>) -> Result<Sizing
 fn picture(alloc: Global, name: &str) -> Result<Picture, WordsFault>
     ensures { IfOk result (λ picture. name.now ≡ picture_name picture) }
 {
-    match name {
-        "pages" => Ok(Picture::Pages),
-        "utilisation" => Ok(Picture::Utilisation),
-        _ => {
-            let why = format!(in alloc;
-                "invalid value '{name}' for '--as <PICTURE>': it is none of graph, pages, time and utilisation"
-            )?;
-            Err(refused(alloc, why.as_str()))
-        }
-    }
+    let pictures = [
+        ("pages", Picture::Pages),
+        ("utilisation", Picture::Utilisation),
+    ];
+    let told = "none of graph, pages, time and utilisation";
+    chosen(alloc, name, &pictures, "--as <PICTURE>", told)
 }
 
-/// The ticks of each window.
+/// The ticks of each window, of which there is at least one.
 fn windows_of(alloc: Global, words: &[&str]) -> Result<Vec<u64>, WordsFault>
-    ensures { IfOk result (λ windows. All IsWindow windows.items) }
+    ensures { IfOk result (λ windows. (0 < length windows.items) × All IsWindow windows.items) }
 {
     let mut windows = Vec::new(alloc);
     for word in words {
@@ -276,9 +266,19 @@ fn windows_of(alloc: Global, words: &[&str]) -> Result<Vec<u64>, WordsFault>
             return Err(refused(alloc, "a window is not a number"));
         };
         within(alloc, "<WINDOW>...", ticks, 1, 1099511627776)?;
-        windows.push(ticks)?;
+        let Ok(()) = windows.push(ticks) else {
+            return Err(WordsFault::NoMemory);
+        };
+    }
+    if windows.is_empty() {
+        return Err(refused(alloc, "a window is missing"));
     }
     Ok(windows)
+}
+
+/// The names of the configuration and the trace.
+fn files<'a>(alloc: Global, found: &ArgMatches<'a>) -> Result<(&'a str, &'a str), WordsFault> {
+    Ok((file(alloc, found, "CONFIG")?, file(alloc, found, "TRACE")?))
 }
 
 /// The name of a file.
@@ -302,8 +302,8 @@ fn within(
     if least <= number && number <= greatest {
         return Ok(());
     }
-    let why = format!(in alloc;
+    let why = format_args!(
         "invalid value '{number}' for '{name}': {number} is not in {least}..={greatest}"
-    )?;
-    Err(refused(alloc, why.as_str()))
+    );
+    Err(refused(alloc, why))
 }

@@ -1,4 +1,5 @@
 pub mod ClassByClass
 pub mod Fillings
+pub mod TextLines
 pub mod PageByPage
 pub mod Parts

@@ -1,5 +1,6 @@
 pub mod Report
 pub mod Filling
+pub mod ClassLines
 pub mod NeededReport
 pub mod LoadReport
 pub mod Steps

@@ -1,5 +1,5 @@
 -- What is told of a trace and of a load: whether the trace keeps to the load, and how many pages the load needs.
-use Rattle.std.specs.Prelude.{◌≡◌, ◌↔◌, ℕ, zero, suc, ◌<◌, ◌≤◌, nat_lt, Bool, true, false, IsTrue, if◌then◌else◌, List, [], ◌++◌, slice_index, Option, Some, None, codes, decimal}
+use Rattle.std.specs.Prelude.{◌≡◌, ◌↔◌, ℕ, ◌<◌, ◌≤◌, nat_lt, Bool, true, false, IsTrue, if◌then◌else◌, List, [], ◌++◌, slice_index, Option, Some, None, codes, decimal}
 use Rattle.size_classes.specs.declared.class.TheConstants.{CLASSES}
 use Rattle.size_classes.specs.declared.config.Config.{Config}
 use Rattle.size_classes.specs.Sizes.{size_of}
@@ -7,6 +7,7 @@ use Rattle.space.specs.declared.pace.Pace.{Pace as PaceTable}
 use Rattle.space.specs.Pace.{Pace}
 use Rattle.space.specs.Fitting.{pace_in}
 use Rattle.inspector.specs.declared.pages_needed.lines.Scope.TheVariants.{Load as By_load}
+use Rattle.inspector.specs.ClassLines.{class_lines}
 use Rattle.inspector.specs.NeededReport.{IsPaceReport}
 use Rattle.sizing.specs.declared.arrivals.load.Load.{Load as LoadTable}
 use Rattle.sizing.specs.declared.arrivals.keeping.Breach.{Breach}
@@ -40,15 +41,10 @@ live_line load measured class = if nat_lt (load.live class) (measured.live class
     ++ (codes ", the load has " ++ (decimal (load.live class) ++ codes "\n")))))
     else []
 
--- the lines of the first classes
-unfoldable pub live_lines : Load → Pace → ℕ → List ℕ
-live_lines load measured zero = []
-live_lines load measured (suc class) = live_lines load measured class ++ live_line load measured class
-
 -- the same of what was measured, if a table has room for it
 abbrev pub live_told : Load → Option PaceTable → List ℕ
 live_told load None = codes "more live blocks than can be counted\n"
-live_told load (Some measured) = live_lines load (pace_in measured) CLASSES
+live_told load (Some measured) = class_lines (live_line load (pace_in measured)) CLASSES
 
 -- A load covers a run that keeps to it, and of which no more was live than it has.
 abbrev pub IsCovered : LoadTable → Kept → Option PaceTable → Type 0

@@ -1,5 +1,5 @@
 -- What is told of the pages that a program needs: lines of text.
-use Rattle.std.specs.Prelude.{◌≡◌, ℕ, zero, suc, ◌+◌, ◌*◌, ◌≤◌, ◌==◌, min, max, nat_le, nat_lt, Bool, true, false, if◌then◌else◌, List, [], ◌++◌, Option, Some, None, codes, decimal}
+use Rattle.std.specs.Prelude.{◌≡◌, ℕ, ◌+◌, ◌*◌, ◌≤◌, ◌==◌, min, max, nat_le, nat_lt, Bool, true, false, if◌then◌else◌, List, [], ◌++◌, Option, Some, None, codes, decimal}
 use Rattle.size_classes.specs.declared.class.TheConstants.{CLASSES}
 use Rattle.size_classes.specs.declared.config.Config.{Config}
 use Rattle.size_classes.specs.declared.config.TheConstants.{MOST_PAGES}
@@ -12,6 +12,7 @@ use Rattle.fragmentation.specs.Suffice.{budget_pages}
 use Rattle.sizing.specs.declared.needed.Needed.{Needed}
 use Rattle.sizing.specs.Measured.{together_in, budget_in}
 use Rattle.sizing.specs.Reckoned.{still_pages, moved_pages, needed_pages}
+use Rattle.inspector.specs.ClassLines.{class_lines}
 use Rattle.inspector.specs.declared.pages_needed.lines.Scope.{Scope}
 use Rattle.inspector.specs.declared.pages_needed.lines.Scope.TheVariants.{Demand as By_demand, Pace as By_pace, Load as By_load}
 
@@ -20,11 +21,6 @@ abbrev pub blocks_line : Needed → ℕ → List ℕ
 blocks_line n class = if together_in n class == 0 then []
     else codes "size " ++ (decimal (size_of class) ++ (codes " blocks " ++ (decimal (together_in n class)
     ++ (codes " pages " ++ (decimal (whole_pages class (together_in n class)) ++ codes "\n")))))
-
--- the lines of the first classes
-unfoldable pub blocks_lines : Needed → ℕ → List ℕ
-blocks_lines n zero = []
-blocks_lines n (suc class) = blocks_lines n class ++ blocks_line n class
 
 -- how many pages suffice where blocks are never moved
 abbrev pub still_line : ℕ → List ℕ
@@ -90,7 +86,7 @@ fewest_for c n = fewest_pages (still_pages n) (moved_pages c n) (min n.gathered 
 -- all that is told of what a run needed
 abbrev pub needed_report : Config → Needed → List ℕ
 needed_report c n =
-    blocks_lines n CLASSES
+    class_lines (blocks_line n) CLASSES
     ++ (form_lines (still_pages n) (moved_pages c n) (budget_pages (budget_in n)) n
     ++ (fewest_line (still_pages n) (moved_pages c n) (fewest_for c n)
     ++ pages_line By_demand (needed_pages c n) c.pages))
@@ -112,11 +108,6 @@ pace_line p class = if (p.live class + p.busy class) + p.idle class == 0 then []
     ++ (codes " live " ++ (decimal (p.live class)
     ++ (codes " busy " ++ (decimal (p.busy class)
     ++ (codes " idle " ++ (decimal (p.idle class) ++ codes "\n")))))))
-
--- the lines of the first classes
-unfoldable pub pace_lines : Pace → ℕ → List ℕ
-pace_lines p zero = []
-pace_lines p (suc class) = pace_lines p class ++ pace_line p class
 
 -- with how many quanta of a cycle pages are reckoned, each of the schedule's units
 abbrev pub quanta_line : ℕ → ℕ → List ℕ
@@ -143,7 +134,7 @@ least_lines None from = codes "no number of pages up to 4096 is known to suffice
 -- all that is told of a pace with quanta of the configuration's schedule
 abbrev pub pace_report : Scope → Config → Pace → Option ℕ → Option ℕ → List ℕ
 pace_report scope c p least from =
-    pace_lines p CLASSES ++ quanta_line (quanta_needed c p c.pages) (c.collector_ticks * c.rate)
+    class_lines (pace_line p) CLASSES ++ quanta_line (quanta_needed c p c.pages) (c.collector_ticks * c.rate)
     ++ pages_line scope (pages_needed c p c.pages) c.pages ++ least_lines least from
 
 -- what is told of a measured pace, or that its blocks were too many to count

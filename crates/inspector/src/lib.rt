@@ -2,6 +2,7 @@
 #![tactic(auto)]
 
 mod by_size;
+mod class_lines;
 mod cycles;
 mod fault;
 mod filling;

@@ -1,7 +1,6 @@
 -- Counts that stop at the greatest number that can be held.
-use Rattle.std.proofs.Common.{◌≡◌, ℕ, ◌+◌, ◌<◌, ◌≤◌, ◌⊎◌, inl, inr, zero, suc, replicate, set, get_or, length, length-set, List, min, max, arith, refl, ap, ◌∙◌, sym, subst}
-use Rattle.std.specs.Prelude.{Some, Result, Ok, Err, OkIff, slice_index}
-use Rattle.std.specs.Result.{result_ok}
+use Rattle.std.proofs.Common.{◌≡◌, ℕ, ◌+◌, ◌<◌, ◌≤◌, ◌⊎◌, inl, inr, zero, suc, replicate, set, get_or, length, List, min, max, arith, refl, ap, ◌∙◌, sym, subst}
+use Rattle.std.specs.Prelude.{slice_index}
 use Rattle.std.proofs.lemmas.List.{get_or-set_same, get_or-set_other}
 use Rattle.size_classes.specs.declared.class.TheConstants.{CLASSES}
 use Rattle.sizing.specs.Counts.{MOST, AreBlocks}
@@ -43,44 +42,8 @@ one_more xs ys n v within before is k l = elim (less_or k n l) [
     less_or : (a b : ℕ) → a < b + 1 → (a < b) ⊎ (a ≡ b)
     less_or a b h = grind arith
 
-one_below : (xs : List ℕ) (n v limit : ℕ) → n < length xs → ((k : ℕ) → k < n → get_or xs k 0 < limit) → v < limit → (k : ℕ) → k < n + 1 → get_or (set xs n v) k 0 < limit
-one_below xs n v limit within before low k l = elim (less_or k n l) [
-  | inl less ↦ subst (λ x. x < limit) (sym (get_or-set_other xs n k v 0 (λ e. omega (arith, e, less)))) (before k less)
-  | inr e ↦ subst (λ i. get_or (set xs n v) i 0 < limit) (sym e) (subst (λ x. x < limit) (sym (get_or-set_same xs n v 0 within)) low)
-]
-  where
-    less_or : (a b : ℕ) → a < b + 1 → (a < b) ⊎ (a ≡ b)
-    less_or a b h = grind arith
-
 pub equal_at : (m n x limit : ℕ) → x ≡ min n m → limit ≤ m → x < limit → n ≡ x
 equal_at m n x limit e l h = omega arith
-
--- a number that is taken over is the same, and below the limit
-taken : {E : Type 0} (r : Result ℕ E) (v x : ℕ) (P : Type 0) → OkIff r P x → Some v ≡ result_ok r → (v ≡ x) × P
-taken (Ok y) v x P h e = let same : v ≡ y = cc in (same ∙ h.1, h.0)
-taken (Err why) v x P h e = absurd (cc)
-
-taken_low : {E : Type 0} (r : Result ℕ E) (v x limit : ℕ) → OkIff r (x < limit) x → Some v ≡ result_ok r → v < limit
-taken_low r v x limit h e = let t = taken r v x (x < limit) h e in subst (λ y. y < limit) (sym t.0) t.1
-
--- a table below a limit, of which so many classes are taken over
-abbrev pub IsTaken : ℕ → ℕ → List ℕ → List ℕ → Type 0
-IsTaken limit number table blocks = record {
-  long : length table ≡ CLASSES;
-  done : (class : ℕ) → class < number → get_or table class 0 ≡ get_or blocks class 0;
-  small : (class : ℕ) → class < number → get_or table class 0 < limit;
-}
-
-pub taken_on : {E : Type 0} (limit number v x : ℕ) (table blocks : List ℕ) (r : Result ℕ E) → number < CLASSES → IsTaken limit number table blocks → OkIff r (x < limit) x → Some v ≡ result_ok r → x ≡ get_or blocks number 0
-    → IsTaken limit (number + 1) (set table number v) blocks
-taken_on limit number v x table blocks r low t h e is =
-    let long = t.long in
-    let within : number < length table = omega (arith, low, long) in
-    record {
-      long = length-set table number v ∙ long;
-      done = one_more table blocks number v within t.done ((taken r v x (x < limit) h e).0 ∙ is);
-      small = one_below table number v limit within t.small (taken_low r v x limit h e);
-    }
 
 less_or_at : (a b : ℕ) → a < b + 1 → (a < b) ⊎ (a ≡ b)
 less_or_at a b h = grind arith

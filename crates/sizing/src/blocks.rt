@@ -56,11 +56,7 @@ pub fn table(blocks: &Blocks) -> Option<[u64; CLASSES]>
     ensures some { IfSome result (λ t. IsTable (2 ^ 64) t blocks.now) }
     ensures none { IsNone result → HasOver (2 ^ 64) blocks.now }
 {
-    let mut table = [0; CLASSES];
-    for number in 0..CLASSES {
-        table[number] = u64::try_from(blocks[number]).ok()?;
-    }
-    Some(table)
+    blocks.try_map(u64::try_from).ok()
 }
 
 /// The same as a table of smaller numbers.
@@ -68,9 +64,5 @@ pub fn small_table(blocks: &Blocks) -> Option<[u32; CLASSES]>
     ensures some { IfSome result (λ t. IsTable (2 ^ 32) t blocks.now) }
     ensures none { IsNone result → HasOver (2 ^ 32) blocks.now }
 {
-    let mut table = [0; CLASSES];
-    for number in 0..CLASSES {
-        table[number] = u32::try_from(blocks[number]).ok()?;
-    }
-    Some(table)
+    blocks.try_map(u32::try_from).ok()
 }

@@ -11,6 +11,7 @@ mod meter;
 mod most;
 mod needed;
 mod page_counts;
+mod phases;
 mod run;
 mod season;
 
@@ -18,3 +19,4 @@ pub use load_file::{DocumentFault, Field, LoadFault, Place, fields_are_in_order,
 pub use measured::Measured;
 pub use measuring::measure;
 pub use needed::Needed;
+pub use phases::{in_cycle, is_tracing};

@@ -18,6 +18,7 @@ ghost use Rattle.sizing.specs.Measured.{IsMeasured};
 use crate::blocks::{Blocks, add, needed_by, none, raise, small_table, table};
 use crate::measured::Measured;
 use crate::most::Most;
+use crate::phases::in_cycle;
 use crate::season::Season;
 use graph_heap::{Entry, Limits, NoMemory, Reference};
 use heap_model::phase::Phase;
@@ -39,13 +40,6 @@ pub struct Meter {
     most: Most,
     /// The least budget of a quantum, in units.
     budget: Option<u32>,
-}
-
-/// Whether a cycle is on.
-fn in_cycle(phase: Phase) -> bool
-    ensures { result ≡ pace.in_cycle phase }
-{
-    !matches!(phase, Phase::Idle)
 }
 
 /// The lesser of budgets, of which there may be only one.

@@ -5,6 +5,7 @@ ghost use Rattle.sizing.specs.Counts.{AreNone};
 ghost use Rattle.sizing.specs.Season.{AreAllocated, IsBegun, IsSwept};
 
 use crate::blocks::{Blocks, add, none};
+use crate::phases::is_tracing;
 use heap_model::phase::Phase;
 
 /// The blocks of each class that objects need: those live where a cycle began, and those allocated since.
@@ -24,16 +25,6 @@ pub struct Season {
     pub since_swept: Blocks,
     /// What was needed up to that sweep's end, since the cycle before began.
     pub before: Blocks,
-}
-
-/// Whether a cycle is on, and its sweep hasn't ended.
-fn is_tracing(phase: Phase) -> bool
-    ensures { result ≡ tally.is_tracing phase }
-{
-    matches!(
-        phase,
-        Phase::Roots { .. } | Phase::Marking { .. } | Phase::Sweeping { .. }
-    )
 }
 
 impl Season {

@@ -1,11 +1,11 @@
 //! What is told of the classes of which more blocks were live than a load has.
-ghost use Rattle.std.specs.Prelude.{◌≡◌, ◌<◌, IfOk, string_bytes};
-ghost use Rattle.size_classes.specs.declared.class.TheConstants.{CLASSES};
+ghost use Rattle.std.specs.Prelude.{◌≡◌, IfOk, string_bytes};
 ghost use Rattle.space.specs.Fitting.{pace_in};
 ghost use Rattle.sizing.specs.Fitting.{load_in};
-ghost use Rattle.inspector.specs.LoadReport.{live_line, live_lines, live_told};
+ghost use Rattle.inspector.specs.LoadReport.{live_line, live_told};
 
-use size_classes::{CLASSES, Class};
+use crate::class_lines::class_lines;
+use size_classes::Class;
 use sizing::arrivals::Load;
 use space::Pace;
 use std::alloc::{AllocError, Global};
@@ -15,32 +15,20 @@ fn class_line(
     alloc: Global,
     load: &Load,
     measured: &Pace,
-    number: usize,
+    class: Class,
 ) -> Result<String, AllocError>
-    requires { number < CLASSES }
-    ensures { IfOk result (λ line. string_bytes line ≡ live_line (load_in load.now) (pace_in measured.now) number) }
+    ensures { IfOk result (λ line. string_bytes line ≡ live_line (load_in load.now) (pace_in measured.now) class) }
 {
+    let number = class.number();
     let (live, most) = (measured.live[number], load.live[number]);
     if live <= most {
         return Ok(String::new(alloc));
     }
-    let size = Class::new(number as u8).size();
+    let size = class.size();
     format!(in alloc; "size {size} live {live}, the load has {most}\n")
 }
 
-/// The lines of all classes of which more blocks were live.
-fn class_lines(alloc: Global, load: &Load, measured: &Pace) -> Result<String, AllocError>
-    ensures { IfOk result (λ text. string_bytes text ≡ live_lines (load_in load.now) (pace_in measured.now) CLASSES) }
-{
-    let mut text = String::new(alloc);
-    for number in 0..CLASSES {
-        let line = class_line(alloc, load, measured, number)?;
-        text.push_str(line.as_str())?;
-    }
-    Ok(text)
-}
-
-/// The same of what was measured, if it could be.
+/// The lines of all classes of which more blocks were live than the load has, if they could be measured.
 pub(crate) fn live_told(
     alloc: Global,
     load: &Load,
@@ -49,7 +37,7 @@ pub(crate) fn live_told(
     ensures { IfOk result (λ text. string_bytes text ≡ live_told (load_in load.now) measured.now) }
 {
     match measured {
-        Some(measured) => class_lines(alloc, load, measured),
+        Some(measured) => class_lines(alloc, |class| class_line(alloc, load, measured, class)),
         None => format!(in alloc; "more live blocks than can be counted\n"),
     }
 }

@@ -34,12 +34,12 @@ pub fn load_report(
 ) -> Result<String, AllocError>
     ensures { IfOk result (λ text. IsLoadReport config.now load.now kept pace.now (string_bytes text)) }
 {
-    let covered = covered_line(alloc, is_covered(load, &kept, pace))?;
-    let mut text = kept_line(alloc, kept)?;
-    let live = live_told(alloc, load, pace)?;
-    text.push_str(live.as_str())?;
-    text.push_str(covered.as_str())?;
     let need = need_report(alloc, config, load)?;
-    text.push_str(need.as_str())?;
-    Ok(text)
+    [
+        kept_line(alloc, kept)?,
+        live_told(alloc, load, pace)?,
+        covered_line(alloc, is_covered(load, &kept, pace))?,
+        need,
+    ]
+    .concat(alloc)
 }

@@ -1,40 +1,26 @@
 //! What is told of what a run needed.
-ghost use Rattle.std.specs.Prelude.{◌≡◌, ◌<◌, ◌≤◌, IfOk, string_bytes};
-ghost use Rattle.size_classes.specs.declared.class.TheConstants.{CLASSES};
+ghost use Rattle.std.specs.Prelude.{◌≡◌, ◌≤◌, IfOk, string_bytes};
 ghost use Rattle.size_classes.specs.declared.config.TheConstants.{MOST_PAGES};
-ghost use Rattle.inspector.specs.NeededReport.{blocks_line, blocks_lines, still_line, moved_line, gathered_line, budget_line, form_lines};
+ghost use Rattle.inspector.specs.NeededReport.{blocks_line, still_line, moved_line, gathered_line, budget_line, form_lines};
 ghost use Rattle.inspector.specs.NeededReport.{fewest_pages, keys_line, fewest_line, needed_report, needed_told};
 
+use crate::class_lines::class_lines;
 use crate::pages_needed::lines::{Scope, pages_line, too_many};
-use size_classes::{CLASSES, Class, Config, MOST_PAGES};
+use size_classes::{Class, Config, MOST_PAGES};
 use sizing::Needed;
 use space::pages_of_class;
 use std::alloc::{AllocError, Global};
 
 /// The line of a class, or nothing where no block of it is needed.
-fn class_line(alloc: Global, needed: &Needed, number: usize) -> Result<String, AllocError>
-    requires { number < CLASSES }
-    ensures { IfOk result (λ line. string_bytes line ≡ blocks_line needed.now number) }
+fn class_line(alloc: Global, needed: &Needed, class: Class) -> Result<String, AllocError>
+    ensures { IfOk result (λ line. string_bytes line ≡ blocks_line needed.now class) }
 {
-    let blocks = needed.together[number];
+    let blocks = needed.together[class.number()];
     if blocks == 0 {
         return Ok(String::new(alloc));
     }
-    let class = Class::new(number as u8);
     let (size, pages) = (class.size(), pages_of_class(class, u128::from(blocks), 0));
     format!(in alloc; "size {size} blocks {blocks} pages {pages}\n")
-}
-
-/// The lines of all classes of which blocks are needed.
-fn class_lines(alloc: Global, needed: &Needed) -> Result<String, AllocError>
-    ensures { IfOk result (λ text. string_bytes text ≡ blocks_lines needed.now CLASSES) }
-{
-    let mut text = String::new(alloc);
-    for number in 0..CLASSES {
-        let line = class_line(alloc, needed, number)?;
-        text.push_str(line.as_str())?;
-    }
-    Ok(text)
 }
 
 /// How many pages suffice where blocks are never moved.
@@ -80,14 +66,13 @@ fn form_lines(
 ) -> Result<String, AllocError>
     ensures { IfOk result (λ text. string_bytes text ≡ form_lines still moved budgeted needed.now) }
 {
-    let mut text = still_line(alloc, still)?;
-    let configured = moved_line(alloc, moved)?;
-    text.push_str(configured.as_str())?;
-    let gathered = gathered_line(alloc, needed.gathered)?;
-    text.push_str(gathered.as_str())?;
-    let budget = budget_line(alloc, budgeted, needed)?;
-    text.push_str(budget.as_str())?;
-    Ok(text)
+    [
+        still_line(alloc, still)?,
+        moved_line(alloc, moved)?,
+        gathered_line(alloc, needed.gathered)?,
+        budget_line(alloc, budgeted, needed)?,
+    ]
+    .concat(alloc)
 }
 
 /// The fewest pages of these ways, and at least the one that each heap has.
@@ -132,14 +117,13 @@ fn needed_lines(alloc: Global, config: &Config, needed: &Needed) -> Result<Strin
     let budgeted = needed.budgeted();
     let moving = u128::from(needed.gathered).min(budgeted);
     let pages = fewest_pages(still, moved, moving);
-    let mut text = class_lines(alloc, needed)?;
-    let forms = form_lines(alloc, still, moved, budgeted, needed)?;
-    text.push_str(forms.as_str())?;
-    let fewest = fewest_line(alloc, still, moved, pages)?;
-    text.push_str(fewest.as_str())?;
-    let last = pages_line(alloc, Scope::Demand, needed.pages_in(config), config.pages)?;
-    text.push_str(last.as_str())?;
-    Ok(text)
+    [
+        class_lines(alloc, |class| class_line(alloc, needed, class))?,
+        form_lines(alloc, still, moved, budgeted, needed)?,
+        fewest_line(alloc, still, moved, pages)?,
+        pages_line(alloc, Scope::Demand, needed.pages_in(config), config.pages)?,
+    ]
+    .concat(alloc)
 }
 
 /// What is told of what a run needed: of each class of which blocks are needed its size in words, how many of them

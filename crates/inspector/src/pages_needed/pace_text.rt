@@ -1,38 +1,26 @@
 //! What is told of a pace.
-ghost use Rattle.std.specs.Prelude.{◌≡◌, ◌<◌, Some, IfOk, string_bytes};
-ghost use Rattle.size_classes.specs.declared.class.TheConstants.{CLASSES};
+ghost use Rattle.std.specs.Prelude.{◌≡◌, Some, IfOk, string_bytes};
 ghost use Rattle.space.specs.Fitting.{pace_in};
-ghost use Rattle.inspector.specs.NeededReport.{pace_line, pace_lines, quanta_line, from_line, least_lines, pace_report, IsPaceReport};
+ghost use Rattle.inspector.specs.NeededReport.{pace_line, quanta_line, from_line, least_lines, pace_report, IsPaceReport};
 
+use crate::class_lines::class_lines;
 use crate::pages_needed::from::fits_from;
 use crate::pages_needed::lines::{Scope, pages_line, too_many};
-use size_classes::{CLASSES, Class, Config};
+use size_classes::{Class, Config};
 use space::{Pace, least_pages, pace_needs};
 use std::alloc::{AllocError, Global};
 
 /// The line of a class, or nothing where no block of it is needed.
-fn class_line(alloc: Global, pace: &Pace, number: usize) -> Result<String, AllocError>
-    requires { number < CLASSES }
-    ensures { IfOk result (λ line. string_bytes line ≡ pace_line (pace_in pace.now) number) }
+fn class_line(alloc: Global, pace: &Pace, class: Class) -> Result<String, AllocError>
+    ensures { IfOk result (λ line. string_bytes line ≡ pace_line (pace_in pace.now) class) }
 {
+    let number = class.number();
     let (live, busy, idle) = (pace.live[number], pace.busy[number], pace.idle[number]);
     if live == 0 && busy == 0 && idle == 0 {
         return Ok(String::new(alloc));
     }
-    let size = Class::new(number as u8).size();
+    let size = class.size();
     format!(in alloc; "size {size} live {live} busy {busy} idle {idle}\n")
-}
-
-/// The lines of all classes of which blocks are needed.
-fn class_lines(alloc: Global, pace: &Pace) -> Result<String, AllocError>
-    ensures { IfOk result (λ text. string_bytes text ≡ pace_lines (pace_in pace.now) CLASSES) }
-{
-    let mut text = String::new(alloc);
-    for number in 0..CLASSES {
-        let line = class_line(alloc, pace, number)?;
-        text.push_str(line.as_str())?;
-    }
-    Ok(text)
 }
 
 /// With how many quanta of a cycle the pages are reckoned, each of the schedule's units.
@@ -73,14 +61,13 @@ fn lines_with(
     ensures { IfOk result (λ text. IsPaceReport scope config.now (Some pace.now) (string_bytes text)) }
 {
     let needs = pace_needs(config, pace, config.pages);
-    let mut text = class_lines(alloc, pace)?;
-    let cycle = quanta_line(alloc, needs.quanta, config.budget())?;
-    text.push_str(cycle.as_str())?;
-    let pages = pages_line(alloc, scope, needs.pages, config.pages)?;
-    text.push_str(pages.as_str())?;
-    let last = least_lines(alloc, least_pages(config, pace), fits_from(config, pace))?;
-    text.push_str(last.as_str())?;
-    Ok(text)
+    [
+        class_lines(alloc, |class| class_line(alloc, pace, class))?,
+        quanta_line(alloc, needs.quanta, config.budget())?,
+        pages_line(alloc, scope, needs.pages, config.pages)?,
+        least_lines(alloc, least_pages(config, pace), fits_from(config, pace))?,
+    ]
+    .concat(alloc)
 }
 
 /// What is told of a pace in a heap of a configuration, with quanta of its schedule's units: of each class of which

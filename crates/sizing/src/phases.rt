@@ -1,0 +1,23 @@
+//! How far a cycle is in a phase.
+ghost use Rattle.std.specs.Prelude.{◌≡◌};
+ghost use Rattle.space.specs.Pace as pace;
+ghost use Rattle.space.specs.Tally as tally;
+
+use heap_model::phase::Phase;
+
+/// Whether a cycle is on.
+pub fn in_cycle(phase: Phase) -> bool
+    ensures { result ≡ pace.in_cycle phase }
+{
+    !matches!(phase, Phase::Idle)
+}
+
+/// Whether a cycle is on, and its sweep hasn't ended.
+pub fn is_tracing(phase: Phase) -> bool
+    ensures { result ≡ tally.is_tracing phase }
+{
+    matches!(
+        phase,
+        Phase::Roots { .. } | Phase::Marking { .. } | Phase::Sweeping { .. }
+    )
+}

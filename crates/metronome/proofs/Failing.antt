@@ -1,10 +1,11 @@
 -- How many reads and writes failed of a run that ends so.
 use Rattle.std.proofs.Common.{◌≡◌, ℕ, ◌+◌, ◌<◌, Bool, true, false, List, [], length, inl, inr, refl, sym, subst, ap, ◌∙◌, arith}
-use Rattle.std.specs.Prelude.{Result, Err}
+use Rattle.std.specs.Prelude.{Result, Ok, Err}
 use Rattle.std.specs.Result.{IsErrAnd}
-use Rattle.graph_heap.specs.Graph.{Graph}
+use Rattle.graph_heap.specs.Graph.{Graph, opening}
 use Rattle.graph_heap.specs.declared.command.Entry.{Entry}
 use Rattle.size_classes.specs.declared.config.Config.{Config as Settings}
+use Rattle.size_classes.specs.Config.{limits_of}
 use Rattle.trace.proofs.GoingOver.{reached_by}
 use Rattle.trace.specs.declared.fault.TextFault.{TextFault}
 use Rattle.trace.specs.declared.fault.TextFault.TheVariants as texts
@@ -39,6 +40,10 @@ use Rattle.pictures.specs.declared.graph.fault.DrawFault.TheVariants as drawings
 use Rattle.pictures.specs.GraphDrawn.{writes_failed as graph_writes_failed}
 use Rattle.metronome.specs.Faults.{of_settings, of_text, of_drawing, IsUnread, failed_reads, failed_writes}
 use Rattle.metronome.specs.Jobs.{finish}
+use Rattle.metronome.specs.declared.answer_job.Answer.{Answer}
+use Rattle.metronome.specs.declared.answer_job.Question.{Question}
+use Rattle.metronome.specs.declared.answer_job.Question.TheVariants as questions
+use Rattle.metronome.specs.Answered.{EntriesTaken, AnswerOf, IsAnswer}
 use Rattle.metronome.proofs.Finishing.{failed_so}
 
 -- a run that ends in a fault counts as the fault
@@ -143,9 +148,13 @@ ends_unwritten : {S E : Type 0} (Stops : TextFault → Text → S → S → Type
 ends_unwritten Stops never reached ended new (inl none) = none.0
 ends_unwritten Stops never reached ended new (inr (line, more, whole, is, stops)) = never _ reached.state new stops
 
-pub checked_unwritten : (given : Given) (old new : Graph) (how : Result Checked TextFault) → EntriesChecked given old new how → writes_failed how ≡ 0
+checked_unwritten : (given : Given) (old new : Graph) (how : Result Checked TextFault) → EntriesChecked given old new how → writes_failed how ≡ 0
 checked_unwritten given old new how w =
     unwritten how (λ e. (let v = subst (EntriesChecked given old new) e w in ends_unwritten HistoryStops (λ text g k stops. stops) (reached_by v.over) given.ended new v.over.ends))
+
+entries_unwritten : (config : Settings) (given : Given) (how : Result Checked TextFault) → EntriesTaken config given how → writes_failed how ≡ 0
+entries_unwritten config given how (inl none) = ap writes_failed none.1
+entries_unwritten config given how (inr w) = checked_unwritten given (opening (limits_of config)) w.0 how w.1
 
 pub scripts_unwritten : (given : Given) (mutators : ℕ) (how : Result ReadScripts TextFault) → ScriptsRead given mutators how → writes_failed how ≡ 0
 scripts_unwritten given mutators how (inl none) = ap writes_failed none.0
@@ -176,10 +185,21 @@ pub samples_unwritten : (config : Settings) (given : Given) (how : Result Sample
 samples_unwritten config given (Err texts.Write) w = absurd (nothing_cut given (stage w.0 []) w.1 w.2)
 samples_unwritten config given how w = refl
 
-pub cycles_unwritten : (config : Settings) (given : Given) (how : Result Cycles TextFault) → CyclesTaken config given how → writes_failed how ≡ 0
+cycles_unwritten : (config : Settings) (given : Given) (how : Result Cycles TextFault) → CyclesTaken config given how → writes_failed how ≡ 0
 cycles_unwritten config given (Err texts.Write) w = absurd (nothing_cut given (stage w.0 []) w.1 w.2)
 cycles_unwritten config given how w = refl
 
 pub measured_unwritten : (config : Settings) (given : Given) (how : Result Measured TextFault) → TraceMeasured config given how → writes_failed how ≡ 0
 measured_unwritten config given (Err texts.Write) w = absurd (nothing_cut given (stage w.0 []) w.1 w.2)
 measured_unwritten config given how w = refl
+
+-- nor in answering a question
+of_answer : {A : Type 0} (Says : A → Answer → Type 0) (how : Result A TextFault) (answered : Result Answer TextFault) → AnswerOf Says how answered → writes_failed how ≡ 0 → writes_failed answered ≡ 0
+of_answer Says how (Ok answer) is none = refl
+of_answer Says (Ok it) (Err why) is none = ap (λ (w : TextFault). writes_failed {A = Answer} (Err w)) is
+of_answer Says (Err why) (Err other) is none = ap writes_failed is ∙ none
+
+pub answer_unwritten : (question : Question) (config : Settings) (given : Given) (answered : Result Answer TextFault) → IsAnswer question config given answered → writes_failed answered ≡ 0
+answer_unwritten questions.History config given answered w = of_answer _ w.0 answered w.2 (entries_unwritten config given w.0 w.1)
+answer_unwritten (questions.Cycles layout) config given answered w = of_answer _ w.0 answered w.2 (cycles_unwritten config given w.0 w.1)
+answer_unwritten (questions.Pages pace) config given answered w = of_answer _ w.0 answered w.2 (measured_unwritten config given w.0 w.1)

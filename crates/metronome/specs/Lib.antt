@@ -7,5 +7,5 @@ pub mod Behind
 pub mod Telling
 pub mod OverTime
 pub mod Progress
-pub mod Logged
+pub mod Answered
 pub mod Done

@@ -1,15 +1,12 @@
--- What is told of the pages that a trace needs.
-use Rattle.std.specs.Prelude.{◌≡◌, ℕ, ◌*◌, Bool, IsTrue, true, false, ◌⊎◌, List, [], ◌++◌, Result, Ok, Err}
+-- What is written of what a job comes to.
+use Rattle.std.specs.Prelude.{◌≡◌, ℕ, ◌*◌, IsTrue, ◌⊎◌, List, [], ◌++◌, Result, Ok, Err}
 use Rattle.size_classes.specs.declared.config.Config.{Config}
 use Rattle.heap_model.specs.Event.{Event}
 use Rattle.trace.specs.declared.fault.TextFault.{TextFault}
 use Rattle.trace.specs.Streams.{Given, Taken, Begins, GrowsByPart}
 use Rattle.sizing.specs.declared.measured.Measured.{Measured}
 use Rattle.space.specs.Room.{AllHaveRoom}
-use Rattle.sizing.specs.Measured.{least_units, HasUnits}
 use Rattle.sizing.specs.Measuring.{TraceMeasured}
-use Rattle.inspector.specs.declared.pages_needed.lines.Scope.TheVariants.{Pace as By_pace}
-use Rattle.inspector.specs.NeededReport.{needed_told, IsPaceReport}
 use Rattle.sizing.specs.declared.arrivals.load.Load.{Load as LoadTable}
 use Rattle.sizing.specs.declared.arrivals.keeping.Kept.{Kept}
 use Rattle.sizing.specs.Load.{Load}
@@ -23,12 +20,10 @@ use Rattle.metronome.specs.declared.fault.RunFault.{RunFault}
 use Rattle.metronome.specs.declared.fault.RunFault.TheVariants.{Write, NoMemory}
 use Rattle.metronome.specs.Faults.{IsUnread, of_text}
 
--- the lines of what a trace needed: in blocks and pages, or at its pace, with quanta of the least units that any had,
--- or has by the schedule
-abbrev pub TellsPages : Bool → Config → Measured → List ℕ → Type 0
-TellsPages false config m text = text ≡ needed_told config m.needed
-TellsPages true config m text = (slow : Config) × HasUnits config (least_units config m.budget) slow
-    × IsPaceReport By_pace slow m.pace text
+-- a text is written, and the run ends so; or a part of it is, where a write failed
+abbrev pub TextWritten : Ending → List ℕ → Taken → Result Ending RunFault → Type 0
+TextWritten last text taken (Ok ending) = (ending ≡ last) × (taken.after ≡ taken.before ++ text)
+TextWritten last text taken (Err fault) = (fault ≡ Write) × GrowsByPart taken.before taken.after text
 
 -- what is written of a report: it, or a part of it where a write failed, or nothing for want of memory
 abbrev pub ReportTold : (List ℕ → Type 0) → Taken → Result Ending RunFault → Type 0
@@ -38,21 +33,15 @@ ReportTold IsReport taken (Err fault) =
     ((text : List ℕ) × IsReport text × (fault ≡ Write) × GrowsByPart taken.before taken.after text)
     ⊎ ((fault ≡ NoMemory) × (taken.after ≡ taken.before))
 
--- a fault ended what comes before the report: nothing is written
+-- a fault ended what comes before the telling: nothing is written
 abbrev pub NothingTold : TextFault → Taken → Result Ending RunFault → Type 0
 NothingTold why taken result = (result ≡ Err (of_text why)) × (taken.after ≡ taken.before)
 
--- what is written once a trace was measured
-abbrev pub MeasureTold : Bool → Config → Result Measured TextFault → Taken → Result Ending RunFault → Type 0
-MeasureTold pace config (Ok m) taken result = ReportTold (TellsPages pace config m) taken result
-MeasureTold pace config (Err why) taken result = NothingTold why taken result
-
--- A trace was measured on a new heap, and the pages that it needs were told: where they suffice, `TraceMeasured`
--- promises room to this run, and to those of which the verdict speaks; and on as many as are told for a way, to those
--- that the line names.
-abbrev pub PagesTold : Bool → Config → Given → Taken → Result Ending RunFault → Type 0
-PagesTold pace config given taken result = (how : Result Measured TextFault) × TraceMeasured config given how
-    × MeasureTold pace config how taken result
+-- once something was taken of an input, this is told of it; or a fault ended the taking
+abbrev pub ToldOf : {A : Type 0} → (A → Taken → Result Ending RunFault → Type 0) → Result A TextFault → Taken
+    → Result Ending RunFault → Type 0
+ToldOf Tells (Ok it) taken result = Tells it taken result
+ToldOf Tells (Err why) taken result = NothingTold why taken result
 
 -- a text, or a beginning of it, was given from its first byte
 abbrev pub ReadsText : List ℕ → Given → Type 0
@@ -76,16 +65,11 @@ module _ (config : Config) (l : LoadTable) where
     pub each : LoadFits config (load_in l) → LoadFindsRoom config (load_in l)
     pub this : LoadFits config (load_in l) → IsCovered l kept m.pace → AllHaveRoom es
 
-  -- what is written once the trace was checked
-  abbrev pub CheckTold : Measured → List Event → Result Kept TextFault → Taken → Result Ending RunFault → Type 0
-  CheckTold m es (Ok kept) taken result = ReportTold (TellsLoad m es kept) taken result
-  CheckTold m es (Err why) taken result = NothingTold why taken result
-
   -- once it was measured, it is read again and checked
   abbrev pub CheckedBehind : (text : List ℕ) (how : Result Measured TextFault) → TextMeasured config text how → Taken
       → Result Ending RunFault → Type 0
   CheckedBehind text (Ok m) run taken result = (how : Result Kept TextFault) × TextChecked config (load_in l) text how
-      × CheckTold m run.2.played.over.events how taken result
+      × ToldOf (λ kept. ReportTold (TellsLoad m run.2.played.over.events kept)) how taken result
   CheckedBehind text (Err why) run taken result = NothingTold why taken result
 
   -- A trace of this text was measured on a new heap, read again and checked against the load, and what the load needs

@@ -1,13 +1,12 @@
 //! The program: plays, checks, runs and inspects heaps, as its words ask.
 #![tactic(auto)]
 
+mod answer_job;
 mod behind;
-mod cycles_job;
 mod fault;
 mod files;
 mod jobs;
 mod load_job;
-mod pages_job;
 mod progress;
 mod run;
 mod time_job;

@@ -2,7 +2,9 @@
 ghost use Rattle.std.specs.Prelude.{◌≡◌, ◌+◌, ◌++◌, OnOk, OnErr};
 ghost use Rattle.trace.specs.Streams.{GrowsByPart, failed, taken_by};
 ghost use Rattle.metronome.specs.Faults.{failed_reads, failed_writes};
-ghost use Rattle.metronome.specs.Telling.{report_by, ReportWritten};
+ghost use Rattle.metronome.specs.declared.fault.Ending.TheVariants as endings;
+ghost use Rattle.metronome.specs.Telling.{report_by};
+ghost use Rattle.metronome.specs.Told.{TextWritten};
 
 use crate::fault::{Ending, RunFault};
 use command_line::Report;
@@ -29,7 +31,7 @@ pub(crate) fn tell_report<K: Sink>(
     by: Report,
     sink: &mut K,
 ) -> Result<Ending, RunFault>
-    ensures told { ReportWritten (report_by by player.now.course.heap) (taken_by K.taken sink.old sink.new) result }
+    ensures told { TextWritten endings.Done (report_by by player.now.course.heap) (taken_by K.taken sink.old sink.new) result }
     ensures reads { failed_reads result ≡ 0 }
     ensures writes { K.failures sink.new ≡ K.failures sink.old + failed_writes result }
 {

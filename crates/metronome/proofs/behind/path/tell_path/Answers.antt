@@ -13,12 +13,12 @@ pub returns-in_err-write_all-clause-told : goal.returns-in_err-write_all-clause-
 returns-in_err-write_all-clause-told g c =
     let part = subst (GrowsByPart (g.K.Sink.taken c.args.sink.now) (g.K.Sink.taken c.write_all.new.sink)) c.as_bytes.ensures.value c.in_err-write_all.ensures.err in
     rw (failed_so c.from_residual-in_err-write_all.result faults.Write c.from_residual-in_err-write_all.ensures.1)
-    (inl (string_bytes c.in_ok-text.text, c.in_ok-text.ensures c.requires, refl, part))
+    (inl (string_bytes c.in_ok-text.text, c.in_ok-text.ensures, refl, part))
 
 pub returns-clause-told : goal.returns-clause-told
 returns-clause-told g c =
     let all = c.in_ok-write_all.ensures.ok ∙ ap (λ t. g.K.Sink.taken c.args.sink.now ++ t) c.as_bytes.ensures.value in
-    (string_bytes c.in_ok-text.text, c.in_ok-text.ensures c.requires, refl, all)
+    (string_bytes c.in_ok-text.text, c.in_ok-text.ensures, refl, all)
 
 pub returns-in_err-text-clause-reads : goal.returns-in_err-text-clause-reads
 returns-in_err-text-clause-reads g c = memory_unread c.from_residual.result c.from_residual.ensures.1

@@ -12,7 +12,7 @@ use Rattle.trace.specs.declared.fault.TextFault.TheVariants as texts
 use Rattle.trace.specs.declared.version.Version.{Version}
 use Rattle.trace.specs.declared.version.Version.TheVariants.{First, Second}
 use Rattle.trace.specs.GoneOver.{Reached, Ends, reads_failed, writes_failed}
-use Rattle.trace.specs.TextLine.{Text}
+use Rattle.trace.specs.TextLine.{Text as LineText}
 use Rattle.trace.specs.Streams.{Given}
 use Rattle.trace.specs.declared.transcripts.histories.Checked.{Checked}
 use Rattle.trace.specs.Histories.{EntriesChecked, HistoryStops}
@@ -34,11 +34,8 @@ use Rattle.sizing.specs.Keeping.{LoadChecked}
 use Rattle.command_line.specs.declared.fault.ReadFault.{ReadFault}
 use Rattle.command_line.specs.declared.fault.ReadFault.TheVariants as settings
 use Rattle.metronome.specs.declared.fault.RunFault.{RunFault}
-use Rattle.metronome.specs.declared.fault.RunFault.TheVariants.{Write, NoMemory}
-use Rattle.pictures.specs.declared.graph.fault.DrawFault.{DrawFault}
-use Rattle.pictures.specs.declared.graph.fault.DrawFault.TheVariants as drawings
-use Rattle.pictures.specs.GraphDrawn.{writes_failed as graph_writes_failed}
-use Rattle.metronome.specs.Faults.{of_settings, of_text, of_drawing, IsUnread, failed_reads, failed_writes}
+use Rattle.metronome.specs.declared.fault.RunFault.TheVariants.{Text}
+use Rattle.metronome.specs.Faults.{of_settings, IsUnread, failed_reads, failed_writes}
 use Rattle.metronome.specs.Jobs.{finish}
 use Rattle.metronome.specs.declared.answer_job.Answer.{Answer}
 use Rattle.metronome.specs.declared.answer_job.Question.{Question}
@@ -60,60 +57,33 @@ reads_on r fault old new h e = e ∙ ap (λ n. old + n) (sym (reads_so r fault h
 pub writes_on : {A : Type 0} (r : Result A RunFault) (fault : RunFault) (old new : ℕ) → IsErrAnd r (λ e. e ≡ fault) → new ≡ old + failed_writes {A = Unit {0}} (Err fault) → new ≡ old + failed_writes r
 writes_on r fault old new h e = e ∙ ap (λ n. old + n) (sym (writes_so r fault h))
 
--- the fault of a text counts as that of the run
-reads_of : (fault : TextFault) → reads_failed {A = Unit {0}} (Err fault) ≡ failed_reads {A = Unit {0}} (Err (of_text fault))
-reads_of (texts.Line number why) = refl
-reads_of texts.Read = refl
-reads_of texts.Write = refl
-reads_of texts.NoMemory = refl
+-- so is that of a text
+pub reads_text : {A : Type 0} (r : Result A RunFault) (fault : TextFault) (old new : ℕ) → IsErrAnd r (λ e. e ≡ Text fault) → new ≡ old + reads_failed {A = Unit {0}} (Err fault) → new ≡ old + failed_reads r
+reads_text r fault old new h e = reads_on r (Text fault) old new h e
 
-writes_of : (fault : TextFault) → writes_failed {A = Unit {0}} (Err fault) ≡ failed_writes {A = Unit {0}} (Err (of_text fault))
-writes_of (texts.Line number why) = refl
-writes_of texts.Read = refl
-writes_of texts.Write = refl
-writes_of texts.NoMemory = refl
+pub writes_text : {A : Type 0} (r : Result A RunFault) (fault : TextFault) (old new : ℕ) → IsErrAnd r (λ e. e ≡ Text fault) → new ≡ old + writes_failed {A = Unit {0}} (Err fault) → new ≡ old + failed_writes r
+writes_text r fault old new h e = writes_on r (Text fault) old new h e
 
-pub reads_text : {A : Type 0} (r : Result A RunFault) (fault : TextFault) (old new : ℕ) → IsErrAnd r (λ e. e ≡ of_text fault) → new ≡ old + reads_failed {A = Unit {0}} (Err fault) → new ≡ old + failed_reads r
-reads_text r fault old new h e = reads_on r (of_text fault) old new h (e ∙ ap (λ n. old + n) (reads_of fault))
+-- and that of a text of which none failed
+pub text_unread : {A : Type 0} (r : Result A RunFault) (fault : TextFault) → IsErrAnd r (λ e. e ≡ Text fault) → reads_failed {A = Unit {0}} (Err fault) ≡ 0 → failed_reads r ≡ 0
+text_unread r fault h none = reads_so r (Text fault) h ∙ none
 
-pub writes_text : {A : Type 0} (r : Result A RunFault) (fault : TextFault) (old new : ℕ) → IsErrAnd r (λ e. e ≡ of_text fault) → new ≡ old + writes_failed {A = Unit {0}} (Err fault) → new ≡ old + failed_writes r
-writes_text r fault old new h e = writes_on r (of_text fault) old new h (e ∙ ap (λ n. old + n) (writes_of fault))
-
--- and of a text of which none failed
-pub text_unread : {A : Type 0} (r : Result A RunFault) (fault : TextFault) → IsErrAnd r (λ e. e ≡ of_text fault) → reads_failed {A = Unit {0}} (Err fault) ≡ 0 → failed_reads r ≡ 0
-text_unread r fault h none = reads_so r (of_text fault) h ∙ sym (reads_of fault) ∙ none
-
-pub text_unwritten : {A : Type 0} (r : Result A RunFault) (fault : TextFault) → IsErrAnd r (λ e. e ≡ of_text fault) → writes_failed {A = Unit {0}} (Err fault) ≡ 0 → failed_writes r ≡ 0
-text_unwritten r fault h none = writes_so r (of_text fault) h ∙ sym (writes_of fault) ∙ none
+pub text_unwritten : {A : Type 0} (r : Result A RunFault) (fault : TextFault) → IsErrAnd r (λ e. e ≡ Text fault) → writes_failed {A = Unit {0}} (Err fault) ≡ 0 → failed_writes r ≡ 0
+text_unwritten r fault h none = writes_so r (Text fault) h ∙ none
 
 -- a run that ends in a failed write
-pub one_written : {A : Type 0} (r : Result A RunFault) → IsErrAnd r (λ e. e ≡ Write) → failed_writes r ≡ 1
-one_written r h = writes_so r Write h
+pub one_written : {A : Type 0} (r : Result A RunFault) → IsErrAnd r (λ e. e ≡ Text texts.Write) → failed_writes r ≡ 1
+one_written r h = writes_so r (Text texts.Write) h
 
-pub none_read : {A : Type 0} (r : Result A RunFault) → IsErrAnd r (λ e. e ≡ Write) → failed_reads r ≡ 0
-none_read r h = reads_so r Write h
+pub none_read : {A : Type 0} (r : Result A RunFault) → IsErrAnd r (λ e. e ≡ Text texts.Write) → failed_reads r ≡ 0
+none_read r h = reads_so r (Text texts.Write) h
 
 -- one that ends for want of memory
-pub memory_unread : {A : Type 0} (r : Result A RunFault) → IsErrAnd r (λ e. e ≡ NoMemory) → failed_reads r ≡ 0
-memory_unread r h = reads_so r NoMemory h
+pub memory_unread : {A : Type 0} (r : Result A RunFault) → IsErrAnd r (λ e. e ≡ Text texts.NoMemory) → failed_reads r ≡ 0
+memory_unread r h = reads_so r (Text texts.NoMemory) h
 
-pub memory_unwritten : {A : Type 0} (r : Result A RunFault) → IsErrAnd r (λ e. e ≡ NoMemory) → failed_writes r ≡ 0
-memory_unwritten r h = writes_so r NoMemory h
-
--- one that ends in a fault of a drawn graph
-drawing_reads : (why : DrawFault) → failed_reads {A = Unit {0}} (Err (of_drawing why)) ≡ 0
-drawing_reads drawings.Write = refl
-drawing_reads drawings.NoMemory = refl
-
-drawing_writes : (why : DrawFault) → failed_writes {A = Unit {0}} (Err (of_drawing why)) ≡ graph_writes_failed (Err why)
-drawing_writes drawings.Write = refl
-drawing_writes drawings.NoMemory = refl
-
-pub drawing_unread : {A : Type 0} (r : Result A RunFault) (why : DrawFault) → IsErrAnd r (λ e. e ≡ of_drawing why) → failed_reads r ≡ 0
-drawing_unread r why h = reads_so r (of_drawing why) h ∙ drawing_reads why
-
-pub writes_drawing : {A : Type 0} (r : Result A RunFault) (why : DrawFault) → IsErrAnd r (λ e. e ≡ of_drawing why) → failed_writes r ≡ graph_writes_failed (Err why)
-writes_drawing r why h = writes_so r (of_drawing why) h ∙ drawing_writes why
+pub memory_unwritten : {A : Type 0} (r : Result A RunFault) → IsErrAnd r (λ e. e ≡ Text texts.NoMemory) → failed_writes r ≡ 0
+memory_unwritten r h = writes_so r (Text texts.NoMemory) h
 
 -- and one of scripts
 pub finished_unread : (all : Bool) → failed_reads (finish all) ≡ 0
@@ -126,7 +96,7 @@ finished_unwritten false = refl
 
 -- what can't be read is no failed write
 none_written : (fault : RunFault) → IsUnread fault → failed_writes {A = Unit {0}} (Err fault) ≡ 0
-none_written Write u = elim u [ ]
+none_written (Text texts.Write) u = elim u [ ]
 none_written fault u = refl
 
 pub unread_unwritten : {A : Type 0} (r : Result A RunFault) (fault : RunFault) → IsErrAnd r (λ e. e ≡ fault) → IsUnread fault → failed_writes r ≡ 0
@@ -144,7 +114,7 @@ unwritten : {A : Type 0} (how : Result A TextFault) → (how ≡ Err texts.Write
 unwritten (Err texts.Write) never = absurd (never refl)
 unwritten how never = refl
 
-ends_unwritten : {S E : Type 0} (Stops : TextFault → Text → S → S → Type 0) → ((text : Text) (old new : S) → Stops texts.Write text old new → ⊥) → (reached : Reached S E) (ended : Bool) (new : S) → Ends Stops {A = Unit {0}} reached ended new (Err texts.Write) → ⊥
+ends_unwritten : {S E : Type 0} (Stops : TextFault → LineText → S → S → Type 0) → ((text : LineText) (old new : S) → Stops texts.Write text old new → ⊥) → (reached : Reached S E) (ended : Bool) (new : S) → Ends Stops {A = Unit {0}} reached ended new (Err texts.Write) → ⊥
 ends_unwritten Stops never reached ended new (inl none) = none.0
 ends_unwritten Stops never reached ended new (inr (line, more, whole, is, stops)) = never _ reached.state new stops
 

@@ -15,7 +15,8 @@ use Rattle.metronome.specs.Jobs.{TracePlayed, ScriptsRun}
 use Rattle.inspector.specs.declared.cycles.text.Layout.TheVariants.{Columns, Commas}
 use Rattle.metronome.specs.Answered.{Answered}
 use Rattle.metronome.specs.OverTime.{TimeDrawn}
-use Rattle.metronome.specs.Told.{ReportTold, TextWritten, LoadTold}
+use Rattle.metronome.specs.Told.{ReportTold, TextWritten}
+use Rattle.metronome.specs.Loaded.{LoadTold}
 use Rattle.metronome.specs.Behind.{AfterPlay}
 use Rattle.metronome.specs.Telling.{report_by, PictureDrawn, GraphTold, TellsWhy, WindowsTold}
 

@@ -2,6 +2,7 @@
 use Rattle.std.specs.Prelude.{◌≡◌, ℕ, Bool, true, false, ◌⊎◌, ◌++◌, map, replicate, Result, Ok, Err}
 use Rattle.size_classes.specs.declared.config.Config.{Config}
 use Rattle.trace.specs.declared.fault.TextFault.{TextFault}
+use Rattle.trace.specs.declared.fault.TextFault.TheVariants.{Write, NoMemory}
 use Rattle.trace.specs.declared.version.Version.{Version}
 use Rattle.trace.specs.Streams.{Given, Taken, GrowsByPart}
 use Rattle.trace.specs.Scripts.{ReadScripts, ScriptsRead}
@@ -16,18 +17,17 @@ use Rattle.player.specs.Playing.{stage, Played, text_written}
 use Rattle.metronome.specs.declared.fault.Ending.{Ending}
 use Rattle.metronome.specs.declared.fault.Ending.TheVariants.{Done}
 use Rattle.metronome.specs.declared.fault.RunFault.{RunFault}
-use Rattle.metronome.specs.declared.fault.RunFault.TheVariants.{Write, NoMemory, NotComplete}
-use Rattle.metronome.specs.Faults.{of_text}
+use Rattle.metronome.specs.declared.fault.RunFault.TheVariants.{Text, NotComplete}
 use Rattle.metronome.specs.Told.{ToldOf}
 
 -- Memory was refused before anything was read or written.
 abbrev pub NotBegun : Given → Taken → Result Ending RunFault → Type 0
-NotBegun given taken result = (given.after ≡ given.before) × (taken.after ≡ taken.before) × (result ≡ Err NoMemory)
+NotBegun given taken result = (given.after ≡ given.before) × (taken.after ≡ taken.before) × (result ≡ Err (Text NoMemory))
 
 -- a job that is done where its play is
 abbrev pub ends_as : Result (Unit {0}) TextFault → Result Ending RunFault
 ends_as (Ok all) = Ok Done
-ends_as (Err fault) = Err (of_text fault)
+ends_as (Err fault) = Err (Text fault)
 
 -- A new player played a trace, and what the style says was written.
 abbrev pub TracePlayed : Style → Config → Given → Taken → Result Ending RunFault → Type 0
@@ -46,14 +46,14 @@ abbrev pub HistoryWritten : Version → Outcome → Taken → Result Ending RunF
 HistoryWritten version outcome taken result =
     ((result ≡ finish outcome.all) × (taken.after ≡ taken.before
     ++ text_written Entries version outcome.recorded.course.history))
-    ⊎ ((result ≡ Err Write) × GrowsByPart taken.before taken.after
+    ⊎ ((result ≡ Err (Text Write)) × GrowsByPart taken.before taken.after
     (text_written Entries version outcome.recorded.course.history))
 
 -- Threads ran scripts beside so many quanta of a budget, and the history was written, which is a merge of the scripts
 -- where all was done; or memory was refused, and nothing was.
 abbrev pub RunBehind : ℕ → ℕ → Config → ReadScripts → Taken → Result Ending RunFault → Type 0
 RunBehind turns budget config read taken result =
-    ((result ≡ Err NoMemory) × (taken.after ≡ taken.before))
+    ((result ≡ Err (Text NoMemory)) × (taken.after ≡ taken.before))
     ⊎ ((outcome : Outcome) × IsOutcome (settings_by config) (map (λ s. s.items) read.1.items)
     (replicate turns budget) outcome × HistoryWritten read.0 outcome taken result)
 

@@ -8,4 +8,5 @@ pub mod Telling
 pub mod OverTime
 pub mod Progress
 pub mod Answered
+pub mod Loaded
 pub mod Done

@@ -6,6 +6,7 @@ use Rattle.heap_model.specs.Event.{present_of}
 use Rattle.heap_model.specs.State.{HeapState}
 use Rattle.nodes.specs.Copies.{HasBlock}
 use Rattle.quanta.specs.Timetable.{Timetable}
+use Rattle.trace.specs.declared.fault.TextFault.TheVariants.{Write, NoMemory}
 use Rattle.trace.specs.Streams.{Taken}
 use Rattle.player.specs.Player.{PlayerState}
 use Rattle.pictures.specs.Text.{PathTold}
@@ -16,6 +17,7 @@ use Rattle.command_line.specs.declared.job.Picture.TheVariants as pictures
 use Rattle.command_line.specs.declared.job.Report.{Report}
 use Rattle.command_line.specs.declared.job.Report.TheVariants as reports
 use Rattle.pictures.specs.declared.graph.fault.DrawFault.{DrawFault}
+use Rattle.pictures.specs.declared.graph.fault.DrawFault.TheVariants as drawings
 use Rattle.pictures.specs.declared.share.Share.{Share}
 use Rattle.pictures.specs.GraphDrawn.{GraphDrawn}
 use Rattle.pictures.specs.PageMap.{pages_picture}
@@ -25,7 +27,7 @@ use Rattle.metronome.specs.declared.behind.Telling.TheVariants as tellings
 use Rattle.metronome.specs.declared.fault.Ending.{Ending}
 use Rattle.metronome.specs.declared.fault.Ending.TheVariants.{Done}
 use Rattle.metronome.specs.declared.fault.RunFault.{RunFault}
-use Rattle.metronome.specs.Faults.{of_drawing}
+use Rattle.metronome.specs.declared.fault.RunFault.TheVariants.{Text}
 use Rattle.metronome.specs.Told.{ReportTold, TextWritten}
 use Rattle.metronome.specs.Windows.{AllTold, FirstTold}
 
@@ -48,7 +50,8 @@ PictureDrawn picture config p taken result = (text : List ℕ) × IsPicture pict
 -- a job that is done where its drawing is
 abbrev pub drawn_as : Result (Unit {0}) DrawFault → Result Ending RunFault
 drawn_as (Ok drawn) = Ok Done
-drawn_as (Err fault) = Err (of_drawing fault)
+drawn_as (Err drawings.Write) = Err (Text Write)
+drawn_as (Err drawings.NoMemory) = Err (Text NoMemory)
 
 -- a graph heap is drawn, at most so many objects
 abbrev pub GraphTold : ℕ → Graph → Taken → Result Ending RunFault → Type 0

@@ -24,7 +24,7 @@ use std::convert::AsStr;
 use std::io::{Read, Write};
 use std::sync::Wait;
 use std::thread::Threads;
-use trace::{ReadSource, Sink, Source, WriteSink, write_all};
+use trace::{ReadSource, Sink, Source, TextFault, WriteSink, write_all};
 
 /// What a run has of the machine: threads, memory, and files by their names.
 #[derive(Clone, Copy, Drop)]
@@ -99,7 +99,7 @@ where
             return Ok(Ending::Done);
         }
         Err(WordsFault::Refused(text)) => return Err(RunFault::Words(text)),
-        Err(WordsFault::NoMemory) => return Err(RunFault::NoMemory),
+        Err(WordsFault::NoMemory) => return Err(RunFault::Text(TextFault::NoMemory)),
     };
     let host = Host { rt, alloc, opener };
     obey(&host, &request, input, sink, errors)

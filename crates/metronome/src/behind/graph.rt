@@ -6,9 +6,9 @@ ghost use Rattle.metronome.specs.Telling.{GraphTold};
 
 use crate::fault::{Ending, RunFault};
 use graph_heap::Reference;
-use pictures::graph::draw_graph;
+use pictures::graph::{DrawFault, draw_graph};
 use std::alloc::Global;
-use trace::Sink;
+use trace::{Sink, TextFault};
 
 /// Draws the objects of a graph heap that can be reached, at most so many, nearest to the roots first.
 pub(crate) fn tell_graph<K: Sink>(
@@ -21,6 +21,9 @@ pub(crate) fn tell_graph<K: Sink>(
     ensures reads { failed_reads result ≡ 0 }
     ensures writes { K.failures sink.new ≡ K.failures sink.old + failed_writes result }
 {
-    draw_graph(alloc, graph, most, sink)?;
-    Ok(Ending::Done)
+    match draw_graph(alloc, graph, most, sink) {
+        Ok(()) => Ok(Ending::Done),
+        Err(DrawFault::Write) => Err(RunFault::Text(TextFault::Write)),
+        Err(DrawFault::NoMemory) => Err(RunFault::Text(TextFault::NoMemory)),
+    }
 }

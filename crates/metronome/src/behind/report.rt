@@ -8,20 +8,20 @@ ghost use Rattle.metronome.specs.Told.{TextWritten};
 
 use crate::fault::{Ending, RunFault};
 use command_line::Report;
-use inspector::{WriteFault, report, report_sizes};
+use inspector::{report, report_sizes};
 use machine::Heap;
 use player::Player;
-use trace::Sink;
+use trace::{Sink, WriteFailed};
 
 /// Writes a report of a heap, page by page or by size class.
-fn write_report<K: Sink>(heap: &Heap, by: Report, sink: &mut K) -> Result<(), WriteFault>
+fn write_report<K: Sink>(heap: &Heap, by: Report, sink: &mut K) -> Result<(), WriteFailed>
     ensures ok { OnOk result (K.taken sink.new ≡ K.taken sink.old ++ report_by by heap.now) }
     ensures err { OnErr result (GrowsByPart (K.taken sink.old) (K.taken sink.new) (report_by by heap.now)) }
     ensures cause { K.failures sink.new ≡ K.failures sink.old + failed result }
 {
     match by {
-        Report::Pages => report(heap, sink),
-        Report::Sizes => report_sizes(heap, sink),
+        Report::Pages => report(heap, sink).map_err(|_| WriteFailed),
+        Report::Sizes => report_sizes(heap, sink).map_err(|_| WriteFailed),
     }
 }
 

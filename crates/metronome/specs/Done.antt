@@ -35,7 +35,8 @@ JobDone (Path settings trace id after) config =
 JobDone (Mmu settings trace windows) config =
     AfterPlay (λ p. WindowsTold config p.timetable windows.items) None config
 JobDone (Draw settings trace picture after) config = AfterPlay (PictureDrawn picture config) after config
-JobDone (DrawGraph settings trace after most) config = AfterPlay (λ p. GraphTold most (present_of p.course)) after config
+JobDone (DrawGraph settings trace after most) config =
+    AfterPlay (λ p. GraphTold most (present_of p.course)) after config
 JobDone (DrawTime settings trace) config = TimeDrawn config
 JobDone (Pages settings trace Demand) config = Answered (questions.Pages false) config
 JobDone (Pages settings trace Pace) config = Answered (questions.Pages true) config

@@ -22,7 +22,8 @@ use Rattle.metronome.specs.Told.{ToldOf}
 
 -- Memory was refused before anything was read or written.
 abbrev pub NotBegun : Given → Taken → Result Ending RunFault → Type 0
-NotBegun given taken result = (given.after ≡ given.before) × (taken.after ≡ taken.before) × (result ≡ Err (Text NoMemory))
+NotBegun given taken result =
+    (given.after ≡ given.before) × (taken.after ≡ taken.before) × (result ≡ Err (Text NoMemory))
 
 -- a job that is done where its play is
 abbrev pub ends_as : Result (Unit {0}) TextFault → Result Ending RunFault

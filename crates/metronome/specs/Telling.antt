@@ -72,5 +72,6 @@ abbrev pub Tells : Telling → Config → PlayerState → Taken → Result Endin
 Tells (tellings.Report by) config p taken result = TextWritten Done (report_by by p.course.heap) taken result
 Tells (tellings.Picture picture) config p taken result = PictureDrawn picture config p taken result
 Tells (tellings.Graph most) config p taken result = GraphTold most (present_of p.course) taken result
-Tells (tellings.Path id) config p taken result = ReportTold (TellsWhy id p.course.heap (present_of p.course)) taken result
+Tells (tellings.Path id) config p taken result =
+    ReportTold (TellsWhy id p.course.heap (present_of p.course)) taken result
 Tells (tellings.Windows windows) config p taken result = WindowsTold config p.timetable windows.now taken result

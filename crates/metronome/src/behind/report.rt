@@ -31,7 +31,8 @@ pub(crate) fn tell_report<K: Sink>(
     by: Report,
     sink: &mut K,
 ) -> Result<Ending, RunFault>
-    ensures told { TextWritten endings.Done (report_by by player.now.course.heap) (taken_by K.taken sink.old sink.new) result }
+    ensures told { TextWritten endings.Done (report_by by player.now.course.heap)
+        (taken_by K.taken sink.old sink.new) result }
     ensures reads { failed_reads result ≡ 0 }
     ensures writes { K.failures sink.new ≡ K.failures sink.old + failed_writes result }
 {

@@ -1,5 +1,5 @@
 -- The heap behind a play, and the graph heap to which its history leads.
-use Rattle.std.proofs.Common.{◌≡◌, ℕ, ◌⊎◌, inl, inr, true, List, Option, Some, None, Ok, Err, ap, ◌∙◌, sym, subst}
+use Rattle.std.proofs.Common.{◌≡◌, ℕ, inl, inr, true, List, Option, Some, None, Ok, Err, ap, ◌∙◌, sym, subst}
 use Rattle.graph_heap.specs.declared.command.Limits.{Limits}
 use Rattle.graph_heap.specs.declared.command.Entry.{Entry}
 use Rattle.graph_heap.specs.Graph.{Graph, opening}
@@ -11,7 +11,7 @@ use Rattle.machine.proofs.Space.{runs_settings}
 use Rattle.trace.specs.Streams.{Given}
 use Rattle.player.specs.declared.style.Style.TheVariants.{Nothing}
 use Rattle.player.specs.New.{IsNew}
-use Rattle.player.specs.Playing.{Stage, Played, PlayedFirst}
+use Rattle.player.specs.Playing.{Stage, Played}
 use Rattle.metronome.specs.Behind.{PlayedUpTo}
 
 -- a play that came to its end ran its events

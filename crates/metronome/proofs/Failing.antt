@@ -1,17 +1,18 @@
 -- How many reads and writes failed of a run that ends so.
 use Rattle.std.proofs.Common.{◌≡◌, ℕ, ◌+◌, ◌<◌, Bool, true, false, List, [], length, inl, inr, refl, sym, subst, ap, ◌∙◌, arith}
-use Rattle.std.specs.Prelude.{Result, Err}
+use Rattle.std.specs.Prelude.{Result, Ok, Err}
 use Rattle.std.specs.Result.{IsErrAnd}
-use Rattle.graph_heap.specs.Graph.{Graph}
+use Rattle.graph_heap.specs.Graph.{Graph, opening}
 use Rattle.graph_heap.specs.declared.command.Entry.{Entry}
 use Rattle.size_classes.specs.declared.config.Config.{Config as Settings}
+use Rattle.size_classes.specs.Config.{limits_of}
 use Rattle.trace.proofs.GoingOver.{reached_by}
 use Rattle.trace.specs.declared.fault.TextFault.{TextFault}
 use Rattle.trace.specs.declared.fault.TextFault.TheVariants as texts
 use Rattle.trace.specs.declared.version.Version.{Version}
 use Rattle.trace.specs.declared.version.Version.TheVariants.{First, Second}
 use Rattle.trace.specs.GoneOver.{Reached, Ends, reads_failed, writes_failed}
-use Rattle.trace.specs.TextLine.{Text}
+use Rattle.trace.specs.TextLine.{Text as LineText}
 use Rattle.trace.specs.Streams.{Given, Taken}
 use Rattle.trace.specs.declared.transcripts.histories.Checked.{Checked}
 use Rattle.trace.specs.Histories.{EntriesChecked, HistoryStops}
@@ -34,9 +35,13 @@ use Rattle.sizing.specs.Keeping.{LoadChecked}
 use Rattle.command_line.specs.declared.fault.ReadFault.{ReadFault}
 use Rattle.command_line.specs.declared.fault.ReadFault.TheVariants as settings
 use Rattle.metronome.specs.declared.fault.RunFault.{RunFault}
-use Rattle.metronome.specs.declared.fault.RunFault.TheVariants.{Write, NoMemory}
-use Rattle.metronome.specs.Faults.{of_settings, of_text, IsUnread, failed_reads, failed_writes}
+use Rattle.metronome.specs.declared.fault.RunFault.TheVariants.{Text}
+use Rattle.metronome.specs.Faults.{of_settings, IsUnread, failed_reads, failed_writes}
 use Rattle.metronome.specs.Jobs.{finish}
+use Rattle.metronome.specs.declared.answer_job.Answer.{Answer}
+use Rattle.metronome.specs.declared.answer_job.Question.{Question}
+use Rattle.metronome.specs.declared.answer_job.Question.TheVariants as questions
+use Rattle.metronome.specs.Answered.{EntriesTaken, AnswerOf, IsAnswer}
 use Rattle.metronome.proofs.Finishing.{failed_so}
 
 -- a run that ends in a fault counts as the fault
@@ -53,45 +58,33 @@ reads_on r fault old new h e = e ∙ ap (λ n. old + n) (sym (reads_so r fault h
 pub writes_on : {A : Type 0} (r : Result A RunFault) (fault : RunFault) (old new : ℕ) → IsErrAnd r (λ e. e ≡ fault) → new ≡ old + failed_writes {A = Unit {0}} (Err fault) → new ≡ old + failed_writes r
 writes_on r fault old new h e = e ∙ ap (λ n. old + n) (sym (writes_so r fault h))
 
--- the fault of a text counts as that of the run
-reads_of : (fault : TextFault) → reads_failed {A = Unit {0}} (Err fault) ≡ failed_reads {A = Unit {0}} (Err (of_text fault))
-reads_of (texts.Line number why) = refl
-reads_of texts.Read = refl
-reads_of texts.Write = refl
-reads_of texts.NoMemory = refl
+-- so is that of a text
+pub reads_text : {A : Type 0} (r : Result A RunFault) (fault : TextFault) (old new : ℕ) → IsErrAnd r (λ e. e ≡ Text fault) → new ≡ old + reads_failed {A = Unit {0}} (Err fault) → new ≡ old + failed_reads r
+reads_text r fault old new h e = reads_on r (Text fault) old new h e
 
-writes_of : (fault : TextFault) → writes_failed {A = Unit {0}} (Err fault) ≡ failed_writes {A = Unit {0}} (Err (of_text fault))
-writes_of (texts.Line number why) = refl
-writes_of texts.Read = refl
-writes_of texts.Write = refl
-writes_of texts.NoMemory = refl
+pub writes_text : {A : Type 0} (r : Result A RunFault) (fault : TextFault) (old new : ℕ) → IsErrAnd r (λ e. e ≡ Text fault) → new ≡ old + writes_failed {A = Unit {0}} (Err fault) → new ≡ old + failed_writes r
+writes_text r fault old new h e = writes_on r (Text fault) old new h e
 
-pub reads_text : {A : Type 0} (r : Result A RunFault) (fault : TextFault) (old new : ℕ) → IsErrAnd r (λ e. e ≡ of_text fault) → new ≡ old + reads_failed {A = Unit {0}} (Err fault) → new ≡ old + failed_reads r
-reads_text r fault old new h e = reads_on r (of_text fault) old new h (e ∙ ap (λ n. old + n) (reads_of fault))
+-- and that of a text of which none failed
+pub text_unread : {A : Type 0} (r : Result A RunFault) (fault : TextFault) → IsErrAnd r (λ e. e ≡ Text fault) → reads_failed {A = Unit {0}} (Err fault) ≡ 0 → failed_reads r ≡ 0
+text_unread r fault h none = reads_so r (Text fault) h ∙ none
 
-pub writes_text : {A : Type 0} (r : Result A RunFault) (fault : TextFault) (old new : ℕ) → IsErrAnd r (λ e. e ≡ of_text fault) → new ≡ old + writes_failed {A = Unit {0}} (Err fault) → new ≡ old + failed_writes r
-writes_text r fault old new h e = writes_on r (of_text fault) old new h (e ∙ ap (λ n. old + n) (writes_of fault))
-
--- and of a text of which none failed
-pub text_unread : {A : Type 0} (r : Result A RunFault) (fault : TextFault) → IsErrAnd r (λ e. e ≡ of_text fault) → reads_failed {A = Unit {0}} (Err fault) ≡ 0 → failed_reads r ≡ 0
-text_unread r fault h none = reads_so r (of_text fault) h ∙ sym (reads_of fault) ∙ none
-
-pub text_unwritten : {A : Type 0} (r : Result A RunFault) (fault : TextFault) → IsErrAnd r (λ e. e ≡ of_text fault) → writes_failed {A = Unit {0}} (Err fault) ≡ 0 → failed_writes r ≡ 0
-text_unwritten r fault h none = writes_so r (of_text fault) h ∙ sym (writes_of fault) ∙ none
+pub text_unwritten : {A : Type 0} (r : Result A RunFault) (fault : TextFault) → IsErrAnd r (λ e. e ≡ Text fault) → writes_failed {A = Unit {0}} (Err fault) ≡ 0 → failed_writes r ≡ 0
+text_unwritten r fault h none = writes_so r (Text fault) h ∙ none
 
 -- a run that ends in a failed write
-pub one_written : {A : Type 0} (r : Result A RunFault) → IsErrAnd r (λ e. e ≡ Write) → failed_writes r ≡ 1
-one_written r h = writes_so r Write h
+pub one_written : {A : Type 0} (r : Result A RunFault) → IsErrAnd r (λ e. e ≡ Text texts.Write) → failed_writes r ≡ 1
+one_written r h = writes_so r (Text texts.Write) h
 
-pub none_read : {A : Type 0} (r : Result A RunFault) → IsErrAnd r (λ e. e ≡ Write) → failed_reads r ≡ 0
-none_read r h = reads_so r Write h
+pub none_read : {A : Type 0} (r : Result A RunFault) → IsErrAnd r (λ e. e ≡ Text texts.Write) → failed_reads r ≡ 0
+none_read r h = reads_so r (Text texts.Write) h
 
 -- one that ends for want of memory
-pub memory_unread : {A : Type 0} (r : Result A RunFault) → IsErrAnd r (λ e. e ≡ NoMemory) → failed_reads r ≡ 0
-memory_unread r h = reads_so r NoMemory h
+pub memory_unread : {A : Type 0} (r : Result A RunFault) → IsErrAnd r (λ e. e ≡ Text texts.NoMemory) → failed_reads r ≡ 0
+memory_unread r h = reads_so r (Text texts.NoMemory) h
 
-pub memory_unwritten : {A : Type 0} (r : Result A RunFault) → IsErrAnd r (λ e. e ≡ NoMemory) → failed_writes r ≡ 0
-memory_unwritten r h = writes_so r NoMemory h
+pub memory_unwritten : {A : Type 0} (r : Result A RunFault) → IsErrAnd r (λ e. e ≡ Text texts.NoMemory) → failed_writes r ≡ 0
+memory_unwritten r h = writes_so r (Text texts.NoMemory) h
 
 -- one that draws a graph
 pub drawn_unread : (g : Graph) (most : ℕ) (taken : Taken) (how : Result (Unit {0}) TextFault) → GraphDrawn g most taken how → reads_failed how ≡ 0
@@ -109,7 +102,7 @@ finished_unwritten false = refl
 
 -- what can't be read is no failed write
 none_written : (fault : RunFault) → IsUnread fault → failed_writes {A = Unit {0}} (Err fault) ≡ 0
-none_written Write u = elim u [ ]
+none_written (Text texts.Write) u = elim u [ ]
 none_written fault u = refl
 
 pub unread_unwritten : {A : Type 0} (r : Result A RunFault) (fault : RunFault) → IsErrAnd r (λ e. e ≡ fault) → IsUnread fault → failed_writes r ≡ 0
@@ -127,13 +120,17 @@ unwritten : {A : Type 0} (how : Result A TextFault) → (how ≡ Err texts.Write
 unwritten (Err texts.Write) never = absurd (never refl)
 unwritten how never = refl
 
-ends_unwritten : {S E : Type 0} (Stops : TextFault → Text → S → S → Type 0) → ((text : Text) (old new : S) → Stops texts.Write text old new → ⊥) → (reached : Reached S E) (ended : Bool) (new : S) → Ends Stops {A = Unit {0}} reached ended new (Err texts.Write) → ⊥
+ends_unwritten : {S E : Type 0} (Stops : TextFault → LineText → S → S → Type 0) → ((text : LineText) (old new : S) → Stops texts.Write text old new → ⊥) → (reached : Reached S E) (ended : Bool) (new : S) → Ends Stops {A = Unit {0}} reached ended new (Err texts.Write) → ⊥
 ends_unwritten Stops never reached ended new (inl none) = none.0
 ends_unwritten Stops never reached ended new (inr (line, more, whole, is, stops)) = never _ reached.state new stops
 
-pub checked_unwritten : (given : Given) (old new : Graph) (how : Result Checked TextFault) → EntriesChecked given old new how → writes_failed how ≡ 0
+checked_unwritten : (given : Given) (old new : Graph) (how : Result Checked TextFault) → EntriesChecked given old new how → writes_failed how ≡ 0
 checked_unwritten given old new how w =
     unwritten how (λ e. (let v = subst (EntriesChecked given old new) e w in ends_unwritten HistoryStops (λ text g k stops. stops) (reached_by v.over) given.ended new v.over.ends))
+
+entries_unwritten : (config : Settings) (given : Given) (how : Result Checked TextFault) → EntriesTaken config given how → writes_failed how ≡ 0
+entries_unwritten config given how (inl none) = ap writes_failed none.1
+entries_unwritten config given how (inr w) = checked_unwritten given (opening (limits_of config)) w.0 how w.1
 
 pub scripts_unwritten : (given : Given) (mutators : ℕ) (how : Result ReadScripts TextFault) → ScriptsRead given mutators how → writes_failed how ≡ 0
 scripts_unwritten given mutators how (inl none) = ap writes_failed none.0
@@ -164,10 +161,21 @@ pub samples_unwritten : (config : Settings) (given : Given) (how : Result Sample
 samples_unwritten config given (Err texts.Write) w = absurd (nothing_cut given (stage w.0 []) w.1 w.2)
 samples_unwritten config given how w = refl
 
-pub cycles_unwritten : (config : Settings) (given : Given) (how : Result Cycles TextFault) → CyclesTaken config given how → writes_failed how ≡ 0
+cycles_unwritten : (config : Settings) (given : Given) (how : Result Cycles TextFault) → CyclesTaken config given how → writes_failed how ≡ 0
 cycles_unwritten config given (Err texts.Write) w = absurd (nothing_cut given (stage w.0 []) w.1 w.2)
 cycles_unwritten config given how w = refl
 
 pub measured_unwritten : (config : Settings) (given : Given) (how : Result Measured TextFault) → TraceMeasured config given how → writes_failed how ≡ 0
 measured_unwritten config given (Err texts.Write) w = absurd (nothing_cut given (stage w.0 []) w.1 w.2)
 measured_unwritten config given how w = refl
+
+-- nor in answering a question
+of_answer : {A : Type 0} (Says : A → Answer → Type 0) (how : Result A TextFault) (answered : Result Answer TextFault) → AnswerOf Says how answered → writes_failed how ≡ 0 → writes_failed answered ≡ 0
+of_answer Says how (Ok answer) is none = refl
+of_answer Says (Ok it) (Err why) is none = ap (λ (w : TextFault). writes_failed {A = Answer} (Err w)) is
+of_answer Says (Err why) (Err other) is none = ap writes_failed is ∙ none
+
+pub answer_unwritten : (question : Question) (config : Settings) (given : Given) (answered : Result Answer TextFault) → IsAnswer question config given answered → writes_failed answered ≡ 0
+answer_unwritten questions.History config given answered w = of_answer _ w.0 answered w.2 (entries_unwritten config given w.0 w.1)
+answer_unwritten (questions.Cycles layout) config given answered w = of_answer _ w.0 answered w.2 (cycles_unwritten config given w.0 w.1)
+answer_unwritten (questions.Pages pace) config given answered w = of_answer _ w.0 answered w.2 (measured_unwritten config given w.0 w.1)

@@ -6,10 +6,11 @@ use Rattle.std.specs.List.{AllZip, concat}
 use Rattle.std.proofs.lemmas.List.Folds.{concat-append}
 use Rattle.size_classes.specs.declared.config.Config.{Config}
 use Rattle.quanta.specs.Timetable.{Timetable, with_reserved}
+use Rattle.trace.specs.declared.fault.TextFault.TheVariants.{Write, NoMemory}
 use Rattle.trace.specs.Streams.{GrowsByPart}
 use Rattle.inspector.proofs.Parts.{part_after}
 use Rattle.metronome.specs.declared.fault.RunFault.{RunFault}
-use Rattle.metronome.specs.declared.fault.RunFault.TheVariants.{Write, NoMemory}
+use Rattle.metronome.specs.declared.fault.RunFault.TheVariants.{Text}
 use Rattle.metronome.specs.Windows.{IsWindowLine, AllTold, FirstTold}
 
 -- what follows from what is said of an error
@@ -28,7 +29,7 @@ concat_more lines line = concat-append lines (line ∷ []) ∙ ap (λ t. concat 
 
 module _ (config : Config) (t : Timetable) (first : List ℕ) (old mid : List ℕ) (so : AllTold config t first old mid) where
   -- behind these lines memory was refused
-  pub told_until : (windows behind : List ℕ) (fault : RunFault) → windows ≡ first ++ behind → fault ≡ NoMemory → FirstTold config t windows fault old mid
+  pub told_until : (windows behind : List ℕ) (fault : RunFault) → windows ≡ first ++ behind → fault ≡ Text NoMemory → FirstTold config t windows fault old mid
   told_until windows behind fault whole e = record { first = first; behind = behind; whole = whole; lines = so.lines; each = so.each; written = inl (e, so.written) }
 
   module _ (window : ℕ) (line : List ℕ) (is : IsWindowLine config t window line) (new : List ℕ) where
@@ -44,7 +45,7 @@ module _ (config : Config) (t : Timetable) (first : List ℕ) (old mid : List �
     }
 
     -- with a part of it
-    pub told_part : (windows behind : List ℕ) (fault : RunFault) → windows ≡ (first ++ window ∷ []) ++ behind → fault ≡ Write → GrowsByPart mid new line → FirstTold config t windows fault old new
+    pub told_part : (windows behind : List ℕ) (fault : RunFault) → windows ≡ (first ++ window ∷ []) ++ behind → fault ≡ Text Write → GrowsByPart mid new line → FirstTold config t windows fault old new
     told_part windows behind fault whole e g = record {
       first = first ++ window ∷ [];
       behind = behind;

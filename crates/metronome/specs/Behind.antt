@@ -2,6 +2,7 @@
 use Rattle.std.specs.Prelude.{◌≡◌, ℕ, ◌⊎◌, List, Option, Some, None, Result, Ok, Err}
 use Rattle.size_classes.specs.declared.config.Config.{Config}
 use Rattle.trace.specs.declared.fault.TextFault.{TextFault}
+use Rattle.trace.specs.declared.fault.TextFault.TheVariants.{NoMemory}
 use Rattle.trace.specs.Streams.{Given, Taken}
 use Rattle.player.specs.declared.style.Style.TheVariants.{Nothing}
 use Rattle.player.specs.New.{IsNew}
@@ -9,8 +10,7 @@ use Rattle.player.specs.Player.{PlayerState}
 use Rattle.player.specs.Playing.{Stage, stage, Played, PlayedFirst}
 use Rattle.metronome.specs.declared.fault.Ending.{Ending}
 use Rattle.metronome.specs.declared.fault.RunFault.{RunFault}
-use Rattle.metronome.specs.declared.fault.RunFault.TheVariants.{NoMemory}
-use Rattle.metronome.specs.Faults.{of_text}
+use Rattle.metronome.specs.declared.fault.RunFault.TheVariants.{Text}
 
 -- a trace, or its first event lines, played without a line written
 abbrev pub PlayedUpTo : Option ℕ → Given → Stage → Stage → Result (Unit {0}) TextFault → Type 0
@@ -23,9 +23,9 @@ abbrev pub PlayerBehind : Option ℕ → Config → Given → Taken → Result P
 PlayerBehind after config given taken (Ok new) = (old : PlayerState) × IsNew config old
     × PlayedUpTo after given (stage old taken.before) (stage new taken.after) (Ok tt)
 PlayerBehind after config given taken (Err fault) =
-    ((given.after ≡ given.before) × (taken.after ≡ taken.before) × (fault ≡ NoMemory))
+    ((given.after ≡ given.before) × (taken.after ≡ taken.before) × (fault ≡ Text NoMemory))
     ⊎ ((old : PlayerState) × (new : PlayerState) × (why : TextFault) × IsNew config old
-    × PlayedUpTo after given (stage old taken.before) (stage new taken.after) (Err why) × (fault ≡ of_text why))
+    × PlayedUpTo after given (stage old taken.before) (stage new taken.after) (Err why) × (fault ≡ Text why))
 
 -- A new player played a trace, or its first event lines, to the end, and then this was told of it; or the play ended in
 -- a fault, and nothing was told.

@@ -2,45 +2,31 @@
 use Rattle.std.specs.Prelude.{ℕ, ◌≡◌, ◌⊎◌, ◌+◌, Result, Err}
 use Rattle.command_line.specs.declared.fault.ReadFault.{ReadFault}
 use Rattle.command_line.specs.declared.fault.ReadFault.TheVariants as settings
-use Rattle.sizing.specs.declared.load_file.fault.LoadFault.{LoadFault}
-use Rattle.sizing.specs.declared.load_file.fault.LoadFault.TheVariants as loads
-use Rattle.trace.specs.declared.fault.TextFault.{TextFault}
-use Rattle.trace.specs.declared.fault.TextFault.TheVariants as texts
+use Rattle.trace.specs.declared.fault.TextFault.TheVariants.{Read, NoMemory}
+use Rattle.trace.specs.GoneOver.{reads_failed, writes_failed}
 use Rattle.metronome.specs.declared.fault.RunFault.{RunFault}
-use Rattle.metronome.specs.declared.fault.RunFault.TheVariants.{Config, Load, Line, Read, Write, NoMemory}
+use Rattle.metronome.specs.declared.fault.RunFault.TheVariants.{Config, Load, Text}
 
 -- the fault of a run whose settings can't be read
 abbrev pub of_settings : ReadFault → RunFault
 of_settings (settings.Refused why) = Config why
-of_settings settings.NoMemory = NoMemory
-
--- the fault of a run whose load can't be read
-abbrev pub of_load : LoadFault → RunFault
-of_load (loads.Refused why) = Load why
-of_load loads.NoMemory = NoMemory
-
--- the fault of a run whose text can't be read or written
-abbrev pub of_text : TextFault → RunFault
-of_text (texts.Line number why) = Line number why
-of_text texts.Read = Read
-of_text texts.Write = Write
-of_text texts.NoMemory = NoMemory
+of_settings settings.NoMemory = Text NoMemory
 
 -- the faults of a load or a trace that can't be read into memory
 abbrev pub IsUnread : RunFault → Type 0
 IsUnread (Load why) = Unit {0}
-IsUnread Read = Unit {0}
-IsUnread NoMemory = Unit {0}
+IsUnread (Text Read) = Unit {0}
+IsUnread (Text NoMemory) = Unit {0}
 IsUnread fault = ⊥
 
 -- how many reads have failed where a run ends so: it ends at the first
 abbrev pub failed_reads : {A : Type 0} → Result A RunFault → ℕ
-failed_reads (Err Read) = 1
+failed_reads (Err (Text why)) = reads_failed {A = Unit {0}} (Err why)
 failed_reads _ = 0
 
 -- and how many writes
 abbrev pub failed_writes : {A : Type 0} → Result A RunFault → ℕ
-failed_writes (Err Write) = 1
+failed_writes (Err (Text why)) = writes_failed {A = Unit {0}} (Err why)
 failed_writes _ = 0
 
 -- a run counts the failed reads of its source; where something else can't be read, its source was asked for nothing

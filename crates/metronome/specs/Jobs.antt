@@ -1,14 +1,10 @@
 -- What each subcommand reads and writes.
-use Rattle.std.specs.Prelude.{◌≡◌, ℕ, Bool, true, false, ◌⊎◌, List, [], ◌∷◌, ◌++◌, map, replicate, Result, Ok, Err, codes, decimal}
+use Rattle.std.specs.Prelude.{◌≡◌, ℕ, Bool, true, false, ◌⊎◌, ◌++◌, map, replicate, Result, Ok, Err}
 use Rattle.size_classes.specs.declared.config.Config.{Config}
-use Rattle.size_classes.specs.Config.{limits_of}
-use Rattle.graph_heap.specs.Graph.{Graph, opening}
 use Rattle.trace.specs.declared.fault.TextFault.{TextFault}
+use Rattle.trace.specs.declared.fault.TextFault.TheVariants.{Write, NoMemory}
 use Rattle.trace.specs.declared.version.Version.{Version}
 use Rattle.trace.specs.Streams.{Given, Taken, GrowsByPart}
-use Rattle.trace.specs.declared.transcripts.histories.Checked.{Checked}
-use Rattle.trace.specs.declared.transcripts.histories.Checked.TheVariants.{Good, Wrong}
-use Rattle.trace.specs.Histories.{EntriesChecked}
 use Rattle.trace.specs.Scripts.{ReadScripts, ScriptsRead}
 use Rattle.heap_server.specs.declared.play.Outcome.{Outcome}
 use Rattle.heap_model.specs.Settings.{settings_by}
@@ -19,19 +15,20 @@ use Rattle.player.specs.New.{IsNew}
 use Rattle.player.specs.Player.{PlayerState}
 use Rattle.player.specs.Playing.{stage, Played, text_written}
 use Rattle.metronome.specs.declared.fault.Ending.{Ending}
-use Rattle.metronome.specs.declared.fault.Ending.TheVariants.{Done, WrongReply}
+use Rattle.metronome.specs.declared.fault.Ending.TheVariants.{Done}
 use Rattle.metronome.specs.declared.fault.RunFault.{RunFault}
-use Rattle.metronome.specs.declared.fault.RunFault.TheVariants.{Write, NoMemory, NotComplete}
-use Rattle.metronome.specs.Faults.{of_text}
+use Rattle.metronome.specs.declared.fault.RunFault.TheVariants.{Text, NotComplete}
+use Rattle.metronome.specs.Told.{ToldOf}
 
 -- Memory was refused before anything was read or written.
 abbrev pub NotBegun : Given → Taken → Result Ending RunFault → Type 0
-NotBegun given taken result = (given.after ≡ given.before) × (taken.after ≡ taken.before) × (result ≡ Err NoMemory)
+NotBegun given taken result =
+    (given.after ≡ given.before) × (taken.after ≡ taken.before) × (result ≡ Err (Text NoMemory))
 
 -- a job that is done where its play is
 abbrev pub ends_as : Result (Unit {0}) TextFault → Result Ending RunFault
 ends_as (Ok all) = Ok Done
-ends_as (Err fault) = Err (of_text fault)
+ends_as (Err fault) = Err (Text fault)
 
 -- A new player played a trace, and what the style says was written.
 abbrev pub TracePlayed : Style → Config → Given → Taken → Result Ending RunFault → Type 0
@@ -39,32 +36,6 @@ TracePlayed style config given taken result =
     NotBegun given taken result
     ⊎ ((old : PlayerState) × (new : PlayerState) × (how : Result (Unit {0}) TextFault) × IsNew config old
     × Played style given (stage old taken.before) (stage new taken.after) how × (result ≡ ends_as how))
-
--- the line that tells what became of a history, and how the run ends
-abbrev pub told_of : Checked → List ℕ
-told_of (Good entries) = codes "ok " ++ decimal entries ++ 10 ∷ []
-told_of (Wrong line) = codes "wrong at line " ++ decimal line ++ 10 ∷ []
-
--- how a run ends that checked a history
-abbrev pub verdict : Checked → Ending
-verdict (Good entries) = Done
-verdict (Wrong line) = WrongReply
-
--- what is written after a check
-abbrev pub ToldAfter : Result Checked TextFault → Taken → Result Ending RunFault → Type 0
--- the history was checked: its line, or a part of it where a write failed, or nothing for want of memory
-ToldAfter (Ok checked) taken (Ok ending) = (ending ≡ verdict checked) × (taken.after ≡ taken.before ++ told_of checked)
-ToldAfter (Ok checked) taken (Err fault) = ((fault ≡ Write) × GrowsByPart taken.before taken.after (told_of checked))
-    ⊎ ((fault ≡ NoMemory) × (taken.after ≡ taken.before))
--- a fault ended the check: nothing
-ToldAfter (Err why) taken result = (result ≡ Err (of_text why)) × (taken.after ≡ taken.before)
-
--- A history was checked from the opening graph heap, and its line was written.
-abbrev pub HistoryChecked : Config → Given → Taken → Result Ending RunFault → Type 0
-HistoryChecked config given taken result =
-    NotBegun given taken result
-    ⊎ ((new : Graph) × (how : Result Checked TextFault) × EntriesChecked given (opening (limits_of config)) new how
-    × ToldAfter how taken result)
 
 -- how a run ends whose scripts and budgets were all done, or not
 abbrev pub finish : Bool → Result Ending RunFault
@@ -76,22 +47,19 @@ abbrev pub HistoryWritten : Version → Outcome → Taken → Result Ending RunF
 HistoryWritten version outcome taken result =
     ((result ≡ finish outcome.all) × (taken.after ≡ taken.before
     ++ text_written Entries version outcome.recorded.course.history))
-    ⊎ ((result ≡ Err Write) × GrowsByPart taken.before taken.after
+    ⊎ ((result ≡ Err (Text Write)) × GrowsByPart taken.before taken.after
     (text_written Entries version outcome.recorded.course.history))
 
--- what came of scripts, as they were read
-abbrev pub RunBehind : ℕ → ℕ → Config → Result ReadScripts TextFault → Taken → Result Ending RunFault → Type 0
--- threads ran them beside so many quanta of a budget, and the history was written, which is a merge of the scripts
--- where all was done; or memory was refused, and nothing was
-RunBehind turns budget config (Ok read) taken result =
-    ((result ≡ Err NoMemory) × (taken.after ≡ taken.before))
+-- Threads ran scripts beside so many quanta of a budget, and the history was written, which is a merge of the scripts
+-- where all was done; or memory was refused, and nothing was.
+abbrev pub RunBehind : ℕ → ℕ → Config → ReadScripts → Taken → Result Ending RunFault → Type 0
+RunBehind turns budget config read taken result =
+    ((result ≡ Err (Text NoMemory)) × (taken.after ≡ taken.before))
     ⊎ ((outcome : Outcome) × IsOutcome (settings_by config) (map (λ s. s.items) read.1.items)
     (replicate turns budget) outcome × HistoryWritten read.0 outcome taken result)
--- a fault ended the reading: nothing was run or written
-RunBehind turns budget config (Err why) taken result = (result ≡ Err (of_text why)) × (taken.after ≡ taken.before)
 
 -- Scripts were read, run, and their history written.
 abbrev pub ScriptsRun : ℕ → ℕ → Config → Given → Taken → Result Ending RunFault → Type 0
 ScriptsRun turns budget config given taken result =
     (how : Result ReadScripts TextFault) × ScriptsRead given config.mutators how
-    × RunBehind turns budget config how taken result
+    × ToldOf (RunBehind turns budget config) how taken result

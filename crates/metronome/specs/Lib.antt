@@ -7,5 +7,6 @@ pub mod Behind
 pub mod Telling
 pub mod OverTime
 pub mod Progress
-pub mod Logged
+pub mod Answered
+pub mod Loaded
 pub mod Done

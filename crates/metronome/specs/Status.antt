@@ -1,5 +1,6 @@
 -- The exit status of a run.
 use Rattle.std.specs.Prelude.{ℕ, Result, Ok, Err}
+use Rattle.trace.specs.declared.fault.TextFault.TheVariants as texts
 use Rattle.metronome.specs.declared.fault.Ending.{Ending}
 use Rattle.metronome.specs.declared.fault.Ending.TheVariants as endings
 use Rattle.metronome.specs.declared.fault.RunFault.{RunFault}
@@ -15,10 +16,10 @@ abbrev pub fault_status : RunFault → ℕ
 fault_status (faults.Words text) = 2
 fault_status (faults.Config why) = 3
 fault_status (faults.Load why) = 3
-fault_status (faults.Line number why) = 4
-fault_status faults.Read = 5
-fault_status faults.Write = 5
-fault_status faults.NoMemory = 6
+fault_status (faults.Text (texts.Line number why)) = 4
+fault_status (faults.Text texts.Read) = 5
+fault_status (faults.Text texts.Write) = 5
+fault_status (faults.Text texts.NoMemory) = 6
 fault_status faults.NotComplete = 8
 
 -- the exit status of a run

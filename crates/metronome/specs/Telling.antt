@@ -1,12 +1,13 @@
 -- What is told of a player.
-use Rattle.std.specs.Prelude.{◌≡◌, ℕ, Bool, IsTrue, ◌↔◌, List, ◌++◌, Result, Ok, Err}
+use Rattle.std.specs.Prelude.{◌≡◌, ℕ, Bool, IsTrue, ◌↔◌, List, Result, Ok, Err}
 use Rattle.size_classes.specs.declared.config.Config.{Config}
-use Rattle.heap_model.specs.Event.{Course, present_of}
+use Rattle.graph_heap.specs.Graph.{Graph}
+use Rattle.heap_model.specs.Event.{present_of}
 use Rattle.heap_model.specs.State.{HeapState}
 use Rattle.nodes.specs.Copies.{HasBlock}
 use Rattle.quanta.specs.Timetable.{Timetable}
 use Rattle.trace.specs.declared.fault.TextFault.{TextFault}
-use Rattle.trace.specs.Streams.{Taken, GrowsByPart}
+use Rattle.trace.specs.Streams.{Taken}
 use Rattle.player.specs.Player.{PlayerState}
 use Rattle.pictures.specs.Text.{PathTold}
 use Rattle.inspector.specs.Filling.{sizes_told}
@@ -24,20 +25,14 @@ use Rattle.metronome.specs.declared.behind.Telling.TheVariants as tellings
 use Rattle.metronome.specs.declared.fault.Ending.{Ending}
 use Rattle.metronome.specs.declared.fault.Ending.TheVariants.{Done}
 use Rattle.metronome.specs.declared.fault.RunFault.{RunFault}
-use Rattle.metronome.specs.declared.fault.RunFault.TheVariants.{Write}
-use Rattle.metronome.specs.Faults.{of_text}
-use Rattle.metronome.specs.Told.{ReportTold}
+use Rattle.metronome.specs.declared.fault.RunFault.TheVariants.{Text}
+use Rattle.metronome.specs.Told.{ReportTold, TextWritten}
 use Rattle.metronome.specs.Windows.{AllTold, FirstTold}
 
 -- the text of a report of a heap: page by page, or by size class
 abbrev pub report_by : Report → HeapState → List ℕ
 report_by reports.Pages h = report_of h
 report_by reports.Sizes h = sizes_told h
-
--- a report is written, or a part of it where a write failed
-abbrev pub ReportWritten : List ℕ → Taken → Result Ending RunFault → Type 0
-ReportWritten report taken (Ok ending) = (ending ≡ Done) × (taken.after ≡ taken.before ++ report)
-ReportWritten report taken (Err fault) = (fault ≡ Write) × GrowsByPart taken.before taken.after report
 
 -- the text of a picture of a player: of the pages of its heap, or of the shares that its timetable left the mutators
 abbrev pub IsPicture : Picture → Config → PlayerState → List ℕ → Type 0
@@ -48,22 +43,21 @@ IsPicture pictures.Utilisation config p text = (shares : List Share) × AreShare
 -- a picture of a player is drawn, or a part of it where a write failed
 abbrev pub PictureDrawn : Picture → Config → PlayerState → Taken → Result Ending RunFault → Type 0
 PictureDrawn picture config p taken result = (text : List ℕ) × IsPicture picture config p text
-    × ReportWritten text taken result
+    × TextWritten Done text taken result
 
 -- a job that is done where its drawing is
 abbrev pub drawn_as : Result (Unit {0}) TextFault → Result Ending RunFault
 drawn_as (Ok drawn) = Ok Done
-drawn_as (Err fault) = Err (of_text fault)
+drawn_as (Err fault) = Err (Text fault)
 
--- the graph heap to which a history led is drawn, at most so many objects
-abbrev pub GraphTold : ℕ → Course → Taken → Result Ending RunFault → Type 0
-GraphTold most r taken result = (how : Result (Unit {0}) TextFault) × GraphDrawn (present_of r) most taken how
+-- a graph heap is drawn, at most so many objects
+abbrev pub GraphTold : ℕ → Graph → Taken → Result Ending RunFault → Type 0
+GraphTold most g taken result = (how : Result (Unit {0}) TextFault) × GraphDrawn g most taken how
     × (result ≡ drawn_as how)
 
--- the text that tells why an object is alive in the graph heap to which a history led, and whether the heap holds a
--- block of it
-abbrev pub TellsWhy : ℕ → Course → List ℕ → Type 0
-TellsWhy id r text = (held : Bool) × (IsTrue held ↔ HasBlock r.heap.store id) × PathTold (present_of r) id held text
+-- the text that tells why an object is alive in a graph heap, and whether a heap holds a block of it
+abbrev pub TellsWhy : ℕ → HeapState → Graph → List ℕ → Type 0
+TellsWhy id h g text = (held : Bool) × (IsTrue held ↔ HasBlock h.store id) × PathTold g id held text
 
 -- a line for each window is written, or for the first of them
 abbrev pub WindowsTold : Config → Timetable → List ℕ → Taken → Result Ending RunFault → Type 0
@@ -72,8 +66,9 @@ WindowsTold config t windows taken (Err fault) = FirstTold config t windows faul
 
 -- what is told, by its kind
 abbrev pub Tells : Telling → Config → PlayerState → Taken → Result Ending RunFault → Type 0
-Tells (tellings.Report by) config p taken result = ReportWritten (report_by by p.course.heap) taken result
+Tells (tellings.Report by) config p taken result = TextWritten Done (report_by by p.course.heap) taken result
 Tells (tellings.Picture picture) config p taken result = PictureDrawn picture config p taken result
-Tells (tellings.Graph most) config p taken result = GraphTold most p.course taken result
-Tells (tellings.Path id) config p taken result = ReportTold (TellsWhy id p.course) taken result
+Tells (tellings.Graph most) config p taken result = GraphTold most (present_of p.course) taken result
+Tells (tellings.Path id) config p taken result =
+    ReportTold (TellsWhy id p.course.heap (present_of p.course)) taken result
 Tells (tellings.Windows windows) config p taken result = WindowsTold config p.timetable windows.now taken result

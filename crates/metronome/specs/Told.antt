@@ -1,106 +1,32 @@
--- What is told of the pages that a trace needs.
-use Rattle.std.specs.Prelude.{◌≡◌, ℕ, ◌*◌, Bool, IsTrue, true, false, ◌⊎◌, List, [], ◌++◌, Result, Ok, Err}
-use Rattle.size_classes.specs.declared.config.Config.{Config}
-use Rattle.heap_model.specs.Event.{Event}
+-- What is written of what a job comes to.
+use Rattle.std.specs.Prelude.{◌≡◌, ℕ, ◌⊎◌, List, ◌++◌, Result, Ok, Err}
 use Rattle.trace.specs.declared.fault.TextFault.{TextFault}
-use Rattle.trace.specs.Streams.{Given, Taken, Begins, GrowsByPart}
-use Rattle.sizing.specs.declared.measured.Measured.{Measured}
-use Rattle.space.specs.Room.{AllHaveRoom}
-use Rattle.sizing.specs.Measured.{least_units, HasUnits}
-use Rattle.sizing.specs.Measuring.{TraceMeasured}
-use Rattle.inspector.specs.declared.pages_needed.lines.Scope.TheVariants.{Pace as By_pace}
-use Rattle.inspector.specs.NeededReport.{needed_told, IsPaceReport}
-use Rattle.sizing.specs.declared.arrivals.load.Load.{Load as LoadTable}
-use Rattle.sizing.specs.declared.arrivals.keeping.Kept.{Kept}
-use Rattle.sizing.specs.Load.{Load}
-use Rattle.sizing.specs.New.{LoadFits, LoadFindsRoom}
-use Rattle.sizing.specs.Fitting.{load_in}
-use Rattle.sizing.specs.Keeping.{LoadChecked}
-use Rattle.inspector.specs.LoadReport.{IsCovered, IsLoadReport}
+use Rattle.trace.specs.declared.fault.TextFault.TheVariants.{Write, NoMemory}
+use Rattle.trace.specs.Streams.{Taken, GrowsByPart}
 use Rattle.metronome.specs.declared.fault.Ending.{Ending}
 use Rattle.metronome.specs.declared.fault.Ending.TheVariants.{Done}
 use Rattle.metronome.specs.declared.fault.RunFault.{RunFault}
-use Rattle.metronome.specs.declared.fault.RunFault.TheVariants.{Write, NoMemory}
-use Rattle.metronome.specs.Faults.{IsUnread, of_text}
+use Rattle.metronome.specs.declared.fault.RunFault.TheVariants.{Text}
 
--- the lines of what a trace needed: in blocks and pages, or at its pace, with quanta of the least units that any had,
--- or has by the schedule
-abbrev pub TellsPages : Bool → Config → Measured → List ℕ → Type 0
-TellsPages false config m text = text ≡ needed_told config m.needed
-TellsPages true config m text = (slow : Config) × HasUnits config (least_units config m.budget) slow
-    × IsPaceReport By_pace slow m.pace text
+-- a text is written, and the run ends so; or a part of it is, where a write failed
+abbrev pub TextWritten : Ending → List ℕ → Taken → Result Ending RunFault → Type 0
+TextWritten last text taken (Ok ending) = (ending ≡ last) × (taken.after ≡ taken.before ++ text)
+TextWritten last text taken (Err fault) = (fault ≡ Text Write) × GrowsByPart taken.before taken.after text
 
 -- what is written of a report: it, or a part of it where a write failed, or nothing for want of memory
 abbrev pub ReportTold : (List ℕ → Type 0) → Taken → Result Ending RunFault → Type 0
 ReportTold IsReport taken (Ok ending) = (text : List ℕ) × IsReport text × (ending ≡ Done)
     × (taken.after ≡ taken.before ++ text)
 ReportTold IsReport taken (Err fault) =
-    ((text : List ℕ) × IsReport text × (fault ≡ Write) × GrowsByPart taken.before taken.after text)
-    ⊎ ((fault ≡ NoMemory) × (taken.after ≡ taken.before))
+    ((text : List ℕ) × IsReport text × (fault ≡ Text Write) × GrowsByPart taken.before taken.after text)
+    ⊎ ((fault ≡ Text NoMemory) × (taken.after ≡ taken.before))
 
--- a fault ended what comes before the report: nothing is written
+-- a fault ended what comes before the telling: nothing is written
 abbrev pub NothingTold : TextFault → Taken → Result Ending RunFault → Type 0
-NothingTold why taken result = (result ≡ Err (of_text why)) × (taken.after ≡ taken.before)
+NothingTold why taken result = (result ≡ Err (Text why)) × (taken.after ≡ taken.before)
 
--- what is written once a trace was measured
-abbrev pub MeasureTold : Bool → Config → Result Measured TextFault → Taken → Result Ending RunFault → Type 0
-MeasureTold pace config (Ok m) taken result = ReportTold (TellsPages pace config m) taken result
-MeasureTold pace config (Err why) taken result = NothingTold why taken result
-
--- A trace was measured on a new heap, and the pages that it needs were told: where they suffice, `TraceMeasured`
--- promises room to this run, and to those of which the verdict speaks; and on as many as are told for a way, to those
--- that the line names.
-abbrev pub PagesTold : Bool → Config → Given → Taken → Result Ending RunFault → Type 0
-PagesTold pace config given taken result = (how : Result Measured TextFault) × TraceMeasured config given how
-    × MeasureTold pace config how taken result
-
--- a text, or a beginning of it, was given from its first byte
-abbrev pub ReadsText : List ℕ → Given → Type 0
-ReadsText text given = (given.before ≡ []) × Begins given.after given.ended text
-
--- a trace of this text was measured on a new heap
-abbrev pub TextMeasured : Config → List ℕ → Result Measured TextFault → Type 0
-TextMeasured config text how = (given : Given) × ReadsText text given × TraceMeasured config given how
-
--- a trace of this text was checked against a load, with quanta of the schedule's units
-abbrev pub TextChecked : Config → Load → List ℕ → Result Kept TextFault → Type 0
-TextChecked config l text how = (given : Given) × ReadsText text given
-    × LoadChecked l (config.collector_ticks * config.rate) given how
-
-module _ (config : Config) (l : LoadTable) where
-  -- What is told of the load, and of a run with these events, of which this was measured. Where the load's pace fits in
-  -- the pages, each run that keeps to the load while no more is live than it has finds room; and so does this one, if
-  -- it is told that it is within the load.
-  pub record TellsLoad (m : Measured) (es : List Event) (kept : Kept) (text : List ℕ) : Type 0 where
-    pub report : IsLoadReport config l kept m.pace text
-    pub each : LoadFits config (load_in l) → LoadFindsRoom config (load_in l)
-    pub this : LoadFits config (load_in l) → IsCovered l kept m.pace → AllHaveRoom es
-
-  -- what is written once the trace was checked
-  abbrev pub CheckTold : Measured → List Event → Result Kept TextFault → Taken → Result Ending RunFault → Type 0
-  CheckTold m es (Ok kept) taken result = ReportTold (TellsLoad m es kept) taken result
-  CheckTold m es (Err why) taken result = NothingTold why taken result
-
-  -- once it was measured, it is read again and checked
-  abbrev pub CheckedBehind : (text : List ℕ) (how : Result Measured TextFault) → TextMeasured config text how → Taken
-      → Result Ending RunFault → Type 0
-  CheckedBehind text (Ok m) run taken result = (how : Result Kept TextFault) × TextChecked config (load_in l) text how
-      × CheckTold m run.2.played.over.events how taken result
-  CheckedBehind text (Err why) run taken result = NothingTold why taken result
-
-  -- A trace of this text was measured on a new heap, read again and checked against the load, and what the load needs
-  -- was told.
-  abbrev pub TextTold : List ℕ → Taken → Result Ending RunFault → Type 0
-  TextTold text taken result = (how : Result Measured TextFault) × (run : TextMeasured config text how)
-      × CheckedBehind text how run taken result
-
--- all that a source had still to give is this text
-abbrev pub IsRest : Given → List ℕ → Type 0
-IsRest given text = (given.after ≡ given.before ++ text) × IsTrue given.ended
-
--- A trace was read to its end, and of its text and a load it was told what the load needs; or one of them could not be
--- read, and nothing was written.
-abbrev pub LoadTold : Config → Given → Taken → Result Ending RunFault → Type 0
-LoadTold config given taken result =
-    ((l : LoadTable) × (text : List ℕ) × IsRest given text × TextTold config l text taken result)
-    ⊎ ((fault : RunFault) × IsUnread fault × (result ≡ Err fault) × (taken.after ≡ taken.before))
+-- once something was taken of an input, this is told of it; or a fault ended the taking
+abbrev pub ToldOf : {A : Type 0} → (A → Taken → Result Ending RunFault → Type 0) → Result A TextFault → Taken
+    → Result Ending RunFault → Type 0
+ToldOf Tells (Ok it) taken result = Tells it taken result
+ToldOf Tells (Err why) taken result = NothingTold why taken result

@@ -4,9 +4,10 @@ use Rattle.std.specs.List.{AllZip, concat}
 use Rattle.size_classes.specs.declared.config.Config.{Config}
 use Rattle.quanta.specs.Timetable.{Timetable, last_end}
 use Rattle.mmu_report.specs.Utilisation.{IsLeast, bound_of}
+use Rattle.trace.specs.declared.fault.TextFault.TheVariants.{Write, NoMemory}
 use Rattle.trace.specs.Streams.{GrowsByPart}
 use Rattle.metronome.specs.declared.fault.RunFault.{RunFault}
-use Rattle.metronome.specs.declared.fault.RunFault.TheVariants.{Write, NoMemory}
+use Rattle.metronome.specs.declared.fault.RunFault.TheVariants.{Text}
 
 -- the ticks that have passed, with those of the last interval
 abbrev pub span_of : Timetable → ℕ
@@ -46,5 +47,5 @@ pub record FirstTold (config : Config) (t : Timetable) (windows : List ℕ) (fau
   pub whole : windows ≡ first ++ behind
   pub lines : List (List ℕ)
   pub each : AllZip (IsWindowLine config t) first lines
-  pub written : ((fault ≡ NoMemory) × (taken' ≡ taken ++ concat lines))
-      ⊎ ((fault ≡ Write) × GrowsByPart taken taken' (concat lines))
+  pub written : ((fault ≡ Text NoMemory) × (taken' ≡ taken ++ concat lines))
+      ⊎ ((fault ≡ Text Write) × GrowsByPart taken taken' (concat lines))

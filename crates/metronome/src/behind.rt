@@ -1,5 +1,6 @@
 //! What is told of a player behind a trace.
 ghost use Rattle.std.specs.Prelude.{◌≡◌, ◌+◌, IfOk};
+ghost use Rattle.heap_model.specs.Event.{present_of};
 ghost use Rattle.heap_model.specs.Settings.{settings_of, settings_by};
 ghost use Rattle.player.specs.Playing.{stage};
 ghost use Rattle.trace.specs.GoneOver.{reads_failed, writes_failed};
@@ -17,8 +18,10 @@ mod windows;
 use crate::fault::{Ending, RunFault};
 use command_line::{Picture, Report};
 use graph::tell_graph;
+use graph_heap::{NoMemory, Reference};
 use path::tell_path;
 use picture::tell_picture;
+use pictures::present;
 use player::{Player, Style, play, play_first};
 use report::tell_report;
 use size_classes::Config;
@@ -79,6 +82,14 @@ fn player_behind<S: Source, K: Sink>(
     Ok(player)
 }
 
+/// The graph heap to which the history of a player leads.
+fn graph_behind(alloc: Global, config: &Config, player: &Player) -> Result<Reference, NoMemory>
+    requires { settings_of player.now.course.heap ≡ settings_by config.now }
+    ensures { IfOk result (λ graph. graph ≡ present_of player.now.course) }
+{
+    present(alloc, &config.limits(), player.recorded().history())
+}
+
 /// Tells it.
 fn tell<K: Sink>(
     alloc: Global,
@@ -95,8 +106,14 @@ fn tell<K: Sink>(
     match telling {
         Telling::Report(by) => tell_report(player, by, sink),
         Telling::Picture(picture) => tell_picture(config, player, picture, sink),
-        Telling::Graph(most) => tell_graph(alloc, config, player, most, sink),
-        Telling::Path(id) => tell_path(alloc, config, player, id, sink),
+        Telling::Graph(most) => {
+            let graph = graph_behind(alloc, config, player)?;
+            tell_graph(alloc, &graph, most, sink)
+        }
+        Telling::Path(id) => {
+            let graph = graph_behind(alloc, config, player)?;
+            tell_path(alloc, player.recorded().heap(), &graph, id, sink)
+        }
         Telling::Windows(windows) => tell_windows(alloc, config, player, windows, sink),
     }
 }

@@ -1,22 +1,22 @@
 //! What each subcommand does, from a source to a sink. Each ends in a failed read or write exactly where one failed.
-ghost use Rattle.std.specs.Prelude.{◌≡◌, ◌+◌, ◌≤◌, ◌++◌, length, map, replicate, IfOk, OnOk, OnErr, string_bytes};
+ghost use Rattle.std.specs.Prelude.{◌≡◌, ◌+◌, ◌≤◌, ◌++◌, length, map, replicate, IfOk, OnOk, OnErr};
 ghost use Rattle.heap_model.specs.Settings.{settings_by};
 ghost use Rattle.trace.specs.Streams.{failed, GrowsByPart, given_by, taken_by};
 ghost use Rattle.player.specs.declared.style.Style.TheVariants.{Entries};
 ghost use Rattle.player.specs.Playing.{written_of, written_version, text_written};
 ghost use Rattle.heap_server.specs.Played.{IsOutcome};
 ghost use Rattle.metronome.specs.Faults.{failed_reads, failed_writes};
-ghost use Rattle.metronome.specs.Jobs.{TracePlayed, HistoryChecked, ScriptsRun, verdict, told_of, finish};
+ghost use Rattle.metronome.specs.Jobs.{TracePlayed, ScriptsRun, finish};
 
 use crate::fault::{Ending, RunFault};
-use graph_heap::{Command, Entry, NoMemory, Reference};
+use graph_heap::{Command, Entry, NoMemory};
 use heap_server::{OpenGate, Outcome, play_threads};
 use player::{Player, Style, play};
 use size_classes::Config;
-use std::alloc::{AllocError, Global};
+use std::alloc::Global;
 use std::sync::Wait;
 use std::thread::Threads;
-use trace::transcripts::{Checked, check_entries, read_scripts};
+use trace::transcripts::read_scripts;
 use trace::{Sink, Source, Version, WriteFailed, end_line, write_all, write_entry};
 
 /// Plays a trace, and writes what the style says of each command.
@@ -35,45 +35,6 @@ pub fn play_job<S: Source, K: Sink>(
     let mut player = Player::new(alloc, config)?;
     play(source, sink, &mut player, style)?;
     Ok(Ending::Done)
-}
-
-/// What is told of a history that was checked.
-fn told(alloc: Global, checked: Checked) -> Result<String, AllocError>
-    ensures { IfOk result (λ line. string_bytes line ≡ told_of checked) }
-{
-    match checked {
-        Checked::Good(entries) => format!(in alloc; "ok {entries}\n"),
-        Checked::Wrong(number) => format!(in alloc; "wrong at line {number}\n"),
-    }
-}
-
-/// How a run ends that checked a history.
-fn ending_of(checked: Checked) -> Ending
-    ensures { result ≡ verdict checked }
-{
-    match checked {
-        Checked::Good(_) => Ending::Done,
-        Checked::Wrong(_) => Ending::WrongReply,
-    }
-}
-
-/// Checks the entries of a history, and writes how many there are, or the line of the first wrong one.
-pub fn check_job<S: Source, K: Sink>(
-    alloc: Global,
-    config: &Config,
-    source: &mut S,
-    sink: &mut K,
-) -> Result<Ending, RunFault>
-    ensures done { HistoryChecked config.now (given_by S.given S.ended source.old source.new)
-        (taken_by K.taken sink.old sink.new) result }
-    ensures reads { S.failures source.new ≡ S.failures source.old + failed_reads result }
-    ensures writes { K.failures sink.new ≡ K.failures sink.old + failed_writes result }
-{
-    let mut reference = Reference::new(alloc, &config.limits())?;
-    let checked = check_entries(source, &mut reference)?;
-    let line = told(alloc, checked)?;
-    write_all(sink, line.as_bytes())?;
-    Ok(ending_of(checked))
 }
 
 /// So many times a budget.

@@ -4,14 +4,14 @@ ghost use Rattle.trace.specs.GoneOver.{reads_failed};
 ghost use Rattle.trace.specs.Streams.{given_by, taken_by};
 ghost use Rattle.sizing.specs.Fitting.{load_in};
 ghost use Rattle.metronome.specs.Faults.{IsUnread, failed_reads, failed_writes, CountsReads};
-ghost use Rattle.metronome.specs.Told.{IsRest, LoadTold, TextMeasured, TextChecked, TextTold};
+ghost use Rattle.metronome.specs.Loaded.{IsRest, LoadTold, TextMeasured, TextChecked, TextTold};
 
 use crate::fault::{Ending, RunFault};
 use crate::files::{Opener, read_document};
 use inspector::load_kept::load_report;
 use size_classes::Config;
 use sizing::arrivals::{Kept, Load, keeps_load};
-use sizing::{Measured, measure, read_load};
+use sizing::{LoadFault, Measured, measure, read_load};
 use std::alloc::Global;
 use trace::{MemorySource, Sink, Source, TextFault, write_all};
 
@@ -23,7 +23,11 @@ fn load_of<O: Opener>(alloc: Global, opener: &O, name: &str) -> Result<Load, Run
     ensures { IfErr result IsUnread }
 {
     let bytes = read_document(alloc, opener, name)?;
-    Ok(read_load(alloc, bytes.as_slice())?)
+    match read_load(alloc, bytes.as_slice()) {
+        Ok(load) => Ok(load),
+        Err(LoadFault::Refused(why)) => Err(RunFault::Load(why)),
+        Err(LoadFault::NoMemory) => Err(RunFault::Text(TextFault::NoMemory)),
+    }
 }
 
 /// All bytes that a source has still to give.
@@ -36,12 +40,14 @@ fn rest_of<S: Source>(alloc: Global, source: &mut S) -> Result<Vec<u8>, RunFault
     let mut piece = [0; PIECE];
     loop {
         let Ok(count) = source.read(&mut piece) else {
-            return Err(RunFault::Read);
+            return Err(RunFault::Text(TextFault::Read));
         };
         if count == 0 {
             return Ok(text);
         }
-        text.extend_from_slice(&piece[..count])?;
+        if text.extend_from_slice(&piece[..count]).is_err() {
+            return Err(RunFault::Text(TextFault::NoMemory));
+        }
     }
 }
 
@@ -78,7 +84,9 @@ fn tell_text<K: Sink>(
 {
     let measured = measure_text(alloc, config, text)?;
     let kept = check_text(config, load, text)?;
-    let text = load_report(alloc, config, load, kept, &measured.pace)?;
+    let Ok(text) = load_report(alloc, config, load, kept, &measured.pace) else {
+        return Err(RunFault::Text(TextFault::NoMemory));
+    };
     write_all(sink, text.as_bytes())?;
     Ok(Ending::Done)
 }

@@ -1,19 +1,19 @@
 //! The program: plays, checks, runs and inspects heaps, as its words ask.
 #![tactic(auto)]
 
+mod answer_job;
 mod behind;
-mod cycles_job;
 mod fault;
 mod files;
 mod jobs;
 mod load_job;
-mod pages_job;
 mod progress;
 mod run;
 mod time_job;
 
 use fault::RunFault;
 use files::HostFiles;
+use graph_heap::NoMemory;
 use run::{run, tell};
 use std::env;
 use std::io::{self, ErrorKind};
@@ -22,9 +22,12 @@ use std::process::ExitCode;
 /// The words of the command line, of which the first is the program's name.
 fn words_of(rt: &HostRuntime) -> Result<Vec<String>, RunFault> {
     match env::args(rt) {
-        Ok(words) => Ok(words.collect(rt.alloc())?),
-        Err(error) if error.kind() == ErrorKind::OutOfMemory => Err(RunFault::NoMemory),
-        Err(_) => Err(RunFault::Words(format!(in rt.alloc(); "error: a word is not UTF-8")?)),
+        Ok(words) => Ok(words.collect(rt.alloc()).map_err(|_| NoMemory)?),
+        Err(error) if error.kind() == ErrorKind::OutOfMemory => Err(RunFault::from(NoMemory)),
+        Err(_) => {
+            let text = format!(in rt.alloc(); "error: a word is not UTF-8").map_err(|_| NoMemory)?;
+            Err(RunFault::Words(text))
+        }
     }
 }
 

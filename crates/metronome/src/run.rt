@@ -7,13 +7,12 @@ ghost use Rattle.metronome.specs.Done.{JobDone};
 ghost use Rattle.metronome.specs.Faults.{failed_writes, CountsReads};
 ghost use Rattle.metronome.specs.Status.{status_of};
 
+use crate::answer_job::{Question, answer_job};
 use crate::behind::{Telling, after_play};
-use crate::cycles_job::cycles_job;
 use crate::fault::{Ending, RunFault};
 use crate::files::{Opener, open_file, read_document};
-use crate::jobs::{check_job, play_job, threads_job};
+use crate::jobs::{play_job, threads_job};
 use crate::load_job::load_job;
-use crate::pages_job::pages_job;
 use crate::progress::ToldSource;
 use crate::time_job::time_job;
 use command_line::{Job, Request, Sizing, WordsFault, read_config, read_words};
@@ -25,7 +24,7 @@ use std::convert::AsStr;
 use std::io::{Read, Write};
 use std::sync::Wait;
 use std::thread::Threads;
-use trace::{ReadSource, Sink, Source, WriteSink, write_all};
+use trace::{ReadSource, Sink, Source, TextFault, WriteSink, write_all};
 
 /// What a run has of the machine: threads, memory, and files by their names.
 #[derive(Clone, Copy, Drop)]
@@ -100,7 +99,7 @@ where
             return Ok(Ending::Done);
         }
         Err(WordsFault::Refused(text)) => return Err(RunFault::Words(text)),
-        Err(WordsFault::NoMemory) => return Err(RunFault::NoMemory),
+        Err(WordsFault::NoMemory) => return Err(RunFault::Text(TextFault::NoMemory)),
     };
     let host = Host { rt, alloc, opener };
     obey(&host, &request, input, sink, errors)
@@ -188,7 +187,7 @@ fn work<S: Source, K: Sink, O: Opener, T: Threads + Wait + Sync>(
     match job {
         Job::Play { history: true, .. } => play_job(alloc, config, source, sink, Style::Entries),
         Job::Play { history: false, .. } => play_job(alloc, config, source, sink, Style::Replies),
-        Job::Check { .. } => check_job(alloc, config, source, sink),
+        Job::Check { .. } => answer_job(alloc, config, source, sink, Question::History),
         Job::Threads { turns, budget, .. } => {
             threads_job(host.rt, alloc, config, source, sink, *turns, *budget)
         }
@@ -196,9 +195,23 @@ fn work<S: Source, K: Sink, O: Opener, T: Threads + Wait + Sync>(
             after_play(alloc, config, source, sink, *after, Telling::Report(*by))
         }
         Job::Cycles { csv: false, .. } => {
-            cycles_job(alloc, config, source, sink, Layout::Columns)
+            answer_job(
+                alloc,
+                config,
+                source,
+                sink,
+                Question::Cycles(Layout::Columns),
+            )
         }
-        Job::Cycles { csv: true, .. } => cycles_job(alloc, config, source, sink, Layout::Commas),
+        Job::Cycles { csv: true, .. } => {
+            answer_job(
+                alloc,
+                config,
+                source,
+                sink,
+                Question::Cycles(Layout::Commas),
+            )
+        }
         Job::Path { id, after, .. } => {
             after_play(alloc, config, source, sink, *after, Telling::Path(*id))
         }
@@ -217,11 +230,11 @@ fn work<S: Source, K: Sink, O: Opener, T: Threads + Wait + Sync>(
         Job::Pages {
             by: Sizing::Demand,
             ..
-        } => pages_job(alloc, config, source, sink, false),
+        } => answer_job(alloc, config, source, sink, Question::Pages { pace: false }),
         Job::Pages {
             by: Sizing::Pace,
             ..
-        } => pages_job(alloc, config, source, sink, true),
+        } => answer_job(alloc, config, source, sink, Question::Pages { pace: true }),
         Job::Pages {
             by: Sizing::Load(file),
             ..

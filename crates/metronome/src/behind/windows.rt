@@ -6,11 +6,12 @@ ghost use Rattle.metronome.specs.Telling.{WindowsTold};
 ghost use Rattle.metronome.specs.Windows.{IsWindowLine, AllTold, FirstTold};
 
 use crate::fault::{Ending, RunFault};
+use graph_heap::NoMemory;
 use mmu_report::{bound, least_mutator, permille};
 use player::Player;
 use quanta::Schedule;
 use size_classes::Config;
-use std::alloc::{AllocError, Global};
+use std::alloc::Global;
 use trace::{Sink, write_all};
 
 /// Writes a line for each window of the schedule of a player.
@@ -58,13 +59,13 @@ fn window_line(
     config: &Config,
     schedule: &Schedule,
     window: u64,
-) -> Result<String, AllocError>
+) -> Result<String, NoMemory>
     ensures { IfOk result (λ line. IsWindowLine config.now schedule.now window (string_bytes line)) }
 {
     let Some(least) = least_mutator(schedule.intervals(), schedule.span(), window) else {
-        return format!(in alloc; "window {window} none\n");
+        return Ok(format!(in alloc; "window {window} none\n")?);
     };
     let bound = bound(config.collector_ticks, config.mutator_ticks, window);
     let permille = permille(least, window);
-    format!(in alloc; "window {window} least {least} bound {bound} permille {permille}\n")
+    Ok(format!(in alloc; "window {window} least {least} bound {bound} permille {permille}\n")?)
 }

@@ -1,6 +1,7 @@
 use Rattle.std.proofs.Common.{inl, inr, refl, arith}
 use Rattle.player.specs.Playing.{stage}
 use Rattle.trace.specs.Streams.{given_by}
+use Rattle.trace.specs.declared.fault.TextFault.TheVariants as texts
 use Rattle.metronome.specs.declared.fault.RunFault.TheVariants as faults
 use Rattle.metronome.proofs.Alive.{played_settings}
 use Rattle.metronome.proofs.Finishing.{failed_so}
@@ -8,7 +9,7 @@ use Rattle.metronome.proofs.Failing.{reads_text, writes_text, memory_unread, mem
 use Rattle.metronome.proofs.behind.player_behind.Goals as goal
 
 pub returns-in_err-player-clause-behind : goal.returns-in_err-player-clause-behind
-returns-in_err-player-clause-behind g c = rw (failed_so c.from_residual.result faults.NoMemory c.from_residual.ensures.1) (inl (refl, refl, refl))
+returns-in_err-player-clause-behind g c = rw (failed_so c.from_residual.result (faults.Text texts.NoMemory) c.from_residual.ensures.1) (inl (refl, refl, refl))
 
 pub returns-in_err-play_silently-clause-behind : goal.returns-in_err-play_silently-clause-behind
 returns-in_err-play_silently-clause-behind g c =

@@ -7,6 +7,3 @@ returns-clause-checked c =
     let s = c.new-source in
     let k = c.keeps_load in
     (_, reads_text _ s.result k.new.source s.ensures.bytes s.ensures.place (k.ensures.input (omega (arith, k.ensures.reads))), k.ensures.checked)
-
-pub returns-clause-reads : goal.returns-clause-reads
-returns-clause-reads c = omega (arith, c.keeps_load.ensures.reads)

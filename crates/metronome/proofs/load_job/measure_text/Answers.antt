@@ -7,6 +7,3 @@ returns-clause-measured c =
     let s = c.new-source in
     let m = c.measure in
     (_, reads_text _ s.result m.new.source s.ensures.bytes s.ensures.place (m.ensures.input (omega (arith, m.ensures.reads))), m.ensures.measured)
-
-pub returns-clause-reads : goal.returns-clause-reads
-returns-clause-reads c = omega (arith, c.measure.ensures.reads)

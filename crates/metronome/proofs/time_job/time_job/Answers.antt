@@ -6,7 +6,9 @@ use Rattle.pictures.specs.declared.over_time.Scale.{Scale}
 use Rattle.pictures.specs.OverTime.{time_picture}
 use Rattle.metronome.specs.declared.fault.Ending.{Ending}
 use Rattle.metronome.specs.declared.fault.RunFault.{RunFault}
-use Rattle.metronome.specs.OverTime.{SamplesDrawn}
+use Rattle.metronome.specs.declared.fault.Ending.TheVariants.{Done}
+use Rattle.metronome.specs.OverTime.{samples_picture}
+use Rattle.metronome.specs.Told.{TextWritten}
 use Rattle.metronome.proofs.Finishing.{failed_so}
 use Rattle.metronome.proofs.Failing.{reads_text, text_unwritten, samples_unwritten, none_read, one_written}
 use Rattle.metronome.proofs.time_job.time_job.Goals as goal
@@ -18,7 +20,7 @@ returns-in_err-draw_time-clause-done g c =
     let new = g.K.Sink.taken c.draw_time.new.sink in
     let Items : List Sample → Type 0 = λ items. GrowsByPart old new (time_picture c.scale-scale.result items) in
     let Scaled : Scale → Type 0 = λ scale. GrowsByPart old new (time_picture scale samples.items.items) in
-    let Drawn : Result Ending RunFault → Type 0 = λ r. SamplesDrawn c.args.config.now (Ok samples) (record { before = old; after = new }) r in
+    let Drawn : Result Ending RunFault → Type 0 = λ r. TextWritten Done (samples_picture c.args.config.now samples) (record { before = old; after = new }) r in
     let part = subst Scaled c.scale-scale.ensures (subst Items c.as_slice.ensures.value c.in_err-draw_time.ensures.err) in
     let failed = failed_so c.from_residual-in_err-draw_time.result _ c.from_residual-in_err-draw_time.ensures.1 in
     (Ok samples, c.in_ok-samples.ensures.taken, subst Drawn (sym failed) (refl, part))

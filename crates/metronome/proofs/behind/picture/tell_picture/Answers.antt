@@ -1,4 +1,5 @@
 use Rattle.std.proofs.Common.{refl, arith}
+use Rattle.trace.specs.declared.fault.TextFault.TheVariants as texts
 use Rattle.metronome.specs.declared.fault.RunFault.TheVariants as faults
 use Rattle.metronome.proofs.Finishing.{failed_so}
 use Rattle.metronome.proofs.Failing.{none_read, one_written}
@@ -7,7 +8,7 @@ use Rattle.metronome.proofs.behind.picture.tell_picture.Goals as goal
 pub returns-in_err-draw-clause-told : goal.returns-in_err-draw-clause-told
 returns-in_err-draw-clause-told g c =
     let drawn = c.in_err-draw.ensures.drawn in
-    rw (failed_so c.from_residual.result faults.Write c.from_residual.ensures.1) (drawn.0, drawn.1, (refl, drawn.3))
+    rw (failed_so c.from_residual.result (faults.Text texts.Write) c.from_residual.ensures.1) (drawn.0, drawn.1, (refl, drawn.3))
 
 pub returns-in_err-draw-clause-reads : goal.returns-in_err-draw-clause-reads
 returns-in_err-draw-clause-reads g c = none_read c.from_residual.result c.from_residual.ensures.1

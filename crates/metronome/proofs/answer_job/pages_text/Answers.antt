@@ -2,9 +2,9 @@ use Rattle.std.proofs.Common.{sym, subst}
 use Rattle.std.specs.Prelude.{IfOk, true, string_bytes}
 use Rattle.inspector.specs.declared.pages_needed.lines.Scope.TheVariants.{Pace as By_pace}
 use Rattle.inspector.specs.NeededReport.{IsPaceReport}
-use Rattle.metronome.specs.Told.{TellsPages}
+use Rattle.metronome.specs.Answered.{TellsPages}
 use Rattle.metronome.proofs.Finishing.{value_so}
-use Rattle.metronome.proofs.pages_job.told.Goals as goal
+use Rattle.metronome.proofs.answer_job.pages_text.Goals as goal
 
 pub returns-then-pace : goal.returns-then-pace
 returns-then-pace c =

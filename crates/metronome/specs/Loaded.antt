@@ -1,0 +1,66 @@
+-- What is told of a load, and of a trace that is to keep to it.
+use Rattle.std.specs.Prelude.{◌≡◌, ℕ, ◌*◌, IsTrue, ◌⊎◌, List, [], ◌++◌, Result, Ok, Err}
+use Rattle.size_classes.specs.declared.config.Config.{Config}
+use Rattle.heap_model.specs.Event.{Event}
+use Rattle.trace.specs.declared.fault.TextFault.{TextFault}
+use Rattle.trace.specs.Streams.{Given, Taken, Begins}
+use Rattle.sizing.specs.declared.measured.Measured.{Measured}
+use Rattle.space.specs.Room.{AllHaveRoom}
+use Rattle.sizing.specs.Measuring.{TraceMeasured}
+use Rattle.sizing.specs.declared.arrivals.load.Load.{Load as LoadTable}
+use Rattle.sizing.specs.declared.arrivals.keeping.Kept.{Kept}
+use Rattle.sizing.specs.Load.{Load}
+use Rattle.sizing.specs.New.{LoadFits, LoadFindsRoom}
+use Rattle.sizing.specs.Fitting.{load_in}
+use Rattle.sizing.specs.Keeping.{LoadChecked}
+use Rattle.inspector.specs.LoadReport.{IsCovered, IsLoadReport}
+use Rattle.metronome.specs.declared.fault.Ending.{Ending}
+use Rattle.metronome.specs.declared.fault.RunFault.{RunFault}
+use Rattle.metronome.specs.Faults.{IsUnread}
+use Rattle.metronome.specs.Told.{ReportTold, NothingTold, ToldOf}
+
+-- a text, or a beginning of it, was given from its first byte
+abbrev pub ReadsText : List ℕ → Given → Type 0
+ReadsText text given = (given.before ≡ []) × Begins given.after given.ended text
+
+-- a trace of this text was measured on a new heap
+abbrev pub TextMeasured : Config → List ℕ → Result Measured TextFault → Type 0
+TextMeasured config text how = (given : Given) × ReadsText text given × TraceMeasured config given how
+
+-- a trace of this text was checked against a load, with quanta of the schedule's units
+abbrev pub TextChecked : Config → Load → List ℕ → Result Kept TextFault → Type 0
+TextChecked config l text how = (given : Given) × ReadsText text given
+    × LoadChecked l (config.collector_ticks * config.rate) given how
+
+module _ (config : Config) (l : LoadTable) where
+  -- What is told of the load, and of a run with these events, of which this was measured. Where the load's pace fits in
+  -- the pages, each run that keeps to the load while no more is live than it has finds room; and so does this one, if
+  -- it is told that it is within the load.
+  pub record TellsLoad (m : Measured) (es : List Event) (kept : Kept) (text : List ℕ) : Type 0 where
+    pub report : IsLoadReport config l kept m.pace text
+    pub each : LoadFits config (load_in l) → LoadFindsRoom config (load_in l)
+    pub this : LoadFits config (load_in l) → IsCovered l kept m.pace → AllHaveRoom es
+
+  -- once it was measured, it is read again and checked
+  abbrev pub CheckedBehind : (text : List ℕ) (how : Result Measured TextFault) → TextMeasured config text how → Taken
+      → Result Ending RunFault → Type 0
+  CheckedBehind text (Ok m) run taken result = (how : Result Kept TextFault) × TextChecked config (load_in l) text how
+      × ToldOf (λ kept. ReportTold (TellsLoad m run.2.played.over.events kept)) how taken result
+  CheckedBehind text (Err why) run taken result = NothingTold why taken result
+
+  -- A trace of this text was measured on a new heap, read again and checked against the load, and what the load needs
+  -- was told.
+  abbrev pub TextTold : List ℕ → Taken → Result Ending RunFault → Type 0
+  TextTold text taken result = (how : Result Measured TextFault) × (run : TextMeasured config text how)
+      × CheckedBehind text how run taken result
+
+-- all that a source had still to give is this text
+abbrev pub IsRest : Given → List ℕ → Type 0
+IsRest given text = (given.after ≡ given.before ++ text) × IsTrue given.ended
+
+-- A trace was read to its end, and of its text and a load it was told what the load needs; or one of them could not be
+-- read, and nothing was written.
+abbrev pub LoadTold : Config → Given → Taken → Result Ending RunFault → Type 0
+LoadTold config given taken result =
+    ((l : LoadTable) × (text : List ℕ) × IsRest given text × TextTold config l text taken result)
+    ⊎ ((fault : RunFault) × IsUnread fault × (result ≡ Err fault) × (taken.after ≡ taken.before))

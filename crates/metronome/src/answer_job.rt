@@ -1,0 +1,154 @@
+//! Answering a question about an input.
+ghost use Rattle.std.specs.Prelude.{◌≡◌, ◌+◌, IfOk, string_bytes};
+ghost use Rattle.trace.specs.GoneOver.{reads_failed};
+ghost use Rattle.trace.specs.Streams.{given_by, taken_by};
+ghost use Rattle.metronome.specs.Faults.{failed_reads, failed_writes};
+ghost use Rattle.metronome.specs.Told.{TextWritten};
+ghost use Rattle.metronome.specs.Answered.{EntriesTaken, verdict, told_of, TellsPages, Offers, IsAnswer, Answered};
+
+use crate::fault::{Ending, RunFault};
+use graph_heap::Reference;
+use inspector::pages_needed::{Scope, needed_report, pace_report};
+use inspector::{Layout, cycles_text, take_cycles};
+use size_classes::Config;
+use sizing::{Measured, measure};
+use std::alloc::{AllocError, Global};
+use trace::transcripts::{Checked, check_entries};
+use trace::{Sink, Source, TextFault, write_all};
+
+/// What is asked about an input.
+#[derive(Clone, Copy)]
+pub enum Question {
+    /// How many entries a history has, or which is the first wrong one.
+    History,
+    /// Which cycles the run of a trace had: a line for each.
+    Cycles(Layout),
+    /// What a trace needs of each size class and how many pages suffice, in each way; or that of its pace. Where those of
+    /// the configuration do, no reply of this run was the refusal for want of space, nor is one of any run that needs no
+    /// more.
+    Pages { pace: bool },
+}
+
+/// A text that is written, and how the run then ends.
+#[derive(Drop)]
+pub struct Answer {
+    text: String,
+    ending: Ending,
+}
+
+/// Checks the entries of a history from the opening graph heap.
+fn check<S: Source>(alloc: Global, config: &Config, source: &mut S) -> Result<Checked, TextFault>
+    ensures checked { EntriesTaken config.now (given_by S.given S.ended source.old source.new) result }
+    ensures reads { S.failures source.new ≡ S.failures source.old + reads_failed result }
+{
+    let mut reference = Reference::new(alloc, &config.limits())?;
+    check_entries(source, &mut reference)
+}
+
+/// What is told of a history that was checked.
+fn history_line(alloc: Global, checked: Checked) -> Result<String, AllocError>
+    ensures { IfOk result (λ line. string_bytes line ≡ told_of checked) }
+{
+    match checked {
+        Checked::Good(entries) => format!(in alloc; "ok {entries}\n"),
+        Checked::Wrong(number) => format!(in alloc; "wrong at line {number}\n"),
+    }
+}
+
+/// How a run ends that checked a history.
+fn ending_of(checked: Checked) -> Ending
+    ensures { result ≡ verdict checked }
+{
+    match checked {
+        Checked::Good(_) => Ending::Done,
+        Checked::Wrong(_) => Ending::WrongReply,
+    }
+}
+
+/// The lines of what a trace needed, or of its pace.
+fn pages_text(
+    alloc: Global,
+    config: &Config,
+    measured: &Measured,
+    pace: bool,
+) -> Result<String, AllocError>
+    ensures { IfOk result (λ text. TellsPages pace config.now measured.now (string_bytes text)) }
+{
+    if pace {
+        pace_report(
+            alloc,
+            &measured.slowest(config),
+            &measured.pace,
+            Scope::Pace,
+        )
+    } else {
+        needed_report(alloc, config, &measured.needed)
+    }
+}
+
+/// The answer with a text, if there was memory for it.
+fn offer(text: Result<String, AllocError>, ending: Ending) -> Result<Answer, TextFault>
+    ensures { Offers text ending result }
+{
+    match text {
+        Ok(text) => Ok(Answer { text, ending }),
+        Err(_) => Err(TextFault::NoMemory),
+    }
+}
+
+/// Answers a question about an input.
+fn answer_to<S: Source>(
+    alloc: Global,
+    config: &Config,
+    source: &mut S,
+    question: Question,
+) -> Result<Answer, TextFault>
+    ensures answer { IsAnswer question config.now (given_by S.given S.ended source.old source.new) result }
+    ensures reads { S.failures source.new ≡ S.failures source.old + reads_failed result }
+{
+    match question {
+        Question::History => {
+            let checked = check(alloc, config, source)?;
+            offer(history_line(alloc, checked), ending_of(checked))
+        }
+        Question::Cycles(layout) => {
+            let cycles = take_cycles(alloc, config, source)?;
+            offer(
+                cycles_text(alloc, cycles.items.as_slice(), layout),
+                Ending::Done,
+            )
+        }
+        Question::Pages { pace } => {
+            let measured = measure(alloc, config, source)?;
+            offer(pages_text(alloc, config, &measured, pace), Ending::Done)
+        }
+    }
+}
+
+/// Writes an answer.
+fn write_answer<K: Sink>(answer: &Answer, sink: &mut K) -> Result<Ending, RunFault>
+    ensures written { TextWritten answer.now.ending (string_bytes answer.now.text)
+        (taken_by K.taken sink.old sink.new) result }
+    ensures reads { failed_reads result ≡ 0 }
+    ensures writes { K.failures sink.new ≡ K.failures sink.old + failed_writes result }
+{
+    write_all(sink, answer.text.as_bytes())?;
+    Ok(answer.ending)
+}
+
+/// Answers a question about an input, and writes the answer.
+pub fn answer_job<S: Source, K: Sink>(
+    alloc: Global,
+    config: &Config,
+    source: &mut S,
+    sink: &mut K,
+    question: Question,
+) -> Result<Ending, RunFault>
+    ensures done { Answered question config.now (given_by S.given S.ended source.old source.new)
+        (taken_by K.taken sink.old sink.new) result }
+    ensures reads { S.failures source.new ≡ S.failures source.old + failed_reads result }
+    ensures writes { K.failures sink.new ≡ K.failures sink.old + failed_writes result }
+{
+    let answer = answer_to(alloc, config, source, question)?;
+    write_answer(&answer, sink)
+}

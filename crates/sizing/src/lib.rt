@@ -18,3 +18,4 @@ pub use load_file::{DocumentFault, Field, LoadFault, Place, fields_are_in_order,
 pub use measured::Measured;
 pub use measuring::measure;
 pub use needed::Needed;
+pub use season::is_tracing;

@@ -27,7 +27,7 @@ pub struct Season {
 }
 
 /// Whether a cycle is on, and its sweep hasn't ended.
-fn is_tracing(phase: Phase) -> bool
+pub fn is_tracing(phase: Phase) -> bool
     ensures { result ≡ tally.is_tracing phase }
 {
     matches!(

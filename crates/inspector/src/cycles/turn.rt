@@ -1,7 +1,6 @@
 //! What a quantum was to the cycle that it found.
 ghost use Rattle.std.specs.Prelude.{◌≡◌, true};
 ghost use Rattle.nodes.specs.Copies.{copies_in};
-ghost use Rattle.space.specs.Tally as tally;
 ghost use Rattle.space.specs.Pace as pace;
 ghost use Rattle.inspector.specs.Log.{IsMark, IsTurn};
 ghost use Rattle.inspector.specs.Steps.{Step, is_quantum};
@@ -9,6 +8,7 @@ ghost use Rattle.inspector.specs.Steps.{Step, is_quantum};
 use heap_model::phase::Phase;
 use machine::Heap;
 use nodes::Copies;
+use sizing::is_tracing;
 
 /// Where the collector of a heap is: its phase, and the units of the cycle.
 #[derive(Clone, Copy, Debug, PartialEq, Eq)]
@@ -28,16 +28,6 @@ pub struct Turn {
     pub ends_cycle: bool,
     /// The units that it spent on the cycle.
     pub units: u64,
-}
-
-/// Whether a cycle is on, and its sweep hasn't ended.
-fn is_tracing(phase: Phase) -> bool
-    ensures { result ≡ tally.is_tracing phase }
-{
-    matches!(
-        phase,
-        Phase::Roots { .. } | Phase::Marking { .. } | Phase::Sweeping { .. }
-    )
 }
 
 /// Whether a cycle is on.

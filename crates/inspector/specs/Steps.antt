@@ -6,11 +6,11 @@ use Rattle.space.specs.Tally.{is_tracing}
 use Rattle.space.specs.Pace.{in_cycle}
 use Rattle.trace.specs.declared.line.Line.{Line}
 use Rattle.trace.specs.declared.version.Version.{Version}
-use Rattle.trace.specs.GoneOver.{LinesDone, No_lines, One_line_more, Goes}
+use Rattle.trace.specs.GoneOver.{LinesDone, No_lines, One_line_more}
 use Rattle.trace.specs.TextLine.{Text, text_after}
 use Rattle.player.specs.declared.style.Style.TheVariants.{Nothing}
 use Rattle.player.specs.Player.{PlayerState, QuantaDue, None_yet, One_more, DoesLine, Skips, Commands, Begins, Goes_on, Spends, Ticks}
-use Rattle.player.specs.Playing.{Stage, TellsVersionOf, PlaysText}
+use Rattle.player.specs.Playing.{Stage, PlaysLine}
 
 -- An event that was done: the number of the line that asked for it, and the heap with its history before and after it.
 pub record Step : Type 0 where
@@ -71,14 +71,14 @@ steps_of line old text events new (Ticks n es q within quanta none) =
 
 -- the same of a line that may tell the version, which has none
 abbrev pub steps_in : (text : Text) (old : Stage) (events : List Event) (new : Stage)
-    → Goes (TellsVersionOf Nothing) (PlaysText Nothing) text old events new → List Step
+    → PlaysLine Nothing text old events new → List Step
 steps_in text old events new (inl tells) = []
 steps_in text old events new (inr goes) =
     steps_of text.number old.player goes.1.0 events new.player goes.1.2.0
 
 -- the steps of lines that were played, one after the other
 abbrev pub steps_along : (old : Stage) (lines : List (List ℕ)) (version : Version) (events : List Event) (new : Stage)
-    → LinesDone (TellsVersionOf Nothing) (PlaysText Nothing) old lines version events new → List Step
+    → LinesDone (PlaysLine Nothing) old lines version events new → List Step
 steps_along old lines version events new No_lines = []
 steps_along old lines version events new (One_line_more before v next es more line mid after done goes follows) =
     steps_along old before v es mid done ++ steps_in (text_after before v line) mid more after goes

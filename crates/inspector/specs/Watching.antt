@@ -8,13 +8,12 @@ use Rattle.trace.specs.declared.line.Line.{Line}
 use Rattle.trace.specs.declared.line.Line.TheVariants as lines
 use Rattle.trace.specs.declared.fault.TextFault.{TextFault}
 use Rattle.trace.specs.declared.fault.TextFault.TheVariants.{NoMemory as Without_memory}
-use Rattle.trace.specs.GoneOver.{Goes}
 use Rattle.trace.specs.TextLine.{Text}
 use Rattle.player.specs.declared.player.TickFault.{TickFault}
 use Rattle.player.specs.declared.player.TickFault.TheVariants as faults
 use Rattle.player.specs.declared.style.Style.TheVariants.{Nothing}
 use Rattle.player.specs.Player.{QuantaDue, DoesLine}
-use Rattle.player.specs.Playing.{stage, TellsVersionOf, PlaysText, Stops, StopsText}
+use Rattle.player.specs.Playing.{stage, PlaysLine, Stops, StopsText}
 use Rattle.inspector.specs.declared.cycles.watch.Watch.{Watch}
 use Rattle.inspector.specs.Steps.{Step, steps_due, steps_of, steps_in}
 use Rattle.inspector.specs.Log.{IsLog}
@@ -61,7 +60,7 @@ EventLogged line number old new (Err fault) =
 abbrev pub TextLogged : Text → Watch → Watch → Result (Unit {0}) TextFault → Type 0
 TextLogged text old new (Ok done) =
     (es : List Event)
-    × (goes : Goes (TellsVersionOf Nothing) (PlaysText Nothing) text (stage old.player []) es (stage new.player []))
+    × (goes : PlaysLine Nothing text (stage old.player []) es (stage new.player []))
     × LogsOn old (steps_in text (stage old.player []) es (stage new.player []) goes) new
 TextLogged text old new (Err Without_memory) = Unit {0}
 TextLogged text old new (Err fault) = StopsText Nothing fault text (stage old.player []) (stage new.player [])

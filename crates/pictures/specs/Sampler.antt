@@ -19,3 +19,7 @@ pub record AreTaken (moments : List Moment) (samples : List Sample) (stride sinc
 -- a sampler along these moments
 abbrev pub IsAlong : List Moment → Sampler → Type 0
 IsAlong moments s = AreTaken moments s.samples.items.items s.samples.stride s.since
+
+-- a sampler along so many moments at most
+abbrev pub IsAlongFew : ℕ → Sampler → Type 0
+IsAlongFew most s = (moments : List Moment) × IsAlong moments s × (length moments ≤ most)

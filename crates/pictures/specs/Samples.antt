@@ -7,8 +7,9 @@ use Rattle.heap_model.specs.Event.{Event}
 use Rattle.heap_model.specs.State.{HeapState}
 use Rattle.trace.specs.declared.version.Version.{Version}
 use Rattle.trace.specs.GoneOver.{LinesDone, No_lines, One_line_more}
+use Rattle.trace.specs.TextLine.{Text, text_after}
 use Rattle.player.specs.declared.style.Style.TheVariants.{Nothing}
-use Rattle.player.specs.Playing.{Stage, TellsVersionOf, PlaysText, is_event}
+use Rattle.player.specs.Playing.{Stage, PlaysLine, is_event}
 use Rattle.pictures.specs.declared.sample.Sample.{Sample}
 use Rattle.pictures.specs.declared.over_time.TheConstants.{MOST_SAMPLES}
 use Rattle.pictures.specs.OverTime.{sample_of}
@@ -31,13 +32,17 @@ moment line heap = record { line = line; heap = heap }
 abbrev pub sampled : Moment → Sample
 sampled m = sample_of m.heap m.line (is_idle m.heap.phase)
 
+-- the moment after the line of an event; another line has none
+abbrev pub moment_after : Text → HeapState → List Moment
+moment_after text heap = if is_event text.bytes then moment text.number heap ∷ [] else []
+
 -- The moments of lines that were played: the one before them, and the one after each line of an event.
 abbrev pub moments_along : (old : Stage) (lines : List (List ℕ)) (version : Version) (events : List Event) (new : Stage)
-    → LinesDone (TellsVersionOf Nothing) (PlaysText Nothing) old lines version events new → List Moment
+    → LinesDone (PlaysLine Nothing) old lines version events new → List Moment
 moments_along old lines version events new No_lines = moment 0 old.player.course.heap ∷ []
 moments_along old lines version events new (One_line_more before v next es more line mid after done goes follows) =
     moments_along old before v es mid done
-    ++ (if is_event line then moment (length before + 1) after.player.course.heap ∷ [] else [])
+    ++ moment_after (text_after before v line) after.player.course.heap
 
 -- sample i is of the moment at place i * stride, as far as there are moments
 abbrev pub AreSamples : List Moment → ℕ → List Sample → Type 0

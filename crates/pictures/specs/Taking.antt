@@ -1,15 +1,28 @@
 -- What it is to take samples of a run.
-use Rattle.std.specs.Prelude.{◌≡◌, [], length, Result, Ok, Err}
+use Rattle.std.specs.Prelude.{◌≡◌, List, [], ◌++◌, length, Result, Ok, Err}
 use Rattle.size_classes.specs.declared.config.Config.{Config}
+use Rattle.heap_model.specs.Event.{Event}
 use Rattle.trace.specs.declared.fault.TextFault.{TextFault}
 use Rattle.trace.specs.declared.fault.TextFault.TheVariants.{NoMemory as Without_memory}
 use Rattle.trace.specs.Streams.{Given}
+use Rattle.trace.specs.TextLine.{Text}
 use Rattle.player.specs.declared.style.Style.TheVariants.{Nothing}
 use Rattle.player.specs.New.{IsNew}
 use Rattle.player.specs.Player.{PlayerState}
-use Rattle.player.specs.Playing.{Stage, stage, Played}
+use Rattle.player.specs.Playing.{Stage, stage, PlaysLine, StopsText, Played}
 use Rattle.pictures.specs.declared.timeline.samples.Samples.{Samples}
-use Rattle.pictures.specs.Samples.{moments_along, AreSamples, IsStride}
+use Rattle.pictures.specs.Samples.{Moment, moment_after, moments_along, AreSamples, IsStride}
+use Rattle.pictures.specs.Sampler.{IsAlong}
+use Rattle.pictures.specs.declared.timeline.taking.SampledRun.{SampledRun}
+
+-- A line is played, and sampled where it is that of an event; or it stops with a fault, or memory was refused.
+abbrev pub LineSampled : Text → SampledRun → SampledRun → Result (Unit {0}) TextFault → Type 0
+LineSampled text old new (Ok done) =
+    (es : List Event) × PlaysLine Nothing text (stage old.player []) es (stage new.player [])
+    × ((moments : List Moment) → IsAlong moments old.sampler
+    → IsAlong (moments ++ moment_after text new.player.course.heap) new.sampler)
+LineSampled text old new (Err Without_memory) = Unit {0}
+LineSampled text old new (Err fault) = StopsText Nothing fault text (stage old.player []) (stage new.player [])
 
 -- these are the samples of the run that played an input, with the number of its lines
 abbrev pub AreSamplesOf : (given : Given) (old new : Stage) → Played Nothing given old new (Ok tt) → Samples → Type 0

@@ -7,7 +7,7 @@ use Rattle.trace.specs.GoneOver.{LinesDone, No_lines}
 use Rattle.trace.specs.LineReader.{Lines, Hands}
 use Rattle.trace.specs.Streams.{Given, Comes, text_of}
 use Rattle.player.specs.declared.style.Style.{Style}
-use Rattle.player.specs.Playing.{Stage, TellsVersionOf, PlaysText, IsWrittenUpTo}
+use Rattle.player.specs.Playing.{Stage, PlaysLine, IsWrittenUpTo}
 
 text_one : (lines : List (List ℕ)) (line : List ℕ) → length (text_of (lines ++ line ∷ [])) ≡ length (text_of lines) + (length line + 1)
 text_one [] line = omega (arith, length-append (line ++ 10 ∷ []) [], length-append line (10 ∷ []))
@@ -64,7 +64,7 @@ module _ (style : Style) (old : Stage) (lines : List (List ℕ)) (events : List 
     }
 
     -- a line more, behind those of which all is written
-    behind_written : (version : Version) (mid : Stage) → LinesDone (TellsVersionOf style) (PlaysText style) old lines version events mid → length mid.taken ≤ length taken' → length (line ++ 10 ∷ rest) ≤ 65536 → IsWrittenUpTo style old (lines ++ line ∷ []) (events ++ more) rest taken'
+    behind_written : (version : Version) (mid : Stage) → LinesDone (PlaysLine style) old lines version events mid → length mid.taken ≤ length taken' → length (line ++ 10 ∷ rest) ≤ 65536 → IsWrittenUpTo style old (lines ++ line ∷ []) (events ++ more) rest taken'
     behind_written version mid done l small = record {
       before = lines;
       behind = line ∷ [];
@@ -80,7 +80,7 @@ module _ (style : Style) (old : Stage) (lines : List (List ℕ)) (events : List 
     }
 
     -- the next line: it waited, or nothing waits to be written before it is done
-    pub behind_on : (version : Version) (mid : Stage) (kept taken waiting : List ℕ) → IsWrittenUpTo style old lines events kept taken → length taken ≤ length taken' → LinesDone (TellsVersionOf style) (PlaysText style) old lines version events mid → mid.taken ≡ taken' ++ waiting
+    pub behind_on : (version : Version) (mid : Stage) (kept taken waiting : List ℕ) → IsWrittenUpTo style old lines events kept taken → length taken ≤ length taken' → LinesDone (PlaysLine style) old lines version events mid → mid.taken ≡ taken' ++ waiting
         → length (line ++ 10 ∷ rest) ≤ 65536 → (kept ≡ line ++ 10 ∷ rest) ⊎ (waiting ≡ []) → IsWrittenUpTo style old (lines ++ line ∷ []) (events ++ more) rest taken'
     behind_on version mid kept taken waiting w l done is small (inl e) = behind_waited kept taken l e w
     behind_on version mid kept taken waiting w l done is small (inr none) = behind_written version mid done (omega (arith, ap length is, length-append taken' waiting, ap length none)) small

@@ -16,7 +16,7 @@ use Rattle.trace.specs.TextLine.{Text}
 use Rattle.trace.proofs.GoingOver.{SoFar, reached_by}
 use Rattle.player.specs.declared.style.Style.{Style}
 use Rattle.player.specs.Player.{PlayerState, entries_in}
-use Rattle.player.specs.Playing.{Stage, stage, TellsVersionOf, PlaysText, Stops, StopsText, IsWrittenUpTo, Played, PlayedUpTo, text_written}
+use Rattle.player.specs.Playing.{Stage, stage, PlaysLine, Stops, StopsText, IsWrittenUpTo, Played, PlayedUpTo, text_written}
 use Rattle.player.specs.Closing.{Closes}
 use Rattle.player.proofs.Lines.{played, lines_written}
 
@@ -99,7 +99,7 @@ left_behind style reached ended new (Err fault) (inr (text, more, whole, is, inr
 
 -- a write of what waits failed after the end
 module _ (style : Style) (given : Given) (old : Stage) (player : PlayerState) (taken taken' waiting : List ℕ) (ended : Result (Unit {0}) TextFault) (low : length old.taken ≤ length taken) (grows : GrowsByPart taken taken' waiting) where
-  abbrev pub cut : (over : GoneOver (TellsVersionOf style) (PlaysText style) given old (λ reached. Ends (StopsText style) reached given.ended (stage player (taken ++ waiting)) ended)) → IsWrittenUpTo style old over.lines over.events over.rest taken'
+  abbrev pub cut : (over : GoneOver (PlaysLine style) given old (λ reached. Ends (StopsText style) reached given.ended (stage player (taken ++ waiting)) ended)) → IsWrittenUpTo style old over.lines over.events over.rest taken'
       → Played style given old (stage player taken') (Err Write)
   cut over behind =
       let l = left_behind style (reached_by over) given.ended (stage player (taken ++ waiting)) ended over.ends in
@@ -122,7 +122,7 @@ closed_up_to most style given old player taken taken' waiting ended result (inl 
 closed_up_to most style given old player taken taken' waiting ended result (inr (grows, is)) p short = rw is (short grows)
 
 -- the lines so far, of whose text a part is written
-abbrev pub cut_after : (style : Style) (given : Given) (old : Stage) (player : PlayerState) (taken waiting : List ℕ) (reader : Lines) (so : SoFar (TellsVersionOf style) (PlaysText style) given old (stage player (taken ++ waiting)) reader) (taken' : List ℕ) → length old.taken ≤ length taken
+abbrev pub cut_after : (style : Style) (given : Given) (old : Stage) (player : PlayerState) (taken waiting : List ℕ) (reader : Lines) (so : SoFar (PlaysLine style) given old (stage player (taken ++ waiting)) reader) (taken' : List ℕ) → length old.taken ≤ length taken
     → GrowsByPart taken taken' waiting → IsWrittenUpTo style old so.lines so.events reader.kept taken' → Played style given old (stage player taken') (Err Write)
 cut_after style given old player taken waiting reader so taken' low g behind =
     let mid = stage player (taken ++ waiting) in
@@ -138,12 +138,12 @@ cut_after style given old player taken waiting reader so taken' low g behind =
     }) (λ _. behind)
 
 -- the lines so far, where the same text is written or waits
-abbrev pub moved : (style : Style) {given : Given} {old : Stage} {player : PlayerState} {reader : Lines} (taken taken' : List ℕ) (so : SoFar (TellsVersionOf style) (PlaysText style) given old (stage player taken) reader) → taken' ≡ taken
-    → SoFar (TellsVersionOf style) (PlaysText style) given old (stage player taken') reader
+abbrev pub moved : (style : Style) {given : Given} {old : Stage} {player : PlayerState} {reader : Lines} (taken taken' : List ℕ) (so : SoFar (PlaysLine style) given old (stage player taken) reader) → taken' ≡ taken
+    → SoFar (PlaysLine style) given old (stage player taken') reader
 moved style {given} {old} {player} {reader} taken taken' so e = record {
   lines = so.lines;
   events = so.events;
   read = so.read;
-  done = subst (λ t. LinesDone (TellsVersionOf style) (PlaysText style) old so.lines reader.next so.events (stage player t)) (sym e) so.done;
+  done = subst (λ t. LinesDone (PlaysLine style) old so.lines reader.next so.events (stage player t)) (sym e) so.done;
   counted = so.counted;
 }

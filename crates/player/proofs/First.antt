@@ -22,7 +22,7 @@ use Rattle.trace.proofs.ReadLines.{unread}
 use Rattle.trace.proofs.GoingOver.{SoFar}
 use Rattle.player.specs.declared.style.Style.{Style}
 use Rattle.player.specs.Player.{PlayerState}
-use Rattle.player.specs.Playing.{Stage, stage, TellsVersionOf, PlaysText, Played, PlayedFirst, PlayedUpTo, is_event, says_event, EndAtEvent, entry_of, LineDone, LinePlayed, written_of, IsWrittenUpTo}
+use Rattle.player.specs.Playing.{Stage, stage, PlaysLine, Played, PlayedFirst, PlayedUpTo, is_event, says_event, EndAtEvent, entry_of, LineDone, LinePlayed, written_of, IsWrittenUpTo}
 use Rattle.player.proofs.Closing.{cut}
 use Rattle.player.proofs.Lines.{enters_nothing, played}
 
@@ -73,7 +73,7 @@ pub count_more : (ls : List (List ℕ)) (line : List ℕ) (event : Bool) → eve
 count_more ls line event e = sum_by_push (λ (l : List ℕ). cond (is_event l) 1 0) ls line ∙ ap (λ b. count_by is_event ls + cond b 1 0) (sym e)
 
 -- none is left: the input is cut after the lines
-pub first_done : {style : Style} {given : Given} {old new : Stage} {reader : Lines} (so : SoFar (TellsVersionOf style) (PlaysText style) given old new reader) (n : ℕ) → count_by is_event so.lines ≡ n → EndAtEvent so.lines → PlayedFirst n style given old new (Ok tt)
+pub first_done : {style : Style} {given : Given} {old new : Stage} {reader : Lines} (so : SoFar (PlaysLine style) given old new reader) (n : ℕ) → count_by is_event so.lines ≡ n → EndAtEvent so.lines → PlayedFirst n style given old new (Ok tt)
 first_done {style} {given} {old} {new} {reader} so n count end = inr (
   given.before ++ text_of so.lines,
   reader.kept,
@@ -134,13 +134,13 @@ up_to None p few = p
 up_to (Some n) p few = inl (p, few n refl)
 
 -- and once none is
-pub none_left : (style : Style) {given : Given} {old new : Stage} {reader : Lines} (so : SoFar (TellsVersionOf style) (PlaysText style) given old new reader) (most left : Option ℕ) → AreLeft most (count_by is_event so.lines) left → left ≡ Some 0 → EndAtEvent so.lines
+pub none_left : (style : Style) {given : Given} {old new : Stage} {reader : Lines} (so : SoFar (PlaysLine style) given old new reader) (most left : Option ℕ) → AreLeft most (count_by is_event so.lines) left → left ≡ Some 0 → EndAtEvent so.lines
     → PlayedUpTo most style given old new (Ok tt)
 none_left style so None left are none end = absurd (cc)
 none_left style so (Some n) left are none end = first_done so n (let sum = are.2 in omega (arith, sum, same_Some are.0 0 (sym are.1 ∙ none))) end
 
 -- the same where a write of what waits then fails
-pub first_cut : {style : Style} {given : Given} {old : Stage} {player : PlayerState} {reader : Lines} (taken taken' waiting : List ℕ) (so : SoFar (TellsVersionOf style) (PlaysText style) given old (stage player (taken ++ waiting)) reader) (n : ℕ) → count_by is_event so.lines ≡ n → EndAtEvent so.lines
+pub first_cut : {style : Style} {given : Given} {old : Stage} {player : PlayerState} {reader : Lines} (taken taken' waiting : List ℕ) (so : SoFar (PlaysLine style) given old (stage player (taken ++ waiting)) reader) (n : ℕ) → count_by is_event so.lines ≡ n → EndAtEvent so.lines
     → length old.taken ≤ length taken → GrowsByPart taken taken' waiting → IsWrittenUpTo style old so.lines so.events [] taken' → PlayedFirst n style given old (stage player taken') (Err Write)
 first_cut {style} {given} {old} {player} {reader} taken taken' waiting so n count end low grows behind = inr (
   given.before ++ text_of so.lines,
@@ -165,7 +165,7 @@ first_cut {style} {given} {old} {player} {reader} taken taken' waiting so n coun
   inr refl,
 )
 
-pub none_cut : {style : Style} {given : Given} {old : Stage} {player : PlayerState} {reader : Lines} (taken taken' waiting : List ℕ) (so : SoFar (TellsVersionOf style) (PlaysText style) given old (stage player (taken ++ waiting)) reader) (most left : Option ℕ) → AreLeft most (count_by is_event so.lines) left → left ≡ Some 0 → EndAtEvent so.lines
+pub none_cut : {style : Style} {given : Given} {old : Stage} {player : PlayerState} {reader : Lines} (taken taken' waiting : List ℕ) (so : SoFar (PlaysLine style) given old (stage player (taken ++ waiting)) reader) (most left : Option ℕ) → AreLeft most (count_by is_event so.lines) left → left ≡ Some 0 → EndAtEvent so.lines
     → length old.taken ≤ length taken → GrowsByPart taken taken' waiting → IsWrittenUpTo style old so.lines so.events [] taken' → PlayedUpTo most style given old (stage player taken') (Err Write)
 none_cut taken taken' waiting so None left are none end low grows behind = absurd (cc)
 none_cut taken taken' waiting so (Some n) left are none end low grows behind = first_cut taken taken' waiting so n (let sum = are.2 in omega (arith, sum, same_Some are.0 0 (sym are.1 ∙ none))) end low grows behind

@@ -64,6 +64,10 @@ Plays style line old events new = DoesLine old.player line events new.player
 abbrev pub PlaysText : Style → Version → List ℕ → Stage → List Event → Stage → Type 0
 PlaysText style version text old events new = (line : Line) × Spells version text line × Plays style line old events new
 
+-- the same of a line that may tell the version
+abbrev pub PlaysLine : Style → Text → Stage → List Event → Stage → Type 0
+PlaysLine style = Goes (TellsVersionOf style) (PlaysText style)
+
 -- What a fault at a line of this number is.
 abbrev pub Stops : Style → TextFault → Line → ℕ → Stage → Stage → Type 0
 -- its ticks would pass the clock's limit
@@ -103,7 +107,7 @@ pub record IsWrittenUpTo (style : Style) (old : Stage) (lines : List (List ℕ))
   pub mid : Stage
   pub lines_are : lines ≡ before ++ behind
   pub events_are : events ≡ first ++ more
-  pub done : LinesDone (TellsVersionOf style) (PlaysText style) old before version first mid
+  pub done : LinesDone (PlaysLine style) old before version first mid
   pub written : length mid.taken ≤ length taken
   pub few : length (text_of behind) + length rest ≤ 65536
 
@@ -112,7 +116,7 @@ pub record IsWrittenUpTo (style : Style) (old : Stage) (lines : List (List ℕ))
 -- of which not all was written waited in a buffer of the input.
 pub record Played (style : Style) (given : Given) (old new : Stage)
     (result : Result (Unit {0}) TextFault) : Type 0 where
-  pub over : GoneOver (TellsVersionOf style) (PlaysText style) given old
+  pub over : GoneOver (PlaysLine style) given old
       (λ reached. Ends (StopsText style) reached given.ended new result
       ⊎ ((result ≡ Err Write) × CutShort style reached old new))
   pub runs : Runs old.player.course over.events over.mid.player.course
@@ -166,5 +170,5 @@ LineDone line number old new (Err fault) = (style : Style) (taken : List ℕ)
 
 abbrev pub LinePlayed : Style → Text → Stage → Stage → Result Bool TextFault → Type 0
 LinePlayed style text old new (Ok event) =
-    (es : List Event) × Goes (TellsVersionOf style) (PlaysText style) text old es new × (event ≡ is_event text.bytes)
+    (es : List Event) × PlaysLine style text old es new × (event ≡ is_event text.bytes)
 LinePlayed style text old new (Err fault) = StopsText style fault text old new

@@ -6,16 +6,22 @@ use Rattle.trace.specs.declared.line.Line.{Line}
 use Rattle.trace.specs.declared.line.Line.TheVariants as lines
 use Rattle.trace.specs.declared.fault.TextFault.{TextFault}
 use Rattle.trace.specs.declared.fault.TextFault.TheVariants.{Line as At_line, Read, Write, NoMemory as Without_memory}
+use Rattle.trace.specs.declared.line_handler.InputEnd.{InputEnd}
+use Rattle.trace.specs.declared.version.Version.{Version}
+use Rattle.trace.specs.GoneOver.{LinesDone}
+use Rattle.trace.specs.Handling.{LinesHandled}
 use Rattle.trace.specs.Numbered.{LineRead}
+use Rattle.trace.proofs.Handling.{Follows, AllMoved, all_moved, over_all, over_stopped}
+use Rattle.heap_model.specs.Event.{Event}
 use Rattle.trace.specs.Streams.{Given}
 use Rattle.trace.specs.TextLine.{Text}
 use Rattle.player.specs.declared.style.Style.TheVariants.{Nothing}
-use Rattle.player.proofs.Lines.{nothing_written}
-use Rattle.player.specs.Player.{PlayerState, Skips, entries_in}
-use Rattle.player.specs.Playing.{Stage, stage, StopsText, Played}
+use Rattle.player.proofs.Lines.{nothing_written, ends_so}
+use Rattle.player.specs.Player.{Skips, entries_in}
+use Rattle.player.specs.Playing.{stage, PlaysLine, StopsText, Played}
 use Rattle.sizing.specs.declared.run.Run.{Run}
 use Rattle.player.specs.New.{IsNew}
-use Rattle.sizing.specs.Measuring.{LineMeasured, EventMeasured, TextMeasured, TraceMeasured}
+use Rattle.sizing.specs.Measuring.{IsAt, LineMeasured, EventMeasured, TextMeasured, TraceMeasured}
 use Rattle.sizing.proofs.Metering.{skip_measures}
 use Rattle.sizing.proofs.Playing.{at_more}
 
@@ -33,16 +39,32 @@ line_measured text line old new (Err Read) read e = inr (line, read.1, e)
 line_measured text line old new (Err Write) read e = inr (line, read.1, e)
 line_measured text line old new (Err Without_memory) read e = tt
 
--- the trace ends with a fault
-pub ends_measured : (config : Config) (given : Given) (fault : TextFault) (old : PlayerState) (new : Stage) → Played Nothing given (stage old []) new (Err fault) → IsNew config old → TraceMeasured config given (Err fault)
-ends_measured config given (At_line k why) old new played is = (old, new, played, is)
-ends_measured config given Read old new played is = (old, new, played, is)
-ends_measured config given Write old new played is = (old, new, played, is)
-ends_measured config given Without_memory old new played is = tt
+-- a run from a new heap, of which nothing is measured yet
+module _ (first : Run) (at : IsAt first.player.course.heap [] first) where
+  -- what lines did on a player is measured
+  abbrev Known : (lines : List (List ℕ)) (version : Version) (events : List Event) (now : Run) → LinesDone (PlaysLine Nothing) (stage first.player []) lines version events (stage now.player []) → Type 0
+  Known lines version events now done = IsAt first.player.course.heap events now
 
-pub stops_measured : (config : Config) (given : Given) (fault : TextFault) (old : PlayerState) (text : Text) (before after : Run) → TextMeasured text before after (Err fault)
-    → (StopsText Nothing fault text (stage before.player []) (stage after.player []) → Played Nothing given (stage old []) (stage after.player []) (Err fault)) → IsNew config old → TraceMeasured config given (Err fault)
-stops_measured config given (At_line k why) old text before after e played is = (old, stage after.player [], played e, is)
-stops_measured config given Read old text before after e played is = (old, stage after.player [], played e, is)
-stops_measured config given Write old text before after e played is = (old, stage after.player [], played e, is)
-stops_measured config given Without_memory old text before after e played is = tt
+  follows : Follows TextMeasured (PlaysLine Nothing) (λ run. stage run.player []) first Known
+  follows = record {
+    at_first = at;
+    then = λ lines version events mid done known line new measured.
+        let went = measured first.player.course.heap events known in
+        (went.0, went.1, λ next after. went.2);
+  }
+
+  module _ (given : Given) (new : Run) where
+    -- the lines are done, and measured
+    abbrev pub Measured_lines : InputEnd → Type 0
+    Measured_lines = AllMoved TextMeasured (PlaysLine Nothing) (λ run. stage run.player []) first Known given new
+
+    pub lines_measured : (end : InputEnd) → LinesHandled TextMeasured given first new (Ok end) → Measured_lines end
+    lines_measured end h = all_moved TextMeasured (PlaysLine Nothing) (λ run. stage run.player []) first Known follows given new end h
+
+    abbrev pub lines_played : (end : InputEnd) → Measured_lines end → Played Nothing given (stage first.player []) (stage new.player []) (Ok tt)
+    lines_played end a = ends_so (over_all TextMeasured (PlaysLine Nothing) (λ run. stage run.player []) first Known (StopsText Nothing) (Unit {0}) given new tt a)
+
+    -- the trace ends with a fault
+    pub stops_measured : (config : Config) (fault : TextFault) → LinesHandled TextMeasured given first new (Err fault) → IsNew config first.player → TraceMeasured config given (Err fault)
+    stops_measured config Without_memory h is = tt
+    stops_measured config fault h is = (first.player, stage new.player [], ends_so (over_stopped TextMeasured (PlaysLine Nothing) (λ run. stage run.player []) first Known (StopsText Nothing) (Unit {0}) given new fault (λ lines version events mid done known line stops. stops) follows h), is)

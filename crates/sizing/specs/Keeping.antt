@@ -13,7 +13,7 @@ use Rattle.sizing.specs.declared.arrivals.keeping.Breach.{Breach}
 use Rattle.sizing.specs.declared.arrivals.keeping.Breach.TheVariants.{Asks, BeginsLate, SmallQuantum}
 use Rattle.sizing.specs.declared.arrivals.keeping.Kept.{Kept}
 use Rattle.sizing.specs.declared.arrivals.keeping.Kept.TheVariants.{Keeps, Breaks}
-use Rattle.sizing.specs.Load.{Load, clock_after, BeginsOften, KeepsLoad, SaysNothing, SaysLine}
+use Rattle.sizing.specs.Load.{Load, clock_after, BeginsOften, KeepsLoad, SaysText}
 use Rattle.sizing.specs.Metering.{NoEvent}
 
 -- how many ticks pass in lines
@@ -63,7 +63,7 @@ CheckEnds l k ended (Err fault) reached = Ends NoEvent {A = Kept} reached ended 
 -- What was checked of an input: the lines that are done keep to the load. These are all of its lines, or those
 -- before the line at which checking stopped; where that breaks the load, they don't keep to it with that line.
 pub record LoadChecked (l : Load) (k : ℕ) (given : Given) (result : Result Kept TextFault) : Type 0 where
-  pub over : GoneOver SaysNothing SaysLine given tt (CheckEnds l k given.ended result)
+  pub over : GoneOver SaysText given tt (CheckEnds l k given.ended result)
   pub keeps : KeepsLoad l k over.lines
   pub breaks : (number : ℕ) (by : Breach) → result ≡ Ok (Breaks number by)
       → NextLine (λ bytes. ¬ KeepsLoad l k (over.lines ++ bytes ∷ [])) over.rest

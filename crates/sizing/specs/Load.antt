@@ -7,7 +7,8 @@ use Rattle.heap_model.specs.Event.{Event, Command_done, Cycle_begun, Cycle_on, Q
 use Rattle.trace.specs.declared.line.Line.{Line}
 use Rattle.trace.specs.declared.line.Line.TheVariants as lines
 use Rattle.trace.specs.declared.version.Version.{Version}
-use Rattle.trace.specs.GoneOver.{LinesDone}
+use Rattle.trace.specs.GoneOver.{Goes, LinesDone}
+use Rattle.trace.specs.TextLine.{Text}
 use Rattle.trace.specs.Spelling.{Spells}
 use Rattle.space.specs.Demand.{LiveWithin}
 use Rattle.space.specs.Room.{asks}
@@ -80,9 +81,13 @@ SaysNothing old new = Unit {0}
 abbrev pub SaysLine : Version → List ℕ → Unit {0} → List Line → Unit {0} → Type 0
 SaysLine version bytes old said new = (line : Line) × Spells version bytes line × (said ≡ line ∷ [])
 
+-- the same of a line that may tell the version
+abbrev pub SaysText : Text → Unit {0} → List Line → Unit {0} → Type 0
+SaysText = Goes SaysNothing SaysLine
+
 -- the lines that a text of a version says
 abbrev pub Says : List (List ℕ) → Version → List Line → Type 0
-Says text version said = LinesDone SaysNothing SaysLine tt text version said tt
+Says text version said = LinesDone SaysText tt text version said tt
 
 -- Text keeps to a load, with quanta of at least k units: a property of the text alone.
 pub record KeepsLoad (l : Load) (k : ℕ) (text : List (List ℕ)) : Type 0 where

@@ -11,7 +11,6 @@ use Rattle.trace.specs.declared.line.Line.{Line}
 use Rattle.trace.specs.declared.line.Line.TheVariants as lines
 use Rattle.trace.specs.declared.fault.TextFault.{TextFault}
 use Rattle.trace.specs.declared.fault.TextFault.TheVariants.{NoMemory as Without_memory}
-use Rattle.trace.specs.GoneOver.{Goes}
 use Rattle.trace.specs.Streams.{Given}
 use Rattle.trace.specs.TextLine.{Text}
 use Rattle.player.specs.declared.player.TickFault.{TickFault}
@@ -19,7 +18,7 @@ use Rattle.player.specs.declared.player.TickFault.TheVariants as faults
 use Rattle.player.specs.declared.style.Style.TheVariants.{Nothing}
 use Rattle.player.specs.New.{IsNew}
 use Rattle.player.specs.Player.{PlayerState, DoesLine}
-use Rattle.player.specs.Playing.{Stage, stage, TellsVersionOf, PlaysText, Stops, StopsText, Played}
+use Rattle.player.specs.Playing.{Stage, stage, PlaysLine, Stops, StopsText, Played}
 use Rattle.sizing.specs.declared.measured.Measured.{Measured}
 use Rattle.sizing.specs.declared.run.Run.{Run}
 use Rattle.sizing.specs.Measured.{IsMeasured}
@@ -74,7 +73,7 @@ EventMeasured line number old new (Err fault) =
 abbrev pub TextMeasured : Text → Run → Run → Result (Unit {0}) TextFault → Type 0
 TextMeasured text old new (Ok done) =
     (h : HeapState) (es : List Event) → IsAt h es old → (more : List Event)
-    × Goes (TellsVersionOf Nothing) (PlaysText Nothing) text (stage old.player []) more (stage new.player [])
+    × PlaysLine Nothing text (stage old.player []) more (stage new.player [])
     × IsAt h (es ++ more) new
 TextMeasured text old new (Err Without_memory) = Unit {0}
 TextMeasured text old new (Err fault) = StopsText Nothing fault text (stage old.player []) (stage new.player [])

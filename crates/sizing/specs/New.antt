@@ -11,7 +11,7 @@ use Rattle.trace.specs.Streams.{Given, Taken}
 use Rattle.player.specs.declared.style.Style.{Style}
 use Rattle.player.specs.New.{IsNew}
 use Rattle.player.specs.Player.{PlayerState}
-use Rattle.player.specs.Playing.{Stage, stage, TellsVersionOf, PlaysText, Played}
+use Rattle.player.specs.Playing.{Stage, stage, PlaysLine, Played}
 use Rattle.space.specs.Fitting.{FitsIn}
 use Rattle.space.specs.Room.{AllHaveRoom}
 use Rattle.sizing.specs.Load.{Load, KeepsLoad, AllLive, pace_of}
@@ -25,7 +25,7 @@ LoadFits config l = FitsIn config (pace_of l config.collector_ticks config.mutat
 abbrev pub LoadFindsRoom : Config → Load → Type 0
 LoadFindsRoom config l =
     (style : Style) (old new : Stage) (text : List (List ℕ)) (version : Version) (es : List Event)
-    → IsNew config old.player → LinesDone (TellsVersionOf style) (PlaysText style) old text version es new
+    → IsNew config old.player → LinesDone (PlaysLine style) old text version es new
     → KeepsLoad l (config.collector_ticks * config.rate) text → AllLive l.live (opening (limits_of config)) es
     → AllHaveRoom es
 

@@ -5,10 +5,10 @@ ghost use Rattle.trace.specs.Streams.{Stays, given_by};
 ghost use Rattle.sizing.specs.Measuring.{TraceMeasured};
 
 use crate::measured::Measured;
-use crate::run::{Run, measure_line};
+use crate::run::Run;
 use size_classes::Config;
 use std::alloc::Global;
-use trace::{LineReader, Source, TextFault};
+use trace::{Source, TextFault, each_line};
 
 /// What a trace needs on a new heap of a configuration: its lines are played, one after the other, and nothing
 /// is written. The run keeps to what is answered, and to nothing that is less in some number. Where the configuration
@@ -25,9 +25,6 @@ pub fn measure<S: Source>(
     ensures input { reads_failed result ≡ 0 → Stays (S.input source.old) (S.input source.new) }
 {
     let mut run = Run::new(alloc, config)?;
-    let mut reader = LineReader::new();
-    while reader.next_line(source)? {
-        measure_line(reader.text(), &mut run)?;
-    }
+    each_line(source, &mut run)?;
     Ok(run.meter.measured())
 }

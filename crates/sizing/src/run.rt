@@ -6,7 +6,6 @@ ghost use Rattle.player.specs.Player.{DoesLine, HasBudget};
 ghost use Rattle.heap_model.specs.State.{HeapState};
 ghost use Rattle.trace.specs.declared.line.Line.TheVariants as lines;
 ghost use Rattle.trace.specs.GoneOver.{reads_failed};
-ghost use Rattle.trace.specs.TextLine.{text_in};
 ghost use Rattle.sizing.specs.Measuring.{IsAt, LineMeasured, TicksMeasured, EventMeasured, TextMeasured};
 
 use crate::meter::Meter;
@@ -15,7 +14,7 @@ use heap_model::phase::Phase;
 use player::{Player, TickFault};
 use size_classes::Config;
 use std::alloc::Global;
-use trace::{Line, TextFault, TextLine, read_numbered};
+use trace::{Line, LineHandler, TextFault, TextLine, read_numbered};
 
 /// A player, and the meter of what it does.
 #[derive(Drop)]
@@ -107,13 +106,15 @@ fn measure_event(line: Line, number: u64, run: &mut Run) -> Result<(), TextFault
     Ok(())
 }
 
-/// Does the line of this text, and measures it.
-pub fn measure_line(text: TextLine, run: &mut Run) -> Result<(), TextFault>
-    ensures measured { TextMeasured (text_in text.entry) run.old run.new result }
-    ensures reads { reads_failed result ≡ 0 }
-{
-    match read_numbered(text)? {
-        Some(line) => measure_event(line, text.number, run),
-        None => Ok(()),
+impl LineHandler for Run {
+    ghost is_ready = { λ number run. Unit {0} };
+
+    ghost handles = { TextMeasured };
+
+    fn handle(&mut self, text: TextLine) -> Result<(), TextFault> {
+        match read_numbered(text)? {
+            Some(line) => measure_event(line, text.number, self),
+            None => Ok(()),
+        }
     }
 }

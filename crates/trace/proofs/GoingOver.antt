@@ -3,7 +3,7 @@ use Rattle.std.proofs.Common.{Bool, true, false, ◌≡◌, ℕ, ◌+◌, ◌≤
 use Rattle.std.specs.Prelude.{IsTrue, Ok, Err, Option, Some, None}
 use Rattle.trace.specs.declared.fault.TextFault.{TextFault}
 use Rattle.trace.specs.declared.version.Version.{Version}
-use Rattle.trace.specs.GoneOver.{LinesRead, Reached, NextThere, Goes, LinesDone, No_lines, One_line_more, GoneOver, NoLine, Ends}
+use Rattle.trace.specs.GoneOver.{LinesRead, Reached, NextThere, LinesDone, No_lines, One_line_more, GoneOver, NoLine, Ends}
 use Rattle.trace.specs.LineReader.{Lines, no_lines, lines_by, Hands}
 use Rattle.trace.specs.Streams.{Given, IsLine, Comes, Stays, text_of}
 use Rattle.trace.specs.TextLine.{Text, text_after, IsVersionLine, IsNextVersion}
@@ -46,16 +46,16 @@ line_more given after kept kept' line ended lines r comes is small = record {
 }
 
 -- where going over lines came to
-abbrev pub reached_by : {S E : Type 0} {Tells : S → S → Type 0} {Does : Version → List ℕ → S → List E → S → Type 0} {given : Given} {old : S} {End : Reached S E → Type 0} → GoneOver Tells Does given old End → Reached S E
+abbrev pub reached_by : {S E : Type 0} {Moves : Text → S → List E → S → Type 0} {given : Given} {old : S} {End : Reached S E → Type 0} → GoneOver Moves given old End → Reached S E
 reached_by over = record { lines = over.lines; version = over.version; events = over.events; state = over.mid; rest = over.rest }
 
-module _ {S E : Type 0} (Tells : S → S → Type 0) (Does : Version → List ℕ → S → List E → S → Type 0) where
+module _ {S E : Type 0} (Moves : Text → S → List E → S → Type 0) where
   -- the lines so far, with what the reader keeps of the bytes after them
   pub record SoFar (given : Given) (old new : S) (reader : Lines) : Type 0 where
     pub lines : List (List ℕ)
     pub events : List E
     pub read : LinesRead given lines reader.kept
-    pub done : LinesDone Tells Does old lines reader.next events new
+    pub done : LinesDone Moves old lines reader.next events new
     pub counted : reader.text.number ≡ length lines
 
   -- before the first line
@@ -72,6 +72,12 @@ module _ {S E : Type 0} (Tells : S → S → Type 0) (Does : Version → List �
 pub one_line : (number : ℕ) (next : Lines) (b : Bool) → b ≡ true → next.text.number ≡ number + lines_by (Ok b) → next.text.number ≡ number + 1
 one_line number next b is e = subst (λ t. next.text.number ≡ number + lines_by (Ok t)) is e
 
+-- at the end of the input no line is read
+pub no_line : (number : ℕ) (next : Lines) (b : Bool) → b ≡ false → next.text.number ≡ number + lines_by (Ok b) → next.text.number ≡ number
+no_line number next b is e =
+    let none : next.text.number ≡ number + 0 = subst (λ t. next.text.number ≡ number + lines_by (Ok t)) is e in
+    omega (arith, none)
+
 -- a line by its number and its version
 pub text_is : (text : Text) (lines : List (List ℕ)) (version : Version) → text.number ≡ length lines + 1 → text.version ≡ version → text ≡ text_after lines version text.bytes
 text_is text lines version number is =
@@ -87,7 +93,7 @@ pub next_same : (text : Text) (next : Version) → IsNextVersion text next → (
 next_same text next (inl n) other = absurd (other n.0)
 next_same text next (inr n) other = n.1
 
-module _ {S E : Type 0} {Tells : S → S → Type 0} {Does : Version → List ℕ → S → List E → S → Type 0} {given : Given} {old mid : S} {reader : Lines} (so : SoFar Tells Does given old mid reader) (next : Lines) where
+module _ {S E : Type 0} {Moves : Text → S → List E → S → Type 0} {given : Given} {old mid : S} {reader : Lines} (so : SoFar Moves given old mid reader) (next : Lines) where
   -- the next call of the reader, after which its source has given these bytes
   abbrev call : List ℕ → Bool → Given
   call after ended = record { before = given.after; after = after; ended = ended }
@@ -98,7 +104,7 @@ module _ {S E : Type 0} {Tells : S → S → Type 0} {Does : Version → List �
 
   -- it ends after the lines so far
   abbrev ends_after : (after rest : List ℕ) (ended : Bool) (End : Reached S E → Type 0) → Comes given.after after reader.kept rest → length rest ≤ 65536 → End (reached rest)
-      → GoneOver Tells Does (later given after ended) old End
+      → GoneOver Moves (later given after ended) old End
   ends_after after rest ended End comes small end = record {
     lines = so.lines;
     version = reader.next;
@@ -113,7 +119,7 @@ module _ {S E : Type 0} {Tells : S → S → Type 0} {Does : Version → List �
   module _ (after : List ℕ) (ended : Bool) where
     -- there is no next line
     abbrev pub ends_without : (A : Type 0) (Stops : TextFault → Text → S → S → Type 0) (fault : TextFault) → Hands (call after ended) reader next (Err fault)
-        → GoneOver Tells Does (later given after ended) old (λ r. Ends Stops {A = A} r ended mid (Err fault))
+        → GoneOver Moves (later given after ended) old (λ r. Ends Stops {A = A} r ended mid (Err fault))
     ends_without A Stops fault h =
         let same : next.text.number ≡ length so.lines = omega (arith, h.number, so.counted) in
         ends_after after next.kept ended _ h.text h.small (inl (subst (λ n. NoLine fault n next.kept ended) same h.says, refl))
@@ -121,7 +127,7 @@ module _ {S E : Type 0} {Tells : S → S → Type 0} {Does : Version → List �
     module _ (b : Bool) (h : Hands (call after ended) reader next (Ok b)) where
       -- the input has ended
       abbrev pub ends_over : b ≡ false → (End : Reached S E → Type 0) → ((rest : List ℕ) → (rest ≡ []) × IsTrue ended → End (reached rest))
-          → GoneOver Tells Does (later given after ended) old End
+          → GoneOver Moves (later given after ended) old End
       ends_over is End so_it_ends =
           let e = subst (λ t. Hands (call after ended) reader next (Ok t)) is h in
           ends_after after next.kept ended End e.text e.small (so_it_ends next.kept e.says)
@@ -136,7 +142,7 @@ module _ {S E : Type 0} {Tells : S → S → Type 0} {Does : Version → List �
 
         -- it ends at the next line
         abbrev pub ends_in : (P : Text → Type 0) → P text → (End : Reached S E → Type 0)
-            → (text.number ≡ length so.lines + 1 → (rest : List ℕ) → NextThere (reached rest) P → End (reached rest)) → GoneOver Tells Does (later given after ended) old End
+            → (text.number ≡ length so.lines + 1 → (rest : List ℕ) → NextThere (reached rest) P → End (reached rest)) → GoneOver Moves (later given after ended) old End
         ends_in P this End so_it_ends =
             let count : text.number ≡ length so.lines + 1 = ap (λ (t : Text). t.number) same ∙ omega (arith, e.number, so.counted) in
             let rest = next.text.bytes ++ 10 ∷ next.kept in
@@ -144,18 +150,18 @@ module _ {S E : Type 0} {Tells : S → S → Type 0} {Does : Version → List �
 
         -- the next line comes to a fault
         abbrev pub ends_at : (A : Type 0) (Stops : TextFault → Text → S → S → Type 0) (fault : TextFault) (new : S) → Stops fault text mid new
-            → GoneOver Tells Does (later given after ended) old (λ r. Ends Stops {A = A} r ended new (Err fault))
+            → GoneOver Moves (later given after ended) old (λ r. Ends Stops {A = A} r ended new (Err fault))
         ends_at A Stops fault new stops =
             ends_in (λ t. Stops fault t mid new) stops _ (λ count rest there. inr there)
 
         -- a line more is done
-        abbrev pub goes_on : (new : S) (events : List E) → Goes Tells Does text mid events new → SoFar Tells Does (later given after ended) old new next
+        abbrev pub goes_on : (new : S) (events : List E) → Moves text mid events new → SoFar Moves (later given after ended) old new next
         goes_on new events goes = record {
           lines = so.lines ++ next.text.bytes ∷ [];
           events = so.events ++ events;
           read = line_more given after reader.kept next.kept next.text.bytes ended so.lines so.read e.text e.says e.small;
           done = One_line_more so.lines reader.next next.next so.events events next.text.bytes mid new so.done
-              (subst (λ t. Goes Tells Does t mid events new) (same ∙ is_next) goes)
+              (subst (λ t. Moves t mid events new) (same ∙ is_next) goes)
               (subst (λ t. IsNextVersion t next.next) is_next e.versions.1);
           counted = omega (arith, e.number, so.counted, length-append so.lines (next.text.bytes ∷ []));
         }

@@ -11,4 +11,5 @@ pub mod Cutting
 pub mod ReadReplies
 pub mod ReadEntries
 pub mod GoingOver
+pub mod Handling
 pub mod Reading

@@ -1,5 +1,5 @@
 -- What a loop over lines knows of its source, beside the lines.
-use Rattle.std.proofs.Common.{◌≡◌, ℕ, ◌+◌, ◌≤◌, List, [], length, arith, refl}
+use Rattle.std.proofs.Common.{◌≡◌, ℕ, ◌+◌, ◌≤◌, List, length, arith, refl}
 use Rattle.std.specs.Prelude.{Option}
 use Rattle.trace.specs.LineReader.{Lines, no_lines}
 use Rattle.trace.specs.Streams.{Stays}

@@ -53,11 +53,13 @@ module _ {S E : Type 0} (Tells : S → S → Type 0) (Does : Version → List �
       (IsVersionLine text × (events ≡ []) × Tells old new)
       ⊎ ((¬ IsVersionLine text) × Does text.version text.bytes old events new)
 
+-- Moves text old events new: what a line does to a state, and the events of it.
+module _ {S E : Type 0} (Moves : Text → S → List E → S → Type 0) where
   -- the lines, one after the other, do these events, and the next is of this version
   pub data LinesDone (old : S) : List (List ℕ) → Version → List E → S → Type 0 where
     No_lines : LinesDone old [] First [] old
     One_line_more : (lines : List (List ℕ)) (version next : Version) (events more : List E) (line : List ℕ)
-        (mid new : S) → LinesDone old lines version events mid → Goes (text_after lines version line) mid more new
+        (mid new : S) → LinesDone old lines version events mid → Moves (text_after lines version line) mid more new
         → IsNextVersion (text_after lines version line) next
         → LinesDone old (lines ++ line ∷ []) next (events ++ more) new
 

@@ -54,7 +54,7 @@ HistoryEnds ended new (Err fault) reached = Ends HistoryStops {A = Checked} reac
 -- A history, as it was checked from one graph heap to another: the entries of the lines done are legal, and
 -- lead to the graph heap after them.
 pub record EntriesChecked (given : Given) (old new : Graph) (result : Result Checked TextFault) : Type 0 where
-  pub over : GoneOver DoesNothing DoesEntry given old (HistoryEnds given.ended new result)
+  pub over : GoneOver (Goes DoesNothing DoesEntry) given old (HistoryEnds given.ended new result)
   pub legal : IsLegal old over.events
   pub leads : over.mid ≡ after old over.events
 

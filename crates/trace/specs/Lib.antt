@@ -5,6 +5,7 @@ pub mod Streams
 pub mod TextLine
 pub mod Numbered
 pub mod GoneOver
+pub mod Handling
 pub mod LineReader
 pub mod Held
 pub mod Waiting

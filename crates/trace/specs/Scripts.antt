@@ -10,7 +10,7 @@ use Rattle.trace.specs.declared.fault.TextFault.TheVariants.{Line as At_line, No
 use Rattle.trace.specs.declared.line.Line.{Line}
 use Rattle.trace.specs.declared.line.Line.TheVariants as lines
 use Rattle.trace.specs.declared.version.Version.{Version}
-use Rattle.trace.specs.GoneOver.{GoneOver, Ends}
+use Rattle.trace.specs.GoneOver.{Goes, GoneOver, Ends}
 use Rattle.trace.specs.Spelling.{Spells, is_skipped}
 use Rattle.trace.specs.Streams.{Given}
 use Rattle.trace.specs.TextLine.{Text, IsVersionLine}
@@ -70,7 +70,7 @@ ReadScripts = Version × Vec (Vec Command Global) Global
 
 -- Scripts of so many mutators, as the lines of an input are.
 pub record AreScripts (given : Given) (mutators : ℕ) (result : Result ReadScripts TextFault) : Type 0 where
-  pub over : GoneOver AsksNothing (DoesScript mutators) given tt
+  pub over : GoneOver (Goes AsksNothing (DoesScript mutators)) given tt
       (λ reached. Ends (ScriptStops mutators) reached given.ended tt result)
   pub are : IfOk result (λ read. (read.0 ≡ over.version) × (lists_in read.1 ≡ scripts_of mutators over.events))
 
@@ -97,8 +97,9 @@ with_line scripts line = scripts
 abbrev pub LineAdded : Text → Vec (Vec Command Global) Global → Vec (Vec Command Global) Global
     → Result (Unit {0}) TextFault → Type 0
 LineAdded text old new (Ok done) =
-    (IsVersionLine text × (lists_in new ≡ lists_in old))
+    ((IsVersionLine text × (lists_in new ≡ lists_in old))
     ⊎ ((¬ IsVersionLine text) × ((line : Line)
     × DoesScript (vec_len old) text.version text.bytes tt (line ∷ []) tt
-    × (lists_in new ≡ with_line (lists_in old) line)))
+    × (lists_in new ≡ with_line (lists_in old) line))))
+    × (vec_len new ≡ vec_len old)
 LineAdded text old new (Err fault) = ScriptStops (vec_len old) fault text tt tt

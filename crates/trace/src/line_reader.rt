@@ -157,6 +157,18 @@ impl LineReader {
         self.end - self.start
     }
 
+    /// The version of the line after the one that was handed out last. Only the first line can tell one.
+    #[inline(always)]
+    fn version_after(&self) -> Version
+        ensures { IsNextVersion self.now.text result }
+    {
+        if self.number == 1 {
+            self.text().next_version()
+        } else {
+            self.version
+        }
+    }
+
     /// Hands out the line that the bytes kept begin with, if its LF is among their first 257.
     fn cut_line(&mut self) -> bool
         ensures cut { IsTrue result → self.old.kept ≡ self.new.text.bytes ++ 10 ∷ self.new.kept }
@@ -176,7 +188,7 @@ impl LineReader {
         self.start = self.line_end + 1;
         self.number += 1;
         self.version = self.next;
-        self.next = self.text().next_version();
+        self.next = self.version_after();
         true
     }
 

@@ -5,10 +5,10 @@ ghost use Rattle.trace.specs.Streams.{Stays, given_by};
 ghost use Rattle.inspector.specs.Taking.{CyclesTaken};
 
 use crate::cycles::cycle::Cycles;
-use crate::cycles::watch::{Watch, log_line};
+use crate::cycles::watch::Watch;
 use size_classes::Config;
 use std::alloc::Global;
-use trace::{LineReader, Source, TextFault};
+use trace::{Source, TextFault, each_line};
 
 /// Plays the lines of a trace on a new heap of a configuration, one after the other, of which nothing is written, and
 /// answers the cycles of the run, with the figures of each. A fault is that with which playing the trace ends; or
@@ -23,9 +23,6 @@ pub fn take_cycles<S: Source>(
     ensures input { reads_failed result ≡ 0 → Stays (S.input source.old) (S.input source.new) }
 {
     let mut watch = Watch::new(alloc, config)?;
-    let mut reader = LineReader::new();
-    while reader.next_line(source)? {
-        log_line(reader.text(), &mut watch)?;
-    }
+    each_line(source, &mut watch)?;
     Ok(watch.cycles()?)
 }

@@ -7,7 +7,6 @@ ghost use Rattle.player.specs.Player.{HasBudget};
 ghost use Rattle.player.specs.Ticking.{DueDone};
 ghost use Rattle.trace.specs.declared.line.Line.TheVariants as lines;
 ghost use Rattle.trace.specs.GoneOver.{reads_failed};
-ghost use Rattle.trace.specs.TextLine.{text_in};
 ghost use Rattle.inspector.specs.Steps.{Step};
 ghost use Rattle.inspector.specs.Cycles.{AreCycles};
 ghost use Rattle.inspector.specs.Log.{IsMark, IsLog};
@@ -21,7 +20,7 @@ use player::{Player, TickFault};
 use quanta::CLOCK_LIMIT;
 use size_classes::Config;
 use std::alloc::Global;
-use trace::{Line, TextFault, TextLine, read_numbered};
+use trace::{Line, LineHandler, TextFault, TextLine, read_numbered};
 
 /// A player, and the log of what it does.
 #[derive(Drop)]
@@ -143,13 +142,15 @@ fn log_event(line: Line, number: u64, watch: &mut Watch) -> Result<(), TextFault
     }
 }
 
-/// Does the line of this text, and logs it.
-pub fn log_line(text: TextLine, watch: &mut Watch) -> Result<(), TextFault>
-    ensures logged { TextLogged (text_in text.entry) watch.old watch.new result }
-    ensures reads { reads_failed result ≡ 0 }
-{
-    match read_numbered(text)? {
-        Some(line) => log_event(line, text.number, watch),
-        None => Ok(()),
+impl LineHandler for Watch {
+    ghost is_ready = { λ number watch. Unit {0} };
+
+    ghost handles = { TextLogged };
+
+    fn handle(&mut self, text: TextLine) -> Result<(), TextFault> {
+        match read_numbered(text)? {
+            Some(line) => log_event(line, text.number, self),
+            None => Ok(()),
+        }
     }
 }

@@ -6,7 +6,7 @@ use Rattle.trace.specs.declared.version.Version.{Version}
 use Rattle.trace.specs.declared.version.Version.TheVariants.{First}
 use Rattle.trace.specs.GoneOver.{LinesDone, No_lines, One_line_more}
 use Rattle.space.specs.Room.{asks}
-use Rattle.sizing.specs.Load.{Load, StaysInBucket, BeginsOften, AreBudgets, Arrives, KeepsLoad, SaysNothing, SaysLine, Says}
+use Rattle.sizing.specs.Load.{Load, StaysInBucket, BeginsOften, AreBudgets, Arrives, KeepsLoad, SaysText, Says}
 use Rattle.sizing.proofs.arrivals.Buckets.{bucket_arrives, arrives_bucket}
 use Rattle.sizing.proofs.arrivals.Reading.{same_parts, one_reading}
 
@@ -49,7 +49,7 @@ none_first : {A : Type 0} (xs ys : List A) → [] ≡ xs ++ ys → [] ≡ xs
 none_first [] ys e = refl
 none_first (x ∷ xs) ys e = absurd (cc)
 
-says_first : (whole text more : List (List ℕ)) (version : Version) (said : List Line) (x : Unit {0}) → whole ≡ text ++ more → LinesDone SaysNothing SaysLine tt whole version said x → SaysFirst text said
+says_first : (whole text more : List (List ℕ)) (version : Version) (said : List Line) (x : Unit {0}) → whole ≡ text ++ more → LinesDone SaysText tt whole version said x → SaysFirst text said
 says_first whole text more version said x e No_lines = (First, [], [], subst (λ z. Says z First []) (none_first text more e) No_lines, refl)
 says_first whole text more version said x e (One_line_more ls before next es added line mid new d goes following) = elim (by_last more) [
   | inl none ↦

@@ -7,7 +7,7 @@ use Rattle.trace.specs.declared.line.Line.{Line}
 use Rattle.trace.specs.declared.line.Line.TheVariants as lines
 use Rattle.trace.specs.declared.fault.TextFault.{TextFault}
 use Rattle.trace.specs.declared.version.Version.{Version}
-use Rattle.trace.specs.GoneOver.{One_line_more, Goes, GoneOver}
+use Rattle.trace.specs.GoneOver.{One_line_more, GoneOver}
 use Rattle.trace.specs.Spelling.{Spells}
 use Rattle.trace.specs.TextLine.{Text, text_after}
 use Rattle.trace.specs.Streams.{Given}
@@ -15,7 +15,7 @@ use Rattle.sizing.specs.declared.arrivals.keeping.Meter.{Meter}
 use Rattle.sizing.specs.declared.arrivals.keeping.Breach.{Breach}
 use Rattle.sizing.specs.declared.arrivals.keeping.Breach.TheVariants.{Asks, BeginsLate, SmallQuantum}
 use Rattle.sizing.specs.declared.arrivals.keeping.Kept.{Kept}
-use Rattle.sizing.specs.Load.{Load, StaysInBucket, BeginsOften, AreBudgets, Arrives, KeepsLoad, SaysNothing, SaysLine, Says}
+use Rattle.sizing.specs.Load.{Load, StaysInBucket, BeginsOften, AreBudgets, Arrives, KeepsLoad, SaysText, Says}
 use Rattle.sizing.specs.Metering.{level_after, since_after, levels_in, IsWithin, Meters, KeepsOn, Metered, TextMetered}
 use Rattle.sizing.specs.Keeping.{BreaksBy, CheckEnds, LoadChecked}
 use Rattle.sizing.proofs.arrivals.Buckets.{bucket_arrives, arrives_bucket}
@@ -51,7 +51,7 @@ meter_more l k said old new line i m within keeps = record {
 
 -- a line that is done
 pub line_goes : (l : Load) (k : ℕ) (text : Text) (said : List Line) (old new : Meter) → IsMeterOf l k said old → TextMetered l k text old new (Ok None)
-    → (more : List Line) × Goes SaysNothing SaysLine text tt more tt × IsMeterOf l k (said ++ more) new
+    → (more : List Line) × SaysText text tt more tt × IsMeterOf l k (said ++ more) new
 line_goes l k text said old new i (inl told) = ([], inl (told.0, refl, tt), subst (λ z. IsMeterOf l k z new) (sym (append-nil said)) (subst (λ z. IsMeterOf l k said z) (sym told.1) i))
 line_goes l k text said old new i (inr does) =
     let line = does.1.0 in
@@ -109,7 +109,7 @@ text_keeps l k text version said m says i = record {
   budgets = λ v s reading. subst (λ z. AreBudgets k z) (one_reading text text version v said s tt tt refl says reading).1 i.budgets;
 }
 
-pub checked : (l : Load) (k budget : ℕ) (given : Given) (result : Result Kept TextFault) (m : Meter) → k ≡ budget → (over : GoneOver SaysNothing SaysLine given tt (CheckEnds l k given.ended result)) → IsMeterOf l k over.events m
+pub checked : (l : Load) (k budget : ℕ) (given : Given) (result : Result Kept TextFault) (m : Meter) → k ≡ budget → (over : GoneOver SaysText given tt (CheckEnds l k given.ended result)) → IsMeterOf l k over.events m
     → LoadChecked l budget given result
 checked l k budget given result m same over i = subst (λ z. LoadChecked l z given result) same (record {
   over = over;

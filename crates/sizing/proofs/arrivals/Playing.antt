@@ -13,7 +13,7 @@ use Rattle.sizing.specs.Load.{Load, AsksFrom, Arrives, AreBudgets, KeepsLoad, Al
 use Rattle.trace.specs.declared.version.Version.{Version}
 use Rattle.trace.specs.GoneOver.{LinesDone, No_lines, One_line_more}
 use Rattle.player.specs.declared.style.Style.{Style}
-use Rattle.player.specs.Playing.{Stage, TellsVersionOf, PlaysText}
+use Rattle.player.specs.Playing.{Stage, PlaysLine}
 use Rattle.sizing.specs.Load.{Says}
 use Rattle.sizing.proofs.arrivals.Beats.{beats, keep_more, live_more}
 use Rattle.sizing.proofs.arrivals.Buckets.{from_here}
@@ -29,7 +29,7 @@ does_more [] p mid new es more line w d = (more, [], new, subst (λ q. DoesLine 
 does_more (x ∷ ls) p mid new es more line w d = (w.0, w.1 ++ more, w.2, w.3, ap (λ z. z ++ more) w.4 ∙ append_assoc w.0 w.1 more, does_more ls w.2 mid new w.1 more line w.5 d)
 
 -- the lines that a text says, and what they do
-reads : (style : Style) (old new : Stage) (text : List (List ℕ)) (version : Version) (es : List Event) → LinesDone (TellsVersionOf style) (PlaysText style) old text version es new → (ls : List Line) × Says text version ls × DoesLines old.player ls es new.player
+reads : (style : Style) (old new : Stage) (text : List (List ℕ)) (version : Version) (es : List Event) → LinesDone (PlaysLine style) old text version es new → (ls : List Line) × Says text version ls × DoesLines old.player ls es new.player
 reads style old new text version es No_lines = ([], No_lines, (refl, refl))
 reads style old new text version es (One_line_more before was next es' more bytes mid new' d (inl told) following) =
     let r = reads style old mid before was es' d in (
@@ -55,7 +55,7 @@ module _ (l : Load) (c q k : ℕ) (some : 1 ≤ c) where
       subst (λ z. AllKeepPace (pace_of l c q) k b z) (sym does.4) (keep_more (pace_of l c q) k b does.0 does.1 s.0 rest)
 
 pub load_keeps : (style : Style) (old new : Stage) (text : List (List ℕ)) (version : Version) (es : List Event) (l : Load) (k c q : ℕ) → IsOpening old.player.course.heap → old.player.timetable ≡ timetables.opening c q → 1 ≤ c → k ≤ old.player.budget
-    → LinesDone (TellsVersionOf style) (PlaysText style) old text version es new → KeepsLoad l k text → AllLive l.live (opening old.player.course.heap.limits) es → AllKeepPace (pace_of l c q) k (opening_beat old.player.course.heap.limits) es
+    → LinesDone (PlaysLine style) old text version es new → KeepsLoad l k text → AllLive l.live (opening old.player.course.heap.limits) es → AllKeepPace (pace_of l c q) k (opening_beat old.player.course.heap.limits) es
 load_keeps style old new text version es l k c q o t some budget done keeps live =
     let p = old.player in
     let r = reads style old new text version es done in

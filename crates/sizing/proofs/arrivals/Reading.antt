@@ -2,12 +2,12 @@
 use Rattle.std.proofs.Common.{◌≡◌, ℕ, ◌+◌, inl, inr, List, [], ◌∷◌, ◌++◌, length, Some, ap, ◌∙◌, sym, subst, refl}
 use Rattle.trace.specs.declared.line.Line.{Line}
 use Rattle.trace.specs.declared.version.Version.{Version}
-use Rattle.trace.specs.GoneOver.{LinesDone, No_lines, One_line_more, Goes}
+use Rattle.trace.specs.GoneOver.{LinesDone, No_lines, One_line_more}
 use Rattle.trace.specs.Spelling.{Spells}
 use Rattle.trace.specs.TextLine.{Text, text_after, IsVersionLine, IsNextVersion}
 use Rattle.trace.specs.Reading.{line_in}
 use Rattle.trace.proofs.ReadLines.{read_only, unread}
-use Rattle.sizing.specs.Load.{SaysNothing, SaysLine}
+use Rattle.sizing.specs.Load.{SaysText}
 
 pub nothing_behind : {A : Type 0} (xs : List A) (x : A) → [] ≡ xs ++ x ∷ [] → ⊥
 nothing_behind [] x e = absurd (cc)
@@ -30,7 +30,7 @@ one_spelling version bytes x y s t =
 pub not_version : (text : Text) (line : Line) → Spells text.version text.bytes line → ¬ IsVersionLine text
 not_version text line spells told = unread text.version line (subst (λ z. Spells text.version z line) told.1 spells)
 
-one_line : (text : Text) (s r : List Line) → Goes SaysNothing SaysLine text tt s tt → Goes SaysNothing SaysLine text tt r tt → s ≡ r
+one_line : (text : Text) (s r : List Line) → SaysText text tt s tt → SaysText text tt r tt → s ≡ r
 one_line text s r (inl a) (inl b) = a.1 ∙ sym b.1
 one_line text s r (inl a) (inr b) = absurd (b.0 a.0)
 one_line text s r (inr a) (inl b) = absurd (a.0 b.0)
@@ -45,7 +45,7 @@ one_next text v w (inr a) (inr b) = a.1 ∙ sym b.1
 same_text : (ls ms : List (List ℕ)) (x y : List ℕ) (before was : Version) → ls ≡ ms → x ≡ y → before ≡ was → text_after ls before x ≡ text_after ms was y
 same_text ls ms x y before was e f h = ap (λ z. text_after z before x) e ∙ ap (λ z. text_after ms before z) f ∙ ap (λ z. text_after ms z y) h
 
-pub one_reading : (t u : List (List ℕ)) (v w : Version) (s r : List Line) (p q : Unit {0}) → t ≡ u → LinesDone SaysNothing SaysLine tt t v s p → LinesDone SaysNothing SaysLine tt u w r q → (v ≡ w) × (s ≡ r)
+pub one_reading : (t u : List (List ℕ)) (v w : Version) (s r : List Line) (p q : Unit {0}) → t ≡ u → LinesDone SaysText tt t v s p → LinesDone SaysText tt u w r q → (v ≡ w) × (s ≡ r)
 one_reading t u v w s r p q e No_lines No_lines = (refl, refl)
 one_reading t u v w s r p q e No_lines (One_line_more ms was w' es' more' y mid' q' d' b next) = absurd (nothing_behind ms y e)
 one_reading t u v w s r p q e (One_line_more ls before v' es more x mid p' d a next) No_lines = absurd (nothing_behind ls x (sym e))
@@ -53,5 +53,5 @@ one_reading t u v w s r p q e (One_line_more ls before v' es more x mid p' d a n
     let parts = same_parts ls ms x y e in
     let so = one_reading ls ms before was es es' mid mid' parts.0 d d' in
     let same = sym (same_text ls ms x y before was parts.0 parts.1 so.0) in
-    let last = one_line (text_after ls before x) more more' a (subst (λ z. Goes SaysNothing SaysLine z tt more' tt) same b) in
+    let last = one_line (text_after ls before x) more more' a (subst (λ z. SaysText z tt more' tt) same b) in
     (one_next (text_after ls before x) v' w' next (subst (λ z. IsNextVersion z w') same following), ap (λ z. z ++ more) so.1 ∙ ap (λ z. es' ++ z) last)

@@ -12,7 +12,7 @@ use Rattle.heap_model.specs.Led.{opened}
 use Rattle.trace.specs.declared.version.Version.{Version}
 use Rattle.trace.specs.GoneOver.{LinesDone}
 use Rattle.player.specs.declared.style.Style.{Style}
-use Rattle.player.specs.Playing.{Stage, TellsVersionOf, PlaysText}
+use Rattle.player.specs.Playing.{Stage, PlaysLine}
 use Rattle.player.proofs.Lines.{lines_run}
 use Rattle.space.specs.Fitting.{FitsIn}
 use Rattle.space.specs.Room.{AllHaveRoom}
@@ -24,7 +24,7 @@ use Rattle.sizing.proofs.arrivals.Playing.{load_keeps}
 course_is : (h : HeapState) (history : List Entry) (place : ℕ) → history ≡ [] → place ≡ 0 → (record { heap = h; history = history; place = place }) ≡ opened h
 course_is h history place e f = ap (λ z. record { heap = h; history = z; place = place }) e ∙ ap (λ z. record { heap = h; history = []; place = z }) f
 
-pub finds_room : (config : Config) (style : Style) (old new : Stage) (text : List (List ℕ)) (version : Version) (es : List Event) (l : Load) → IsNew config old.player → LinesDone (TellsVersionOf style) (PlaysText style) old text version es new
+pub finds_room : (config : Config) (style : Style) (old new : Stage) (text : List (List ℕ)) (version : Version) (es : List Event) (l : Load) → IsNew config old.player → LinesDone (PlaysLine style) old text version es new
     → KeepsLoad l (config.collector_ticks * config.rate) text → AllLive l.live (opening (limits_of config)) es → FitsIn config (pace_of l config.collector_ticks config.mutator_ticks) config.pages → AllHaveRoom es
 finds_room config style old new text version es l f done keeps live fits =
     let p = old.player in

@@ -9,7 +9,7 @@ ghost use Rattle.trace.specs.declared.line.Line.{Line};
 ghost use Rattle.trace.specs.declared.version.Version.{Version};
 ghost use Rattle.trace.specs.GoneOver.{LinesDone};
 ghost use Rattle.player.specs.declared.style.Style.{Style};
-ghost use Rattle.player.specs.Playing.{Stage, TellsVersionOf, PlaysText};
+ghost use Rattle.player.specs.Playing.{Stage, PlaysLine};
 ghost use Rattle.space.specs.Pace.{AllKeepPace, opening_beat};
 ghost use Rattle.sizing.specs.Load.{Load, Arrives, StaysInBucket, Says, KeepsLoad, AllLive, pace_of};
 ghost use Rattle.sizing.specs.New.{LoadFits, LoadFindsRoom};
@@ -20,7 +20,7 @@ pub fn lines_keep_a_pace()
     ensures { (style : Style) (old new : Stage) (text : List (List ℕ)) (version : Version) (es : List Event)
         (l : Load) (k c q : ℕ)
         → IsOpening old.player.course.heap → old.player.timetable ≡ timetables.opening c q → 1 ≤ c
-        → k ≤ old.player.budget → LinesDone (TellsVersionOf style) (PlaysText style) old text version es new
+        → k ≤ old.player.budget → LinesDone (PlaysLine style) old text version es new
         → KeepsLoad l k text → AllLive l.live (opening old.player.course.heap.limits) es
         → AllKeepPace (pace_of l c q) k (opening_beat old.player.course.heap.limits) es }
 {}

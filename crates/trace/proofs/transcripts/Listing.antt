@@ -1,6 +1,6 @@
 -- Scripts, line after line.
 use Rattle.std.proofs.Common.{zero, suc, Bool, true, false, ◌≡◌, ℕ, ◌+◌, ◌<◌, ◌==◌, eqb, if◌then◌else◌, List, [], ◌∷◌, ◌++◌, inl, inr, length, set, get_or, map, replicate, arith, append-nil, ap, ◌∙◌, sym, subst, refl}
-use Rattle.std.specs.Prelude.{IsTrue, Option, Some, None, Vec, vec_len, Ok}
+use Rattle.std.specs.Prelude.{IsTrue, Option, Some, None, Vec, vec_len, Result, Ok, Err}
 use Rattle.std.specs.List.{range_with_len}
 use Rattle.std.specs.declared.alloc.Global.{Global}
 use Rattle.std.proofs.lemmas.List.{ext_get_or, map-append, map-set, length-set, get_or-set_same, get_or-set_other, get_or-map, replicate_more}
@@ -10,10 +10,16 @@ use Rattle.graph_heap.specs.declared.command.Command.{Command}
 use Rattle.trace.specs.declared.line.Line.{Line}
 use Rattle.trace.specs.declared.line.Line.TheVariants as lines
 use Rattle.trace.specs.declared.version.Version.{Version}
-use Rattle.trace.specs.GoneOver.{Goes}
-use Rattle.trace.specs.TextLine.{Text}
+use Rattle.trace.specs.declared.fault.TextFault.{TextFault}
+use Rattle.trace.specs.declared.line_handler.InputEnd.{InputEnd}
+use Rattle.trace.specs.declared.transcripts.scripts.Scripts.{Scripts}
+use Rattle.trace.specs.GoneOver.{Goes, LinesDone}
+use Rattle.trace.specs.Handling.{LinesHandled}
+use Rattle.trace.specs.Streams.{Given}
+use Rattle.trace.proofs.Handling.{Follows, all_moved, over_all, over_stopped}
+use Rattle.trace.specs.TextLine.{Text, text_after}
 use Rattle.trace.specs.Spelling.{Spells, is_skipped}
-use Rattle.trace.specs.Scripts.{IsOfScripts, script_of, scripts_of, one_more, with_line, AsksNothing, DoesScript, lists_in, LineAdded}
+use Rattle.trace.specs.Scripts.{IsOfScripts, script_of, scripts_of, one_more, with_line, AsksNothing, DoesScript, lists_in, LineAdded, ScriptStops, ReadScripts, ScriptsRead}
 
 -- a mutator's commands in two parts
 in_parts : (b : Bool) (c : Command) (whole front back : List Command) → whole ≡ front ++ back → (if b then c ∷ whole else whole) ≡ (if b then c ∷ front else front) ++ back
@@ -110,8 +116,39 @@ no_line version text only = (λ s. let e = only lines.Skip s in cc, λ m c s. le
 -- what a line of an input does to the scripts
 pub line_goes : (text : Text) (mutators : ℕ) (old new : Vec (Vec Command Global) Global) → vec_len old ≡ mutators → LineAdded text old new (Ok tt)
     → (spelled : List Line) × Goes AsksNothing (DoesScript mutators) text tt spelled tt × ((ls : List Line) → lists_in old ≡ scripts_of mutators ls → lists_in new ≡ scripts_of mutators (ls ++ spelled))
-line_goes text mutators old new len (inl told) =
+line_goes text mutators old new len (inl told, same) =
     ([], inl (told.0, refl, tt), λ ls e. told.1 ∙ e ∙ ap (scripts_of mutators) (sym (append-nil ls)))
-line_goes text mutators old new len (inr (other, (line, does, lists))) =
+line_goes text mutators old new len (inr (other, (line, does, lists)), same) =
     let below = subst (λ n. IsOfScripts n line) len does.1 in
     (line ∷ [], inr (other, (does.0, below)), λ ls e. lists ∙ ap (λ s. with_line s line) e ∙ sym (scripts_more mutators ls line below))
+
+-- the scripts so far, as lines add to them
+abbrev Adds : Text → Scripts → Scripts → Result (Unit {0}) TextFault → Type 0
+Adds text old new result = LineAdded text old.lists new.lists result
+
+module _ (given : Given) (mutators : ℕ) (first new : Scripts) (none : lists_in first.lists ≡ replicate mutators []) (len : vec_len first.lists ≡ mutators) where
+  -- the scripts are those of the lines so far
+  abbrev Known : (lines : List (List ℕ)) (version : Version) (spelled : List Line) (now : Scripts) → LinesDone (Goes AsksNothing (DoesScript mutators)) tt lines version spelled tt → Type 0
+  Known lines version spelled now done = (lists_in now.lists ≡ scripts_of mutators spelled) × (vec_len now.lists ≡ mutators)
+
+  follows : Follows Adds (Goes AsksNothing (DoesScript mutators)) (λ scripts. tt) first Known
+  follows = record {
+    at_first = (none ∙ empty_scripts mutators, len);
+    then = λ lines version spelled mid done known line new added.
+        let went = line_goes (text_after lines version line) mutators mid.lists new.lists known.1 added in
+        (went.0, went.1, λ next after. (went.2 spelled known.0, added.1 ∙ known.1));
+  }
+
+  -- the input has ended
+  pub scripts_read : (end : InputEnd) → LinesHandled Adds given first new (Ok end) → ScriptsRead given mutators (Ok (end.version, new.lists)) × (vec_len new.lists ≡ mutators)
+  scripts_read end h =
+      let a = all_moved Adds (Goes AsksNothing (DoesScript mutators)) (λ scripts. tt) first Known follows given new end h in
+      (inr (record { over = over_all Adds (Goes AsksNothing (DoesScript mutators)) (λ scripts. tt) first Known (ScriptStops mutators) ReadScripts given new (end.version, new.lists) a; are = (refl, a.knows.0) }), a.knows.1)
+
+  -- a fault
+  pub scripts_stopped : (fault : TextFault) → LinesHandled Adds given first new (Err fault) → ScriptsRead given mutators (Err fault)
+  scripts_stopped fault h = inr (record {
+    over = over_stopped Adds (Goes AsksNothing (DoesScript mutators)) (λ scripts. tt) first Known (ScriptStops mutators) ReadScripts given new fault
+        (λ lines version spelled mid done known line stops. subst (λ n. ScriptStops n fault (text_after lines version line) tt tt) known.1 stops) follows h;
+    are = tt;
+  })

@@ -3,10 +3,11 @@ ghost use Rattle.std.specs.Prelude.{◌≡◌, ◌+◌, ◌<◌, vec_len, replic
 ghost use Rattle.trace.specs.GoneOver.{reads_failed};
 ghost use Rattle.trace.specs.Streams.{Stays, given_by};
 ghost use Rattle.trace.specs.Spelling.{Spells};
-ghost use Rattle.trace.specs.TextLine.{text_in};
 ghost use Rattle.trace.specs.Scripts.{line_of, lists_in, one_more, IsOfScripts, ScriptLineIs, LineAdded, ScriptsRead};
 
-use crate::{Line, LineFault, LineReader, Source, TextFault, TextLine, Version, read_line};
+use crate::{
+    Line, LineFault, LineHandler, Source, TextFault, TextLine, Version, each_line, read_line,
+};
 use graph_heap::{Command, Limits, NoMemory};
 use std::alloc::Global;
 
@@ -46,18 +47,26 @@ fn add(scripts: &mut Vec<Vec<Command>>, mutator: usize, command: Command) -> Res
     Ok(())
 }
 
-/// Does what a line of scripts says.
-fn add_line(text: TextLine, scripts: &mut Vec<Vec<Command>>) -> Result<(), TextFault>
-    ensures done { LineAdded (text_in text.entry) scripts.old scripts.new result }
-    ensures len { vec_len scripts.new ≡ vec_len scripts.old }
-{
-    if text.tells_version() {
-        return Ok(());
-    }
-    match script_line(text.version, text.bytes, scripts.len()) {
-        Ok(None) => Ok(()),
-        Ok(Some((mutator, command))) => Ok(add(scripts, mutator as usize, command)?),
-        Err(fault) => Err(TextFault::Line(text.number, fault)),
+/// The scripts that the lines so far are.
+#[derive(Drop)]
+struct Scripts {
+    lists: Vec<Vec<Command>>,
+}
+
+impl LineHandler for Scripts {
+    ghost is_ready = { λ number scripts. Unit {0} };
+
+    ghost handles = { λ text old new result. LineAdded text old.lists new.lists result };
+
+    fn handle(&mut self, text: TextLine) -> Result<(), TextFault> {
+        if text.tells_version() {
+            return Ok(());
+        }
+        match script_line(text.version, text.bytes, self.lists.len()) {
+            Ok(None) => Ok(()),
+            Ok(Some((mutator, command))) => Ok(add(&mut self.lists, mutator as usize, command)?),
+            Err(fault) => Err(TextFault::Line(text.number, fault)),
+        }
     }
 }
 
@@ -85,10 +94,9 @@ pub fn read_scripts<S: Source>(
     ensures reads { S.failures source.new ≡ S.failures source.old + reads_failed result }
     ensures input { reads_failed result ≡ 0 → Stays (S.input source.old) (S.input source.new) }
 {
-    let mut scripts = empty(alloc, limits.mutators)?;
-    let mut reader = LineReader::new();
-    while reader.next_line(source)? {
-        add_line(reader.text(), &mut scripts)?;
-    }
-    Ok((reader.next_version(), scripts))
+    let mut scripts = Scripts {
+        lists: empty(alloc, limits.mutators)?,
+    };
+    let end = each_line(source, &mut scripts)?;
+    Ok((end.version, scripts.lists))
 }

@@ -5,7 +5,7 @@ use Rattle.trace.specs.Streams.{given_by}
 use Rattle.trace.specs.TextLine.{Text}
 use Rattle.trace.proofs.GoingOver.{at_first, goes_on, ends_without, ends_over, ends_at}
 use Rattle.trace.proofs.Reading.{reading_at_first, reading_on}
-use Rattle.player.specs.Playing.{stage, TellsVersionOf, is_event, PlaysText, StopsText}
+use Rattle.player.specs.Playing.{stage, PlaysLine, is_event, StopsText}
 use Rattle.player.proofs.Behind.{behind_first, behind_fewer, behind_on, waited_or_written, handed}
 use Rattle.player.proofs.Lines.{ends_so}
 use Rattle.player.proofs.Closing.{either, cut, cut_after, moved, no_part, grows_longer, stops_taken}
@@ -14,7 +14,7 @@ use Rattle.player.proofs.playing.play_lines.Goals as goal
 
 pub loop-reader-init : goal.loop-reader-init
 loop-reader-init g c = rw (c.new-reader.ensures, c.requires, append-nil (g.K.Sink.taken c.args.sink.now)) (record {
-  done = at_first (TellsVersionOf c.args.style) (PlaysText c.args.style) (g.S.Source.given c.args.source.now) (g.S.Source.ended c.args.source.now) (stage c.args.player.now (g.K.Sink.taken c.args.sink.now));
+  done = at_first (PlaysLine c.args.style) (g.S.Source.given c.args.source.now) (g.S.Source.ended c.args.source.now) (stage c.args.player.now (g.K.Sink.taken c.args.sink.now));
   grows = omega arith;
   behind = behind_first c.args.style (stage c.args.player.now (g.K.Sink.taken c.args.sink.now));
   few = left_at_first c.args.n;

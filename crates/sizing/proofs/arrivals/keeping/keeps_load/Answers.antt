@@ -7,7 +7,7 @@ use Rattle.trace.proofs.Reading.{reading_at_first, reading_on}
 use Rattle.trace.proofs.GoingOver.{at_first, goes_on, ends_without, ends_over, ends_in, ends_at}
 use Rattle.sizing.specs.declared.arrivals.keeping.Kept.{Kept}
 use Rattle.sizing.specs.Fitting.{load_in}
-use Rattle.sizing.specs.Load.{SaysNothing, SaysLine}
+use Rattle.sizing.specs.Load.{SaysText}
 use Rattle.sizing.specs.Metering.{NoEvent, TextMetered}
 use Rattle.sizing.specs.Keeping.{BreaksBy}
 use Rattle.sizing.proofs.arrivals.Checking.{checked, line_goes, line_breaks, meter_starts, not_some}
@@ -15,7 +15,7 @@ use Rattle.sizing.proofs.arrivals.keeping.keeps_load.Goals as goal
 
 pub loop-reader-init : goal.loop-reader-init
 loop-reader-init g c = rw c.new-reader.ensures (record {
-  done = at_first SaysNothing SaysLine (g.S.Source.given c.args.source.now) (g.S.Source.ended c.args.source.now) tt;
+  done = at_first SaysText (g.S.Source.given c.args.source.now) (g.S.Source.ended c.args.source.now) tt;
   meter = meter_starts (load_in c.args.load.now) c.budget-budget.result c.new-meter.result c.new-meter.ensures.levels c.new-meter.ensures.since;
   reading = reading_at_first (g.S.Source.given c.args.source.now) (g.S.Source.failures c.args.source.now) (g.S.Source.input c.args.source.now);
 })

@@ -1,0 +1,60 @@
+//! Going over the lines of an input.
+ghost use Rattle.std.specs.Prelude.{◌≡◌, ℕ, ◌+◌, Result, OnOk};
+ghost use Rattle.trace.specs.declared.fault.TextFault.{TextFault};
+ghost use Rattle.trace.specs.GoneOver.{reads_failed};
+ghost use Rattle.trace.specs.Streams.{Stays, given_by};
+ghost use Rattle.trace.specs.TextLine.{Text, text_in};
+ghost use Rattle.trace.specs.Handling.{LinesHandled};
+
+use crate::fault::TextFault;
+use crate::line_reader::LineReader;
+use crate::source::Source;
+use crate::text_line::TextLine;
+use crate::version::Version;
+
+/// What is done with the lines of an input, one after the other.
+pub trait LineHandler {
+    /// What holds of it before the line of a number, from 1.
+    ghost is_ready: { ℕ → Self → Type 0 };
+
+    /// What comes of a line: the handler before and after it, and the outcome.
+    ghost handles: { Text → Self → Self → Result (Unit {0}) TextFault → Type 0 };
+
+    /// Does a line, and reads nothing.
+    fn handle(&mut self, text: TextLine) -> Result<(), TextFault>
+        requires { is_ready text.number self.old }
+        ensures handles { handles (text_in text.entry) self.old self.new result }
+        ensures ready { OnOk result (is_ready (text.entry.number + 1) self.new) }
+        ensures reads { reads_failed result ≡ 0 };
+}
+
+/// Where an input ended.
+#[derive(Clone, Copy, Debug, PartialEq, Eq)]
+pub struct InputEnd {
+    /// How many lines it has.
+    pub lines: u64,
+    /// The version that its first line tells.
+    pub version: Version,
+}
+
+/// Hands a handler the lines of a source, of which the first may tell their version, one after the other, to the
+/// source's end or the first fault.
+pub fn each_line<S: Source, H: LineHandler>(
+    source: &mut S,
+    handler: &mut H,
+) -> Result<InputEnd, TextFault>
+    requires { H.is_ready 1 handler.old }
+    ensures handled { LinesHandled
+        H.handles (given_by S.given S.ended source.old source.new) handler.old handler.new result }
+    ensures reads { S.failures source.new ≡ S.failures source.old + reads_failed result }
+    ensures input { reads_failed result ≡ 0 → Stays (S.input source.old) (S.input source.new) }
+{
+    let mut reader = LineReader::new();
+    while reader.next_line(source)? {
+        handler.handle(reader.text())?;
+    }
+    Ok(InputEnd {
+        lines: reader.number(),
+        version: reader.next_version(),
+    })
+}

@@ -90,7 +90,7 @@ fn graph_behind(alloc: Global, config: &Config, player: &Player) -> Result<Refer
     present(alloc, &config.limits(), player.recorded().history())
 }
 
-/// Tells it.
+/// Tells what is asked of a player.
 fn tell<K: Sink>(
     alloc: Global,
     config: &Config,

@@ -31,7 +31,7 @@ abbrev pub fault_number : ServerFault → ℕ
 fault_number faults.NoMemory = 9
 fault_number (faults.Torn found) = 10
 
--- What a fault tells of what the seat has seen: nothing new, for want of memory; or all of a log of the length that
+-- What a fault says of what the seat has seen: nothing new, for lack of memory; or all of a log of the length that
 -- was found.
 abbrev pub FaultShows : ServerFault → List Entry → List Entry → Type 0
 FaultShows faults.NoMemory seen new = new ≡ seen

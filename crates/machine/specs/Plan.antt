@@ -76,7 +76,7 @@ pub record Settles (h : HeapState) (g : Graph) (done : Result (Reply × Change) 
   pub change : DoesChange h g (settled done).1 after
   pub agrees : Agrees after (changed g (settled done).1)
 
--- so it is for each graph heap of which what was planned is a plan
+-- this holds for each graph heap for which what was planned is a plan
 abbrev pub SettlesEach : HeapState → Result Planned Refusal → Reply → HeapState → Type 0
 SettlesEach h planned reply after = (g : Graph) (done : Result (Reply × Change) Refusal) → Agrees h g
     → PlansBy h g done planned → Settles h g done reply after

@@ -6,7 +6,7 @@ use Rattle.raw_heap.specs.declared.heap.RawHeap.{RawHeap}
 use Rattle.raw_heap.specs.Heap.{state_of, IsRawHeap}
 use Rattle.marker.specs.declared.scan.Scan.{Scan}
 
--- the heap when marking has come to a cell of a part and so many units are spent
+-- the heap when marking is at a cell of a part and this many units are spent
 abbrev pub scanning : RawHeap → ℕ → ℕ → ℕ → RawHeap
 scanning a part cell units = record a { phase = phases.Marking part cell; units = units }
 

@@ -48,7 +48,7 @@ pub record AreCounted (s : Step) (copies : Copies) : Type 0 where
   pub sweep : ends_sweep s ≡ true → copies ≡ copies_in s.after.heap.store
   pub cycle : ends_cycle s ≡ true → copies ≡ copies_in s.after.heap.store
 
--- what is told of a cycle's end
+-- what is reported of a cycle's end
 abbrev pub end_at : Course → End
 end_at r = record { units = r.heap.units; moved = (copies_in r.heap.store).old }
 

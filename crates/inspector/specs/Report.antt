@@ -20,11 +20,11 @@ phase_name (phases.Marking part cell) = codes "marking"
 phase_name (phases.Sweeping page block) = codes "sweeping"
 phase_name (phases.Moving m) = codes "moving"
 
--- the phase, and the units spent in the cycle that is on, or else in the last one
+-- the line of the phase
 abbrev pub phase_line : HeapState → List ℕ
 phase_line h = codes "phase " ++ phase_name h.phase
 
--- the line of the units spent in a cycle
+-- the line of the units spent in the cycle that is running, or else in the last one
 abbrev pub units_line : HeapState → List ℕ
 units_line h = codes "units " ++ decimal h.units
 

@@ -69,15 +69,15 @@ HistoryChecked config given answered = (how : Result Checked TextFault) × Entri
     × AnswerOf (λ checked answer. (string_bytes answer.text ≡ told_of checked) × (answer.ending ≡ verdict checked))
     how answered
 
--- A trace was played on a new heap, and the cycles of the run are told.
+-- A trace was played on a new heap, and the cycles of the run are reported.
 abbrev pub CyclesTold : Layout → Config → Given → Result Answer TextFault → Type 0
 CyclesTold layout config given answered = (how : Result Cycles TextFault) × CyclesTaken config given how
     × AnswerOf (λ log answer. (string_bytes answer.text ≡ cycles_told layout log.items.items) × (answer.ending ≡ Done))
     how answered
 
--- A trace was measured on a new heap, and the pages that it needs are told: where they suffice, `TraceMeasured`
--- promises room to this run, and to those of which the verdict speaks; and on as many as are told for a way, to those
--- that the line names.
+-- A trace was measured on a new heap, and the pages that it needs are reported: where they suffice, `TraceMeasured`
+-- promises room to this run, and to those of which the verdict speaks; and on as many as a line gives for a way, to
+-- those that the line names.
 abbrev pub PagesTold : Bool → Config → Given → Result Answer TextFault → Type 0
 PagesTold pace config given answered = (how : Result Measured TextFault) × TraceMeasured config given how
     × AnswerOf (λ m answer. TellsPages pace config m (string_bytes answer.text) × (answer.ending ≡ Done)) how answered

@@ -7,7 +7,7 @@ use Rattle.metronome_c.specs.declared.answer.MetronomeShape.{MetronomeShape}
 use Rattle.metronome_c.specs.declared.status.Status.{Status}
 use Rattle.metronome_c.specs.Answer.{answered, shape_told}
 
--- A call of the heap gives its answer, and what the call left is held. Without a heap it is told why there is none.
+-- A call of the heap gives its answer, and what the call left is held. Without a heap the answer is why there is none.
 abbrev pub Asks : {A : Type 0} → (HeapState → A → HeapState → Type 0) → Result HeapState Status → Result A Status
     → Result HeapState Status → Type 0
 Asks call (Err why) answer new = (answer ≡ Err why) × (new ≡ Err why)

@@ -58,7 +58,7 @@ StaysInBucket l level (lines.Begin ∷ rest) = StaysInBucket l level rest
 StaysInBucket l level (lines.Quantum budget ∷ rest) = StaysInBucket l level rest
 StaysInBucket l level (lines.Tick n ∷ rest) = StaysInBucket l (λ class. level class - l.rate class * n) rest
 
--- each command comes so many ticks at most after the last line `begin`, or the start, since which some passed
+-- each command comes at most `gap` ticks after the last line `begin`, or the start, which was `since` ticks before
 abbrev pub BeginsOften : ℕ → ℕ → List Line → Type 0
 BeginsOften gap since [] = Unit {0}
 BeginsOften gap since (lines.Skip ∷ rest) = BeginsOften gap since rest

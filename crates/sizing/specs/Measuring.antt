@@ -42,7 +42,7 @@ TraceMeasured config given (Err Without_memory) = Unit {0}
 TraceMeasured config given (Err fault) = (old : PlayerState) × (new : Stage)
     × Played Nothing given (stage old []) new (Err fault) × IsNew config old
 
--- the player has done these events from a new heap, and the meter holds what they come to
+-- the player has done these events from a new heap, and the meter holds what they add up to
 pub record IsAt (h : HeapState) (es : List Event) (run : Run) : Type 0 where
   pub opening : IsOpening h
   pub pages : 0 < length h.store.pages

@@ -15,7 +15,7 @@ use Rattle.trace.specs.Spelling.{Spells, is_skipped}
 use Rattle.trace.specs.Streams.{Given}
 use Rattle.trace.specs.TextLine.{Text, IsVersionLine}
 
--- A line of scripts is skipped, or is a command of one of so many mutators.
+-- A line of scripts is skipped, or is a command of one of this many mutators.
 abbrev pub IsOfScripts : ℕ → Line → Type 0
 IsOfScripts mutators lines.Skip = Unit {0}
 IsOfScripts mutators (lines.Command m c) = m < mutators
@@ -53,7 +53,7 @@ ScriptLineIs mutators version faults.NoSuchMutator text = (m : ℕ) × (c : Comm
     × Spells version text (lines.Command m c) × (mutators ≤ m)
 ScriptLineIs mutators version fault text = ⊥
 
--- a line that spells a command of one of so many mutators
+-- a line that spells a command of one of this many mutators
 abbrev pub IsCommand : ℕ → Version → List ℕ → Type 0
 IsCommand mutators version text = (m : ℕ) × (c : Command) × Spells version text (lines.Command m c) × (m < mutators)
 
@@ -68,7 +68,7 @@ ScriptStops mutators fault text old new = ⊥
 abbrev pub ReadScripts : Type 0
 ReadScripts = Version × Vec (Vec Command Global) Global
 
--- Scripts of so many mutators, as the lines of an input are.
+-- Scripts of this many mutators, as the lines of an input are.
 pub record AreScripts (given : Given) (mutators : ℕ) (result : Result ReadScripts TextFault) : Type 0 where
   pub over : GoneOver (Goes AsksNothing (DoesScript mutators)) given tt
       (λ reached. Ends (ScriptStops mutators) reached given.ended tt result)

@@ -40,7 +40,7 @@ pub struct Outcome {
 }
 
 /// Plays scripts at a new heap, each in a thread of its own, and a collector beside them, which for each
-/// budget begins a cycle, unless one is on, and spends the budget on it. Script m is mutator m's. Each
+/// budget begins a cycle, unless one is running, and spends the budget on it. Script m is mutator m's. Each
 /// worker comes by the gate before each of its commands or budgets and after the last. All threads have ended
 /// when the outcome is there. Where a thread can't be started its commands are done in turn.
 ///
@@ -102,7 +102,7 @@ fn played<N: Naming + Send + Sync, G: Gate + Sync, R: Threads + Wait + Sync>(
     Ok(settled(server, seats, pacer, scripts, budgets, used, done))
 }
 
-/// Makes room for all commands of the scripts, if there is memory for so many entries.
+/// Makes room for all commands of the scripts, if there is memory for that many entries.
 fn reserve_for<N: Naming>(rt: &impl Wait, server: &Server<N>, scripts: &[Vec<Command>]) {
     let mut calls = 0usize;
     for script in scripts {

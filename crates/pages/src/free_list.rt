@@ -152,7 +152,7 @@ fn look(arena: &mut Arena, page: usize, row: &mut PageRecord, index: usize, colo
     push(arena, page, row, index);
 }
 
-/// Looks at so many blocks of a page, from one on, each after the other.
+/// Looks at `count` blocks of a page in a row, from one of them on.
 pub fn sweep(
     arena: &mut Arena,
     page: usize,

@@ -61,7 +61,7 @@ fn counted(pages: usize, was: bool, is: bool) -> usize
 }
 
 impl PageTable {
-    /// So many free pages. Only want of memory is refused.
+    /// This many free pages. Refused only for lack of memory.
     pub fn new(alloc: Global, pages: u32) -> Result<PageTable, NoMemory>
         requires { pages ≤ 4096 }
         ensures { IfOk result (λ t. t ≡ replicate pages None) }
@@ -228,7 +228,7 @@ impl PageTable {
         }
     }
 
-    /// Looks at so many blocks of a page in use, from one on: each that is held and hasn't the colour is given
+    /// Looks at `count` blocks of a page in use, from one on: each that is held and hasn't the colour is given
     /// back. Every other block, and every other page, stays, and so do the words of the blocks that are held
     /// then.
     pub fn sweep(&mut self, arena: &mut Arena, block: Block, count: usize, colour: bool)
@@ -283,8 +283,8 @@ impl PageTable {
     }
 
     /// Closes a page, as the sweeper does when it has looked at all its blocks: the marks leaving and
-    /// receiving go, and if no block is held the page becomes free. With whatever words the table goes
-    /// together, it still does.
+    /// receiving go, and if no block is held the page becomes free. Whatever words the table goes together
+    /// with, it still does.
     pub fn close_page(&mut self, page: usize)
         requires { page < length self.old }
         ensures together { (words : List ℕ) → Together self.old words → Together self.new words }

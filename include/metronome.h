@@ -197,10 +197,10 @@ void metronome_destroy(metronome *heap) METRONOME_NONNULL;
 
 /* ---- Commands of mutators. Each is done at once, whatever phase the collector is in. Each needs a live mutator, but
  * metronome_join, which needs one that isn't: all are live at first, or those below the setting `live`. A slot that is written
- * to is named by its number, whatever it holds; one that names an object mustn't hold null. Where NO_HEAP is told of a handle
- * that is closed, here and below, BAD_HANDLE is told of what is none ---- */
+ * to is named by its number, whatever it holds; one that names an object mustn't hold null. Where NO_HEAP is the status for a
+ * closed handle, here and below, BAD_HANDLE is the status for what is no handle ---- */
 
-/* A new object of so many reference cells, all null, and so many word cells, all 0, into slot dst. At most 252 cells.
+/* A new object of `refs` reference cells, all null, and `words` word cells, all 0, into slot dst. At most 252 cells.
  * MADE; refused: BAD_SLOT, TOO_LARGE, IDENTITIES_SPENT, NO_SPACE, NOT_LIVE, NO_HEAP. */
 metronome_answer metronome_new_plain(metronome *heap, uint32_t mutator, uint32_t dst, uint32_t refs, uint32_t words) METRONOME_NONNULL;
 

@@ -138,7 +138,7 @@ fn axes() -> [Element; 18]
     ]
 }
 
-/// Writes the picture of so many samples.
+/// Writes the picture of these samples.
 fn draw_samples<K: Sink>(scale: &Scale, samples: &[Sample], sink: &mut K) -> Result<(), WriteFailed>
     ensures ok { OnOk result (K.taken sink.new ≡ K.taken sink.old ++ svg_text (time_chart scale.now samples.now)) }
     ensures err { OnErr result (GrowsByPart (K.taken sink.old) (K.taken sink.new)

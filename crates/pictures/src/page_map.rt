@@ -142,7 +142,7 @@ fn write_squares<K: Sink>(heap: &Heap, sink: &mut K) -> Result<(), WriteFailed>
     Ok(())
 }
 
-/// What is told of the heap as a whole, and what the colours mean.
+/// What is said of the heap as a whole, and what the colours mean.
 fn told(heap: &Heap) -> [Element; 15]
     ensures { result ≡ map_told heap.now }
 {

@@ -37,7 +37,7 @@ pub struct InputEnd {
     pub version: Version,
 }
 
-/// Hands a handler the lines of a source, of which the first may tell their version, one after the other, to the
+/// Hands a handler the lines of a source, where the first may tell their version, one after the other, to the
 /// source's end or the first fault.
 pub fn each_line<S: Source, H: LineHandler>(
     source: &mut S,

@@ -1,5 +1,5 @@
-//! A tick that is refused memory and goes on, replies of a front of a trace, texts of faults, of which the program has its
-//! own, and a write of no bytes.
+//! A tick that is refused memory and goes on, replies of a front of a trace, texts of faults, for which the program has
+//! its own, and a write of no bytes.
 use super::*;
 use graph_heap::NoMemory;
 use player::{Player, Style, TickFault, play, play_first};

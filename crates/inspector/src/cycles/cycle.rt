@@ -1,7 +1,6 @@
-//! What is told of a cycle.
+//! What is reported of a cycle.
 
-/// What the sweep of a cycle did, of which the figures are of the heap after the quantum in which it ended, or of the
-/// history up to there.
+/// What the sweep of a cycle did, by the heap after the quantum in which it ended, or by the history up to there.
 #[derive(Clone, Copy, Debug, PartialEq, Eq)]
 pub struct Sweep {
     /// How many objects were freed.

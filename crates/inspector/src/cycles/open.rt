@@ -26,7 +26,7 @@ pub struct Base {
     pub place: usize,
 }
 
-/// What is told of a cycle's end.
+/// What is reported of a cycle's end.
 #[derive(Clone, Copy, Debug, PartialEq, Eq)]
 pub struct End {
     /// The units of the cycle.
@@ -98,7 +98,7 @@ impl Base {
 }
 
 impl End {
-    /// What is told of a cycle that ends with this heap, which has so many old copies.
+    /// What is reported of a cycle that ends with this heap, which has this many old copies.
     fn of(heap: &Heap, old: usize) -> End
         ensures { result ≡ record { units = heap.now.units; moved = old } }
     {

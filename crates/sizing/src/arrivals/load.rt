@@ -18,7 +18,7 @@ pub struct Load {
     pub gap: u32,
 }
 
-/// Notes of each class the blocks that are asked for in so many ticks.
+/// Notes of each class the blocks that are asked for in this many ticks.
 fn ask(blocks: &mut [u64; CLASSES], rate: &[u32; CLASSES], burst: &[u32; CLASSES], ticks: u32)
     ensures { (class : ℕ) → class < CLASSES
         → slice_index blocks.new class ≡ slice_index rate.now class * ticks + slice_index burst.now class }
@@ -28,7 +28,7 @@ fn ask(blocks: &mut [u64; CLASSES], rate: &[u32; CLASSES], burst: &[u32; CLASSES
     }
 }
 
-/// The blocks of each class that are asked for in so many ticks.
+/// The blocks of each class that are asked for in this many ticks.
 fn asked_in(rate: &[u32; CLASSES], burst: &[u32; CLASSES], ticks: u32) -> [u64; CLASSES]
     ensures { (class : ℕ) → class < CLASSES
         → slice_index result class ≡ slice_index rate.now class * ticks + slice_index burst.now class }

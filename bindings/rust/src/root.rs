@@ -14,7 +14,7 @@ pub struct Root<'m> {
     slot: u32,
 }
 
-/// What a comparison came to.
+/// The outcome of a comparison.
 #[derive(Clone, Copy, Debug, PartialEq, Eq)]
 pub enum Compared {
     /// It held, and the cell was written.
@@ -39,9 +39,9 @@ pub enum Shape {
         /// How many words.
         words: u32,
     },
-    /// An array of so many references.
+    /// An array of this many references.
     Refs(u32),
-    /// An array of so many words.
+    /// An array of this many words.
     Words(u32),
 }
 

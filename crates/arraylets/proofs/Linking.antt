@@ -150,7 +150,7 @@ taking_at cells at at' old parts new same Nothing_taken = Nothing_taken
 taking_at cells at at' old parts new same (Part_taken part class index s t takes f b) =
     Part_taken part class index s t (taking_at cells at at' old part s (λ p l. same p (omega arith)) takes) f (subst (λ z. TakesBlock s class (z / 2048) index t) (same part (omega arith)) b)
 
--- so many parts are made, and the spines among them are known
+-- this many parts are made, and the spines among them are known
 pub record Made (old : Store) (shape : Shape) (colour : Bool) (id : ℕ) (spines : List ℕ) (parts : ℕ) (new : Store) : Type 0 where
   pub at : ℕ → ℕ
   pub known : (p : ℕ) → p < parts → p < 64 → get_or spines p 0 ≡ at p

@@ -79,7 +79,7 @@ one_written r h = writes_so r (Text texts.Write) h
 pub none_read : {A : Type 0} (r : Result A RunFault) → IsErrAnd r (λ e. e ≡ Text texts.Write) → failed_reads r ≡ 0
 none_read r h = reads_so r (Text texts.Write) h
 
--- one that ends for want of memory
+-- one that ends for lack of memory
 pub memory_unread : {A : Type 0} (r : Result A RunFault) → IsErrAnd r (λ e. e ≡ Text texts.NoMemory) → failed_reads r ≡ 0
 memory_unread r h = reads_so r (Text texts.NoMemory) h
 

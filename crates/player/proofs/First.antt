@@ -96,7 +96,7 @@ first_done {style} {given} {old} {new} {reader} so n count end = inr (
   inl refl,
 )
 
--- How many events are left of at most so many, where there is a most.
+-- How many events are left after some, where their number is limited.
 abbrev pub AreLeft : Option ℕ → ℕ → Option ℕ → Type 0
 AreLeft None count left = left ≡ None
 AreLeft (Some n) count left = (k : ℕ) × (left ≡ Some k) × (k + count ≡ n)

@@ -33,7 +33,7 @@ use Rattle.space.proofs.Shifted.{at_units, chain_at, change_at, stands_at}
 next_times : (n d : ℕ) → (n + 1) * d ≡ n * d + d
 next_times n d = grind arith
 
--- a cycle that is on moves, if it is past the end of its sweep
+-- a running cycle moves, if it is past the end of its sweep
 a_move : (q : Phase) → in_cycle q ≡ true → is_tracing q ≡ false → (m : Moving) × (q ≡ phases.Moving m)
 a_move phases.Idle on off = absurd (cc)
 a_move (phases.Roots next) on off = absurd (cc)

@@ -113,7 +113,7 @@ quanta_after r Cycle_on n = n
 quanta_after r (Quantum_done budget units phase) n = if in_cycle r.heap.phase then n + 1 else n
 quanta_after r (Quantum_refused budget) n = n
 
--- What is kept, where n quanta of the cycle were done, and no cycle takes more than so many.
+-- What is kept, where n quanta of the cycle were done, and no cycle takes more than `most`.
 pub record IsPaced (r : Course) (t : Tally) (b : Beat) (p : Pace) (most n : ℕ) : Type 0 where
   pub graph : t.graph ≡ present_of r
   pub same : b.graph ≡ present_of r
@@ -124,7 +124,7 @@ pub record IsPaced (r : Course) (t : Tally) (b : Beat) (p : Pace) (most n : ℕ)
   pub since_last : (class : ℕ) → class < CLASSES → blocks_of (drop t.last t.graph.objects) class ≤ (if b.on then n * p.busy class else most * p.busy class) + b.asked class
   pub since_base : (class : ℕ) → class < CLASSES → blocks_of (drop t.base t.graph.objects) class ≤ (if b.on then most * p.busy class + p.idle class + n * p.busy class else most * p.busy class) + b.asked class
 
--- no cycle is on in idle alone
+-- only in idle no cycle is running
 pub idle_phase : (f : Phase) → in_cycle f ≡ false → f ≡ phases.Idle
 idle_phase phases.Idle e = refl
 idle_phase (phases.Roots next) e = absurd (cc)

@@ -148,7 +148,7 @@ module _ {S E : Type 0} {Moves : Text → S → List E → S → Type 0} {given 
             let rest = next.text.bytes ++ 10 ∷ next.kept in
             ends_after after rest ended End e.text e.small (so_it_ends count rest (next.text.bytes, next.kept, refl, e.says, subst P (same ∙ is_next) this))
 
-        -- the next line comes to a fault
+        -- the next line leads to a fault
         abbrev pub ends_at : (A : Type 0) (Stops : TextFault → Text → S → S → Type 0) (fault : TextFault) (new : S) → Stops fault text mid new
             → GoneOver Moves (later given after ended) old (λ r. Ends Stops {A = A} r ended new (Err fault))
         ends_at A Stops fault new stops =

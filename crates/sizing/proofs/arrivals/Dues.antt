@@ -51,7 +51,7 @@ rests r new b budget units phase off on d =
     let still = idle_chain r.heap new.heap units d.turn.chain i in
     (still.0, sym d.ends ∙ ap (λ (h : HeapState). h.phase) still.0 ∙ i)
 
--- the beginnings of a quantum that is due: a cycle is on
+-- the beginnings of a quantum that is due: a cycle is running
 pub some_due : (c q k : ℕ) (p : PlayerState) (b : Beat) (due : ℕ) → IsTimed c q k p b → p.timetable.due ≡ Some due → b.on ≡ true
 some_due c q k p b due i is = elim (on_or_off b.on) [
   | inl on ↦ on

@@ -19,7 +19,7 @@ abbrev pub ◌>>=◌ : {A B : Type 0} → Result A Refusal → (A → Result B R
 (Ok x) >>= f = f x
 (Err e) >>= f = Err e
 
--- where a slot, or a static, stands in the row of roots
+-- where a slot stands in the row of roots
 abbrev pub slot_at : Limits → ℕ → ℕ → Result ℕ Refusal
 slot_at l m s = if nat_lt m l.mutators && nat_lt s l.slots then Ok (m * l.slots + s) else Err refusals.BadSlot
 

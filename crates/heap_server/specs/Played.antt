@@ -57,7 +57,7 @@ pub record IsCollected (budgets : List ℕ) (used : ℕ) (p : PacerView) : Type 
   pub least : used ≤ p.spent
   pub most : p.spent ≤ sum (take used budgets)
 
--- What came of scripts and budgets, at a new heap of these settings: it is sound; each entry of its history is
+-- The outcome of scripts and budgets on a new heap of these settings: it is sound; each entry of its history is
 -- counted once, as one that a script has done; of no script more is done than it has; where the place word isn't
 -- torn, what was done is the fronts of the scripts; and the cycles, quanta and units that led to the heap are those of
 -- the budgets used. All is done where nothing is left and the word isn't torn, and then the history is a merge of the

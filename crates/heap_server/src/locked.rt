@@ -154,7 +154,7 @@ impl<N: Naming> Locked<N> {
 
     /// Does a command of the seat's mutator, whole, and enters it with its reply. The place word goes from the
     /// length of the history to one more first: where it has another number, the log was torn from the history,
-    /// and nothing has changed. So it is where memory for the entry is refused.
+    /// and nothing has changed. The same holds where memory for the entry is refused.
     pub fn transact(
         &mut self,
         place: &Place<N>,

@@ -22,7 +22,7 @@ use std::sync::Wait;
 use std::thread;
 use std::thread::Threads;
 
-/// What came of a play.
+/// The outcome of a play.
 #[derive(Drop)]
 pub struct Outcome {
     /// The heap, with the history of all commands that were done.
@@ -45,8 +45,8 @@ pub struct Outcome {
 /// when the outcome is there. Where a thread can't be started its commands are done in turn.
 ///
 /// Room for all commands is made before the threads start, so that no call takes memory while it holds the lock; only
-/// the system may have to find a page of that room when a call first writes to it. Where there is no memory for so
-/// many, the history grows as it needs.
+/// the system may have to find a page of that room when a call first writes to it. Where there is no memory for all
+/// of them, the history grows as it needs.
 ///
 /// A script whose command is refused memory, or finds the place word torn, ends before that command, and a budget
 /// that isn't 256 to 1000000 units ends the collector. NoMemory is answered only where nothing was started.

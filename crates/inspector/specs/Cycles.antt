@@ -22,7 +22,7 @@ abbrev pub copies_at : Option Course → Copies
 copies_at None = record { objects = 0; parts = 0; old = 0 }
 copies_at (Some r) = copies_in r.heap.store
 
--- the units that a quantum adds to those of the cycle that it finds on
+-- the units that a quantum adds to those of the cycle that it finds running
 abbrev pub units_by : Step → ℕ
 units_by s = if works s then s.after.heap.units - s.before.heap.units else 0
 

@@ -57,7 +57,7 @@ abbrev pub IsEnd : Step → List Step → Option End → Type 0
 IsEnd first later None = count_by ends_cycle later ≡ 0
 IsEnd first later (Some e) = (count_by ends_cycle later ≢ 0) × (e ≡ end_at (end_of first later))
 
--- A cycle that the first step began, as far as the later ones have come.
+-- A cycle that the first step began, as far as the later ones have taken it.
 pub record IsOpen (earlier : List Step) (first : Step) (later : List Step) (o : Open) : Type 0 where
   pub line : o.line ≡ first.line
   pub base : IsBase earlier o.base

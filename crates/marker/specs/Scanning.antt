@@ -14,7 +14,7 @@ scanning a part cell units = record a { phase = phases.Marking part cell; units 
 abbrev pub IsScanning : RawHeap → ℕ → ℕ → Type 0
 IsScanning a part cell = (units : ℕ) × IsRawHeap (scanning a part cell units)
 
--- Actions that cost so much lead from the one place in marking to the other.
+-- Actions that cost this much lead from the one place in marking to the other.
 abbrev pub Scans : RawHeap → Scan → RawHeap → Scan → ℕ → Type 0
 Scans old from new to cost = (units : ℕ)
     → Chain (state_of (scanning old from.part from.cell units)) cost

@@ -51,7 +51,7 @@ impl Model for PageTable {
     ghost invariant = { IsKept };
 }
 
-/// A number of pages, where one that counted or not does or doesn't.
+/// A number of pages, once one that was counted or not is counted or not.
 fn counted(pages: usize, was: bool, is: bool) -> usize
     requires some { bit was ≤ pages }
     requires room { pages ≤ 4096 }
@@ -117,7 +117,7 @@ impl PageTable {
         self.rows[page]
     }
 
-    /// Gives a page another record. It was free or of the class, and is.
+    /// Gives a page another record. It was free or of the class, and so it is then.
     fn put(&mut self, page: usize, class: Class, row: Option<PageRecord>)
         requires page { page < length self.old }
         requires was { OfClass class (row_at self.old page) }
@@ -266,8 +266,8 @@ impl PageTable {
         (block - 2048 * page) / row.class.size() as usize
     }
 
-    /// Marks a page in use as leaving: it gets no block from then on. With whatever words the table goes
-    /// together, it still does.
+    /// Marks a page in use as leaving: it gets no block from then on. Whatever words the table goes
+    /// together with, it still does.
     pub fn leave(&mut self, page: usize)
         requires page { page < length self.old }
         requires receiving { IsSomeAnd (row_at self.old page) (λ r. r.receiving ≡ false) }

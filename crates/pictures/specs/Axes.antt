@@ -25,7 +25,7 @@ line_x line lines = 80 + 1080 * min line lines / (lines + 1)
 abbrev pub height_of : ℕ → ℕ → ℕ
 height_of n greatest = 150 * min n greatest / max greatest 1
 
--- a number on an axis that goes up, so far from the top, with a light line
+-- a number on an axis that goes up, this far from the top, with a light line
 abbrev pub level_number : ℕ → Caption → List Element
 level_number y caption = Line 76 y 1160 y Light ∷ Text 72 (y + 4) 11 End caption ∷ []
 

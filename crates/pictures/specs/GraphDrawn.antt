@@ -1,4 +1,4 @@
--- What comes of drawing a graph heap.
+-- The outcome of drawing a graph heap.
 use Rattle.std.specs.Prelude.{◌≡◌, ℕ, List, ◌++◌, Result, Ok, Err}
 use Rattle.trace.specs.declared.fault.TextFault.{TextFault}
 use Rattle.trace.specs.declared.fault.TextFault.TheVariants.{Write, NoMemory}

@@ -48,7 +48,7 @@ abbrev pub holders : Option ℕ → ℕ → Holder
 holders (Some object) cell = Cell object cell
 holders None cell = Root cell
 
--- an object that one of the first cells holds, so far from the roots
+-- an object that one of the first cells holds, this far from the roots
 pub record IsOneOf (cells : List ℕ) (d : ℕ) (holder : ℕ → Holder) (count : ℕ) (f : Found) : Type 0 where
   pub cell : ℕ
   pub below : cell < count

@@ -161,7 +161,7 @@ abbrev pub entry_of : Option Receipt → List Entry
 entry_of None = []
 entry_of (Some receipt) = receipt.entry ∷ []
 
--- What came of a line of this number, whatever the style and the text before it; and of a line's text.
+-- The outcome of a line of this number, whatever the style and the text before it; and that of a line's text.
 abbrev pub LineDone : Line → ℕ → PlayerState → PlayerState → Result (Option Receipt) TextFault → Type 0
 LineDone line number old new (Ok receipt) = (es : List Event) × DoesLine old line es new
     × (entries_in es ≡ entry_of receipt)

@@ -44,8 +44,8 @@ last_end intervals = start_after 0 (last_or None intervals)
 abbrev pub with_reserved : Timetable → ℕ → Timetable
 with_reserved t n = record t { reserved = n }
 
--- One interval more, of a quantum at a time; the next quantum is due after it. Of the memory that was
--- reserved no more is gone than its own.
+-- One interval more, of a quantum at a time; the next quantum is due after it. No more of the memory that was
+-- reserved is gone than its own.
 pub record IsPlacedAt (due : ℕ) (old new : Timetable) : Type 0 where
   pub placed : new ≡ record old {
     intervals = old.intervals ++ (record { start = due; end = due + old.collector_ticks }) ∷ [];

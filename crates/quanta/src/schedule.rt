@@ -40,7 +40,7 @@ impl Model for Schedule {
 }
 
 impl Schedule {
-    /// A schedule at time 0, without intervals and with no cycle on. It takes no memory.
+    /// A schedule at time 0, without intervals and with no cycle running. It takes no memory.
     pub fn new(alloc: Global, config: &Config) -> Schedule
         ensures { result ≡ opening config.now.collector_ticks config.now.mutator_ticks }
     {

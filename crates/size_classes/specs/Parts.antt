@@ -69,7 +69,7 @@ part_in n i = spines_of n + i / PART_CELLS
 unfoldable pub column_in : ℕ → ℕ
 column_in i = i % PART_CELLS
 
--- which spine refers to a part but part 0, and in which of its cells
+-- which spine refers to a part other than part 0, of an object with k pieces and s spines
 abbrev pub holder_by : ℕ → ℕ → ℕ → ℕ
 holder_by k s part = if nat_le part (heads_by k s) then 0 else (part - s) / PART_CELLS + 1
 

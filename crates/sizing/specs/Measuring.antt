@@ -25,7 +25,7 @@ use Rattle.sizing.specs.Measured.{IsMeasured}
 use Rattle.sizing.specs.Promises.{Promises}
 use Rattle.sizing.specs.Meter.{Measures}
 
--- An input was played to its end on a new player, this was measured of its events, and so much is promised of them.
+-- An input was played to its end on a new player, this was measured of its events, and what it promises holds of them.
 pub record RunMeasured (config : Config) (given : Given) (m : Measured) : Type 0 where
   pub old : PlayerState
   pub new : Stage

@@ -18,7 +18,7 @@ use Rattle.sizing.specs.Measured.{IsLeastPace}
 abbrev pub none_live : Lives
 none_live n class = 0
 
--- the season after events, where cycles begin with so much live
+-- the season after events, where cycles begin with this much live
 abbrev pub season_at : Lives → Season → List Event → Season
 season_at live s [] = s
 season_at live s (e ∷ es) = season_at live (season_after live s e) es

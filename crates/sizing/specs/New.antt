@@ -16,7 +16,7 @@ use Rattle.space.specs.Fitting.{FitsIn}
 use Rattle.space.specs.Room.{AllHaveRoom}
 use Rattle.sizing.specs.Load.{Load, KeepsLoad, AllLive, pace_of}
 
--- the pace to which a load comes fits in a configuration's pages
+-- the pace that a load makes fits in a configuration's pages
 abbrev pub LoadFits : Config → Load → Type 0
 LoadFits config l = FitsIn config (pace_of l config.collector_ticks config.mutator_ticks) config.pages
 

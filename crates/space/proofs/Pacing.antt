@@ -221,7 +221,7 @@ module _ (p : Pace) (k most : ℕ) where
       present : present_of new ≡ present_of r
       present = collects_present r new budget units phase w q
 
-      -- with no cycle on
+      -- with no cycle running
       at_rest : b.on ≡ false → IsPaced new (if is_tracing phase then t else record t { base = t.last }) b p most n
       at_rest off =
           let still = idle_chain r.heap new.heap units q.turn.chain (idle_phase r.heap.phase (sym i.on ∙ off)) in
@@ -242,7 +242,7 @@ module _ (p : Pace) (k most : ℕ) where
           by_off class true z l = absurd (cc)
           by_off class false z l = l
 
-      -- with a cycle on
+      -- with a cycle running
       at_work : b.on ≡ true → IsPaced new (if is_tracing phase then t else record t { base = t.last }) (record b { on = in_cycle phase; asked = λ class. 0 }) p most (n + 1)
       at_work on = by_phase phase q.ends
         where

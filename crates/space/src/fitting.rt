@@ -1,4 +1,4 @@
-//! Whether a configuration has pages enough, so that no new object is refused for lack of space.
+//! Whether a configuration has enough pages, so that no new object is refused for lack of space.
 ghost use Rattle.std.specs.Prelude.{◌≡◌, ◌≤◌, ◌↔◌, IsTrue};
 ghost use Rattle.space.specs.Fitting.{pace_in, spare_in, below_in, swept_at, moving_at, quanta_at, unmoved_quanta_at};
 ghost use Rattle.space.specs.Fitting.{moved_pages, unmoved_pages, pages_needed, quanta_needed, FitsIn, IsLeast};

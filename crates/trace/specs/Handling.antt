@@ -6,7 +6,7 @@ use Rattle.trace.specs.GoneOver.{GoneOver, Ends}
 use Rattle.trace.specs.Streams.{Given}
 use Rattle.trace.specs.TextLine.{Text}
 
--- Handles text old new result: what comes of a line that a handler is handed.
+-- Handles text old new result: the outcome of a line that a handler is handed.
 module _ {H : Type 0} (Handles : Text → H → H → Result (Unit {0}) TextFault → Type 0) where
   -- the handler does a line; it tells no events
   abbrev pub HandlesLine : Text → H → List (Unit {0}) → H → Type 0

@@ -93,7 +93,7 @@ abbrev pub with_line : List (List Command) → Line → List (List Command)
 with_line scripts (lines.Command m c) = one_more scripts m c
 with_line scripts line = scripts
 
--- What came of one line: it tells the version of those after it, or asks for something.
+-- The outcome of one line: it tells the version of those after it, or asks for something.
 abbrev pub LineAdded : Text → Vec (Vec Command Global) Global → Vec (Vec Command Global) Global
     → Result (Unit {0}) TextFault → Type 0
 LineAdded text old new (Ok done) =

@@ -22,7 +22,7 @@ pub struct Sweep {
 pub struct Cycle {
     /// The number of the line that began it, from 1.
     pub line: u64,
-    /// How many quanta found it on.
+    /// How many quanta found it running.
     pub quanta: u64,
     /// How many units they spent.
     pub units: u64,

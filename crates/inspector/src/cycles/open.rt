@@ -196,7 +196,7 @@ impl Open {
         }
     }
 
-    /// How it ended; or with this heap, where it is still on.
+    /// How it ended; or with this heap, where it is still running.
     fn end(&self, heap: &Heap) -> End
         ensures { (later : List Step) (first : Step) → IsEnd first later self.now.end
             → (count_by ends_cycle later ≡ 0 → (end_of first later).heap ≡ heap.now)

@@ -55,7 +55,7 @@ impl Search {
         Ok(())
     }
 
-    /// Adds the objects that cells hold, so far from the roots. The cells are those of an object, or else they are the
+    /// Adds the objects that cells hold, this far from the roots. The cells are those of an object, or else they are
     /// roots.
     pub(crate) fn add_all(
         &mut self,

@@ -44,7 +44,7 @@ pub record IsSoon (c q start until : ℕ) (t : Timetable) (b : Beat) : Type 0 wh
   pub due : b.on ≡ true → (d : ℕ) × (t.due ≡ Some d) × (d < start + c + q)
   pub spaced : start_after q (last_or None t.intervals) < until + c + q
 
--- a quantum with no cycle on
+-- a quantum with no cycle running
 pub rests : (r new : Course) (b : Beat) (budget units : ℕ) (phase : Phase) → b.on ≡ false → b.on ≡ in_cycle r.heap.phase → Collects r budget units phase new → (new.heap ≡ r.heap) × (phase ≡ phases.Idle)
 rests r new b budget units phase off on d =
     let i = idle_phase r.heap.phase (sym on ∙ off) in

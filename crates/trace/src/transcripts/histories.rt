@@ -8,7 +8,7 @@ ghost use Rattle.trace.specs.Histories.{LineChecked, EntriesChecked};
 use crate::{EntryLine, LineFault, LineReader, Source, TextFault, TextLine, read_entry};
 use graph_heap::Reference;
 
-/// What became of a history that was checked.
+/// The outcome of checking a history.
 #[derive(Clone, Copy, Debug, PartialEq, Eq)]
 pub enum Checked {
     /// Each entry is a step of the graph heap at its place. There are this many.
@@ -17,7 +17,7 @@ pub enum Checked {
     Wrong(u64),
 }
 
-/// What became of one line.
+/// The outcome of one line.
 #[derive(Clone, Copy)]
 enum Outcome {
     /// It has no entry. It may tell the version.

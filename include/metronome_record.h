@@ -240,7 +240,7 @@ static inline metronome_answer metronome_recorded_describe(metronome *heap, uint
         return answer; \
     }
 
-/* What stands in brackets, without them, behind a comma. */
+/* What stands in brackets, without them, after a comma. */
 #define METRONOME_LIST(...) , __VA_ARGS__
 
 /* The formats of 1, 2 and more numbers below 2^32. */

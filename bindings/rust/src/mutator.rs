@@ -55,7 +55,7 @@ impl<'h> Mutator<'h> {
         Ok(root)
     }
 
-    /// The same, into a root that there is.
+    /// The same, into an existing root.
     pub fn new_plain_into(&self, refs: u32, words: u32, into: &Root<'_>) -> Result<()> {
         // SAFETY: the heap is open, and lives through the call.
         self.made(into, |heap, m, dst| unsafe { calls::metronome_new_plain(heap, m, dst, refs, words) })

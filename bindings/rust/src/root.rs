@@ -85,7 +85,7 @@ impl<'m> Root<'m> {
         Ok(root)
     }
 
-    /// The same, into a root that there is: this one, say.
+    /// The same, into an existing root: this one, say.
     pub fn load_into(&self, i: u32, into: &Root<'_>) -> Result<()> {
         let dst = into.slot_of(self.mutator)?;
         // SAFETY: the heap is open, and lives through the call.

@@ -9,7 +9,7 @@ pub enum Picture {
     Utilisation,
 }
 
-/// By what a heap is reported.
+/// How a heap is reported.
 #[derive(Clone, Copy, Debug, PartialEq, Eq)]
 pub enum Report {
     /// Page by page, with its phase, its roots and its objects.

@@ -13,7 +13,7 @@ use Rattle.inspector.specs.Made.{makes, blocks_made, entered_since}
 abbrev pub counted : ℕ → ℕ
 counted n = min n (2 ^ 64 - 1)
 
--- the moment behind the last of the steps that are so, or else an earlier one
+-- the moment after the last of the steps that are so, or else an earlier one
 abbrev pub behind_last : (Step → Bool) → Option Course → List Step → Option Course
 behind_last is earlier steps = fold (λ last s. if is s then Some s.after else last) earlier steps
 

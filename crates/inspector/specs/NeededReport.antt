@@ -74,7 +74,7 @@ verdict By_pace true = codes ": suffice for this run, and for each at this pace\
 verdict By_load true = codes ": suffice for the load\n"
 verdict scope false = codes ": may not suffice\n"
 
--- how many pages are needed, of how many that there are
+-- how many pages are needed, out of how many
 abbrev pub pages_line : Scope → ℕ → ℕ → List ℕ
 pages_line scope needed pages =
     codes "pages " ++ (decimal needed ++ (codes " of " ++ (decimal pages ++ verdict scope (nat_le needed pages))))

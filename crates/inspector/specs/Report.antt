@@ -66,7 +66,7 @@ copies_line c =
 abbrev pub head_lines : HeapState → List (List ℕ)
 head_lines h = phase_line h ∷ units_line h ∷ pages_line h ∷ []
 
--- the lines behind those of the pages
+-- the lines after those of the pages
 abbrev pub tail_lines : HeapState → List (List ℕ)
 tail_lines h = roots_line h ∷ copies_line (copies_in h.store) ∷ []
 

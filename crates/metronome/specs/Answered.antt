@@ -56,7 +56,7 @@ abbrev pub Offers : Result (String Global) AllocError → Ending → Result Answ
 Offers (Ok text) ending answered = answered ≡ Ok (record { text = text; ending = ending })
 Offers (Err refused) ending answered = answered ≡ Err NoMemory
 
--- what is answered once something was taken of an input: this is said of it, if there is memory for the text; or the
+-- the answer once something was taken of an input: this is said of it, if there is memory for the text; or the
 -- fault with which taking it ended
 abbrev pub AnswerOf : {A : Type 0} → (A → Answer → Type 0) → Result A TextFault → Result Answer TextFault → Type 0
 AnswerOf Says (Ok it) (Ok answer) = Says it answer

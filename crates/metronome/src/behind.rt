@@ -1,4 +1,4 @@
-//! What is reported of a player behind a trace.
+//! What is reported of a player after a trace.
 ghost use Rattle.std.specs.Prelude.{◌≡◌, ◌+◌, IfOk};
 ghost use Rattle.heap_model.specs.Event.{present_of};
 ghost use Rattle.heap_model.specs.Settings.{settings_of, settings_by};
@@ -63,7 +63,7 @@ fn play_silently<S: Source, K: Sink>(
     }
 }
 
-/// A new player behind a trace, or behind its first event lines; nothing was written of them.
+/// A new player after a trace, or after its first event lines; nothing was written of them.
 fn player_behind<S: Source, K: Sink>(
     alloc: Global,
     config: &Config,

@@ -32,7 +32,7 @@ step_line step = codes "object " ++ (decimal step.object ++ (codes " cell " ++ (
 abbrev pub IsPathText : Limits → Route → List ℕ → Type 0
 IsPathText l r text = (line : List ℕ) × IsRootLine l r.root line × (text ≡ line ++ flat_map step_line r.steps.items)
 
--- a path begins with a root that there is
+-- a path begins with an existing root
 abbrev pub IsRooted : Limits → Standing → Type 0
 IsRooted l (Reached r) = r.root < root_cells l
 IsRooted l standing = Unit {0}

@@ -95,7 +95,7 @@ CutShort style reached old new =
     × ((new.player ≡ reached.state.player) ⊎ NextThere reached
     (λ text. StopsText style NoMemory text reached.state (stage new.player reached.state.taken)))
 
--- All that the first of these lines wrote is within the text that was taken. The lines behind these, with the rest, are
+-- All that the first of these lines wrote is within the text that was taken. The lines after these, with the rest, are
 -- at most a buffer of the input: none but those that waited there were done.
 pub record IsWrittenUpTo (style : Style) (old : Stage) (lines : List (List ℕ)) (events : List Event)
     (rest taken : List ℕ) : Type 0 where

@@ -70,7 +70,7 @@ after_in word bytes = if bytes_eq (take (length word) bytes) word then Some (dro
 abbrev pub comparing : List Keyword
 comparing = keywords.CompareStore ∷ keywords.ComparePut ∷ keywords.CompareStatic ∷ []
 
--- the kinds whose words begin with these two bytes; of bytes with which no word begins they are some kinds
+-- the kinds whose words begin with these two bytes; for bytes with which no word begins, some of the kinds
 unfoldable pub keywords_by : ℕ → ℕ → List Keyword
 keywords_by first second =
     if first == 110 then keywords.New ∷ [] else

@@ -64,7 +64,7 @@ ScriptStops mutators (At_line k fault) text old new = (k ≡ text.number)
 ScriptStops mutators NoMemory text old new = IsCommand mutators text.version text.bytes
 ScriptStops mutators fault text old new = ⊥
 
--- what is answered of scripts: their version, and the commands of each mutator
+-- what is read of scripts: their version, and the commands of each mutator
 abbrev pub ReadScripts : Type 0
 ReadScripts = Version × Vec (Vec Command Global) Global
 

@@ -27,7 +27,7 @@ fn verdict(scope: Scope, suffice: bool) -> &'static str
     }
 }
 
-/// How many pages are needed, of how many that there are.
+/// How many pages are needed, out of how many.
 pub(crate) fn pages_line(
     alloc: Global,
     scope: Scope,

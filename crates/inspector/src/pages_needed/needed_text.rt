@@ -128,7 +128,7 @@ fn needed_lines(alloc: Global, config: &Config, needed: &Needed) -> Result<Strin
 
 /// What is reported of what a run needed: of each class whose blocks are needed its size in words, how many of them
 /// together, and the pages that they take; then how many pages suffice in each way, and for which runs; the fewest of
-/// these, with the keys to set for them; last how many pages the configuration must have, of how many that it has, and
+/// these, with the keys to set for them; last how many pages the configuration must have, out of how many it has, and
 /// whether they suffice for this run and each that needs no more. Without numbers, that the blocks are too many.
 pub fn needed_report(
     alloc: Global,

@@ -73,7 +73,7 @@ fn lines_with(
 /// What is reported of a pace in a heap of a configuration, with quanta of its schedule's units: of each class whose
 /// blocks are needed its size in words, the blocks of live objects, of what is asked for while a cycle runs up to the
 /// next quantum, and between two cycles; with how many quanta of a cycle the pages are reckoned; how many pages are
-/// needed, of how many that there are, and for which runs they suffice; the least number of pages that does, and from
+/// needed, out of how many there are, and for which runs they suffice; the least number of pages that does, and from
 /// how many on each does. Without a pace, that the blocks are too many.
 pub fn pace_report(
     alloc: Global,

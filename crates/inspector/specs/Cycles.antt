@@ -30,7 +30,7 @@ units_by s = if works s then s.after.heap.units - s.before.heap.units else 0
 abbrev pub longest_of : List Step → ℕ
 longest_of steps = fold (λ most s. max most (units_by s)) 0 steps
 
--- the moment when a cycle ends, or the last one if it is running then
+-- the moment when a cycle ends, or the last moment if the cycle is still running
 abbrev pub end_of : Step → List Step → Course
 end_of s [] = s.after
 end_of s (t ∷ later) = if ends_cycle s then s.after else end_of t later

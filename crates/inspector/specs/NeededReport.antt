@@ -52,8 +52,8 @@ form_lines still moved budgeted n =
 abbrev pub fewest_pages : ℕ → ℕ → ℕ → ℕ
 fewest_pages still moved moving = max (min (min still moved) moving) 1
 
--- the keys to set for this many: those with which nothing is moved, if that suffices; else with moving as it is
--- configured, if it does; else with moving after each sweep
+-- the keys to set for this many pages: those with which nothing is moved, if that suffices; else with moving as it
+-- is configured, if it does; else with moving after each sweep
 abbrev pub keys_line : ℕ → ℕ → ℕ → List ℕ
 keys_line still moved pages = codes "fewest " ++ (decimal pages ++ (codes ": pages = " ++ (decimal pages ++ (
     if nat_le still pages then codes ", defrag_below = 0\n"
@@ -61,7 +61,7 @@ keys_line still moved pages = codes "fewest " ++ (decimal pages ++ (codes ": pag
     else codes ", defrag_below = " ++ (decimal (pages + 1)
     ++ (codes ", defrag_pages = " ++ (decimal pages ++ codes "\n")))))))
 
--- the fewest pages, and whether they are more than a heap may have, or else the keys to set for them
+-- the fewest pages, with the keys to set for them, or that they are more than a heap may have
 abbrev pub fewest_line : ℕ → ℕ → ℕ → List ℕ
 fewest_line still moved pages = if nat_lt MOST_PAGES pages
     then codes "fewest " ++ (decimal pages ++ codes ": more than a heap may have\n")

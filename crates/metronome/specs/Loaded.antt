@@ -58,7 +58,7 @@ module _ (config : Config) (l : LoadTable) where
 abbrev pub IsRest : Given → List ℕ → Type 0
 IsRest given text = (given.after ≡ given.before ++ text) × IsTrue given.ended
 
--- A trace was read to its end, and by its text and a load it was reported what the load needs; or one of them could
+-- A trace was read to its end, and from its text and a load it was reported what the load needs; or one of them could
 -- not be read, and nothing was written.
 abbrev pub LoadTold : Config → Given → Taken → Result Ending RunFault → Type 0
 LoadTold config given taken result =

@@ -50,7 +50,7 @@ objects_drawn g shown objects = flat_map (λ f. object_drawn g shown f.id) objec
 abbrev pub left_out : ℕ → List Statement
 left_out n = if n == 0 then [] else LeftOut n ∷ []
 
--- of a graph heap at most this many of the objects that were found
+-- what is drawn of a graph heap, with at most this many of the objects that were found
 abbrev pub graph_drawn : Graph → ℕ → List Found → List Statement
 graph_drawn g most found =
     let shown = shown_of most found in

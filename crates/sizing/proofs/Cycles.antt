@@ -152,7 +152,7 @@ module _ (l : Limits) (es qs : List Event) (r new : Course) (old fin : Meter) (b
     shapes = subst AllFit (sym present) v.are.shapes;
   }
 
-  -- what the counts of a season come to
+  -- what the counts of a season add up to
   record Rests : Type 0 where
     traces : is_tracing new.heap.phase ≡ true → fin.season ≡ old.season
     stays : old.season.tracing ≡ false → fin.season ≡ old.season

@@ -38,7 +38,7 @@ AsksTooMuch l said c class =
     (before : List Line) × (since : List Line) × (said ≡ before ++ since)
     × (l.rate class * ticks_in since + l.burst class < asked_in class since + asks c class)
 
--- How a line breaks a load to which the lines before it keep. Where a command asks for too much of classes,
+-- How a line breaks a load to which the lines before it keep. Where a command asks for too much of some classes,
 -- the first is named; one that asks for too much of none comes too late after the last line `begin`.
 abbrev pub BreaksBy : Load → ℕ → List Line → Line → Breach → Type 0
 BreaksBy l k said (lines.Command m c) (Asks class) =

@@ -42,7 +42,7 @@ struct Subcommand {
     more: &'static [Given],
 }
 
-/// What each subcommand has beside its file: its configuration, and whether the progress is reported.
+/// What each subcommand has besides its file: its configuration, and whether the progress is reported.
 const EACH: [Given; 2] = [
     Given {
         name: "CONFIG",

@@ -102,7 +102,7 @@ pub fn joint_suffices()
         → pages_for blocks (spare_of h) CLASSES ≤ length h.store.pages → EveryNewFindsRoom es }
 {}
 
-/// Nor is one refused where as many pages stay free beside those that the blocks take as moving begins below: then no
+/// Nor is one refused where as many pages stay free besides those that the blocks take as moving begins below: then no
 /// sweep is followed by moving, and no page is left sparse.
 pub fn joint_suffices_unmoved()
     ensures { (h : HeapState) (es : List Event) (new : Course) (blocks : ℕ → ℕ) (live : Lives) → IsOpening h

@@ -37,8 +37,7 @@ abbrev pub FaultShows : ServerFault → List Entry → List Entry → Type 0
 FaultShows faults.NoMemory seen new = new ≡ seen
 FaultShows (faults.Torn found) seen new = found ≡ length new
 
--- What it tells beside the locked history: where another number was found, the log begins with the history and is
--- longer.
+-- The same, with the locked history: where another number was found, the log begins with the history.
 abbrev pub FaultTells : ServerFault → List Entry → List Entry → List Entry → Type 0
 FaultTells faults.NoMemory history seen new = new ≡ seen
 FaultTells (faults.Torn found) history seen new = (found ≡ length new) × IsPrefix history new

@@ -24,7 +24,7 @@ pub fn space_suffices()
         → space_for d (spare_of h) ≤ length h.store.pages → EveryNewFindsRoom es }
 {}
 
-/// Nor is one refused where as many pages stay free beside those that the demand takes as moving begins below: then
+/// Nor is one refused where as many pages stay free besides those that the demand takes as moving begins below: then
 /// no sweep is followed by moving, and no page is left sparse.
 pub fn space_suffices_unmoved()
     ensures { (h : HeapState) (es : List Event) (new : Course) (d : Demand) → IsOpening h → 0 < length h.store.pages
@@ -48,9 +48,9 @@ pub fn space_suffices_at_a_pace()
         → space_for (demand_of p (moved_quanta h k)) (spare_of h) ≤ length h.store.pages → EveryNewFindsRoom es }
 {}
 
-/// Where as many pages stay free beside those that a pace takes as moving begins below, no sweep is followed by moving,
-/// and each quantum that doesn't end its cycle spends its whole budget. So a run that keeps to the pace keeps to a
-/// smaller demand, and no new object is refused for lack of space.
+/// Where as many pages stay free besides those that a pace takes as moving begins below, no sweep is followed by
+/// moving, and each quantum that doesn't end its cycle spends its whole budget. So a run that keeps to the pace keeps
+/// to a smaller demand, and no new object is refused for lack of space.
 pub fn space_suffices_at_an_unmoved_pace()
     ensures demand { (h : HeapState) (es : List Event) (new : Course) (p : Pace) (k : ℕ) → LEAST_BUDGET ≤ k
         → IsOpening h → 0 < length h.store.pages → Runs (opened h) es new → AllKeepPace p k (opening_beat h.limits) es

@@ -52,7 +52,7 @@ field_in bits bytes = do
 abbrev pub number_then : {A : Type 0} → ℕ → (List ℕ → Option A) → List ℕ → Option (ℕ × A)
 number_then bits read bytes = field_in bits bytes >>= λ a. read a.1 >>= λ b. Some (a.0, b)
 
--- numbers of a, b and c bits, parted by blanks
+-- numbers of a, b and c bits, separated by blanks
 unfoldable pub two_in : ℕ → ℕ → List ℕ → Option (ℕ × ℕ)
 two_in a b = number_then a (number_in b)
 

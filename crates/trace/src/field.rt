@@ -1,4 +1,4 @@
-//! Numbers in decimal, parted by blanks.
+//! Numbers in decimal, separated by blanks.
 ghost use Rattle.std.specs.Prelude.{◌≡◌, ℕ, ◌<◌, ◌≤◌, ◌^◌, ◌==◌, List, ◌++◌, Some, IfSome, decimal, length, option_map, position};
 ghost use Rattle.trace.specs.Numbers.{Row, NoDigitAt, Fronts};
 ghost use Rattle.trace.specs.Reading.{number_in, cut_at, after_in, field_in, two_in, three_in, four_in};

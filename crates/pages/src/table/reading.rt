@@ -42,7 +42,7 @@ impl PageTable {
         self.free_blocks[class.number()]
     }
 
-    /// Whether there is room for the parts of an object: the blocks that are needed beside the free ones
+    /// Whether there is room for the parts of an object: the blocks that are needed besides the free ones
     /// are taken in whole pages, and these together are at most the free pages.
     #[inline(always)]
     pub fn room(&self, parts: &Parts) -> bool

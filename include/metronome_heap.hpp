@@ -149,7 +149,7 @@ public:
 #ifdef __cpp_exceptions
     explicit Heap(const metronome_settings &settings) { detail::need(try_open(settings)); }
 
-    // Whether a cycle began: none was on.
+    // Whether a cycle began: none was running.
     bool begin() {
         const std::uint32_t status = try_begin();
         if (status != METRONOME_BUSY) detail::need(status);

@@ -49,7 +49,7 @@ pub struct Settings {
 }
 
 impl Settings {
-    /// So many pages, mutators, and slots of each; the defaults of the others.
+    /// Numbers of pages, of mutators and of slots of each; the defaults of the others.
     pub const fn new(pages: i64, mutators: i64, slots: i64) -> Settings {
         Settings {
             pages,

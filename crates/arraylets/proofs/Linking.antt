@@ -19,7 +19,7 @@ use Rattle.heap_model.proofs.Seen.{held_pages}
 use Rattle.nodes.specs.Links.{KeepsLinks}
 use Rattle.arraylets.specs.Made.{MakesPart}
 
--- the links stay where nothing is done, and after two steps of which each keeps them
+-- the links stay where nothing is done, and after two steps, each of which keeps them
 pub links_same : (s : Store) → KeepsLinks s s
 links_same s = record { len = refl; each = λ b h. refl }
 

@@ -115,7 +115,7 @@ settings_written settings.NoMemory = refl
 pub settings_unwritten : {A : Type 0} (r : Result A RunFault) (why : ReadFault) → IsErrAnd r (λ e. e ≡ of_settings why) → failed_writes r ≡ 0
 settings_unwritten r why h = writes_so r (of_settings why) h ∙ settings_written why
 
--- no line writes, so that no write fails in going over them
+-- no line writes, so that no write fails in going through them
 unwritten : {A : Type 0} (how : Result A TextFault) → (how ≡ Err texts.Write → ⊥) → writes_failed how ≡ 0
 unwritten (Err texts.Write) never = absurd (never refl)
 unwritten how never = refl

@@ -26,7 +26,7 @@ fn front_digits(bytes: &[u8]) -> (u64, usize)
     (n, at)
 }
 
-/// The number at the front, of which 19 digits are read.
+/// The number at the front, where its first 19 digits are read.
 #[inline(always)]
 fn long_number(bytes: &[u8], n: u64) -> Option<(u64, usize)>
     requires { Row bytes.now n 19 }

@@ -22,8 +22,8 @@
  * may be moved between calls); drop one that is open without metronome_destroy (its memory is lost); pass NULL, of which the
  * compiler tells where it sees it, or a pointer to something else or to something that goes while the call runs, or pointers
  * that overlap within one call; replace malloc, realloc and free by functions that don't belong together, or that align less
- * than C asks. A `metronome` that was never set is told as BAD_HANDLE, unless it has by chance the one value that the library
- * leaves in an open one. What is told through a pointer needs no value before.
+ * than C asks. A `metronome` that was never set is answered with BAD_HANDLE, unless it has by chance the one value that the
+ * library leaves in an open one. What a call writes through a pointer needs no value before.
  *
  * MEMORY comes from malloc by metronome_create and goes back by metronome_destroy; no other call asks for any.
  *
@@ -81,7 +81,7 @@ typedef struct metronome_settings {
 #define METRONOME_SETTINGS(pages, mutators, slots) \
     { (pages), (mutators), (slots), 0, INT64_MAX, 0, 0, 10, 12, 100, (mutators) }
 
-/* What a call comes to, and what a program does then. Nothing has changed by a call that is refused. Of several reasons a
+/* How a call ends, and what a program does then. Nothing has changed by a call that is refused. Of several reasons a
  * command tells the first in the order: 1 of the mutator, 15, 14, 1 of the slots as they are named, 8, 2, 4, 3; of a new object
  * 1, 5, 6, 7. What is a mistake of the program comes again as long as the call is the same. */
 enum metronome_status {
@@ -96,7 +96,7 @@ enum metronome_status {
                                      * too, what can be reached leaves no room: let go of some, or make a heap of more pages */
     METRONOME_BAD_STATIC = 8,       /* no such static: a mistake */
     METRONOME_NO_MEMORY = 9,        /* malloc refused: give memory back, or ask for fewer pages */
-    METRONOME_BUSY = 11,            /* a cycle is on already: go on with it by metronome_quantum */
+    METRONOME_BUSY = 11,            /* a cycle is running already: go on with it by metronome_quantum */
     METRONOME_BAD_BUDGET = 12,      /* the budget of a quantum isn't 256 to 1000000: a mistake */
     METRONOME_NOT_LIVE = 14,        /* the mutator isn't live: metronome_join first */
     METRONOME_ALREADY_LIVE = 15,    /* the mutator is live, and wants to join: a mistake, or go on with it */
@@ -142,7 +142,7 @@ typedef struct metronome_shape {
 
 /* The phases of a cycle, in their order. */
 enum metronome_phase_number {
-    METRONOME_IDLE = 0, /* no cycle is on */
+    METRONOME_IDLE = 0, /* no cycle is running */
     METRONOME_ROOTS = 1,
     METRONOME_MARKING = 2,
     METRONOME_SWEEPING = 3,
@@ -197,18 +197,18 @@ void metronome_destroy(metronome *heap) METRONOME_NONNULL;
 
 /* ---- Commands of mutators. Each is done at once, whatever phase the collector is in. Each needs a live mutator, but
  * metronome_join, which needs one that isn't: all are live at first, or those below the setting `live`. A slot that is written
- * to is named by its number, whatever it holds; one that names an object mustn't hold null. Where NO_HEAP is told of a handle
- * that is closed, here and below, BAD_HANDLE is told of what is none ---- */
+ * to is named by its number, whatever it holds; one that names an object mustn't hold null. Where NO_HEAP is the status for a
+ * closed handle, here and below, BAD_HANDLE is the status for what is no handle ---- */
 
-/* A new object of so many reference cells, all null, and so many word cells, all 0, into slot dst. At most 252 cells.
+/* A new object of `refs` reference cells, all null, and `words` word cells, all 0, into slot dst. At most 252 cells.
  * MADE; refused: BAD_SLOT, TOO_LARGE, IDENTITIES_SPENT, NO_SPACE, NOT_LIVE, NO_HEAP. */
 metronome_answer metronome_new_plain(metronome *heap, uint32_t mutator, uint32_t dst, uint32_t refs, uint32_t words) METRONOME_NONNULL;
 
-/* A new array of so many reference cells, all null, into slot dst. At most 4000000. It takes time by its length.
+/* A new array of this many reference cells, all null, into slot dst. At most 4000000. It takes time by its length.
  * MADE; refused as metronome_new_plain. */
 metronome_answer metronome_new_refs(metronome *heap, uint32_t mutator, uint32_t dst, uint32_t refs) METRONOME_NONNULL;
 
-/* A new array of so many word cells, all 0, into slot dst. At most 4000000. It takes time by its length.
+/* A new array of this many word cells, all 0, into slot dst. At most 4000000. It takes time by its length.
  * MADE; refused as metronome_new_plain. */
 metronome_answer metronome_new_words(metronome *heap, uint32_t mutator, uint32_t dst, uint32_t words) METRONOME_NONNULL;
 
@@ -258,7 +258,7 @@ metronome_answer metronome_same(metronome *heap, uint32_t mutator, uint32_t a, u
  * left as it was. */
 metronome_answer metronome_describe(metronome *heap, uint32_t mutator, uint32_t a, metronome_shape *shape) METRONOME_NONNULL;
 
-/* A mutator that isn't live comes to be live, with null in each slot. DONE; refused: BAD_SLOT, ALREADY_LIVE, NO_HEAP. */
+/* A mutator that isn't live becomes live, with null in each slot. DONE; refused: BAD_SLOT, ALREADY_LIVE, NO_HEAP. */
 metronome_answer metronome_join(metronome *heap, uint32_t mutator) METRONOME_NONNULL;
 
 /* Null into each slot of a mutator, which is live no more. DONE; refused: BAD_SLOT, NOT_LIVE, NO_HEAP. */
@@ -269,8 +269,8 @@ metronome_answer metronome_leave(metronome *heap, uint32_t mutator) METRONOME_NO
 /* Begins a cycle; no unit is spent. OK, BUSY, NO_HEAP. */
 uint32_t metronome_begin(metronome *heap) METRONOME_NONNULL;
 
-/* Spends units on the cycle that is on, at most `budget` of them, 256 to 1000000. It ends where the cycle ends, or where the
- * next piece of work costs more than is left, which is less than 256 units. Where no cycle is on it spends none.
+/* Spends units on the cycle that is running, at most `budget` of them, 256 to 1000000. It ends where the cycle ends, or where
+ * the next piece of work costs more than is left, which is less than 256 units. Where no cycle is running it spends none.
  * OK; BAD_BUDGET or NO_HEAP, and *spent is left as it was. */
 uint32_t metronome_quantum(metronome *heap, uint32_t budget, metronome_spent *spent) METRONOME_NONNULL;
 
@@ -278,8 +278,8 @@ uint32_t metronome_quantum(metronome *heap, uint32_t budget, metronome_spent *sp
  * OK; BAD_SCHEDULE, or BAD_SETTING and the place of a setting, and *limit is left as it was. */
 uint32_t metronome_cycle_limit(const metronome_settings *settings, metronome_limit *limit) METRONOME_NONNULL;
 
-/* ---- Figures. They need no live mutator. Each is told through the last pointer, which is left as it was where the handle
- * holds no heap ---- */
+/* ---- Figures. They need no live mutator. Each is written through the last pointer; what that leads to is left as it was
+ * where the handle holds no heap ---- */
 
 /* The phase, a metronome_phase_number. OK, NO_HEAP. */
 uint32_t metronome_phase(metronome *heap, uint32_t *phase) METRONOME_NONNULL;
@@ -293,13 +293,13 @@ uint32_t metronome_free_pages(metronome *heap, uint64_t *free_pages) METRONOME_N
 /* All counts. It looks at each block of the heap, and so takes time by its size. OK, NO_HEAP. */
 uint32_t metronome_count(metronome *heap, metronome_counts *counts) METRONOME_NONNULL;
 
-/* A page, by its number from 0; one that there isn't is told as a free one. OK, NO_HEAP. */
+/* A page, by its number from 0; one that there isn't is given as a free one. OK, NO_HEAP. */
 uint32_t metronome_page(metronome *heap, size_t number, metronome_page_view *page) METRONOME_NONNULL;
 
 /* ---- Texts ---- */
 
-/* Writes the text of a metronome_status in English, and 0 after it: as much of it as fits into so many bytes; nothing where
- * length is 0. How many bytes the whole text has, without the 0. Programs call metronome_text. */
+/* Writes the text of a metronome_status in English, and 0 after it: as much of it as fits into `length` bytes; nothing where
+ * length is 0. Answers how many bytes the whole text has, without the 0. Programs call metronome_text. */
 size_t metronome_text_into(uint32_t status, char *text, size_t length) METRONOME_NONNULL;
 
 /* The same. Where length is 0 text may be NULL. */

@@ -30,13 +30,13 @@ inline std::uint32_t status_of(metronome_answer answer) noexcept {
     return answer.kind == METRONOME_REFUSED ? static_cast<std::uint32_t>(answer.number) : ok;
 }
 
-// The number of an answer, told where it isn't refused.
+// The number of an answer, given where it isn't refused.
 inline std::uint32_t tell(metronome_answer answer, std::uint64_t &number) noexcept {
     if (answer.kind != METRONOME_REFUSED) number = answer.number;
     return status_of(answer);
 }
 
-// Whether an answer is of a kind, told where it isn't refused.
+// Whether an answer is of a kind, given where it isn't refused.
 inline std::uint32_t tell_kind(metronome_answer answer, std::uint32_t kind, bool &is) noexcept {
     if (answer.kind != METRONOME_REFUSED) is = answer.kind == kind;
     return status_of(answer);
@@ -125,7 +125,7 @@ public:
         return METRONOME_OK;
     }
 
-    // BUSY where a cycle is on already.
+    // BUSY where a cycle is running already.
     std::uint32_t try_begin() noexcept { return metronome_begin(handle()); }
     std::uint32_t try_quantum(std::uint32_t budget, metronome_spent &spent) noexcept {
         return metronome_quantum(handle(), budget, &spent);
@@ -149,7 +149,7 @@ public:
 #ifdef __cpp_exceptions
     explicit Heap(const metronome_settings &settings) { detail::need(try_open(settings)); }
 
-    // Whether a cycle began: none was on.
+    // Whether a cycle began: none was running.
     bool begin() {
         const std::uint32_t status = try_begin();
         if (status != METRONOME_BUSY) detail::need(status);

@@ -49,7 +49,7 @@ METRONOME_NONNULL static inline uint32_t metronome_close_frame(metronome *heap, 
 
 /* ---- The collector, paced by what is made ---- */
 
-/* Goes through two cycles, the one that is on among them, in quanta of so many units: what nothing leads to is freed then. So a
+/* Goes through two cycles, one that is running among them, in quanta of `budget` units: what nothing leads to is freed then. A
  * program with a deadline paces itself (metronome_pace), and others do this where a new object is refused:
  *
  *     metronome_answer answer = metronome_new_plain(&heap, 0, slot, 1, 2);
@@ -70,22 +70,22 @@ METRONOME_NONNULL static inline uint32_t metronome_whole_cycle(metronome *heap, 
 
 /* A pace: how often the collector works, by the words that the program makes. */
 typedef struct metronome_pacing {
-    uint64_t begin_below; /* a cycle begins where fewer pages than this are free; above `pages`, one is always on */
-    uint64_t words;       /* 1 or more: a quantum for each so many words made */
+    uint64_t begin_below; /* a cycle begins where fewer pages than this are free; above `pages`, one is always running */
+    uint64_t words;       /* 1 or more: a quantum each time that this many words were made */
     uint32_t budget;      /* 256 to 1000000: the units of a quantum */
     uint64_t owed;        /* words made since the last quantum; 0 at first */
 } metronome_pacing;
 
 #define METRONOME_PACING(begin_below, words, budget) { (begin_below), (words), (budget), 0 }
 
-/* Tells the pace that so many words are about to be made; an object of n cells takes n + 4. For each so many as the pace says,
- * it begins a cycle if none is on and too few pages are free, and spends a quantum of the cycle that is on. A program calls it
- * before each new object. It takes no longer than a quantum, but where more words come at once than the pace has for one: an
- * array of many words owes many quanta.
+/* Tells the pace that `words` words are about to be made; an object of n cells takes n + 4. Each time that the pace's number of
+ * words is reached, it begins a cycle if none is running and too few pages are free, and spends a quantum of the cycle that is
+ * running. A program calls it before each new object. It takes no longer than a quantum, but where more words come at once than
+ * the pace has for one: an array of many words owes many quanta.
  *
  * HOW TO CHOOSE THE NUMBERS. The budget is the longest pause of the collector: a unit takes some 5 to 10 ns on a processor of
  * 2.5 GHz. A cycle takes at most Q quanta of it, as metronome.h says. Of blocks of one size at most B are made between two
- * quanta: those for which `words` have room, and one more. No object is refused for want of space where begin_below pages have
+ * quanta: those for which `words` have room, and one more. No object is refused for lack of space where begin_below pages have
  * room for L + (2 * Q + 1) * B blocks of each size, of which live objects need L, and for 1 + defrag_pages pages of each size
  * besides. In short, with a budget of 1000 or more, a few sizes, no moving, and half of the pages live:
  * words = (budget - 255) / 20 and begin_below = pages.

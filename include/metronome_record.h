@@ -8,13 +8,13 @@
  * The heap that it makes next is recorded from metronome_create to metronome_destroy: its settings as a configuration, and each
  * call as a line of a trace of version 2 (docs/MANUAL.md). `metronome pages run.toml run.trace` then tells how many pages it
  * needs, `inspect` and `draw` what fills it, and `play` does it again. Calls that only tell a figure or a text are no events of
- * a heap, and aren't written; nor is the time that passes, so `mmu` has no windows to tell of.
+ * a heap, and aren't written; nor is the time that passes, so `mmu` has no windows to report.
  *
- * What can't be written is told on stderr, each reason once, and counted, and the program goes on: calls of another heap, or of
- * a closed handle; a quantum whose budget is refused; all lines from the first one on that its file doesn't take. Whatever else
- * is missing, the trace is whole up to such a file: none of these changes the heap that is recorded.
+ * What can't be written is reported on stderr, each reason once, and counted, and the program goes on: calls of another heap, or
+ * of a closed handle; a quantum whose budget is refused; all lines from the first one on that its file doesn't take. Whatever
+ * else is missing, the trace is whole up to such a file: none of these changes the heap that is recorded.
  *
- * Plain C over the calls: of it nothing is proved. A handle is told from others by its fields, which are the library's. The
+ * Plain C over the calls: nothing of it is proved. A handle is told from others by its fields, which are the library's. The
  * calls of a heap come one at a time, and so do their lines.
  */
 #ifndef METRONOME_RECORD_H
@@ -34,7 +34,7 @@
 
 /* How far a recording is. */
 enum metronome_record_stage {
-    METRONOME_RECORD_OFF,    /* nothing is recorded, nor told */
+    METRONOME_RECORD_OFF,    /* nothing is recorded, nor reported */
     METRONOME_RECORD_AWAITS, /* the next heap that is made will be recorded */
     METRONOME_RECORD_ON,
     METRONOME_RECORD_OVER    /* the heap is gone, or a file took no line */
@@ -53,7 +53,7 @@ struct metronome_recording {
     FILE *settings, *trace, *history;
     metronome heap;   /* the fields of the recorded heap's handle */
     uint64_t lost;    /* calls that weren't recorded */
-    uint32_t told;    /* a bit for each reason that was told */
+    uint32_t told;    /* a bit for each reason that was reported */
 };
 
 /* One for all files of a program. */
@@ -240,10 +240,10 @@ static inline metronome_answer metronome_recorded_describe(metronome *heap, uint
         return answer; \
     }
 
-/* What stands in brackets, without them, behind a comma. */
+/* What stands in brackets, without them, after a comma. */
 #define METRONOME_LIST(...) , __VA_ARGS__
 
-/* The formats of so many numbers below 2^32. */
+/* The formats of 1, 2 and more numbers below 2^32. */
 #define METRONOME_1 " %" PRIu32
 #define METRONOME_2 METRONOME_1 METRONOME_1
 #define METRONOME_3 METRONOME_2 METRONOME_1

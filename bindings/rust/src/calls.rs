@@ -49,7 +49,7 @@ pub struct Settings {
 }
 
 impl Settings {
-    /// So many pages, mutators, and slots of each; the defaults of the others.
+    /// Numbers of pages, of mutators and of slots of each; the defaults of the others.
     pub const fn new(pages: i64, mutators: i64, slots: i64) -> Settings {
         Settings {
             pages,
@@ -81,7 +81,7 @@ pub fn version() -> u32 {
     unsafe { metronome_version() }
 }
 
-/// What a command comes to.
+/// How a command ends.
 #[repr(C)]
 pub(crate) struct Answer {
     kind: u32,
@@ -92,7 +92,7 @@ const REFUSED: u32 = 0;
 const STORED: u32 = 5;
 
 impl Answer {
-    /// The number that is told, unless the command is refused.
+    /// The number of the answer, unless the command is refused.
     pub(crate) fn number(&self) -> Result<u64> {
         match self.kind {
             REFUSED => Err(Refusal::of(self.number as u32)),
@@ -100,7 +100,7 @@ impl Answer {
         }
     }
 
-    /// Whether a comparison held, and the number that is told of one that failed.
+    /// None where a comparison held, or else the number that stands there.
     pub(crate) fn compared(&self) -> Result<Option<u64>> {
         let number = self.number()?;
         Ok(if self.kind == STORED { None } else { Some(number) })

@@ -20,9 +20,9 @@ unsafe impl Send for Heap {}
 /// The phases of a cycle of the collector.
 #[derive(Clone, Copy, Debug, PartialEq, Eq)]
 pub enum Phase {
-    /// No cycle is on.
+    /// No cycle is running.
     Idle,
-    /// Slots and statics are looked at.
+    /// Slots and statics are scanned.
     Roots,
     /// What they lead to is marked.
     Marking,
@@ -58,8 +58,8 @@ pub struct Pacing {
 }
 
 impl Pacing {
-    /// A cycle begins where fewer pages than `begin_below` are free, and a quantum of so many units is spent for each so many
-    /// words that are made.
+    /// A cycle begins where fewer pages than `begin_below` are free, and a quantum of `budget` units is spent each time that
+    /// `words` words were made.
     pub const fn new(begin_below: u64, words: u64, budget: u32) -> Pacing {
         Pacing { begin_below, words, budget, owed: 0 }
     }
@@ -97,13 +97,13 @@ impl Heap {
         self.handle.get()
     }
 
-    /// Begins a cycle. Whether one began: none was on.
+    /// Begins a cycle. Answers whether one began: none was running.
     pub fn begin(&self) -> bool {
         // SAFETY: the heap is open, and lives through the call.
         unsafe { calls::metronome_begin(self.handle()) == calls::OK }
     }
 
-    /// Spends at most `budget` units, 256 to 1000000, on the cycle that is on. Refused: `BadBudget`.
+    /// Spends at most `budget` units, 256 to 1000000, on the cycle that is running. Refused: `BadBudget`.
     pub fn quantum(&self, budget: u32) -> Result<Spent> {
         let mut told = SpentTold::default();
         // SAFETY: the heap is open, and both live through the call.
@@ -111,7 +111,7 @@ impl Heap {
         Ok(Spent { units: told.units, phase: Phase::of(told.phase) })
     }
 
-    /// Goes through two cycles, the one that is on among them, in quanta of so many units: what nothing leads to is freed then.
+    /// Goes through two cycles, one that is running among them, in quanta of `budget` units: what nothing leads to is freed then.
     /// Refused: `BadBudget`.
     pub fn whole_cycle(&self, budget: u32) -> Result<()> {
         let mut ends = 0;
@@ -122,7 +122,7 @@ impl Heap {
         Ok(())
     }
 
-    /// Tells the pace that so many words are about to be made: an object of n cells takes n + 4. Refused: `BadBudget`.
+    /// Tells the pace that `words` words are about to be made: an object of n cells takes n + 4. Refused: `BadBudget`.
     pub fn pace(&self, pacing: &mut Pacing, words: u64) -> Result<()> {
         if pacing.words == 0 {
             return Err(Refusal::BadBudget);
@@ -174,7 +174,7 @@ impl Heap {
         counts
     }
 
-    /// A page, by its number from 0; one that there isn't is told as a free one.
+    /// A page, by its number from 0; one that there isn't is given as a free one.
     pub fn page(&self, number: usize) -> Page {
         let mut page = Page::default();
         // SAFETY: the heap is open, and both live through the call.

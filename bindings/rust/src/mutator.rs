@@ -47,7 +47,7 @@ impl<'h> Mutator<'h> {
         self.command(|heap, m| call(heap, m, slot)).number().map(drop)
     }
 
-    /// A new object of so many reference cells, all null, and so many word cells, all 0: at most 252 cells. Refused: `BadSlot`,
+    /// A new object of `refs` reference cells, all null, and `words` word cells, all 0: at most 252 cells. Refused: `BadSlot`,
     /// `TooLarge`, `IdentitiesSpent`, `NoSpace`.
     pub fn new_plain(&self, refs: u32, words: u32) -> Result<Root<'_>> {
         let root = self.null()?;
@@ -55,13 +55,13 @@ impl<'h> Mutator<'h> {
         Ok(root)
     }
 
-    /// The same, into a root that there is.
+    /// The same, into an existing root.
     pub fn new_plain_into(&self, refs: u32, words: u32, into: &Root<'_>) -> Result<()> {
         // SAFETY: the heap is open, and lives through the call.
         self.made(into, |heap, m, dst| unsafe { calls::metronome_new_plain(heap, m, dst, refs, words) })
     }
 
-    /// A new array of so many reference cells, all null: at most 4000000. Refused as [`Mutator::new_plain`].
+    /// A new array of this many reference cells, all null: at most 4000000. Refused as [`Mutator::new_plain`].
     pub fn new_refs(&self, refs: u32) -> Result<Root<'_>> {
         let root = self.null()?;
         // SAFETY: the heap is open, and lives through the call.
@@ -69,7 +69,7 @@ impl<'h> Mutator<'h> {
         Ok(root)
     }
 
-    /// A new array of so many word cells, all 0: at most 4000000. Refused as [`Mutator::new_plain`].
+    /// A new array of this many word cells, all 0: at most 4000000. Refused as [`Mutator::new_plain`].
     pub fn new_words(&self, words: u32) -> Result<Root<'_>> {
         let root = self.null()?;
         // SAFETY: the heap is open, and lives through the call.

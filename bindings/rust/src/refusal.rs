@@ -92,7 +92,7 @@ impl fmt::Display for Refusal {
             _ => return out.write_str("the library is of another version"),
         };
         let mut text = [0u8; 64];
-        // SAFETY: `text` has so many bytes, and nothing else uses it while the call runs.
+        // SAFETY: `text` has that many bytes, and nothing else uses it while the call runs.
         let length = unsafe { metronome_text_into(status, text.as_mut_ptr().cast(), text.len()) };
         out.write_str(&String::from_utf8_lossy(&text[..length.min(text.len() - 1)]))
     }

@@ -14,7 +14,7 @@ pub struct Root<'m> {
     slot: u32,
 }
 
-/// What a comparison came to.
+/// The outcome of a comparison.
 #[derive(Clone, Copy, Debug, PartialEq, Eq)]
 pub enum Compared {
     /// It held, and the cell was written.
@@ -39,9 +39,9 @@ pub enum Shape {
         /// How many words.
         words: u32,
     },
-    /// An array of so many references.
+    /// An array of this many references.
     Refs(u32),
-    /// An array of so many words.
+    /// An array of this many words.
     Words(u32),
 }
 
@@ -85,7 +85,7 @@ impl<'m> Root<'m> {
         Ok(root)
     }
 
-    /// The same, into a root that there is: this one, say.
+    /// The same, into an existing root: this one, say.
     pub fn load_into(&self, i: u32, into: &Root<'_>) -> Result<()> {
         let dst = into.slot_of(self.mutator)?;
         // SAFETY: the heap is open, and lives through the call.

@@ -19,7 +19,7 @@ use Rattle.heap_model.proofs.Seen.{held_pages}
 use Rattle.nodes.specs.Links.{KeepsLinks}
 use Rattle.arraylets.specs.Made.{MakesPart}
 
--- the links stay where nothing is done, and after two steps of which each keeps them
+-- the links stay where nothing is done, and after two steps, each of which keeps them
 pub links_same : (s : Store) → KeepsLinks s s
 links_same s = record { len = refl; each = λ b h. refl }
 
@@ -150,7 +150,7 @@ taking_at cells at at' old parts new same Nothing_taken = Nothing_taken
 taking_at cells at at' old parts new same (Part_taken part class index s t takes f b) =
     Part_taken part class index s t (taking_at cells at at' old part s (λ p l. same p (omega arith)) takes) f (subst (λ z. TakesBlock s class (z / 2048) index t) (same part (omega arith)) b)
 
--- so many parts are made, and the spines among them are known
+-- this many parts are made, and the spines among them are known
 pub record Made (old : Store) (shape : Shape) (colour : Bool) (id : ℕ) (spines : List ℕ) (parts : ℕ) (new : Store) : Type 0 where
   pub at : ℕ → ℕ
   pub known : (p : ℕ) → p < parts → p < 64 → get_or spines p 0 ≡ at p

@@ -101,7 +101,7 @@ abbrev pub Configures : Option Members → Config → Type 0
 Configures None config = ⊥
 Configures (Some document) config = IsOf (settings_of document) config
 
--- what a file of these bytes is answered: a configuration where it has no fault, or its first fault,
+-- the answer to a file of these bytes: a configuration where it has no fault, or its first fault,
 -- or no memory
 abbrev pub IsRead : List ℕ → Result Config ReadFault → Type 0
 IsRead bytes (Ok config) = (file_fault bytes ≡ None) × Configures (document_of bytes) config

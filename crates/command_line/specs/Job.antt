@@ -39,8 +39,8 @@ abbrev pub report_name : Report → List ℕ
 report_name reports.Pages = codes "page"
 report_name reports.Sizes = codes "size"
 
--- The job draws the picture of this name: of a heap after so many event lines; of at most so many objects of its graph;
--- or over all events.
+-- The job draws the picture of this name: of a heap after this many event lines; of at most this many objects of its
+-- graph; or over all events.
 abbrev pub IsDrawing : List ℕ → Option ℕ → Option ℕ → Job → Type 0
 IsDrawing name lines objects (Draw config trace picture after) =
     (name ≡ picture_name picture) × (lines ≡ after) × (objects ≡ None)

@@ -25,7 +25,7 @@ pub record NeedsMemory (bytes : List ℕ) : Type 0 where
 abbrev pub Table : Type 0
 Table = BTreeMap (String Global) Value
 
--- what is answered of these bytes: the document in them, or that they are too many, or no document, or no memory
+-- the answer to these bytes: the document in them, or that they are too many, or no document, or no memory
 abbrev pub IsOpened : List ℕ → Result Table OpenFault → Type 0
 IsOpened bytes (Ok table) = (length bytes ≤ 65536) × (document_of bytes ≡ Some (table_view table))
 IsOpened bytes (Err TooLong) = 65536 < length bytes
@@ -37,7 +37,7 @@ abbrev pub any_member : (List ℕ → Data → Bool) → Members → Bool
 any_member test no_members = false
 any_member test (member name value rest) = test name value || any_member test rest
 
--- the first that there is
+-- the first one, where there is any
 abbrev pub first_some : {F : Type 0} → List (Option F) → Option F
 first_some [] = None
 first_some (None ∷ rest) = first_some rest

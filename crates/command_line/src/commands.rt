@@ -33,7 +33,7 @@ struct Given {
     help: &'static str,
 }
 
-/// A subcommand that goes over a file.
+/// A subcommand that works on a file.
 #[derive(Clone, Copy)]
 struct Subcommand {
     name: &'static str,
@@ -42,7 +42,7 @@ struct Subcommand {
     more: &'static [Given],
 }
 
-/// What each subcommand has beside its file: its configuration, and whether the progress is told.
+/// What each subcommand has besides its file: its configuration, and whether the progress is reported.
 const EACH: [Given; 2] = [
     Given {
         name: "CONFIG",

@@ -9,7 +9,7 @@ pub enum Picture {
     Utilisation,
 }
 
-/// By what a heap is reported.
+/// How a heap is reported.
 #[derive(Clone, Copy, Debug, PartialEq, Eq)]
 pub enum Report {
     /// Page by page, with its phase, its roots and its objects.
@@ -18,7 +18,7 @@ pub enum Report {
     Sizes,
 }
 
-/// By what it is told how many pages suffice.
+/// What the pages that suffice are reckoned from.
 #[derive(Clone, Copy, Debug, PartialEq, Eq)]
 pub enum Sizing<'a> {
     /// What the trace needed.
@@ -44,7 +44,7 @@ pub enum Job<'a> {
         config: &'a str,
         history: &'a str,
     },
-    /// Run scripts on threads, beside so many quanta of the collector, each of so many units.
+    /// Run scripts on threads, beside this many quanta of the collector, each of this many units.
     Threads {
         config: &'a str,
         scripts: &'a str,
@@ -58,7 +58,7 @@ pub enum Job<'a> {
         by: Report,
         after: Option<u32>,
     },
-    /// Play a trace, and write the utilisation of windows of so many ticks.
+    /// Play a trace, and write the utilisation of windows of some numbers of ticks.
     Mmu {
         config: &'a str,
         trace: &'a str,
@@ -71,7 +71,7 @@ pub enum Job<'a> {
         picture: Picture,
         after: Option<u32>,
     },
-    /// Play a trace, or its first event lines, and draw the objects that can be reached, at most so many.
+    /// Play a trace, or its first event lines, and draw the objects that can be reached, at most this many.
     DrawGraph {
         config: &'a str,
         trace: &'a str,
@@ -104,7 +104,7 @@ pub enum Job<'a> {
     },
 }
 
-/// What the words of a command line ask for, and whether its progress is told.
+/// What the words of a command line ask for, and whether its progress is reported.
 #[derive(Debug, PartialEq, Eq, Drop)]
 pub struct Request<'a> {
     /// What is to be done.

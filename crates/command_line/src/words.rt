@@ -13,8 +13,8 @@ use std::alloc::Global;
 use std::convert::AsStr;
 use std::fmt::Display;
 
-/// What the words ask for, of which the first is the program's name. Where they ask for help, or are
-/// refused, the answer is the text for the user.
+/// What the words ask for; the first is the program's name. Where they ask for help, or are refused, the
+/// answer is the text for the user.
 pub fn read_words<'a, S: AsStr>(alloc: Global, words: &'a [S]) -> Result<Request<'a>, WordsFault>
     ensures { IfOk result (λ request. IsInRange request.job) }
 {
@@ -231,7 +231,7 @@ fn without(alloc: Global, number: Option<u32>, argument: &str, name: &str) -> Re
     Err(refused(alloc, why))
 }
 
-/// By what pages are told: one way at most is asked for.
+/// What the pages are reckoned from: one way at most is asked for.
 fn sizing<'a>(alloc: Global, pace: bool, load: Option<&'a str>) -> Result<Sizing<'a>, WordsFault> {
     match (pace, load) {
         (false, None) => Ok(Sizing::Demand),
@@ -256,7 +256,7 @@ fn picture(alloc: Global, name: &str) -> Result<Picture, WordsFault>
     chosen(alloc, name, &pictures, "--as <PICTURE>", told)
 }
 
-/// The ticks of each window, of which there is at least one.
+/// The ticks of each window: there is at least one.
 fn windows_of(alloc: Global, words: &[&str]) -> Result<Vec<u64>, WordsFault>
     ensures { IfOk result (λ windows. (0 < length windows.items) × All IsWindow windows.items) }
 {

@@ -4,7 +4,7 @@ use Rattle.heap_model.specs.declared.phase.Candidate.{Candidate}
 use Rattle.heap_model.specs.Pages.{Page}
 use Rattle.heap_model.specs.Action.{looked}
 
--- the candidate after looks at so many pages, from one on
+-- the candidate after looks at this many pages, from one on
 unfoldable pub looked_on : List (Option Page) → ℕ → ℕ → Option Candidate → ℕ → Option Candidate
 looked_on pages class page best zero = best
 looked_on pages class page best (suc n) = looked pages class (page + n) (looked_on pages class page best n)

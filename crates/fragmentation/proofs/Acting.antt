@@ -156,7 +156,7 @@ sparse_always h some all = both _ _ (lt 0 h.defrag_pages (let a = all.all in ome
     lt : (a b : ℕ) → a < b → nat_lt a b ≡ true
     lt a b l = grind arith
 
--- how far a heap has come in a quantum: whether its cycle's sweep is to end still, how few pages there are, and what is left
+-- how far a heap has got in a quantum: whether its cycle's sweep has still to end, how few pages there are, and what is left
 pub record Stage (on : Bool) (h : HeapState) (first made need : ℕ → ℕ) : Type 0 where
   pub tracing : is_tracing h.phase ≡ on
   pub few : IsFew h.store.pages h.phase first made

@@ -45,12 +45,12 @@ use Rattle.fragmentation.specs.Tight.{staying_pages}
 use Rattle.fragmentation.proofs.IsLeftover.{leaves, IsSettled}
 use Rattle.fragmentation.proofs.Acting.{chain_out}
 
--- What there was when a cycle began: it is at the front of what is present, and what was live of it needs at most so many blocks.
+-- What there was when a cycle began: it is at the front of what is present, and what was live of it needs at most this many blocks.
 pub record WasLive (r : Course) (origin : Graph) (most : ℕ → ℕ) : Type 0 where
   pub live : LiveWithin origin most
   pub kept : KeepsShapes origin.objects (present_of r).objects
 
--- of so many objects that there were then, only those that were live have a main copy
+-- of the first `count` objects, those that there were then, only those that were live have a main copy
 pub record HasOnly (r : Course) (count : ℕ) (most : ℕ → ℕ) : Type 0 where
   pub origin : Graph
   pub base : count ≡ length origin.objects

@@ -65,7 +65,7 @@ module _ (s t : Store) (class page : ℕ) (p : Page) (at : page_at s.pages page 
   place : (k : ℕ) → page_at t.pages k ≡ (if k == page then Some v else page_at s.pages k)
   place k = page_set s.pages t.pages page (Some p) (Some v) within at is k
 
-  -- of other classes no page comes to leave
+  -- of other classes no page becomes leaving
   other_leaves : (k j : ℕ) → (class == k) ≡ false → leaves k (page_at t.pages j) ≡ true → leaves k (page_at s.pages j) ≡ true
   other_leaves k j ne on = by_place (j == page) (place j)
     where

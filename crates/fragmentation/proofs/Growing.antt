@@ -42,7 +42,7 @@ use Rattle.fragmentation.proofs.FewTaken.{block_few}
 use Rattle.fragmentation.proofs.Leftover.{staying_set, Goes, goes_same, goes_then, leftover_goes}
 use Rattle.fragmentation.proofs.Gathering.{takes_tight, clears_pages}
 
--- blocks that are taken are held, and no page comes to leave: space counts them within any bound, so within one that is great enough
+-- blocks that are taken are held, and no page becomes leaving: space counts them within any bound, so within one that is great enough
 takes_counts : (cells : ℕ) (at : ℕ → ℕ) (old : List (Option Page)) (parts : ℕ) (new : List (Option Page)) → ArePages old → Takes cells at old parts new → (leaving_pages new ≡ leaving_pages old) × ((k : ℕ) → main_blocks new k ≡ main_blocks old k + blocks_needed cells parts k)
 takes_counts cells at old parts new a takes = let t = takes_bounded cells at old parts new blocks (length old) a bounded (λ k l. omega arith) takes in (t.leaving, t.main)
   where
@@ -76,7 +76,8 @@ block_stays old new class page index k t = elim (took old new class page index t
         by_class true e = let same = same_number class k e in inr (same, set_stay ∙ ap (λ b. staying_pages old k + one_if (b && true)) e, subst (λ z. free_blocks old z ≡ 0) same (no_blocks old class f.none))
         by_class false e = inl (let o : one_if ((class == k) && true) ≡ 0 = ap (λ b. one_if (b && true)) e in omega (arith, set_stay, o))
 
--- and the blocks of an object: no class has fewer pages than before, or more than before and than so many blocks take, where what is held and what they need are no more
+-- and the blocks of an object: no class has fewer pages than before, nor more, unless these are no more than `need` blocks take, where what
+-- is held and what they need are no more
 record Grew (old new : List (Option Page)) (need : ℕ → ℕ) : Type 0 where
   more : (k : ℕ) → staying_pages old k ≤ staying_pages new k
   staying : (k : ℕ) → k < CLASSES → (staying_pages new k ≡ staying_pages old k) ⊎ (staying_pages new k ≤ whole_pages k (need k))
@@ -114,7 +115,7 @@ takes_grew cells at old parts new need a fits Nothing_taken = record { more = λ
 takes_grew cells at old parts new need a fits (Part_taken part class index s t takes f b) =
     grew_then cells at old part s t class (at part / 2048) index need a fits f takes b (takes_grew cells at old part s need a (λ k l. (let n = more_needed cells part class k f in let x = fits k l in omega (arith, n, x))) takes)
 
--- a leaving page stays as it is, and no other comes to leave
+-- a leaving page stays as it is, and no other becomes leaving
 pub leaves_kept : (old new : List (Option Page)) (class k : ℕ) → KeepsPages old new → leaves class (page_at new k) ≡ leaves class (page_at old k)
 leaves_kept old new class k w = by_page (page_at old k) refl (page_at new k) refl
   where

@@ -36,12 +36,12 @@ one_leaving class o = if leaves class o then 1 else 0
 abbrev pub kept_pages : List (Option Page) → ℕ → ℕ → ℕ
 kept_pages pages class page = staying_pages pages class + one_leaving class (page_at pages page)
 
--- they are on this page only; and while it leaves, so many blocks fill a page
+-- they are on this page only; and while it leaves, `need` blocks fill a page
 pub record LeftOn (s : Store) (class need page : ℕ) : Type 0 where
   pub only : StrandedOn s class page
   pub some : leaves class (page_at s.pages page) ≡ true → blocks_in class ≤ need
 
--- A class has no more pages, with the one that was left, than so many blocks take, and that one.
+-- A class has no more pages, with the one that was left, than this many blocks take, and that one.
 pub record IsSettled (s : Store) (class need : ℕ) : Type 0 where
   pub page : ℕ
   pub left : LeftOn s class need page
@@ -70,7 +70,7 @@ pub record IsEmptying (s : Store) (page block chosen : ℕ) (need : ℕ → ℕ)
   pub some : 0 < staying_pages s.pages class
   pub count : chosen ≤ leaving_pages s.pages
 
--- what holds outside moving; in a pass, when so many pages were chosen; and where a page is emptied from a block on
+-- what holds outside moving; in a pass, by how many pages were chosen; and where a page is emptied from a block on
 abbrev pub ByPhase : Type 0 → (ℕ → Type 0) → (ℕ → ℕ → ℕ → Type 0) → Phase → Type 0
 ByPhase Still Pass Emptying phases.Idle = Still
 ByPhase Still Pass Emptying (phases.Roots next) = Still

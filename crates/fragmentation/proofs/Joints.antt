@@ -30,7 +30,7 @@ use Rattle.fragmentation.specs.Season.{Season, Lives, opening_season, season_aft
 use Rattle.fragmentation.specs.Suffice.{WithinBlocks}
 use Rattle.fragmentation.proofs.Counted.{IsCounted, counted_held, all_find_room, command_room, count_none, opening_counted}
 
--- what a command asks for, with the main copies, is within so many blocks
+-- what a command asks for, with the main copies, is within this many blocks
 pub within_blocks : (r : Course) (s : Season) (live : Lives) (blocks : ℕ → ℕ) (m : ℕ) (c : Command) → IsCourse r → IsCounted r s live → WithinBlocks blocks live s (asked_for s.graph m c) → (class : ℕ) → class < CLASSES → main_blocks r.heap.store.pages class + asked_for (present_of r) m c class ≤ blocks class
 within_blocks r s live blocks m c w k keeps class l =
     let x = counted_held r s live w k class l in

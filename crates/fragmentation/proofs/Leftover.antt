@@ -39,7 +39,7 @@ module _ (old new : List (Option Page)) (page : ℕ) (o v : Option Page) (l : pa
   pub page_set : (k : ℕ) → page_at new k ≡ (if k == page then v else page_at old k)
   page_set k = ap (λ z. page_at z k) is ∙ set_page old page k v l
 
--- from one store to another no main copy comes to be stranded, and no page of the class comes to leave
+-- from one store to another no main copy becomes stranded, and no page of the class becomes leaving
 pub record Strands (s t : Store) (class : ℕ) : Type 0 where
   pub less : (b : ℕ) → IsStranded t class b → IsStranded s class b
   pub on : (k : ℕ) → leaves class (page_at t.pages k) ≡ true → leaves class (page_at s.pages k) ≡ true
@@ -57,7 +57,7 @@ one_fewer s t class page f = by_leaves (leaves class (page_at t.pages page)) ref
 strands_left : (s t : Store) (class m n page : ℕ) → Strands s t class → m ≤ n → LeftOn s class m page → LeftOn t class n page
 strands_left s t class m n page f l w = record { only = λ b x. w.only b (f.less b x); some = λ on. (let x = w.some (f.on page on) in omega (arith, x, l)) }
 
--- with no more pages that stay, a class that is settled stays so; and so does one that moving has come past
+-- with no more pages that stay, a class that is settled stays so; and so does one that moving is past
 pub settled_less : (s t : Store) (class need : ℕ) → Strands s t class → staying_pages t.pages class ≤ staying_pages s.pages class → IsSettled s class need → IsSettled t class need
 settled_less s t class need f l w = record {
   page = w.page;

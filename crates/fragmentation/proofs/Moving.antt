@@ -156,7 +156,7 @@ module _ (live : Lives) (pages : ℕ) (r new : Course) (budget units : ℕ) (pha
       → IsLeftover new.heap.store new.heap.phase (needed_since live t) → IsMoving live pages new t
   kept y t first most few left = record { room = (let x = k.room in omega (arith, x, same_count)); gathering = y.gathering; all = y.all; first = first; most = most; few = few; left = left }
 
-  -- the sweep of a cycle that is on hasn't ended before
+  -- the sweep of a running cycle hasn't ended before
   module _ (on : s.tracing ≡ true) where
     abbrev Came : Type 0
     Came = IsGoing new.heap g (snapshot_of r) × (Stage true new.heap k.first made (needed_since live s) ⊎ Behind new.heap (needed_since live s) resting)

@@ -1,4 +1,4 @@
--- What a list of events comes to by the events alone, where what is needed shifts from cycle to cycle.
+-- What a list of events adds up to, by the events alone, where what is needed shifts from cycle to cycle.
 use Rattle.std.specs.Prelude.{ℕ, ◌+◌, Bool, true, false, if◌then◌else◌, List, [], ◌∷◌, length, drop}
 use Rattle.graph_heap.specs.declared.command.Limits.{Limits}
 use Rattle.graph_heap.specs.Graph.{Graph, opening}
@@ -7,7 +7,7 @@ use Rattle.heap_model.specs.Event.{Event, Command_done, Cycle_begun, Cycle_on, Q
 use Rattle.space.specs.Demand.{LiveWithin, blocks_of, asked_for}
 use Rattle.space.specs.Tally.{is_tracing}
 
--- The graph heap to which the events lead; how many cycles began; whether one is on whose sweep hasn't ended; how many
+-- The graph heap to which the events lead; how many cycles began; whether one runs whose sweep hasn't ended; how many
 -- objects there were when the last cycle began, when that one began whose sweep ended last, and at that sweep's end;
 -- which cycle that was; and of each class what was needed up to that sweep's end since the cycle before began.
 pub record Season : Type 0 where
@@ -37,7 +37,7 @@ opening_season l = record {
 abbrev pub Lives : Type 0
 Lives = ℕ → ℕ → ℕ
 
--- the blocks of a class that objects need which were made since there were so many
+-- the blocks of a class that the objects need which were made after the first `count`
 abbrev pub made_since : ℕ → Season → ℕ → ℕ
 made_since count s class = blocks_of (drop count s.graph.objects) class
 
@@ -55,7 +55,7 @@ season_swept live s = record s {
   before = needed_since live s;
 }
 
--- where events have come to after one more
+-- the season after one more event
 abbrev pub season_after : Lives → Season → Event → Season
 season_after live s (Command_done m c reply) =
     record s { graph = after_entry s.graph (record { mutator = m; command = c; reply = reply }) }

@@ -12,7 +12,7 @@ pub record GathersAll (h : HeapState) : Type 0 where
   pub always : length h.store.pages < h.defrag_below
   pub all : length h.store.pages ≤ h.defrag_pages
 
--- The pages of a class whose blocks were gathered, for so many blocks: the whole pages that these take, and one more
+-- The pages of a class whose blocks were gathered, for this many blocks: the whole pages that these take, and one more
 -- where they fill a page, since one page may be left whose blocks found no place.
 abbrev pub gathered_pages : ℕ → ℕ → ℕ
 gathered_pages class blocks =
@@ -26,21 +26,21 @@ season_pages s asked =
     + whole_pages class (made_since s.swept s class + asked class))
     CLASSES
 
--- a season and what is asked for take at most so many pages
+-- a season and what is asked for take at most this many pages
 abbrev pub WithinPages : ℕ → Season → (ℕ → ℕ) → Type 0
 WithinPages pages s asked = season_pages s asked ≤ pages
 
 -- A demand that is taken together: of each class, what was live when the cycle began whose sweep ended last, what is
--- made since and what is asked for are at most so many blocks.
+-- made since and what is asked for are at most this many blocks.
 abbrev pub WithinBlocks : (ℕ → ℕ) → Lives → Season → (ℕ → ℕ) → Type 0
 WithinBlocks blocks live s asked =
     (class : ℕ) → class < CLASSES → needed_since live s class + asked class ≤ blocks class
 
--- the pages for so many blocks of each class, with one that may be left
+-- the pages for this many blocks of each class, with one that may be left
 abbrev pub sparse_pages : (ℕ → ℕ) → ℕ
 sparse_pages blocks = class_sum (λ class. gathered_pages class (blocks class)) CLASSES
 
--- the whole pages that so many blocks of each class take
+-- the whole pages that this many blocks of each class take
 abbrev pub pages_of : (ℕ → ℕ) → ℕ
 pages_of blocks = class_sum (λ class. whole_pages class (blocks class)) CLASSES
 
@@ -54,6 +54,7 @@ pub record Budget : Type 0 where
 abbrev pub budget_pages : Budget → ℕ
 budget_pages b = b.live + 2 * b.made + CLASSES
 
--- what is made since the cycle began whose sweep ended last, and what is asked for, take at most so many pages
+-- what is made since the cycle began whose sweep ended last, and what is asked for, take at most the pages that the
+-- budget has for what is made
 abbrev pub WithinBudget : Budget → Season → (ℕ → ℕ) → Type 0
 WithinBudget b s asked = pages_of (λ class. made_since s.base s class + asked class) ≤ b.made

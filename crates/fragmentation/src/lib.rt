@@ -72,7 +72,7 @@ pub fn moving_ends_tight()
 {}
 
 /// The space bound for a demand that shifts. In every run of events from an opening heap that moves after each sweep,
-/// and may empty as many pages as it has, no new object is refused for want of space, where at each command there are
+/// and may empty as many pages as it has, no new object is refused for lack of space, where at each command there are
 /// as many pages as its season takes: what was needed up to the last sweep's end since the cycle before began, and what
 /// was made since.
 pub fn moving_suffices()
@@ -81,10 +81,10 @@ pub fn moving_suffices()
         → AllKeep (WithinPages (length h.store.pages)) live (opening_season h.limits) es → EveryNewFindsRoom es }
 {}
 
-/// So where live objects take at most so many pages whenever a cycle begins, and what is made from a cycle's beginning
-/// to the end of the next cycle's sweep at most so many more, no new object is refused for want of space on the pages
-/// of live objects, twice those made, and one for each class: whatever the sizes of the objects are, and however these
-/// change.
+/// So where live objects take at most some number of pages whenever a cycle begins, and what is made from a cycle's
+/// beginning to the end of the next cycle's sweep at most another, no new object is refused for lack of space with the
+/// pages of live objects, twice those made, and one for each class: whatever the sizes of the objects are, and however
+/// these change.
 pub fn budget_suffices()
     ensures { (h : HeapState) (es : List Event) (new : Course) (b : Budget) (live : Lives) → IsOpening h
         → 0 < length h.store.pages → GathersAll h → Runs (opened h) es new
@@ -93,8 +93,8 @@ pub fn budget_suffices()
 {}
 
 /// The space bound for a demand that is taken together, whatever moves: in every run that keeps, at each command, what
-/// was live when the cycle began whose sweep ended last, with what is made since and asked for, within so many blocks
-/// of each class, no new object is refused for want of space, where there are as many pages as those blocks take.
+/// was live when the cycle began whose sweep ended last, with what is made since and asked for, within a number of
+/// blocks of each class, no new object is refused for lack of space, where there are as many pages as those take.
 pub fn joint_suffices()
     ensures { (h : HeapState) (es : List Event) (new : Course) (blocks : ℕ → ℕ) (live : Lives) → IsOpening h
         → 0 < length h.store.pages → Runs (opened h) es new
@@ -102,7 +102,7 @@ pub fn joint_suffices()
         → pages_for blocks (spare_of h) CLASSES ≤ length h.store.pages → EveryNewFindsRoom es }
 {}
 
-/// Nor is one refused where as many pages stay free beside those that the blocks take as moving begins below: then no
+/// Nor is one refused where as many pages stay free besides those that the blocks take as moving begins below: then no
 /// sweep is followed by moving, and no page is left sparse.
 pub fn joint_suffices_unmoved()
     ensures { (h : HeapState) (es : List Event) (new : Course) (blocks : ℕ → ℕ) (live : Lives) → IsOpening h
@@ -120,7 +120,7 @@ pub fn sparse_suffices()
         → sparse_pages blocks + spare_of h ≤ length h.store.pages → EveryNewFindsRoom es }
 {}
 
-/// In a heap of a configuration no reply of a run is the refusal for want of space: where the run keeps to a demand
+/// In a heap of a configuration no reply of a run is the refusal for lack of space: where the run keeps to a demand
 /// that is taken together and fits; where each cycle gathers every class, and the run keeps within the configuration's
 /// pages; and there, where it keeps to a budget for which the configuration has pages.
 pub fn configured_pages_suffice()

@@ -19,7 +19,7 @@ abbrev pub ◌>>=◌ : {A B : Type 0} → Result A Refusal → (A → Result B R
 (Ok x) >>= f = f x
 (Err e) >>= f = Err e
 
--- where a slot, or a static, stands in the row of roots
+-- where a slot stands in the row of roots
 abbrev pub slot_at : Limits → ℕ → ℕ → Result ℕ Refusal
 slot_at l m s = if nat_lt m l.mutators && nat_lt s l.slots then Ok (m * l.slots + s) else Err refusals.BadSlot
 
@@ -65,7 +65,7 @@ abbrev pub next_identity : Graph → Result ℕ Refusal
 next_identity g = if nat_lt (length g.objects) g.limits.identities then Ok (length g.objects + 1)
     else Err refusals.IdentitiesSpent
 
--- the refusal for want of space, where there is no room
+-- the refusal for lack of space, where there is no room
 abbrev pub with_room : Bool → Result Bool Refusal
 with_room room = if room then Ok true else Err refusals.NoSpace
 
@@ -157,7 +157,7 @@ abbrev pub admitted_to : Limits → List Bool → ℕ → Bool → Result Bool R
 admitted_to l live m joins = if nat_lt m l.mutators then admits (slice_index_or live m false) joins
     else Err refusals.BadSlot
 
--- the admission of a command, which is looked at first
+-- the admission of a command, which is checked first
 abbrev pub admitted : Graph → ℕ → Command → Result Bool Refusal
 admitted g m c = admitted_to g.limits g.live m (is_join c)
 

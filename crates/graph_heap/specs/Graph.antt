@@ -34,7 +34,7 @@ live_first l = replicate l.live true ++ replicate (l.mutators - l.live) false
 abbrev pub opening : Limits → Graph
 opening l = record { limits = l; objects = []; roots = replicate (root_cells l) 0; live = live_first l }
 
--- a row of roots with null in so many of them, from one on
+-- a row of roots with null in n of them, from one on
 abbrev pub nulled : List ℕ → ℕ → ℕ → List ℕ
 nulled roots first zero = roots
 nulled roots first (suc n) = slice_set (nulled roots first n) (first + n) 0

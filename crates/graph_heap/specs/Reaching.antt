@@ -9,7 +9,7 @@ use Rattle.graph_heap.specs.declared.reference.reaching.Found.TheInside.{Inside}
 use Rattle.graph_heap.specs.Graph.{Graph}
 use Rattle.graph_heap.specs.Reach.{Reaches}
 
--- an identity is that of one of so many objects
+-- an identity is that of one of this many objects
 abbrev pub IsAmong : ℕ → ℕ → Type 0
 IsAmong objects id = (0 < id) × (id ≤ objects)
 

@@ -11,9 +11,9 @@ pub const ARRAY_CELLS: u32 = 4_000_000;
 pub enum Shape {
     /// Reference cells and word cells, together at most 252.
     Plain { refs: u32, words: u32 },
-    /// An array of so many reference cells, at most 4000000.
+    /// An array of this many reference cells, at most 4000000.
     RefArray(u32),
-    /// An array of so many word cells, at most 4000000.
+    /// An array of this many word cells, at most 4000000.
     WordArray(u32),
 }
 
@@ -98,7 +98,7 @@ pub enum Command {
     Describe {
         a: u32,
     },
-    /// The mutator comes to be live.
+    /// The mutator becomes live.
     Join,
     /// Null into each slot of the mutator, which is live no more.
     Leave,
@@ -221,7 +221,7 @@ pub enum Change {
     Word { id: u64, i: u32, value: u64 },
     /// An object is made, and a root gets its identity.
     New { cell: usize, id: u64, shape: Shape },
-    /// A mutator comes to be live.
+    /// A mutator becomes live.
     Join { mutator: u32 },
     /// The slots of a mutator get null, and it is live no more.
     Leave { mutator: u32 },

@@ -329,7 +329,7 @@ impl Reference {
     }
 }
 
-/// Whether a reply tells of room.
+/// Whether there was room, by a reply.
 fn had_room_of(reply: &Reply) -> bool
     ensures { result ≡ history.had_room reply.now }
 {

@@ -21,7 +21,7 @@ node_parts : (b : List ℕ) → node_in b ≡ by_parts (get_or b 0 0) (get_or b 
 unfolding node_in by_parts
 node_parts b = refl
 
--- a record is told by its five numbers and its cells
+-- a record is known by its five numbers and its cells
 same_parts : (b : List ℕ) (f w d l : ℕ) (cells : List ℕ) → get_or b 0 0 ≡ f → get_or b 1 0 ≡ w → get_or b 2 0 ≡ d → get_or b 3 0 ≡ l → drop 4 b ≡ cells → node_in b ≡ by_parts f w d l cells
 same_parts b f w d l cells e0 e1 e2 e3 e4 = node_parts b ∙ rw (e0, e1, e2, e3, e4) refl
 

@@ -27,7 +27,7 @@ impl Model for Arena {
 }
 
 impl Arena {
-    /// The arena of so many pages of 2048 words, all 0. Only want of memory is refused.
+    /// The arena of this many pages of 2048 words, all 0. Refused only for lack of memory.
     pub fn new(alloc: Global, pages: u32) -> Result<Arena, NoMemory>
         ensures { IfOk result (λ a. a ≡ replicate (2048 * pages) 0) }
     {
@@ -134,7 +134,7 @@ impl Arena {
         self.words[block + (4 + i)] = value;
     }
 
-    /// Copies so many words of a block to another place.
+    /// Copies `size` words of a block to another place.
     pub fn copy_block(&mut self, from: usize, to: usize, size: usize)
         requires from { from + size ≤ length self.old }
         requires to { to + size ≤ length self.old }
@@ -143,7 +143,7 @@ impl Arena {
         self.words.copy_within(from..from + size, to);
     }
 
-    /// Makes a part in a block: its header, forwarding to itself, and so many cells of 0.
+    /// Makes a part in a block: its header, forwarding to itself, and this many cells of 0.
     #[inline(always)]
     pub fn begin(
         &mut self,

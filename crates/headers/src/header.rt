@@ -26,7 +26,7 @@ fn bit(colour: bool) -> u64
     if colour { 4 } else { 0 }
 }
 
-/// The shape that a word tells of.
+/// The shape that a word says.
 #[inline(always)]
 pub fn shape_of(word: u64) -> Shape
     ensures says { result ≡ shape_in word }
@@ -42,7 +42,7 @@ pub fn shape_of(word: u64) -> Shape
     }
 }
 
-/// The part's number that a word tells of.
+/// The part's number that a word says.
 pub fn part_of(word: u64) -> u32
     ensures says { result ≡ (header_in word).part }
     ensures within { result < 65536 }
@@ -50,14 +50,14 @@ pub fn part_of(word: u64) -> u32
     (word / 4294967296 % 65536) as u32
 }
 
-/// The colour that a word tells of.
+/// The colour that a word says.
 pub fn colour_of(word: u64) -> bool
     ensures { result ≡ (header_in word).colour }
 {
     word / 4 % 2 == 1
 }
 
-/// Whether a word tells of a colour.
+/// Whether a word says a colour.
 pub fn has_colour(word: u64, colour: bool) -> bool
     ensures { result ≡ same_colour colour (header_in word).colour }
 {

@@ -247,7 +247,7 @@ pass_act h present snapshot page block p store c e f l marked =
     ap (seen h).marked q.1 ∙ marked q.0) in
     again h (goes_to h 1 (phases.Sweeping page (block + 1))) present snapshot c refl refl refl c.whole c1
 
--- each block says the same, and the held ones are told
+-- each block says the same, and the held ones are given
 all_kept : (h : HeapState) (new : Store) (held : ℕ → Bool) → ((x : ℕ) → (seen (record h { store = new })).held x ≡ held x)
     → ((A : Type 0) (none : A) (f : Node → A) (x : ℕ) → held x ≡ true → (if x == 0 then none else f (node_of new (x - 1))) ≡ (if x == 0 then none else f (node_of h.store (x - 1))))
     → SameBlocks (record (seen h) { held = held }) (seen (record h { store = new }))

@@ -13,7 +13,7 @@ use Rattle.heap_model.proofs.Kept.{kept_null, reach_kept}
 use Rattle.heap_model.proofs.Agreed.{AgreesByParts, agreed}
 use Rattle.heap_model.proofs.Cut.{reaches_reach, reach_reaches, count_some, reach_zero}
 
--- the invariant after a step, of which it is told what becomes of the heap and of the graph heaps
+-- the invariant after a step, by what becomes of the heap and of the graph heaps
 pub stepped : (h after : HeapState) (present snapshot present' snapshot' : Graph) → Consistent h present snapshot → after.limits ≡ h.limits → after.live ≡ h.live → length after.roots ≡ length h.roots
     → present'.limits ≡ present.limits → present'.live ≡ present.live → length present'.roots ≡ length present.roots → length h.roots ≡ length snapshot'.roots
     → ((id : ℕ) → HasItsCells (object_of present'.objects id)) → IsWhole after.store → Coherent (collector_of after) (view present') (view snapshot') → Consistent after present' snapshot'

@@ -1,4 +1,4 @@
--- What the next action costs is told by the state.
+-- What the next action costs is fixed by the state.
 use Rattle.std.proofs.Common.{◌≡◌, ℕ, ◌+◌, ◌<◌, ◌≤◌, ◌⊎◌, inl, inr, Bool, true, false, refl, ap, sym, ◌∙◌, arith}
 use Rattle.std.specs.Prelude.{Option, Some, None, slice_get, position}
 use Rattle.std.proofs.lemmas.Option.{same_Some}

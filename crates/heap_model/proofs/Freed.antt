@@ -1,4 +1,4 @@
--- What was freed can't be reached, and comes never back.
+-- What was freed can't be reached, and never comes back.
 use Rattle.std.proofs.Common.{◌≡◌, ◌≢◌, ℕ, ◌<◌, ◌≤◌, ◌⊎◌, inl, inr, Bool, true, false, List, [], ◌∷◌, ◌++◌, length, get_or, ap, subst, sym, arith, ◌==◌, if◌then◌else◌, length-set, length-append}
 use Rattle.graph_heap.specs.declared.command.Change.{Change}
 use Rattle.graph_heap.specs.declared.command.Change.TheVariants as changes
@@ -88,7 +88,7 @@ does_back r Cycle_on new w d = back_same (present_of r) (present_of new) (ap pre
 does_back r (Quantum_done budget units phase) new w d = back_same (present_of r) (present_of new) (collects_present r new budget units phase w d)
 does_back r (Quantum_refused budget) new w d = back_same (present_of r) (present_of new) (ap present_of d.1)
 
--- so what can't be reached comes never back
+-- so what can't be reached never comes back
 pub runs_back : (es : List Event) (r new : Course) (id : ℕ) → IsCourse r → Runs r es new → id ≤ length (present_of r).objects → Reaches (present_of new) id → Reaches (present_of r) id
 runs_back [] r new id w e l reach = subst (λ z. Reaches (present_of z) id) e reach
 runs_back (e ∷ es) r new id w d l reach =

@@ -92,7 +92,7 @@ module _ (h : Heap) (size : ℕ → ℕ) (n : ℕ) (a : LieApart h size (4 * n))
   pub few : (xs : List ℕ) → Once xs → AreHeld xs → length xs ≤ n
   few xs o w = subst (λ k. k ≤ n) (length-map xs quarter) (length-le_from_distinct_below (map quarter xs) n (distinct xs o w) (below xs w))
 
--- the four words of each block's header alone take so many words of the arena
+-- how many words of the arena the four words of each block's header alone may take
 quarters : (h : HeapState) → arena_words h ≡ 4 * (512 * length h.store.pages)
 quarters h = omega arith
 

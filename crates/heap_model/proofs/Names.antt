@@ -37,7 +37,7 @@ reads_own h g s at b r x l =
 reads_one : (h : Heap) (g s : PartGraph) (at : Name → ℕ) → Base h g s at → Resting h g s at → (x : ℕ) (n : Name) → Reads h x n → h.name x ≡ n
 reads_one h g s at b r x n w = sym (b.name (h.name x) (r.kept x w.held)) ∙ ap h.name (sym (r.forward x w.held)) ∙ w.main.name
 
--- whether blocks are moved, or no cycle is on
+-- whether blocks are moved, or no cycle is running
 abbrev Rests : Phase → Type 0
 Rests p = (p ≡ phases.Idle) ⊎ ((place : Place) × (p ≡ phases.Moving place))
 

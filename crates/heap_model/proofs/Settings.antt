@@ -17,7 +17,7 @@ use Rattle.heap_model.proofs.Taken.{takes_count}
 abbrev pub others : HeapState → HeapSettings
 others h = record (settings_of h) { pages = 0 }
 
--- the others, with so many pages
+-- the others, with this many pages
 abbrev with_pages : HeapSettings → ℕ → HeapSettings
 with_pages s n = record s { pages = n }
 

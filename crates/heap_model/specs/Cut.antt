@@ -9,12 +9,12 @@ use Rattle.heap_model.specs.Core.{Name, null, PartGraph}
 unfoldable pub count_of : Object → ℕ
 count_of o = parts_in (length o.refs + length o.words)
 
--- how many reference cells a part has, of an object with so many reference cells: in a spine all, and
--- in a piece its share, as references stand first
+-- how many reference cells a part has, of an object with this many: all cells of a spine, and of a piece
+-- its share, as references stand first
 abbrev pub width_by : Run → ℕ → ℕ
 width_by r refs = if r.spine then r.count else min r.count (refs - r.first)
 
--- how many reference cells a part has, of an object with so many reference and word cells
+-- how many reference cells a part has, of an object with this many reference and word cells
 unfoldable pub width_in : ℕ → ℕ → ℕ → ℕ
 width_in refs words part = width_by (run_of (refs + words) part) refs
 

@@ -28,7 +28,7 @@ pub record Refers (s : Store) (block cell : ℕ) : Type 0 where
   pub some : slice_index (node_of s block).cells cell ≢ 0
   pub there : is_held s (slice_index (node_of s block).cells cell - 1) ≡ true
 
--- the block of the spine that refers to a part, from that of part 0 of an object of so many cells: itself,
+-- the block of the spine that refers to a part, from that of part 0 of an object with this many cells: itself,
 -- or the middle spine to which it refers
 abbrev pub spine_at : Store → ℕ → ℕ → ℕ → ℕ
 spine_at s cells block part = if holder_of cells part == 0 then block

@@ -5,7 +5,7 @@ use Rattle.machine.specs.declared.collector.Spent.{Spent}
 use Rattle.heap_server.specs.Views.{PacerView}
 use Rattle.heap_server.specs.Paced.{IsPaced}
 
--- after a call to begin a cycle one is on, and at most one was begun
+-- after a call to begin a cycle one is running, and at most one was begun
 pub record IsOn (old new : PacerView) : Type 0 where
   pub on : new.ended ≢ new.begun
   pub begun : new.begun ≤ old.begun + 1

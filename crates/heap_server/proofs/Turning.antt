@@ -1,4 +1,4 @@
--- What a quantum does to the cycle that is on.
+-- What a quantum does to the cycle that is running.
 use Rattle.std.proofs.Common.{◌≡◌, ◌≢◌, ℕ, ◌+◌, ◌-◌, ◌<◌, ◌≤◌, ◌⊎◌, inl, inr, refl, ap, sym, ◌∙◌, subst, arith}
 use Rattle.graph_heap.specs.Graph.{Graph}
 use Rattle.heap_model.specs.declared.phase.Phase.{Phase}
@@ -15,7 +15,7 @@ use Rattle.heap_server.specs.Views.{PacerView}
 use Rattle.heap_server.specs.Kept.{cycles_on}
 use Rattle.heap_server.specs.Paced.{IsPaced}
 
--- a phase is idle, or a cycle is on
+-- a phase is idle, or a cycle is running
 pub idle_or : (p : Phase) → ((p ≡ phases.Idle) × (cycles_on p ≡ 0)) ⊎ ((p ≢ phases.Idle) × (cycles_on p ≡ 1))
 idle_or phases.Idle = inl (refl, refl)
 idle_or (phases.Roots next) = inr (λ e. cc, refl)

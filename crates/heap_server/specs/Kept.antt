@@ -16,14 +16,14 @@ pub record IsSound (settings : HeapSettings) (r : Course) : Type 0 where
   pub holds : Holds r
   pub space : FoundSpace r
 
--- how many cycles are on: none in idle, else one
+-- how many cycles are running: none in idle, else one
 abbrev pub cycles_on : Phase → ℕ
 cycles_on phases.Idle = 0
 cycles_on _ = 1
 
 -- What the lock keeps: there is a mutator, the heap is sound, each entry of the history was counted as a call, a chain
 -- of events with the cycles begun, the quanta done and the units spent leads to the heap, and each cycle that was begun
--- has ended or is on.
+-- has ended or is running.
 pub record IsKept (settings : HeapSettings) (v : LockedView) : Type 0 where
   pub some : 0 < settings.limits.mutators
   pub sound : IsSound settings v.course

@@ -29,7 +29,7 @@ Appends s v found w =
 abbrev pub next_entry : Course → ℕ → Command → Entry
 next_entry r m c = record { mutator = m; command = c; reply = reply_of (room_for r.heap c) (present_of r) m c }
 
--- What was committed to a log of which one front knew the whole, and another a part: the entry is added, and both
+-- What was committed to a log, where one front knew the whole log and another a part: the entry is added, and both
 -- know the log; or the log is longer, its length is what was found, and the other front knows it.
 abbrev pub Commits : List Entry → List Entry → Entry → ℕ → List Entry → List Entry → Type 0
 Commits whole part e found whole_after part_after =

@@ -12,7 +12,7 @@ use Rattle.heap_server.specs.Seen.{mine, commands_of}
 use Rattle.heap_server.specs.Kept.{IsSound}
 use Rattle.heap_server.specs.declared.play.Outcome.{Outcome}
 
--- Of each mutator the history has the first so many commands of its script, in their order, and of a mutator
+-- Of each mutator the history has this many commands of its script, the first ones in their order, and of a mutator
 -- without a script none.
 abbrev pub HasFronts : List Entry → List (List Command) → List ℕ → Type 0
 HasFronts h scripts done = (m : ℕ) → commands_of (mine h m) ≡ take (slice_index done m) (slice_index_or scripts m [])
@@ -27,7 +27,8 @@ IsPart [] ys = Unit {0}
 IsPart (x ∷ xs) [] = ⊥
 IsPart (x ∷ xs) (y ∷ ys) = ((x ≡ y) × IsPart xs ys) ⊎ IsPart (x ∷ xs) ys
 
--- from a seat as many calls were made as the first so many commands of its script, and it was told of these
+-- the calls made from a seat are no more than the commands of its script, and it was told of as many of these, the
+-- first ones
 pub record HasPlayed (s : SeatView) (script : List Command) : Type 0 where
   pub within : s.calls ≤ length script
   pub told : IsPart (take s.calls script) (commands_of (mine s.seen s.mutator))
@@ -38,7 +39,7 @@ pub record IsPlayed (script : List Command) (old new : SeatView) : Type 0 where
   pub within : new.calls ≤ length script
   pub told : IsPart (take new.calls script) (commands_of (mine new.seen new.mutator))
 
--- The seats of so many mutators, in rising order, after these scripts: each of the first seats has played its
+-- The seats of this many mutators, in rising order, after these scripts: each of the first seats has played its
 -- script, or the first commands of it, and from the others no call was made.
 pub record HavePlayed (mutators : ℕ) (scripts : List (List Command)) (seats : List SeatView) : Type 0 where
   pub all : mutators_of seats ≡ upto mutators
@@ -56,7 +57,7 @@ pub record IsCollected (budgets : List ℕ) (used : ℕ) (p : PacerView) : Type 
   pub least : used ≤ p.spent
   pub most : p.spent ≤ sum (take used budgets)
 
--- What came of scripts and budgets, at a new heap of these settings: it is sound; each entry of its history is
+-- The outcome of scripts and budgets on a new heap of these settings: it is sound; each entry of its history is
 -- counted once, as one that a script has done; of no script more is done than it has; where the place word isn't
 -- torn, what was done is the fronts of the scripts; and the cycles, quanta and units that led to the heap are those of
 -- the budgets used. All is done where nothing is left and the word isn't torn, and then the history is a merge of the

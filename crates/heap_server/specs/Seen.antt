@@ -31,14 +31,13 @@ abbrev pub fault_number : ServerFault → ℕ
 fault_number faults.NoMemory = 9
 fault_number (faults.Torn found) = 10
 
--- What a fault tells of what the seat has seen: nothing new, for want of memory; or all of a log of the length that
+-- What a fault says of what the seat has seen: nothing new, for lack of memory; or all of a log of the length that
 -- was found.
 abbrev pub FaultShows : ServerFault → List Entry → List Entry → Type 0
 FaultShows faults.NoMemory seen new = new ≡ seen
 FaultShows (faults.Torn found) seen new = found ≡ length new
 
--- What it tells beside the locked history: where another number was found, the log begins with the history and is
--- longer.
+-- The same, with the locked history: where another number was found, the log begins with the history.
 abbrev pub FaultTells : ServerFault → List Entry → List Entry → List Entry → Type 0
 FaultTells faults.NoMemory history seen new = new ≡ seen
 FaultTells (faults.Torn found) history seen new = (found ≡ length new) × IsPrefix history new

@@ -126,7 +126,7 @@ impl<N: Naming> Locked<N> {
         &self.recorded
     }
 
-    /// Makes room for so many more calls: the next so many aren't refused memory.
+    /// Makes room for this many more calls: that many aren't refused memory.
     pub fn reserve(&mut self, calls: usize) -> Result<(), NoMemory>
         ensures room { OnOk result (calls ≤ self.new.room) }
         ensures kept { self.old.room ≤ self.new.room }
@@ -154,7 +154,7 @@ impl<N: Naming> Locked<N> {
 
     /// Does a command of the seat's mutator, whole, and enters it with its reply. The place word goes from the
     /// length of the history to one more first: where it has another number, the log was torn from the history,
-    /// and nothing has changed. So it is where memory for the entry is refused.
+    /// and nothing has changed. The same holds where memory for the entry is refused.
     pub fn transact(
         &mut self,
         place: &Place<N>,
@@ -195,7 +195,7 @@ impl<N: Naming> Locked<N> {
         Ok(receipt)
     }
 
-    /// Begins a cycle of the collector, unless one is on.
+    /// Begins a cycle of the collector, unless one is running.
     pub fn begin(&mut self, pacer: &mut Pacer<N>) -> Result<(), Busy>
         ensures does { Does self.old.course (begin_done result) self.new.course }
         ensures was { pacer.old ≡ pacer_of self.old }
@@ -215,7 +215,7 @@ impl<N: Naming> Locked<N> {
         Ok(())
     }
 
-    /// Spends units of a budget on the cycle that is on.
+    /// Spends units of a budget on the cycle that is running.
     pub fn quantum(&mut self, pacer: &mut Pacer<N>, budget: u32) -> Result<Spent, BudgetOutOfRange>
         ensures does { Does self.old.course (quantum_done budget result) self.new.course }
         ensures was { pacer.old ≡ pacer_of self.old }
@@ -244,7 +244,7 @@ impl<N: Naming> Locked<N> {
     }
 }
 
-/// How many cycles are on in a phase: 0 in idle, else 1.
+/// How many cycles are running in a phase: 0 in idle, else 1.
 fn cycles_on(phase: Phase) -> u64
     ensures { result ≡ cycles_on phase }
 {

@@ -22,7 +22,7 @@ use std::sync::Wait;
 use std::thread;
 use std::thread::Threads;
 
-/// What came of a play.
+/// The outcome of a play.
 #[derive(Drop)]
 pub struct Outcome {
     /// The heap, with the history of all commands that were done.
@@ -40,13 +40,13 @@ pub struct Outcome {
 }
 
 /// Plays scripts at a new heap, each in a thread of its own, and a collector beside them, which for each
-/// budget begins a cycle, unless one is on, and spends the budget on it. Script m is mutator m's. Each
+/// budget begins a cycle, unless one is running, and spends the budget on it. Script m is mutator m's. Each
 /// worker comes by the gate before each of its commands or budgets and after the last. All threads have ended
 /// when the outcome is there. Where a thread can't be started its commands are done in turn.
 ///
 /// Room for all commands is made before the threads start, so that no call takes memory while it holds the lock; only
-/// the system may have to find a page of that room when a call first writes to it. Where there is no memory for so
-/// many, the history grows as it needs.
+/// the system may have to find a page of that room when a call first writes to it. Where there is no memory for all
+/// of them, the history grows as it needs.
 ///
 /// A script whose command is refused memory, or finds the place word torn, ends before that command, and a budget
 /// that isn't 256 to 1000000 units ends the collector. NoMemory is answered only where nothing was started.
@@ -102,7 +102,7 @@ fn played<N: Naming + Send + Sync, G: Gate + Sync, R: Threads + Wait + Sync>(
     Ok(settled(server, seats, pacer, scripts, budgets, used, done))
 }
 
-/// Makes room for all commands of the scripts, if there is memory for so many entries.
+/// Makes room for all commands of the scripts, if there is memory for that many entries.
 fn reserve_for<N: Naming>(rt: &impl Wait, server: &Server<N>, scripts: &[Vec<Command>]) {
     let mut calls = 0usize;
     for script in scripts {

@@ -112,7 +112,7 @@ impl<N: Naming> Server<N> {
         seat.front.observe(&self.place)
     }
 
-    /// Begins a cycle of the collector, unless one is on.
+    /// Begins a cycle of the collector, unless one is running.
     pub fn begin(&self, pacer: &mut Pacer<N>, rt: &impl Wait) -> Result<(), Busy>
         ensures begun { OnOk result ((pacer.old.ended ≡ pacer.old.begun)
             × (pacer.new ≡ record pacer.old { begun = pacer.old.begun + 1 })) }
@@ -121,7 +121,7 @@ impl<N: Naming> Server<N> {
         self.locked.lock(rt).begin(pacer)
     }
 
-    /// Spends units of a budget on the cycle that is on. Only a budget that isn't 256 to 1000000 units is
+    /// Spends units of a budget on the cycle that is running. Only a budget that isn't 256 to 1000000 units is
     /// refused.
     pub fn quantum(
         &self,
@@ -136,8 +136,8 @@ impl<N: Naming> Server<N> {
         self.locked.lock(rt).quantum(pacer, budget)
     }
 
-    /// Makes room for so many more calls. Other threads may use it up. A call that finds room takes no memory while it
-    /// holds the lock; only the system may have to find a page of that room when a call first writes to it.
+    /// Makes room for this many more calls. Other threads may use it up. A call that finds room takes no memory while
+    /// it holds the lock; only the system may have to find a page of that room when a call first writes to it.
     pub fn reserve_history(&self, calls: usize, rt: &impl Wait) -> Result<(), NoMemory> {
         self.locked.lock(rt).reserve(calls)
     }

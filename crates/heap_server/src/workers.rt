@@ -35,7 +35,7 @@ fn work<N: Naming, G: Gate, R: Wait>(
     gate.pass(seat.mutator(), seat.made());
 }
 
-/// Begins a cycle, unless one is on, and spends a budget on it, for each budget up to the first that no
+/// Begins a cycle, unless one is running, and spends a budget on it, for each budget up to the first that no
 /// quantum may have. The result is how many were used.
 pub fn collect<N: Naming, G: Gate, R: Wait>(
     rt: &R,

@@ -13,7 +13,7 @@ use Rattle.inspector.specs.Made.{makes, blocks_made, entered_since}
 abbrev pub counted : ℕ → ℕ
 counted n = min n (2 ^ 64 - 1)
 
--- the moment behind the last of the steps that are so, or else an earlier one
+-- the moment after the last of the steps that are so, or else an earlier one
 abbrev pub behind_last : (Step → Bool) → Option Course → List Step → Option Course
 behind_last is earlier steps = fold (λ last s. if is s then Some s.after else last) earlier steps
 
@@ -22,7 +22,7 @@ abbrev pub copies_at : Option Course → Copies
 copies_at None = record { objects = 0; parts = 0; old = 0 }
 copies_at (Some r) = copies_in r.heap.store
 
--- the units that a quantum adds to those of the cycle that it finds on
+-- the units that a quantum adds to those of the cycle that it finds running
 abbrev pub units_by : Step → ℕ
 units_by s = if works s then s.after.heap.units - s.before.heap.units else 0
 
@@ -30,7 +30,7 @@ units_by s = if works s then s.after.heap.units - s.before.heap.units else 0
 abbrev pub longest_of : List Step → ℕ
 longest_of steps = fold (λ most s. max most (units_by s)) 0 steps
 
--- the moment when a cycle ends, or the last one if it is on then
+-- the moment when a cycle ends, or the last moment if the cycle is still running
 abbrev pub end_of : Step → List Step → Course
 end_of s [] = s.after
 end_of s (t ∷ later) = if ends_cycle s then s.after else end_of t later
@@ -38,8 +38,8 @@ end_of s (t ∷ later) = if ends_cycle s then s.after else end_of t later
 -- What a sweep did that ended at this moment, in a cycle that began at the first: of the objects that the heap held
 -- when the sweep before it had ended (swept), and those made since, it freed all that the heap doesn't hold now. When a
 -- sweep ends, each block is that of a main copy; since the one before, blocks were taken for parts of new objects, and
--- for those that the cycle before moved by its end (ended). Moves change none of the other figures, so they are told of
--- the heap after the quantum in which the sweep ended.
+-- for those that the cycle before moved by its end (ended). Moves change none of the other figures, so they are those
+-- of the heap after the quantum in which the sweep ended.
 pub record IsSweep (swept ended : Option Course) (first now : Course) (s : Sweep) : Type 0 where
   pub kept : s.kept ≡ (copies_in now.heap.store).objects
   pub made : s.made ≡ count_by makes (entered_since (Some first) now)
@@ -60,8 +60,8 @@ SweptBy earlier first later (Some s) =
     × IsSweep (behind_last ends_sweep None earlier) (behind_last ends_cycle None earlier) first.before last.after s
 
 -- The figures of a cycle that the first step begins, where the later ones begin none: its line, its quanta, its units,
--- the most units of a quantum, its sweep, and the blocks that were moved once that had ended, of each of which the heap
--- has an old copy.
+-- the most units of a quantum, its sweep, and the blocks that were moved once that had ended: the heap has an old copy
+-- of each.
 pub record IsCycle (earlier : List Step) (first : Step) (later : List Step) (c : Cycle) : Type 0 where
   pub line : c.line ≡ first.line
   pub quanta : c.quanta ≡ counted (count_by works later)

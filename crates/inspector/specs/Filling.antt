@@ -14,7 +14,7 @@ use Rattle.inspector.specs.declared.filling.Filling.{Filling}
 abbrev pub nothing : Filling
 nothing = record { pages = 0; held = 0; free = 0; inside = 0; behind = 0; spare = 0 }
 
--- of a page of a class, of which so many blocks are held, with so many words wasted inside them
+-- of a page of a class with this many held blocks, and this many words wasted inside them
 abbrev pub page_filling : ℕ → ℕ → ℕ → Filling
 page_filling class held inside = record {
   pages = 1;

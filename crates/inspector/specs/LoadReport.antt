@@ -1,4 +1,4 @@
--- What is told of a trace and of a load: whether the trace keeps to the load, and how many pages the load needs.
+-- What is reported of a trace and of a load: whether the trace keeps to the load, and how many pages the load needs.
 use Rattle.std.specs.Prelude.{◌≡◌, ◌↔◌, ℕ, ◌<◌, ◌≤◌, nat_lt, Bool, true, false, IsTrue, if◌then◌else◌, List, [], ◌++◌, slice_index, Option, Some, None, codes, decimal}
 use Rattle.size_classes.specs.declared.class.TheConstants.{CLASSES}
 use Rattle.size_classes.specs.declared.config.Config.{Config}
@@ -33,7 +33,7 @@ abbrev pub kept_line : Kept → List ℕ
 kept_line Keeps = codes "keeps to the load\n"
 kept_line (Breaks line by) = breach_line line by
 
--- the line of a class of which more blocks were live than the load has: its size in words, and the blocks of both
+-- the line of a class, if more of its blocks were live than the load has: its size in words, and the blocks of both
 abbrev pub live_line : Load → Pace → ℕ → List ℕ
 live_line load measured class = if nat_lt (load.live class) (measured.live class)
     then codes "size " ++ (decimal (size_of class)
@@ -46,25 +46,25 @@ abbrev pub live_told : Load → Option PaceTable → List ℕ
 live_told load None = codes "more live blocks than can be counted\n"
 live_told load (Some measured) = class_lines (live_line load (pace_in measured)) CLASSES
 
--- A load covers a run that keeps to it, and of which no more was live than it has.
+-- A load covers a run that keeps to it and had no more live than it has.
 abbrev pub IsCovered : LoadTable → Kept → Option PaceTable → Type 0
 IsCovered load Keeps (Some measured) =
     (class : ℕ) → class < CLASSES → slice_index measured.live class ≤ slice_index load.live class
 IsCovered load Keeps None = ⊥
 IsCovered load (Breaks line by) measured = ⊥
 
--- whether what is told of the load holds for the run too
+-- whether what is reported of the load holds for the run too
 abbrev pub covered_line : Bool → List ℕ
 covered_line true = codes "this run is within the load\n"
 covered_line false = codes "nothing is promised of this run\n"
 
--- what is told of the pages that a load needs: the report of its pace, with the schedule of the configuration
+-- what is reported of the pages that a load needs: the report of its pace, with the schedule of the configuration
 pub record IsNeedReport (c : Config) (load : Load) (text : List ℕ) : Type 0 where
   pub pace : PaceTable
   pub is_of_load : IsSamePace (pace_in pace) (pace_of load c.collector_ticks c.mutator_ticks)
   pub is_told : IsPaceReport By_load c (Some pace) text
 
--- All that is told of a load, of whether a trace keeps to it, and of the pace that was measured of the trace.
+-- All that is reported of a load, of whether a trace keeps to it, and of the pace that was measured of the trace.
 pub record IsLoadReport (c : Config) (load : LoadTable) (kept : Kept) (measured : Option PaceTable)
     (text : List ℕ) : Type 0 where
   pub covered : Bool

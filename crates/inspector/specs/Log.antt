@@ -43,12 +43,12 @@ pub record IsTurn (s : Step) (t : Turn) : Type 0 where
   pub cycle : t.ends_cycle ≡ ends_cycle s
   pub units : t.units ≡ units_by s
 
--- these are the copies in the heap behind a step that ended a sweep, or a cycle
+-- these are the copies in the heap after a step that ended a sweep, or a cycle
 pub record AreCounted (s : Step) (copies : Copies) : Type 0 where
   pub sweep : ends_sweep s ≡ true → copies ≡ copies_in s.after.heap.store
   pub cycle : ends_cycle s ≡ true → copies ≡ copies_in s.after.heap.store
 
--- what is told of a cycle's end
+-- what is reported of a cycle's end
 abbrev pub end_at : Course → End
 end_at r = record { units = r.heap.units; moved = (copies_in r.heap.store).old }
 
@@ -57,7 +57,7 @@ abbrev pub IsEnd : Step → List Step → Option End → Type 0
 IsEnd first later None = count_by ends_cycle later ≡ 0
 IsEnd first later (Some e) = (count_by ends_cycle later ≢ 0) × (e ≡ end_at (end_of first later))
 
--- A cycle that the first step began, as far as the later ones have come.
+-- A cycle that the first step began, as far as the later ones have taken it.
 pub record IsOpen (earlier : List Step) (first : Step) (later : List Step) (o : Open) : Type 0 where
   pub line : o.line ≡ first.line
   pub base : IsBase earlier o.base
@@ -68,7 +68,7 @@ pub record IsOpen (earlier : List Step) (first : Step) (later : List Step) (o : 
   pub sweep : SweptBy earlier first later o.sweep
   pub end : IsEnd first later o.end
 
--- the cycle that is open, of steps that lead to a moment, behind those that are closed
+-- the cycle that is open, of steps that lead to a moment, after those that are closed
 pub record HasOpen (steps : List Step) (now : Course) (closed : List Cycle) (o : Open) : Type 0 where
   pub earlier : List Step
   pub first : Step

@@ -1,4 +1,4 @@
--- What is told of the pages that a program needs: lines of text.
+-- What is reported of the pages that a program needs: lines of text.
 use Rattle.std.specs.Prelude.{◌≡◌, ℕ, ◌+◌, ◌*◌, ◌≤◌, ◌==◌, min, max, nat_le, nat_lt, Bool, true, false, if◌then◌else◌, List, [], ◌++◌, Option, Some, None, codes, decimal}
 use Rattle.size_classes.specs.declared.class.TheConstants.{CLASSES}
 use Rattle.size_classes.specs.declared.config.Config.{Config}
@@ -16,7 +16,7 @@ use Rattle.inspector.specs.ClassLines.{class_lines}
 use Rattle.inspector.specs.declared.pages_needed.lines.Scope.{Scope}
 use Rattle.inspector.specs.declared.pages_needed.lines.Scope.TheVariants.{Demand as By_demand, Pace as By_pace, Load as By_load}
 
--- the line of a class of which blocks are needed: its size in words, its blocks together, and the pages that they take
+-- the line of a class, if its blocks are needed: its size in words, its blocks together, and the pages that they take
 abbrev pub blocks_line : Needed → ℕ → List ℕ
 blocks_line n class = if together_in n class == 0 then []
     else codes "size " ++ (decimal (size_of class) ++ (codes " blocks " ++ (decimal (together_in n class)
@@ -52,8 +52,8 @@ form_lines still moved budgeted n =
 abbrev pub fewest_pages : ℕ → ℕ → ℕ → ℕ
 fewest_pages still moved moving = max (min (min still moved) moving) 1
 
--- the keys to set for so many: those with which nothing is moved, if that suffices; else with moving as it is
--- configured, if it does; else with moving after each sweep
+-- the keys to set for this many pages: those with which nothing is moved, if that suffices; else with moving as it
+-- is configured, if it does; else with moving after each sweep
 abbrev pub keys_line : ℕ → ℕ → ℕ → List ℕ
 keys_line still moved pages = codes "fewest " ++ (decimal pages ++ (codes ": pages = " ++ (decimal pages ++ (
     if nat_le still pages then codes ", defrag_below = 0\n"
@@ -61,7 +61,7 @@ keys_line still moved pages = codes "fewest " ++ (decimal pages ++ (codes ": pag
     else codes ", defrag_below = " ++ (decimal (pages + 1)
     ++ (codes ", defrag_pages = " ++ (decimal pages ++ codes "\n")))))))
 
--- the fewest pages, of which there may be more than a heap can have, with the keys to set for them
+-- the fewest pages, with the keys to set for them, or that they are more than a heap may have
 abbrev pub fewest_line : ℕ → ℕ → ℕ → List ℕ
 fewest_line still moved pages = if nat_lt MOST_PAGES pages
     then codes "fewest " ++ (decimal pages ++ codes ": more than a heap may have\n")
@@ -74,7 +74,7 @@ verdict By_pace true = codes ": suffice for this run, and for each at this pace\
 verdict By_load true = codes ": suffice for the load\n"
 verdict scope false = codes ": may not suffice\n"
 
--- how many pages are needed, of how many that there are
+-- how many pages are needed, out of how many
 abbrev pub pages_line : Scope → ℕ → ℕ → List ℕ
 pages_line scope needed pages =
     codes "pages " ++ (decimal needed ++ (codes " of " ++ (decimal pages ++ verdict scope (nat_le needed pages))))
@@ -83,7 +83,7 @@ pages_line scope needed pages =
 abbrev pub fewest_for : Config → Needed → ℕ
 fewest_for c n = fewest_pages (still_pages n) (moved_pages c n) (min n.gathered (budget_pages (budget_in n)))
 
--- all that is told of what a run needed
+-- all that is reported of what a run needed
 abbrev pub needed_report : Config → Needed → List ℕ
 needed_report c n =
     class_lines (blocks_line n) CLASSES
@@ -100,8 +100,8 @@ abbrev pub needed_told : Config → Option Needed → List ℕ
 needed_told c None = too_many
 needed_told c (Some n) = needed_report c n
 
--- the line of a class of which blocks are live, or asked for while a cycle is on up to the next quantum, or between
--- two cycles
+-- the line of a class, if any of its blocks are live, or asked for while a cycle runs up to the next quantum, or
+-- between two cycles
 abbrev pub pace_line : Pace → ℕ → List ℕ
 pace_line p class = if (p.live class + p.busy class) + p.idle class == 0 then []
     else codes "size " ++ (decimal (size_of class)
@@ -113,7 +113,7 @@ pace_line p class = if (p.live class + p.busy class) + p.idle class == 0 then []
 abbrev pub quanta_line : ℕ → ℕ → List ℕ
 quanta_line quanta units = codes "quanta " ++ (decimal quanta ++ (codes " units " ++ (decimal units ++ codes "\n")))
 
--- from so many pages on a pace fits in each number that a configuration may have, and from no fewer on; or it
+-- from this many pages on a pace fits in each number that a configuration may have, and from no fewer on; or it
 -- doesn't fit in the most
 abbrev pub IsFrom : Config → Pace → Option ℕ → Type 0
 IsFrom c p None = FitsIn c p MOST_PAGES → ⊥
@@ -131,13 +131,13 @@ abbrev pub least_lines : Option ℕ → Option ℕ → List ℕ
 least_lines (Some least) from = codes "least pages " ++ (decimal least ++ (codes "\n" ++ from_line from))
 least_lines None from = codes "no number of pages up to 4096 is known to suffice\n"
 
--- all that is told of a pace with quanta of the configuration's schedule
+-- all that is reported of a pace with quanta of the configuration's schedule
 abbrev pub pace_report : Scope → Config → Pace → Option ℕ → Option ℕ → List ℕ
 pace_report scope c p least from =
     class_lines (pace_line p) CLASSES ++ quanta_line (quanta_needed c p c.pages) (c.collector_ticks * c.rate)
     ++ pages_line scope (pages_needed c p c.pages) c.pages ++ least_lines least from
 
--- what is told of a measured pace, or that its blocks were too many to count
+-- what is reported of a measured pace, or that its blocks were too many to count
 abbrev pub IsPaceReport : Scope → Config → Option PaceTable → List ℕ → Type 0
 IsPaceReport scope c None text = text ≡ too_many
 IsPaceReport scope c (Some p) text =

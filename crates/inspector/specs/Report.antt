@@ -20,11 +20,11 @@ phase_name (phases.Marking part cell) = codes "marking"
 phase_name (phases.Sweeping page block) = codes "sweeping"
 phase_name (phases.Moving m) = codes "moving"
 
--- the phase, and the units spent in the cycle that is on, or else in the last one
+-- the line of the phase
 abbrev pub phase_line : HeapState → List ℕ
 phase_line h = codes "phase " ++ phase_name h.phase
 
--- the line of the units spent in a cycle
+-- the line of the units spent in the cycle that is running, or else in the last one
 abbrev pub units_line : HeapState → List ℕ
 units_line h = codes "units " ++ decimal h.units
 
@@ -66,7 +66,7 @@ copies_line c =
 abbrev pub head_lines : HeapState → List (List ℕ)
 head_lines h = phase_line h ∷ units_line h ∷ pages_line h ∷ []
 
--- the lines behind those of the pages
+-- the lines after those of the pages
 abbrev pub tail_lines : HeapState → List (List ℕ)
 tail_lines h = roots_line h ∷ copies_line (copies_in h.store) ∷ []
 

@@ -37,7 +37,7 @@ is_quantum event = false
 abbrev pub begins : Step → Bool
 begins s = is_beginning s.event
 
--- the step is a quantum that finds a cycle on
+-- the step is a quantum that finds a cycle running
 abbrev pub works : Step → Bool
 works s = is_quantum s.event && in_cycle s.before.heap.phase
 

@@ -42,7 +42,7 @@ DueLogged until old new (Ok true) =
 DueLogged until old new (Ok false) = (due_below until old.player.timetable.due ≡ None) × (new ≡ old)
 DueLogged until old new (Err refused) = Unit {0}
 
--- so many ticks pass, or would pass the clock's limit, or memory was refused
+-- n ticks pass, or would pass the clock's limit, or memory was refused
 abbrev pub TicksLogged : ℕ → ℕ → Watch → Watch → Result (Unit {0}) TickFault → Type 0
 TicksLogged number n old new (Ok passed) = LineLogged number (lines.Tick n) old new
 TicksLogged number n old new (Err faults.ClockSpent) =

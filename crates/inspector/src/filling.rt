@@ -36,7 +36,7 @@ pub(crate) fn nothing() -> Filling
     }
 }
 
-/// That of a page of a class, of which so many blocks are held, with so many words wasted inside them.
+/// That of a page of a class with this many held blocks, and this many words wasted inside them.
 fn page_filling(class: Class, held: u64, inside: u64) -> Filling
     requires held { held ≤ 512 }
     requires inside { inside ≤ 131072 }

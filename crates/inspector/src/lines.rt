@@ -88,7 +88,7 @@ fn write_roots<K: Sink>(heap: &Heap, sink: &mut K) -> Result<(), WriteFailed>
     write_two(sink, b"roots ", all, b" used ", used)
 }
 
-/// Puts what is told of a page in use at the front of an array, and answers the place after it.
+/// Puts what is reported of a page in use at the front of an array, and answers the place after it.
 fn put_page(out: &mut [u8; 256], number: usize, page: PageView) -> usize
     ensures text { take result out.new ≡ page_line number page }
     ensures place { result ≤ 120 }
@@ -106,7 +106,7 @@ fn put_page(out: &mut [u8; 256], number: usize, page: PageView) -> usize
     }
 }
 
-/// Writes what is told of a page; nothing for a free one.
+/// Writes what is reported of a page; nothing for a free one.
 pub(crate) fn write_page<K: Sink>(
     heap: &Heap,
     number: usize,

@@ -63,7 +63,7 @@ module _ (h : HeapState) (present snapshot : Graph) (class page block chosen i :
       let f : (node_of h.store a).forward + 1 ≡ a + 1 = sym (behind 0 (λ z. (node_of h.store z).forward + 1) a) ∙ main in
       omega (arith, f)
 
--- a main copy that is moved comes to be an old copy
+-- a main copy that is moved becomes an old copy
 makes_one_old : (old new : Store) (from to : ℕ) → MovesBlock old new from to → is_held old from ≡ true → (node_of old from).forward ≡ from → MakesOneOld old new
 makes_one_old old new from to w l f =
     let apart : from ≢ to = λ e. let z : true ≡ false = sym l ∙ ap (is_held old) e ∙ w.free in cc in

@@ -69,7 +69,7 @@ next_within h j first n count c l below = let row = (clears_row h first n j c).0
 pub leaver_low : (h : HeapState) → IsHeap h → (m : ℕ) → CanPerform h (writes.Leave m) → m < h.limits.mutators
 leaver_low h heap m can = (can heap.present (present_agrees h heap)).1.1
 
--- so many slots as limits say are those of the mutator
+-- as many slots as limits say are those of the mutator
 pub slots_cleared : (h k : HeapState) (l : Limits) (m : ℕ) → l ≡ h.limits → Clears h (first_slot l m) l.slots k → Clears h (first_slot h.limits m) h.limits.slots k
 slots_cleared h k l m e c = subst (λ (x : Limits). Clears h (first_slot x m) x.slots k) e c
 

@@ -9,7 +9,7 @@ use Rattle.machine.specs.declared.collector.Busy.{Busy}
 use Rattle.machine.specs.declared.collector.BudgetOutOfRange.{BudgetOutOfRange}
 use Rattle.machine.specs.declared.collector.Spent.{Spent}
 
--- a cycle begins, or one is on and nothing changes
+-- a cycle begins, or one is running already and nothing changes
 abbrev pub Begins : HeapState → HeapState → Result (Unit {0}) Busy → Type 0
 Begins h after (Ok done) = (h.phase ≡ phases.Idle) × (after ≡ begun h)
 Begins h after (Err busy) = (h.phase ≢ phases.Idle) × (after ≡ h)

@@ -3,7 +3,7 @@ use Rattle.std.specs.Prelude.{◌≡◌, ◌≢◌, ℕ, true, false}
 use Rattle.heap_model.specs.Store.{Store, is_held, node_of}
 use Rattle.nodes.specs.Copies.{is_main, is_old}
 
--- Exactly one main copy comes to be an old copy, and a block that was free is the main copy in its place: each other
+-- Exactly one main copy becomes an old copy, and a block that was free is the main copy in its place: each other
 -- block is held or not, and forwards, as before.
 pub record MakesOneOld (old new : Store) : Type 0 where
   pub from : ℕ

@@ -27,7 +27,7 @@ use Rattle.machine.specs.declared.plan.Write.TheVariants as writes
 
 -- The write is that of a change of the graph heap: a root or a reference cell gets null or what is known,
 -- by the reference of its main copy; a word cell gets the word; an object is made, for whose parts there
--- is room; or a mutator that there is joins or leaves.
+-- is room; or an existing mutator joins or leaves.
 abbrev pub IsPlanned : HeapState → Graph → Change → Write → Type 0
 IsPlanned h g c writes.Nothing = c ≡ changes.Nothing
 IsPlanned h g c (writes.Root cell x) = (id : ℕ) × (c ≡ changes.Root cell id) × (cell < length h.roots) × IsKnown g id
@@ -76,7 +76,7 @@ pub record Settles (h : HeapState) (g : Graph) (done : Result (Reply × Change) 
   pub change : DoesChange h g (settled done).1 after
   pub agrees : Agrees after (changed g (settled done).1)
 
--- so it is for each graph heap of which what was planned is a plan
+-- this holds for each graph heap for which what was planned is a plan
 abbrev pub SettlesEach : HeapState → Result Planned Refusal → Reply → HeapState → Type 0
 SettlesEach h planned reply after = (g : Graph) (done : Result (Reply × Change) Refusal) → Agrees h g
     → PlansBy h g done planned → Settles h g done reply after

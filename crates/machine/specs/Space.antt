@@ -16,9 +16,9 @@ use Rattle.fragmentation.specs.Season.{Lives, opening_season, AllKeep}
 use Rattle.fragmentation.specs.Suffice.{WithinPages, WithinBlocks, pages_of, Budget, budget_pages, WithinBudget}
 use Rattle.fragmentation.specs.Configured.{MovesAll, FitsTogether}
 
--- What a configuration promises of these events: no reply is the refusal for want of space, where the events keep to a
+-- What a configuration promises of these events: no reply is the refusal for lack of space, where the events keep to a
 -- demand that fits the configuration, or to a pace that fits in its pages; or to a demand that is taken together and
--- fits. Where moving follows each sweep and may empty all pages, none is either where the events keep within the
+-- fits. Where moving follows each sweep and may empty all pages, the same holds where the events keep within the
 -- configuration's pages, or to a budget for which it has pages.
 pub record SpaceSuffices (config : Config) (es : List Event) : Type 0 where
   pub demand : (d : Demand) → AllKeepTo d (opening_tally (limits_of config)) es → Fits config d → AllHaveRoom es

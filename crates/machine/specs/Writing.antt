@@ -9,7 +9,7 @@ use Rattle.machine.specs.Buffers.{AreBuffersBy}
 use Rattle.machine.specs.Plan.{CanPerform, DoesEach}
 use Rattle.machine.specs.declared.plan.Write.{Write}
 
--- a mutator that there is may do the write
+-- there is such a mutator, and it may do the write
 pub record CanWrite (a : RawHeap) (m : ℕ) (w : Write) : Type 0 where
   pub heap : IsRawHeap a
   pub mutator : m < a.roots.limits.mutators

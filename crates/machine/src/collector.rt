@@ -2,7 +2,7 @@
 use heap_model::phase::Phase;
 use thiserror::Error;
 
-/// A cycle is on already. Its number among the refusals is 11.
+/// A cycle is running already. Its number among the refusals is 11.
 #[derive(Clone, Copy, Debug, PartialEq, Eq, Error)]
 #[error("busy")]
 pub struct Busy;

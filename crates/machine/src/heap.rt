@@ -50,7 +50,7 @@ impl Model for Heap {
 
 impl Heap {
     /// A heap of free pages, with null roots and no object, where the first `live` mutators are live, and
-    /// with memory for all that it will ever hold. Only want of memory is refused.
+    /// with memory for all that it will ever hold. Refused only for lack of memory.
     pub fn new(alloc: Global, config: &Config) -> Result<Heap, NoMemory>
         ensures opening { IfOk result IsOpening }
         ensures settings { IfOk result (λ h. settings_of h ≡ settings_by config.now) }

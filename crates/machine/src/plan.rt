@@ -34,7 +34,7 @@ impl Planned {
     }
 }
 
-/// The reply to a command of which this is the plan: a refusal is a reply.
+/// The reply to a command that has this plan: a refusal is a reply.
 pub fn reply_to(planned: Result<Planned, Refusal>) -> Reply
     ensures { result ≡ planned_reply planned }
 {
@@ -56,7 +56,7 @@ pub enum Write {
     Word { at: Cell, word: u64 },
     /// An object is made, and a root gets its reference.
     New { cell: usize, shape: Shape },
-    /// A mutator comes to be live.
+    /// A mutator becomes live.
     Join { mutator: u32 },
     /// The slots of a mutator get null, one after the other, and it is live no more.
     Leave { mutator: u32 },

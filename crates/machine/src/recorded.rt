@@ -88,7 +88,7 @@ impl Receipt {
 }
 
 impl Recorded {
-    /// A new heap, without history. Only want of memory is refused.
+    /// A new heap, without history. Refused only for lack of memory.
     pub fn new(alloc: Global, config: &Config) -> Result<Recorded, NoMemory>
         ensures heap { IfOk result (λ r. IsOpening r.course.heap) }
         ensures settings { IfOk result (λ r. settings_of r.course.heap ≡ settings_by config.now) }
@@ -103,7 +103,7 @@ impl Recorded {
         })
     }
 
-    /// Makes room for so many more entries: the next so many calls aren't refused memory.
+    /// Makes room for this many more entries: that many calls aren't refused memory.
     pub fn reserve(&mut self, entries: usize) -> Result<(), NoMemory>
         ensures room { OnOk result (entries ≤ self.new.room) }
         ensures kept { self.old.room ≤ self.new.room }
@@ -137,7 +137,7 @@ impl Recorded {
         Ok(Receipt { entry, place })
     }
 
-    /// Begins a cycle at this place of the history, unless one is on. It takes no memory.
+    /// Begins a cycle at this place of the history, unless one is running. It takes no memory.
     pub fn begin(&mut self) -> Result<(), Busy>
         ensures does { Does self.old.course (begin_done result) self.new.course }
         ensures suffice { IsOk result → EndsSoon self.new.course }
@@ -148,7 +148,7 @@ impl Recorded {
         Ok(())
     }
 
-    /// Spends units of a budget on the cycle that is on. It takes no memory.
+    /// Spends units of a budget on the cycle that is running. It takes no memory.
     pub fn quantum(&mut self, budget: u32) -> Result<Spent, BudgetOutOfRange>
         ensures does { Does self.old.course (quantum_done budget result) self.new.course }
         ensures swept { EachSweepEnds self.old.course }
@@ -192,7 +192,7 @@ impl Recorded {
     /// one sequential heap, which never moves or frees an object, at the command's place in one history
     /// that only grows; what is freed is unreachable there; when a sweep ends, the heap holds exactly
     /// what was reachable when its cycle began and what was made since; and a cycle ends soon. From a heap
-    /// that was just made no reply is the refusal for want of space, where the events keep to a demand that
+    /// that was just made no reply is the refusal for lack of space, where the events keep to a demand that
     /// fits its configuration, or to a pace that does (`space::pace_fits`); nor, where moving follows each
     /// sweep and may empty all pages, where they keep to a budget of pages, whatever the sizes of the objects.
     pub fn run(&mut self, events: &[Event]) -> Result<(), NoMemory>

@@ -6,7 +6,7 @@ use Rattle.raw_heap.specs.declared.heap.RawHeap.{RawHeap}
 use Rattle.raw_heap.specs.Heap.{state_of, IsRawHeap}
 use Rattle.marker.specs.declared.scan.Scan.{Scan}
 
--- the heap when marking has come to a cell of a part and so many units are spent
+-- the heap when marking is at a cell of a part and this many units are spent
 abbrev pub scanning : RawHeap → ℕ → ℕ → ℕ → RawHeap
 scanning a part cell units = record a { phase = phases.Marking part cell; units = units }
 
@@ -14,7 +14,7 @@ scanning a part cell units = record a { phase = phases.Marking part cell; units 
 abbrev pub IsScanning : RawHeap → ℕ → ℕ → Type 0
 IsScanning a part cell = (units : ℕ) × IsRawHeap (scanning a part cell units)
 
--- Actions that cost so much lead from the one place in marking to the other.
+-- Actions that cost this much lead from the one place in marking to the other.
 abbrev pub Scans : RawHeap → Scan → RawHeap → Scan → ℕ → Type 0
 Scans old from new to cost = (units : ℕ)
     → Chain (state_of (scanning old from.part from.cell units)) cost

@@ -22,7 +22,7 @@ struct Scan {
     width: usize,
 }
 
-/// Where marking has come to, by how many units.
+/// How far marking has got, and with how many units.
 #[derive(Clone, Copy, Debug, PartialEq, Eq)]
 struct Step {
     scan: Scan,
@@ -123,7 +123,7 @@ fn scan_next(heap: &mut RawHeap, scan: Scan, room: u32) -> Option<Step>
     Some(Step { scan, units: 1 })
 }
 
-/// Scans so many reference cells of a part, from one on.
+/// Scans `count` reference cells of a part, from one on.
 fn scan_cells(heap: &mut RawHeap, part: u64, cell: usize, count: usize)
     requires heap { IsScanning heap.old part cell }
     requires some { part ≢ 0 }
@@ -140,8 +140,8 @@ fn scan_cells(heap: &mut RawHeap, part: u64, cell: usize, count: usize)
     }
 }
 
-/// Scans the next reference cell of a part, and where it is null those after it up to the first that isn't, so many in
-/// all at most. Answers how many it scanned.
+/// Scans the next reference cell of a part, and where it is null those after it up to the first that isn't, at most
+/// `most` in all. Answers how many it scanned.
 #[inline(always)]
 fn scan_run(heap: &mut RawHeap, part: u64, cell: usize, most: usize) -> usize
     requires heap { IsScanning heap.old part cell }
@@ -164,7 +164,7 @@ fn scan_run(heap: &mut RawHeap, part: u64, cell: usize, most: usize) -> usize
     1
 }
 
-/// How many cells of a block, from one on and so many at most, are null before the first that isn't.
+/// How many cells of a block, from one on and at most `most`, are null before the first that isn't.
 #[inline(always)]
 fn nulls_from(nodes: &Nodes, block: usize, from: usize, most: usize) -> usize
     requires held { is_held nodes.now block ≡ true }

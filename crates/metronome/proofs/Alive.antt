@@ -14,7 +14,7 @@ use Rattle.player.specs.New.{IsNew}
 use Rattle.player.specs.Playing.{Stage, Played}
 use Rattle.metronome.specs.Behind.{PlayedUpTo}
 
--- a play that came to its end ran its events
+-- a play that reached its end ran its events
 played_runs : (given : Given) (old new : Stage) → Played Nothing given old new (Ok tt) → (es : List Event) × Runs old.player.course es new.player.course
 played_runs given old new p = elim p.over.ends [
   | inl e ↦ (p.over.events, subst (λ (s : Stage). Runs old.player.course p.over.events s.player.course) (sym e.2) p.runs)

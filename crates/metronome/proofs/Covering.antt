@@ -96,7 +96,7 @@ module _ (config : Config) (l : LoadTable) (text : List ℕ) (given again : Give
     covered_room Keeps checked covered = by_pace m.pace refl covered checked
     covered_room (Breaks line by) checked covered = elim covered [ ]
 
--- what is told of a load, once a trace of a text was measured and checked
+-- what is reported of a load, once a trace of a text was measured and checked
 pub tells : (config : Config) (l : LoadTable) (text : List ℕ) (m : Measured) (run : TextMeasured config text (Ok m)) (kept : Kept) → TextChecked config (load_in l) text (Ok kept) → (report : List ℕ) → IsLoadReport config l kept m.pace report
     → TellsLoad config l m run.2.played.over.events kept report
 tells config l text m run kept checked report is = record {

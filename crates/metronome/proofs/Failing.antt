@@ -79,7 +79,7 @@ one_written r h = writes_so r (Text texts.Write) h
 pub none_read : {A : Type 0} (r : Result A RunFault) → IsErrAnd r (λ e. e ≡ Text texts.Write) → failed_reads r ≡ 0
 none_read r h = reads_so r (Text texts.Write) h
 
--- one that ends for want of memory
+-- one that ends for lack of memory
 pub memory_unread : {A : Type 0} (r : Result A RunFault) → IsErrAnd r (λ e. e ≡ Text texts.NoMemory) → failed_reads r ≡ 0
 memory_unread r h = reads_so r (Text texts.NoMemory) h
 
@@ -115,7 +115,7 @@ settings_written settings.NoMemory = refl
 pub settings_unwritten : {A : Type 0} (r : Result A RunFault) (why : ReadFault) → IsErrAnd r (λ e. e ≡ of_settings why) → failed_writes r ≡ 0
 settings_unwritten r why h = writes_so r (of_settings why) h ∙ settings_written why
 
--- no line writes, so that no write fails in going over them
+-- no line writes, so that no write fails in going through them
 unwritten : {A : Type 0} (how : Result A TextFault) → (how ≡ Err texts.Write → ⊥) → writes_failed how ≡ 0
 unwritten (Err texts.Write) never = absurd (never refl)
 unwritten how never = refl

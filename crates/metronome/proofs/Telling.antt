@@ -55,7 +55,7 @@ module _ (config : Config) (t : Timetable) (first : List ℕ) (old mid : List �
       written = inr (e, subst (GrowsByPart old new) (sym (concat_more so.lines line)) (part_after old mid new (concat so.lines) line so.written g));
     }
 
--- what is told of a timetable doesn't hang on the memory that is reserved
+-- what is reported of a timetable doesn't depend on the memory that is reserved
 module _ (config : Config) (t : Timetable) (n : ℕ) (windows taken taken' : List ℕ) where
   pub told_reserved : AllTold config t windows taken taken' → AllTold config (with_reserved t n) windows taken taken'
   told_reserved a = record { lines = a.lines; each = a.each; written = a.written }

@@ -56,7 +56,7 @@ abbrev pub Offers : Result (String Global) AllocError → Ending → Result Answ
 Offers (Ok text) ending answered = answered ≡ Ok (record { text = text; ending = ending })
 Offers (Err refused) ending answered = answered ≡ Err NoMemory
 
--- what is answered once something was taken of an input: this is said of it, if there is memory for the text; or the
+-- the answer once something was taken of an input: this is said of it, if there is memory for the text; or the
 -- fault with which taking it ended
 abbrev pub AnswerOf : {A : Type 0} → (A → Answer → Type 0) → Result A TextFault → Result Answer TextFault → Type 0
 AnswerOf Says (Ok it) (Ok answer) = Says it answer
@@ -69,15 +69,15 @@ HistoryChecked config given answered = (how : Result Checked TextFault) × Entri
     × AnswerOf (λ checked answer. (string_bytes answer.text ≡ told_of checked) × (answer.ending ≡ verdict checked))
     how answered
 
--- A trace was played on a new heap, and the cycles of the run are told.
+-- A trace was played on a new heap, and the cycles of the run are reported.
 abbrev pub CyclesTold : Layout → Config → Given → Result Answer TextFault → Type 0
 CyclesTold layout config given answered = (how : Result Cycles TextFault) × CyclesTaken config given how
     × AnswerOf (λ log answer. (string_bytes answer.text ≡ cycles_told layout log.items.items) × (answer.ending ≡ Done))
     how answered
 
--- A trace was measured on a new heap, and the pages that it needs are told: where they suffice, `TraceMeasured`
--- promises room to this run, and to those of which the verdict speaks; and on as many as are told for a way, to those
--- that the line names.
+-- A trace was measured on a new heap, and the pages that it needs are reported: where they suffice, `TraceMeasured`
+-- promises room to this run, and to those of which the verdict speaks; and on as many as a line gives for a way, to
+-- those that the line names.
 abbrev pub PagesTold : Bool → Config → Given → Result Answer TextFault → Type 0
 PagesTold pace config given answered = (how : Result Measured TextFault) × TraceMeasured config given how
     × AnswerOf (λ m answer. TellsPages pace config m (string_bytes answer.text) × (answer.ending ≡ Done)) how answered

@@ -1,4 +1,4 @@
--- What is played before something is told of the player.
+-- What is played before something is reported of the player.
 use Rattle.std.specs.Prelude.{◌≡◌, ℕ, ◌⊎◌, List, Option, Some, None, Result, Ok, Err}
 use Rattle.size_classes.specs.declared.config.Config.{Config}
 use Rattle.trace.specs.declared.fault.TextFault.{TextFault}
@@ -27,8 +27,8 @@ PlayerBehind after config given taken (Err fault) =
     ⊎ ((old : PlayerState) × (new : PlayerState) × (why : TextFault) × IsNew config old
     × PlayedUpTo after given (stage old taken.before) (stage new taken.after) (Err why) × (fault ≡ Text why))
 
--- A new player played a trace, or its first event lines, to the end, and then this was told of it; or the play ended in
--- a fault, and nothing was told.
+-- A new player played a trace, or its first event lines, to the end, and then this was reported of it; or the play
+-- ended in a fault, and nothing was reported.
 abbrev pub AfterPlay : (PlayerState → Taken → Result Ending RunFault → Type 0) → Option ℕ → Config → Given → Taken
     → Result Ending RunFault → Type 0
 AfterPlay Tells after config given taken result =

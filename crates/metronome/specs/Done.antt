@@ -20,7 +20,7 @@ use Rattle.metronome.specs.Loaded.{LoadTold}
 use Rattle.metronome.specs.Behind.{AfterPlay}
 use Rattle.metronome.specs.Telling.{report_by, PictureDrawn, GraphTold, TellsWhy, WindowsTold}
 
--- what a job does: of some, what it tells of a player behind its play
+-- what a job does: for some, what it reports of the player after its play
 abbrev pub JobDone : Job → Config → Given → Taken → Result Ending RunFault → Type 0
 JobDone (Play settings trace true) config = TracePlayed Entries config
 JobDone (Play settings trace false) config = TracePlayed Replies config

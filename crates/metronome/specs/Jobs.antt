@@ -42,7 +42,7 @@ abbrev pub finish : Bool → Result Ending RunFault
 finish true = Ok Done
 finish false = Err NotComplete
 
--- The history of a play was written, with the version that the scripts told, or a part of it where a write failed.
+-- The history of a play was written, with the version of the scripts, or a part of it where a write failed.
 abbrev pub HistoryWritten : Version → Outcome → Taken → Result Ending RunFault → Type 0
 HistoryWritten version outcome taken result =
     ((result ≡ finish outcome.all) × (taken.after ≡ taken.before
@@ -50,7 +50,7 @@ HistoryWritten version outcome taken result =
     ⊎ ((result ≡ Err (Text Write)) × GrowsByPart taken.before taken.after
     (text_written Entries version outcome.recorded.course.history))
 
--- Threads ran scripts beside so many quanta of a budget, and the history was written, which is a merge of the scripts
+-- Threads ran scripts beside this many quanta of a budget, and the history was written, which is a merge of the scripts
 -- where all was done; or memory was refused, and nothing was.
 abbrev pub RunBehind : ℕ → ℕ → Config → ReadScripts → Taken → Result Ending RunFault → Type 0
 RunBehind turns budget config read taken result =

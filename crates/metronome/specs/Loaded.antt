@@ -1,4 +1,4 @@
--- What is told of a load, and of a trace that is to keep to it.
+-- What is reported of a load, and of a trace that is to keep to it.
 use Rattle.std.specs.Prelude.{◌≡◌, ℕ, ◌*◌, IsTrue, ◌⊎◌, List, [], ◌++◌, Result, Ok, Err}
 use Rattle.size_classes.specs.declared.config.Config.{Config}
 use Rattle.heap_model.specs.Event.{Event}
@@ -33,9 +33,9 @@ TextChecked config l text how = (given : Given) × ReadsText text given
     × LoadChecked l (config.collector_ticks * config.rate) given how
 
 module _ (config : Config) (l : LoadTable) where
-  -- What is told of the load, and of a run with these events, of which this was measured. Where the load's pace fits in
-  -- the pages, each run that keeps to the load while no more is live than it has finds room; and so does this one, if
-  -- it is told that it is within the load.
+  -- What is reported of the load, and of a run with these events, of which this was measured. Where the load's pace
+  -- fits in the pages, each run that keeps to the load while no more is live than it has finds room; and so does this
+  -- one, if it is reported to be within the load.
   pub record TellsLoad (m : Measured) (es : List Event) (kept : Kept) (text : List ℕ) : Type 0 where
     pub report : IsLoadReport config l kept m.pace text
     pub each : LoadFits config (load_in l) → LoadFindsRoom config (load_in l)
@@ -49,7 +49,7 @@ module _ (config : Config) (l : LoadTable) where
   CheckedBehind text (Err why) run taken result = NothingTold why taken result
 
   -- A trace of this text was measured on a new heap, read again and checked against the load, and what the load needs
-  -- was told.
+  -- was reported.
   abbrev pub TextTold : List ℕ → Taken → Result Ending RunFault → Type 0
   TextTold text taken result = (how : Result Measured TextFault) × (run : TextMeasured config text how)
       × CheckedBehind text how run taken result
@@ -58,8 +58,8 @@ module _ (config : Config) (l : LoadTable) where
 abbrev pub IsRest : Given → List ℕ → Type 0
 IsRest given text = (given.after ≡ given.before ++ text) × IsTrue given.ended
 
--- A trace was read to its end, and of its text and a load it was told what the load needs; or one of them could not be
--- read, and nothing was written.
+-- A trace was read to its end, and from its text and a load it was reported what the load needs; or one of them could
+-- not be read, and nothing was written.
 abbrev pub LoadTold : Config → Given → Taken → Result Ending RunFault → Type 0
 LoadTold config given taken result =
     ((l : LoadTable) × (text : List ℕ) × IsRest given text × TextTold config l text taken result)

@@ -1,4 +1,4 @@
--- What is told of the lines that are read.
+-- What is reported of the lines that are read.
 use Rattle.std.specs.Prelude.{ℕ, nat_eq, List, ◌++◌, codes, decimal}
 use Rattle.std.specs.List.{count_by}
 
@@ -6,6 +6,6 @@ use Rattle.std.specs.List.{count_by}
 abbrev pub line_ends : List ℕ → ℕ
 line_ends bytes = count_by (λ byte. nat_eq byte 10) bytes
 
--- the line that tells of so many
+-- the line that reports this many
 abbrev pub progress_line : ℕ → List ℕ
 progress_line lines = codes "metronome: " ++ (decimal lines ++ codes " lines read\n")

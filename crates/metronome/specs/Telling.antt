@@ -1,4 +1,4 @@
--- What is told of a player.
+-- What is reported of a player.
 use Rattle.std.specs.Prelude.{◌≡◌, ℕ, Bool, IsTrue, ◌↔◌, List, Result, Ok, Err}
 use Rattle.size_classes.specs.declared.config.Config.{Config}
 use Rattle.graph_heap.specs.Graph.{Graph}
@@ -50,7 +50,7 @@ abbrev pub drawn_as : Result (Unit {0}) TextFault → Result Ending RunFault
 drawn_as (Ok drawn) = Ok Done
 drawn_as (Err fault) = Err (Text fault)
 
--- a graph heap is drawn, at most so many objects
+-- a graph heap is drawn, with at most this many objects
 abbrev pub GraphTold : ℕ → Graph → Taken → Result Ending RunFault → Type 0
 GraphTold most g taken result = (how : Result (Unit {0}) TextFault) × GraphDrawn g most taken how
     × (result ≡ drawn_as how)
@@ -64,7 +64,7 @@ abbrev pub WindowsTold : Config → Timetable → List ℕ → Taken → Result 
 WindowsTold config t windows taken (Ok ending) = (ending ≡ Done) × AllTold config t windows taken.before taken.after
 WindowsTold config t windows taken (Err fault) = FirstTold config t windows fault taken.before taken.after
 
--- what is told, by its kind
+-- what is reported, by its kind
 abbrev pub Tells : Telling → Config → PlayerState → Taken → Result Ending RunFault → Type 0
 Tells (tellings.Report by) config p taken result = TextWritten Done (report_by by p.course.heap) taken result
 Tells (tellings.Picture picture) config p taken result = PictureDrawn picture config p taken result

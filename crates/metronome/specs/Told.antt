@@ -1,4 +1,4 @@
--- What is written of what a job comes to.
+-- What is written of a job's results.
 use Rattle.std.specs.Prelude.{◌≡◌, ℕ, ◌⊎◌, List, ◌++◌, Result, Ok, Err}
 use Rattle.trace.specs.declared.fault.TextFault.{TextFault}
 use Rattle.trace.specs.declared.fault.TextFault.TheVariants.{Write, NoMemory}
@@ -13,7 +13,7 @@ abbrev pub TextWritten : Ending → List ℕ → Taken → Result Ending RunFaul
 TextWritten last text taken (Ok ending) = (ending ≡ last) × (taken.after ≡ taken.before ++ text)
 TextWritten last text taken (Err fault) = (fault ≡ Text Write) × GrowsByPart taken.before taken.after text
 
--- what is written of a report: it, or a part of it where a write failed, or nothing for want of memory
+-- what is written of a report: all of it, or a part where a write failed, or nothing for lack of memory
 abbrev pub ReportTold : (List ℕ → Type 0) → Taken → Result Ending RunFault → Type 0
 ReportTold IsReport taken (Ok ending) = (text : List ℕ) × IsReport text × (ending ≡ Done)
     × (taken.after ≡ taken.before ++ text)
@@ -25,7 +25,7 @@ ReportTold IsReport taken (Err fault) =
 abbrev pub NothingTold : TextFault → Taken → Result Ending RunFault → Type 0
 NothingTold why taken result = (result ≡ Err (Text why)) × (taken.after ≡ taken.before)
 
--- once something was taken of an input, this is told of it; or a fault ended the taking
+-- once something was taken of an input, this is reported of it; or a fault ended the taking
 abbrev pub ToldOf : {A : Type 0} → (A → Taken → Result Ending RunFault → Type 0) → Result A TextFault → Taken
     → Result Ending RunFault → Type 0
 ToldOf Tells (Ok it) taken result = Tells it taken result

@@ -17,7 +17,7 @@ span_of t = max t.clock (last_end t.intervals)
 abbrev pub no_window : ℕ → List ℕ
 no_window window = codes "window " ++ (decimal window ++ codes " none\n")
 
--- the line of a window of which the mutators have at least so many ticks, with what the schedule promises them, and
+-- the line of a window of which the mutators have at least `least` ticks, with what the schedule promises them, and
 -- their share in thousandths
 abbrev pub window_with : ℕ → ℕ → ℕ → ℕ → List ℕ
 window_with window least bound permille = codes "window "

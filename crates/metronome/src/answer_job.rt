@@ -24,8 +24,8 @@ pub enum Question {
     /// Which cycles the run of a trace had: a line for each.
     Cycles(Layout),
     /// What a trace needs of each size class and how many pages suffice, in each way; or that of its pace. Where those of
-    /// the configuration do, no reply of this run was the refusal for want of space, nor is one of any run that needs no
-    /// more.
+    /// the configuration do, no reply of this run was the refusal for lack of space, nor is one of any run that needs
+    /// no more.
     Pages { pace: bool },
 }
 
@@ -45,7 +45,7 @@ fn check<S: Source>(alloc: Global, config: &Config, source: &mut S) -> Result<Ch
     check_entries(source, &mut reference)
 }
 
-/// What is told of a history that was checked.
+/// What is reported of a history that was checked.
 fn history_line(alloc: Global, checked: Checked) -> Result<String, AllocError>
     ensures { IfOk result (λ line. string_bytes line ≡ told_of checked) }
 {

@@ -1,4 +1,4 @@
-//! What is told of a player behind a trace.
+//! What is reported of a player after a trace.
 ghost use Rattle.std.specs.Prelude.{◌≡◌, ◌+◌, IfOk};
 ghost use Rattle.heap_model.specs.Event.{present_of};
 ghost use Rattle.heap_model.specs.Settings.{settings_of, settings_by};
@@ -29,14 +29,14 @@ use std::alloc::Global;
 use trace::{Sink, Source, TextFault};
 use windows::tell_windows;
 
-/// What is told.
+/// What is reported.
 #[derive(Clone, Copy)]
 pub enum Telling<'a> {
     /// A report of the heap.
     Report(Report),
     /// A picture of the player.
     Picture(Picture),
-    /// A picture of the objects that can be reached, at most so many, nearest to the roots first.
+    /// A picture of the objects that can be reached, at most this many, nearest to the roots first.
     Graph(u32),
     /// A shortest path from a root to an object; or that none leads to it, and whether blocks of it are still held; or that
     /// it was never made.
@@ -63,7 +63,7 @@ fn play_silently<S: Source, K: Sink>(
     }
 }
 
-/// A new player behind a trace, or behind its first event lines, of which nothing was written.
+/// A new player after a trace, or after its first event lines; nothing was written of them.
 fn player_behind<S: Source, K: Sink>(
     alloc: Global,
     config: &Config,

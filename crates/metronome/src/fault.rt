@@ -33,7 +33,7 @@ impl Ending {
     }
 }
 
-/// Why a run came to no good end. What was written before stands.
+/// Why a run failed. What was written before stands.
 #[derive(Debug, Drop, Error)]
 pub enum RunFault {
     /// The words of the command line are refused.

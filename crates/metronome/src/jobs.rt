@@ -37,7 +37,7 @@ pub fn play_job<S: Source, K: Sink>(
     Ok(Ending::Done)
 }
 
-/// So many times a budget.
+/// A budget, this many times.
 fn budgets_of(alloc: Global, turns: u32, budget: u32) -> Result<Vec<u32>, NoMemory>
     ensures { IfOk result (λ budgets. budgets.items ≡ replicate turns budget) }
 {
@@ -48,7 +48,7 @@ fn budgets_of(alloc: Global, turns: u32, budget: u32) -> Result<Vec<u32>, NoMemo
     Ok(budgets)
 }
 
-/// Runs scripts on threads beside so many quanta of a budget.
+/// Runs scripts on threads beside this many quanta of a budget.
 fn run_scripts<T: Threads + Wait + Sync>(
     rt: &T,
     alloc: Global,
@@ -65,7 +65,7 @@ fn run_scripts<T: Threads + Wait + Sync>(
     play_threads(rt, alloc, config, scripts, budgets.as_slice(), &OpenGate)
 }
 
-/// Runs scripts on threads beside so many quanta of a budget, and writes the history.
+/// Runs scripts on threads beside this many quanta of a budget, and writes the history.
 pub fn threads_job<S: Source, K: Sink, T: Threads + Wait + Sync>(
     rt: &T,
     alloc: Global,
@@ -97,7 +97,7 @@ fn finished(all: bool) -> Result<Ending, RunFault>
     }
 }
 
-/// Writes a history: the line that tells the version, where it has to be told, and a line for each entry.
+/// Writes a history: the line that tells the version, where one must, and a line for each entry.
 fn write_history<K: Sink>(
     sink: &mut K,
     version: Version,
@@ -112,7 +112,7 @@ fn write_history<K: Sink>(
     write_entries(sink, history)
 }
 
-/// Writes the line that tells the second version. The first is told by no line.
+/// Writes the line that tells the second version. No line tells the first.
 fn write_version<K: Sink>(sink: &mut K, version: Version) -> Result<(), WriteFailed>
     ensures ok { OnOk result (K.taken sink.new ≡ K.taken sink.old ++ written_version version Entries) }
     ensures err { OnErr result (GrowsByPart (K.taken sink.old) (K.taken sink.new) (written_version version Entries)) }

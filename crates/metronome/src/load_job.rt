@@ -91,7 +91,7 @@ fn tell_text<K: Sink>(
     Ok(Ending::Done)
 }
 
-/// Reads a trace into memory, since it is gone over twice, and writes whether it keeps to the load of a file and how
+/// Reads a trace into memory, since it is needed twice, and writes whether it keeps to the load of a file and how
 /// many pages the load needs.
 pub fn load_job<O: Opener, S: Source, K: Sink>(
     alloc: Global,

@@ -19,7 +19,7 @@ use std::env;
 use std::io::{self, ErrorKind};
 use std::process::ExitCode;
 
-/// The words of the command line, of which the first is the program's name.
+/// The words of the command line; the first is the program's name.
 fn words_of(rt: &HostRuntime) -> Result<Vec<String>, RunFault> {
     match env::args(rt) {
         Ok(words) => Ok(words.collect(rt.alloc()).map_err(|_| NoMemory)?),

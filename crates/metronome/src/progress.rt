@@ -6,7 +6,7 @@ ghost use Rattle.metronome.specs.Progress.{line_ends, progress_line};
 use std::io::{self, Write};
 use trace::{ReadFailed, Source};
 
-/// How many lines are told first.
+/// How many lines the first report takes.
 const FIRST_TOLD: u64 = 65536;
 
 /// How many lines end in these bytes.
@@ -16,22 +16,22 @@ fn count_line_ends(bytes: &[u8]) -> u64
     bytes.iter().filter(|byte| **byte == b'\n').count() as u64
 }
 
-/// Tells that so many lines were read.
+/// Reports that this many lines were read.
 fn tell_lines<W: Write>(errors: &mut W, lines: u64) -> io::Result<()>
     ensures { OnOk result (Appends (W.contents errors.old) (W.contents errors.new) (progress_line lines)) }
 {
     writeln!(errors, "metronome: {lines} lines read")
 }
 
-/// A source, of which an error stream is told how many lines it gave: once 65536, and once twice as many each time. A
-/// failed write to that stream changes nothing.
+/// A source whose lines are counted, and their number reported on an error stream: at 65536 lines, and whenever it has
+/// doubled. A failed write to that stream changes nothing.
 #[derive(Drop)]
 pub struct ToldSource<S: Source + Drop, W: Write + Drop> {
     source: S,
     errors: W,
     /// How many line ends it gave.
     lines: u64,
-    /// Half of the lines that are told next.
+    /// Half of the lines that the next report takes.
     half: u64,
     ghost counted: { lines ≡ line_ends (S.given source) },
 }
@@ -52,7 +52,7 @@ impl<S: Source + Drop, W: Write + Drop> ToldSource<S, W> {
         }
     }
 
-    /// Tells how many lines were read, where as many came as are told next.
+    /// Reports how many lines were read, where as many came as the next report takes.
     fn tell(&mut self) -> io::Result<()>
         ensures source { self.new.source ≡ self.old.source }
         ensures early { self.old.lines < self.old.half * 2 → self.new ≡ self.old }

@@ -34,9 +34,9 @@ struct Host<'a, O: Opener, T: Threads + Wait + Sync> {
     opener: &'a O,
 }
 
-/// Runs the program: does what the words ask for, of which the first is the program's name, writes the fault to
-/// the error stream if there is one, and answers the exit status. A failed write to the error stream
-/// changes no status.
+/// Runs the program: does what the words ask for, after the first, which is the program's name, writes the fault
+/// to the error stream if there is one, and answers the exit status. A failed write to the error stream changes
+/// no status.
 pub fn run<S, O, R, W, E, T>(
     rt: &T,
     alloc: Global,
@@ -73,7 +73,7 @@ pub fn tell<E: Write>(errors: &mut E, fault: &RunFault) {
     };
 }
 
-/// Does what the words ask for. Where they ask for progress, the error stream is told of the lines that are read.
+/// Does what the words ask for. Where they ask for progress, the lines that are read are reported on the error stream.
 fn perform<S, O, R, K, E, T>(
     rt: &T,
     alloc: Global,
@@ -146,8 +146,8 @@ fn files_of<'a>(job: &Job<'a>) -> (&'a str, &'a str) {
     }
 }
 
-/// Does the job of a request, from the source of the other file. Where progress is asked for, the error stream is told
-/// of the lines that are read; nothing else hangs on that.
+/// Does the job of a request, from the source of the other file. Where progress is asked for, the lines that are read
+/// are reported on the error stream; nothing else depends on that.
 fn serve<S: Source + Drop, K: Sink, E: Write, O: Opener, T: Threads + Wait + Sync>(
     host: &Host<O, T>,
     request: &Request,

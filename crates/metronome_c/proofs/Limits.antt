@@ -36,7 +36,7 @@ module _ (c : Config) (h : HeapState) (o : IsOpening h) (same : settings_of h �
   pub same_quanta : quanta_of c ≡ most_quanta h (c.collector_ticks * c.rate)
   same_quanta = ap (λ z. z / (c.collector_ticks * c.rate - (LEAST_BUDGET - 1)) + 1) same_units
 
--- the limit is told, or the first fault of the settings
+-- C is told the limit, or the first fault of the settings
 pub limit_told : (s : Settings) (c : Config) (before after : CycleLimit) (n : ℕ) → None ≡ fault_of s → IsOf s c → after ≡ limit_of c → n ≡ status_number Done → TellsLimit s before after n
 limit_told s c before after n e is a m = subst (λ (f : Option ConfigFault). LimitsUnless f s before after n) e (c, is, a, m)
 

@@ -1,4 +1,4 @@
--- What is told of the heap that C holds.
+-- What C is told of the heap that it holds.
 use Rattle.std.proofs.Common.{◌≡◌, ◌∙◌, ℕ, ap, subst}
 use Rattle.std.specs.Prelude.{Result, Ok, Err, IfOk}
 use Rattle.heap_model.specs.State.{HeapState}

@@ -36,7 +36,7 @@ abbrev pub answered : Result Reply Status → Answer
 answered (Ok reply) = answer_of reply
 answered (Err why) = refused why
 
--- a shape of this kind with so many cells
+-- a shape of this kind with this many cells
 abbrev sized : ℕ → ℕ → ℕ → MetronomeShape
 sized k r w = record { kind = k; refs = r; words = w }
 

@@ -7,13 +7,13 @@ use Rattle.metronome_c.specs.declared.answer.MetronomeShape.{MetronomeShape}
 use Rattle.metronome_c.specs.declared.status.Status.{Status}
 use Rattle.metronome_c.specs.Answer.{answered, shape_told}
 
--- A call of the heap gives its answer, and what the call left is held. Without a heap it is told why there is none.
+-- A call of the heap gives its answer, and what the call left is held. Without a heap the answer is why there is none.
 abbrev pub Asks : {A : Type 0} → (HeapState → A → HeapState → Type 0) → Result HeapState Status → Result A Status
     → Result HeapState Status → Type 0
 Asks call (Err why) answer new = (answer ≡ Err why) × (new ≡ Err why)
 Asks {A} call (Ok h) answer new = (a : A) × (k : HeapState) × (answer ≡ Ok a) × (new ≡ Ok k) × call h a k
 
--- it is asked for a reply, which is told
+-- it is asked for a reply, which C is told
 abbrev pub AsksTold : (HeapState → Reply → HeapState → Type 0) → Result HeapState Status → Result HeapState Status
     → Answer → Type 0
 AsksTold call old new told = (reply : Result Reply Status) × Asks call old reply new × (told ≡ answered reply)

@@ -18,7 +18,7 @@ use Rattle.metronome_c.specs.Collecting.{phase_number, BeginsOpen, SpendsOpen}
 use Rattle.metronome_c.specs.Status.{status_number}
 use Rattle.metronome_c.specs.Steps.{Steps}
 
--- A call that may change a heap, and what it came to: a command of a mutator, with its answer; a cycle to be begun,
+-- A call that may change a heap, and its outcome: a command of a mutator, with its answer; a cycle to be begun,
 -- with the status; a budget to be spent, with what stood in the record for the quantum before and after, and the
 -- status.
 pub data Call : Type 0 where
@@ -37,7 +37,7 @@ abbrev pub Calls : Result HeapState Status → List Call → Result HeapState St
 Calls old [] new = new ≡ old
 Calls old (call ∷ calls) new = (next : Result HeapState Status) × DoesCall old call next × Calls next calls new
 
--- the call told the program what the event came to
+-- the call told the program the outcome of the event
 abbrev pub TellsEvent : Event → Call → Type 0
 TellsEvent (Command_done m c reply) call = call ≡ Command_called m c (answer_of reply)
 TellsEvent Cycle_begun call = call ≡ Begin_called (status_number Done)
@@ -47,14 +47,14 @@ TellsEvent (Quantum_done budget units phase) call = (before : QuantumSpent)
 TellsEvent (Quantum_refused budget) call = (before : QuantumSpent)
     × (call ≡ Quantum_called budget before before (status_number BudgetOutOfRange))
 
--- each call told what its event came to
+-- each call told the outcome of its event
 abbrev pub AllTellEvents : List Event → List Call → Type 0
 AllTellEvents [] calls = calls ≡ []
 AllTellEvents (e ∷ es) [] = ⊥
 AllTellEvents (e ∷ es) (call ∷ calls) = TellsEvent e call × AllTellEvents es calls
 
 -- The calls are events, which lead from the heap that was made to the one that the handle holds, with the history of
--- the commands; each told the program what it came to; and all that is promised of a heap with its history holds there.
+-- the commands; each told the program its outcome; and all that is promised of a heap with its history holds there.
 pub record AreEvents (h : HeapState) (calls : List Call) (new : Result HeapState Status) : Type 0 where
   pub events : List Event
   pub course : Course
@@ -64,7 +64,7 @@ pub record AreEvents (h : HeapState) (calls : List Call) (new : Result HeapState
   pub holds : Holds course
 
 -- A heap of a configuration with the numbers of these settings was just made: whatever comes, what is promised of a
--- heap with its history holds, and no reply is the refusal for want of space where that is promised.
+-- heap with its history holds, and no reply is the refusal for lack of space where that is promised.
 pub record IsPromised (s : Settings) (h : HeapState) : Type 0 where
   pub config : Config
   pub of : IsOf s config

@@ -31,7 +31,7 @@ abbrev pub begin_status : Result (Unit {0}) CycleOn → ℕ
 begin_status (Ok done) = status_number Done
 begin_status (Err busy) = status_number Busy
 
--- a cycle begins, or one is on
+-- a cycle begins, or one is running already
 abbrev pub BeginsOpen : Result HeapState Status → Result HeapState Status → ℕ → Type 0
 BeginsOpen (Err why) new status = (new ≡ Err why) × (status ≡ status_number why)
 BeginsOpen (Ok h) new status = (k : HeapState) × (answer : Result (Unit {0}) CycleOn)

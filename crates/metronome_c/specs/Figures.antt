@@ -1,4 +1,4 @@
--- What is told of a heap as a whole.
+-- What C is told of a heap as a whole.
 use Rattle.std.specs.Prelude.{◌≡◌, ℕ, if◌then◌else◌, length, Option, Some, None, Result, Ok, Err}
 use Rattle.graph_heap.specs.Graph.{Graph}
 use Rattle.size_classes.specs.Sizes.{size_of}
@@ -15,12 +15,12 @@ use Rattle.metronome_c.specs.declared.status.Status.{Status}
 use Rattle.metronome_c.specs.declared.status.Status.TheVariants.{Done}
 use Rattle.metronome_c.specs.Status.{status_number}
 
--- what was found of a heap is told, or why there is none
+-- C is told what was found of a heap, or why there is none
 abbrev pub IsTold : {A : Type 0} → Result A Status → A → A → ℕ → Type 0
 IsTold (Err why) before after status = (after ≡ before) × (status ≡ status_number why)
 IsTold (Ok a) before after status = (after ≡ a) × (status ≡ status_number Done)
 
--- Something is told of a heap, which stays as it is. Of a handle that holds none nothing is told but why.
+-- C is told something of a heap, which stays as it is. Of a handle that holds none it is only told why.
 abbrev pub Tells : {A : Type 0} → (HeapState → A) → Result HeapState Status → Result HeapState Status → A → A → ℕ
     → Type 0
 Tells tell (Err why) new before after status = (new ≡ Err why) × (after ≡ before) × (status ≡ status_number why)
@@ -53,6 +53,6 @@ page_told (Some v) = record {
   receiving = if v.receiving then 1 else 0;
 }
 
--- the page of this number, where there is one: else it is told as a free one
+-- the page of this number, where there is one: else it is given as a free one
 abbrev pub page_of : ℕ → HeapState → MetronomePage
 page_of number h = page_told (view_of (page_at h.store.pages number))

@@ -17,7 +17,7 @@ quanta_of c = cycle_limit_of c / (c.collector_ticks * c.rate - (LEAST_BUDGET - 1
 abbrev pub limit_of : Config → CycleLimit
 limit_of c = record { units = cycle_limit_of c; quanta = quanta_of c }
 
--- they are told where the settings have no fault
+-- C is told them where the settings have no fault
 abbrev pub LimitsUnless : Option ConfigFault → Settings → CycleLimit → CycleLimit → ℕ → Type 0
 LimitsUnless (Some fault) s before after status = (after ≡ before) × (status ≡ status_number (fault_status fault))
 LimitsUnless None s before after status =

@@ -27,7 +27,7 @@ pub extern "C" fn metronome_begin(heap: &mut Metronome) -> u32
     status.number()
 }
 
-/// Spends units of a budget on the cycle that is on.
+/// Spends units of a budget on the cycle that is running.
 #[unsafe(no_mangle)]
 pub extern "C" fn metronome_quantum(
     heap: &mut Metronome,

@@ -209,7 +209,7 @@ pub extern "C" fn metronome_describe(
     heap.told_with_shape(shape, |inner| inner.describe(mutator, a))
 }
 
-/// The mutator comes to be live.
+/// The mutator becomes live.
 #[unsafe(no_mangle)]
 pub extern "C" fn metronome_join(heap: &mut Metronome, mutator: u32) -> Answer
     ensures { Steps (held heap.old) mutator commands.Join (held heap.new) result }

@@ -18,16 +18,16 @@ ghost use Rattle.metronome_c.specs.declared.status.Status.{Status};
 ghost use Rattle.metronome_c.specs.declared.status.Status.TheVariants.{Done, Refused, NoMemory, Busy, BudgetOutOfRange, Closed, Open, ScheduleOutOfRange, BadHandle, SettingOutOfRange, OtherVersion};
 
 /// Where a heap was just made of a closed handle, and a program calls the library as it likes, the calls are events
-/// that the heap does one after the other, with a history that only grows: each call tells what its event came to, and
-/// what is promised of a heap with its history (`machine::Recorded::run`) holds of it, whatever comes.
+/// that the heap does one after the other, with a history that only grows: each call tells the outcome of its event,
+/// and what is promised of a heap with its history (`machine::Recorded::run`) holds of it, whatever comes.
 pub fn calls_are_events()
     ensures made { (s : Settings) (h : HeapState) (status : ℕ) → Creates (Err Closed) s (Ok h) status → IsPromised s h }
     ensures calls { (s : Settings) (h : HeapState) (status : ℕ) (calls : List Call) (new : Result HeapState Status)
         → Creates (Err Closed) s (Ok h) status → Calls (Ok h) calls new → AreEvents h calls new }
 {}
 
-/// The limit that is told of a configuration is that of a heap that was made of it: the units of a cycle are within it,
-/// and one of so many quanta of the schedule ends the cycle.
+/// The limit that C is told of a configuration is that of a heap that was made of it: the units of a cycle are within
+/// it, and one of that many quanta of the schedule ends the cycle.
 pub fn limits_are_those_of_heaps()
     ensures units { (c : Config) (h : HeapState) → IsOpening h → settings_of h ≡ settings_by c
         → (limit_of c).units ≡ cycle_limit h }
@@ -35,7 +35,7 @@ pub fn limits_are_those_of_heaps()
         → (limit_of c).quanta ≡ most_quanta h (c.collector_ticks * c.rate) }
 {}
 
-/// The order of the statuses. A number is told as the first status that has it.
+/// The order of the statuses. A number stands for the first status that has it.
 pub fn statuses_are_in_order()
     ensures { all_statuses ≡ Done ∷ Refused refusals.BadSlot ∷ Refused refusals.NullSlot
         ∷ Refused refusals.BadIndex ∷ Refused refusals.WrongKind ∷ Refused refusals.TooLarge ∷ Refused refusals.IdentitiesSpent

@@ -1,4 +1,4 @@
-//! What a call comes to, and the number by which C is told.
+//! How a call ends, and the number by which C is told.
 ghost use Rattle.std.specs.Prelude.{◌≡◌};
 ghost use Rattle.metronome_c.specs.Status as statuses;
 ghost use Rattle.metronome_c.specs.Status.{status_number, status_numbered, fault_status};
@@ -7,13 +7,13 @@ use graph_heap::Refusal;
 use size_classes::{ConfigFault, Key};
 use std::iter::once;
 
-/// What a call comes to.
+/// How a call ends.
 #[derive(Clone, Copy, Debug, PartialEq, Eq)]
 pub enum Status {
     Done,
     Refused(Refusal),
     NoMemory,
-    /// A cycle is on already.
+    /// A cycle is running already.
     Busy,
     /// The budget of a quantum isn't 256 to 1000000.
     BudgetOutOfRange,

@@ -5,8 +5,8 @@ use Rattle.quanta.specs.Intervals.{IsRising}
 use Rattle.mmu_report.specs.Covered.{covered}
 use Rattle.mmu_report.proofs.Counting.{IsRisingFrom-earlier, covered-none}
 
--- A front has passed intervals with so many ticks, and others are ahead: together they have below each
--- place, from one on, so many ticks.
+-- A front has passed intervals with this many ticks, and others are ahead: together they have below each
+-- place, from one on, `ticks` of that place.
 pub record IsFront (ticks : ℕ → ℕ) (place passed : ℕ) (ahead : List Interval) : Type 0 where
   pub rising : IsRising ahead
   pub counts : (x : ℕ) → place ≤ x → passed + covered ahead x ≡ ticks x

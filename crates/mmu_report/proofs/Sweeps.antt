@@ -13,7 +13,7 @@ use Rattle.mmu_report.proofs.Windows.{IsLeast-last, IsSettled, IsSettled-passed,
 abbrev pub at_index : List Interval → ℕ → Interval
 at_index all k = get_or all k (record { start = 0; end = 0 })
 
--- k intervals are passed, with so many ticks, and a front is at the end of the last window that was tried
+-- k intervals are passed, with this many ticks, and a front is at the end of the last window that was tried
 pub record IsSwept (all : List Interval) (last window k reached passed least counted : ℕ) (ahead : List Interval) : Type 0 where
   pub rising : IsRising all
   pub settled : IsSettled all last window reached passed least (drop k all)

@@ -7,7 +7,7 @@ use Rattle.mmu_report.specs.Covered.{covered}
 use Rattle.mmu_report.specs.Utilisation.{IsLeast, mutator_ticks}
 use Rattle.mmu_report.proofs.Counting.{covered-mono, covered-none, mutator_ticks-covered}
 
--- Of all intervals some are passed, up to the end of the last of them, and have so many ticks; the rest
+-- Of all intervals some are passed, up to the end of the last of them, and have this many ticks; the rest
 -- is ahead. Of the windows that start before that end, and not behind the last one, none has fewer
 -- mutator's ticks than the least of those that were tried.
 pub record IsSettled (all : List Interval) (last window reached passed least : ℕ) (rest : List Interval) : Type 0 where

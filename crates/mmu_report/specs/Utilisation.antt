@@ -13,7 +13,7 @@ mutator_ticks intervals start zero = 0
 mutator_ticks intervals start (suc window) =
     mutator_ticks intervals start window + (if list_any (has_tick (start + window)) intervals then 0 else 1)
 
--- the least of these, over all windows of so many ticks within the span
+-- the least of these, over all windows of this many ticks within the span
 pub record IsLeast (intervals : List Interval) (span window least : ℕ) : Type 0 where
   pub attained : (start : ℕ) × (start + window ≤ span) × (least ≡ mutator_ticks intervals start window)
   pub below : (start : ℕ) → start + window ≤ span → least ≤ mutator_ticks intervals start window

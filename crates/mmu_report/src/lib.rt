@@ -1,4 +1,4 @@
-//! Minimum mutator utilisation, which is Cheng and Blelloch's: of all windows of so many ticks, how few
+//! Minimum mutator utilisation, which is Cheng and Blelloch's: of all windows of a number of ticks, how few
 //! ticks the mutators had in one; and what a schedule with spaced quanta promises of it.
 #![tactic(auto)]
 

@@ -4,7 +4,7 @@ ghost use Rattle.mmu_report.specs.Utilisation.{bound_of};
 
 /// How many of the ticks of a window the mutators have at least, where each quantum of the collector
 /// takes `collector_ticks` and the mutators have `mutator_ticks` before the next. All numbers are ticks.
-/// A window has so many whole periods, and the mutators their ticks of each; of the rest a quantum may
+/// A window has a number of whole periods, and the mutators their ticks of each; of the rest a quantum may
 /// take the first ticks.
 pub fn bound(collector_ticks: u32, mutator_ticks: u32, window: u64) -> u64
     requires { 0 < collector_ticks + mutator_ticks }

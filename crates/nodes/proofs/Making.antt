@@ -38,7 +38,7 @@ chosen_page pages class k e = elim (first_case (position (is_usable class) pages
   | inr u ↦ (let f = position-Some is_free pages k None u in (f.0, free_page class (page_at pages k) f.1))
 ]
 
--- flags of which one is set
+-- flags, one of which is set
 pub other_flag : (flags : List Bool) (i o s : ℕ) → (o ≡ i * s → ⊥) → (eqb (o % s) 0 && get_or (set flags i true) (o / s) false) ≡ (eqb (o % s) 0 && get_or flags (o / s) false)
 other_flag flags i o s ne = by_place (three (o / s) i)
   where

@@ -23,7 +23,7 @@ total_next f n = rw add-one refl
 pub words_by : (n : Node) (cells part count : ℕ) → cells ≡ cells_of n.shape → part ≡ n.part → count ≡ (run_of cells part).count → count + 4 ≡ words_in n
 words_by n cells part count ec ep e = ap (λ m. m + 4) (e ∙ ap (λ m. (run_of m part).count) ec ∙ ap (λ q. (run_of (cells_of n.shape) q).count) ep)
 
--- a page of which something is told is in use, and has the class that is told
+-- a page of which something can be seen is in use, and has the class that is seen
 told_class : (o : Option Page) (v : PageView) → Some v ≡ view_of o → IfSome o (λ p. p.class ≡ v.class)
 told_class None v e = tt
 told_class (Some p) v e = sym (ap (λ (x : PageView). x.class) (same_view e))

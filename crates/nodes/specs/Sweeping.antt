@@ -5,8 +5,8 @@ use Rattle.heap_model.specs.Action.{Chain, goes_to}
 use Rattle.heap_model.specs.State.{HeapState}
 use Rattle.heap_model.specs.Store.{Store}
 
--- Whatever heap has the one store, while the sweeper comes to a block of a page and this colour means marked: so many
--- actions of the collector lead to the heap with the other store, at the block so many further on.
+-- Whatever heap has the one store, with the sweeper at a block of a page and this colour meaning marked: this many
+-- actions of the collector lead to the heap with the other store, at the block as many further on.
 abbrev pub Sweeps : Store → Store → Bool → ℕ → ℕ → ℕ → Type 0
 Sweeps old new colour page block count =
     (h : HeapState) → h.store ≡ old → h.sense ≡ colour → h.phase ≡ phases.Sweeping page block

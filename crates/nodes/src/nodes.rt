@@ -67,7 +67,7 @@ impl Model for Nodes {
 }
 
 impl Nodes {
-    /// So many free pages, of 2048 words each. Only want of memory is refused.
+    /// This many free pages, of 2048 words each. Refused only for lack of memory.
     pub fn new(alloc: Global, pages: u32) -> Result<Nodes, NoMemory>
         requires { pages ≤ 4096 }
         ensures { IfOk result (λ n. n ≡ record { pages = replicate pages None; words = replicate (2048 * pages) 0 }) }
@@ -85,7 +85,7 @@ impl Nodes {
         self.table.room(parts)
     }
 
-    /// Looks at so many blocks of a page in use, from one on, as the sweeper does: each that is held and hasn't the
+    /// Looks at `count` blocks of a page in use, from one on, as the sweeper does: each that is held and hasn't the
     /// colour is freed.
     pub fn sweep(&mut self, page: usize, index: usize, count: usize, colour: bool)
         requires page { page < length self.old.pages }
@@ -253,7 +253,7 @@ impl Nodes {
         }
     }
 
-    /// Makes a part in a block of a class: the header, and so many null or zero cells. The block is
+    /// Makes a part in a block of a class: the header, and this many null or zero cells. The block is
     /// a free one of the first page of the class that isn't leaving and has one, else of the first
     /// free page. None where there is no such page, and then nothing changes.
     #[inline(always)]

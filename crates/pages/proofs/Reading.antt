@@ -153,6 +153,6 @@ module _ (rows : List (Option PageRecord)) (words : List ℕ) (t : Together rows
 pub never : {A : Type 0} → IsTrue false → A
 never h = absurd (cc)
 
--- past the last page nothing is told
+-- past the last page nothing can be seen
 pub past_told : {B : Type 0} (g : Option Page → B) (rows : List (Option PageRecord)) (words : List ℕ) (k : ℕ) → length rows ≤ k → g (page_at (pages_in rows words) k) ≡ g None
 past_told g rows words k past = ap g (get_or_past (pages_in rows words) k None (omega (arith, past, length-pages rows words)))

@@ -26,7 +26,7 @@ page_below rows page row there = elim (cases_lt page (length rows)) [ inl l ↦ 
 pub row_same : (rows : List (Option PageRecord)) (page : ℕ) (row : PageRecord) → row_at rows page ≡ Some row → set rows page (Some row) ≡ rows
 row_same rows page row there = ap (set rows page) (sym there) ∙ set-get_or rows page None
 
--- how many blocks there are is told by the record
+-- the record says how many blocks there are
 pub blocks_told : (rows : List (Option PageRecord)) (words : List ℕ) (page : ℕ) (row : PageRecord) → row_at rows page ≡ Some row → (n : ℕ) → IsSomeAnd (page_at (pages_in rows words) page) (λ p. n ≤ length p.held) → n ≤ blocks_in row.class
 blocks_told rows words page row there n told =
     let few : n ≤ length (flags_of words (2048 * page) row.class) = subst (λ o. IsSomeAnd o (λ p. n ≤ length p.held)) (page_read rows words page row (page_below rows page row there) there) told in
@@ -78,7 +78,7 @@ module _ (rows : List (Option PageRecord)) (words new : List ℕ) (t : Together 
       (given_by rows words new t page below old row there (old.held - 1) old.receiving row_is chain outside (set rows page (Some row)) refl index false flags refl))
       keeps
 
--- so many blocks were looked at, and then one more
+-- this many blocks were looked at, and then one more
 module _ (rows : List (Option PageRecord)) (words : List ℕ) (page : ℕ) (old : PageRecord) (there : row_at rows page ≡ Some old) (colour : Bool) (from : ℕ) where
   abbrev pub SoFar : ℕ → PageRecord → List ℕ → Type 0
   SoFar n row mid = Together (set rows page (Some row)) mid × Looks colour page from (joined rows words) n (joined (set rows page (Some row)) mid)

@@ -21,7 +21,7 @@ pub data LooksAt (colour : Bool) (page index : ℕ) (s : Store) : Store → Type
       → new.pages ≡ slice_set s.pages page (Some (with_held p index false)) → KeepsHeld new.pages s.words new.words
       → LooksAt colour page index s new
 
--- looks at so many blocks of a page, from one on, each after the other
+-- looks at this many blocks of a page in a row, from one of them on
 pub data Looks (colour : Bool) (page from : ℕ) (s : Store) : ℕ → Store → Type 0 where
   No_look : Looks colour page from s 0 s
   Then_one : (n : ℕ) (t u : Store) → Looks colour page from s n t → LooksAt colour page (from + n) t u

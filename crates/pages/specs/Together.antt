@@ -41,6 +41,6 @@ pub record KeepsHeld (pages : List (Option Page)) (old new : List ℕ) : Type 0 
       → slice_index new (PAGE_WORDS * k + i * size_of p.class + j)
       ≡ slice_index old (PAGE_WORDS * k + i * size_of p.class + j)
 
--- what is told by the records alone holds of the pages, with whatever words they go together
+-- what the records alone tell holds of the pages, whatever words go together with them
 abbrev pub Tells : List (Option PageRecord) → (List (Option Page) → Type 0) → Type 0
 Tells rows says = (words : List ℕ) → Together rows words → says (pages_in rows words)

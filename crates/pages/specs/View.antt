@@ -1,4 +1,4 @@
--- What is told of a page.
+-- What can be seen of a page.
 use Rattle.std.specs.Prelude.{Option, option_map, count_by}
 use Rattle.heap_model.specs.Pages.{Page}
 use Rattle.pages.specs.declared.view.PageView.{PageView}

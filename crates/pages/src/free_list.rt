@@ -130,8 +130,8 @@ fn stays(arena: &Arena, page: usize, class: Class, index: usize, colour: bool) -
     true
 }
 
-/// Looks at a block of a page: where it is held and hasn't the colour, it goes on the page's list. With whatever
-/// records of other pages the page's record and the words go together, they still do.
+/// Looks at a block of a page: where it is held and hasn't the colour, it goes on the page's list. Whatever records
+/// of other pages the page's record and the words go together with, they still do.
 #[inline(always)]
 fn look(arena: &mut Arena, page: usize, row: &mut PageRecord, index: usize, colour: bool)
     requires page { page < 4096 }
@@ -152,7 +152,7 @@ fn look(arena: &mut Arena, page: usize, row: &mut PageRecord, index: usize, colo
     push(arena, page, row, index);
 }
 
-/// Looks at so many blocks of a page, from one on, each after the other.
+/// Looks at `count` blocks of a page in a row, from one of them on.
 pub fn sweep(
     arena: &mut Arena,
     page: usize,

@@ -51,7 +51,7 @@ impl Model for PageTable {
     ghost invariant = { IsKept };
 }
 
-/// A number of pages, where one that counted or not does or doesn't.
+/// A number of pages, once one that was counted or not is counted or not.
 fn counted(pages: usize, was: bool, is: bool) -> usize
     requires some { bit was ≤ pages }
     requires room { pages ≤ 4096 }
@@ -61,7 +61,7 @@ fn counted(pages: usize, was: bool, is: bool) -> usize
 }
 
 impl PageTable {
-    /// So many free pages. Only want of memory is refused.
+    /// This many free pages. Refused only for lack of memory.
     pub fn new(alloc: Global, pages: u32) -> Result<PageTable, NoMemory>
         requires { pages ≤ 4096 }
         ensures { IfOk result (λ t. t ≡ replicate pages None) }
@@ -117,7 +117,7 @@ impl PageTable {
         self.rows[page]
     }
 
-    /// Gives a page another record. It was free or of the class, and is.
+    /// Gives a page another record. It was free or of the class, and so it is then.
     fn put(&mut self, page: usize, class: Class, row: Option<PageRecord>)
         requires page { page < length self.old }
         requires was { OfClass class (row_at self.old page) }
@@ -228,7 +228,7 @@ impl PageTable {
         }
     }
 
-    /// Looks at so many blocks of a page in use, from one on: each that is held and hasn't the colour is given
+    /// Looks at `count` blocks of a page in use, from one on: each that is held and hasn't the colour is given
     /// back. Every other block, and every other page, stays, and so do the words of the blocks that are held
     /// then.
     pub fn sweep(&mut self, arena: &mut Arena, block: Block, count: usize, colour: bool)
@@ -266,8 +266,8 @@ impl PageTable {
         (block - 2048 * page) / row.class.size() as usize
     }
 
-    /// Marks a page in use as leaving: it gets no block from then on. With whatever words the table goes
-    /// together, it still does.
+    /// Marks a page in use as leaving: it gets no block from then on. Whatever words the table goes
+    /// together with, it still does.
     pub fn leave(&mut self, page: usize)
         requires page { page < length self.old }
         requires receiving { IsSomeAnd (row_at self.old page) (λ r. r.receiving ≡ false) }
@@ -283,8 +283,8 @@ impl PageTable {
     }
 
     /// Closes a page, as the sweeper does when it has looked at all its blocks: the marks leaving and
-    /// receiving go, and if no block is held the page becomes free. With whatever words the table goes
-    /// together, it still does.
+    /// receiving go, and if no block is held the page becomes free. Whatever words the table goes together
+    /// with, it still does.
     pub fn close_page(&mut self, page: usize)
         requires { page < length self.old }
         ensures together { (words : List ℕ) → Together self.old words → Together self.new words }

@@ -1,4 +1,4 @@
-//! What is told of a page.
+//! What can be seen of a page.
 use size_classes::Class;
 
 /// A page in use: its class, how many of its blocks are held, whether it is leaving, which means that its

@@ -12,7 +12,8 @@ use Rattle.pictures.specs.declared.axis.Axis.{Axis}
 use Rattle.pictures.specs.declared.axis.Axis.TheVariants as axes
 use Rattle.pictures.specs.declared.share.TheConstants.{WINDOWS}
 
--- The step between the numbers of an axis: the first round number of which ten reach the greatest one; or else that.
+-- The step between the numbers of an axis: the first round number that reaches the greatest one in ten steps; or else
+-- the greatest one, and 1 at the least.
 abbrev pub step_of : ℕ → ℕ
 step_of greatest = max (unwrap_or (find (λ step. nat_le greatest (10 * step)) WINDOWS) greatest) 1
 
@@ -24,7 +25,7 @@ line_x line lines = 80 + 1080 * min line lines / (lines + 1)
 abbrev pub height_of : ℕ → ℕ → ℕ
 height_of n greatest = 150 * min n greatest / max greatest 1
 
--- a number on an axis that goes up, so far from the top, with a light line
+-- a number on an axis that goes up, this far from the top, with a light line
 abbrev pub level_number : ℕ → Caption → List Element
 level_number y caption = Line 76 y 1160 y Light ∷ Text 72 (y + 4) 11 End caption ∷ []
 
@@ -36,7 +37,7 @@ axis_number axes.Lines greatest n =
 axis_number axes.Pages greatest n = level_number (250 - height_of n greatest) (Number n)
 axis_number axes.Objects greatest n = level_number (440 - height_of n greatest) (Number n)
 
--- so many numbers of an axis up to a greatest one, from a place on
+-- this many numbers of an axis up to a greatest one, from a place on
 abbrev pub numbers_from : Axis → ℕ → ℕ → ℕ → List Element
 numbers_from axis greatest place zero = []
 numbers_from axis greatest place (suc more) =

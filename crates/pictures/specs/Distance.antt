@@ -7,7 +7,7 @@ use Rattle.pictures.specs.declared.reachability.found.Holder.{Holder}
 use Rattle.pictures.specs.declared.reachability.found.Holder.TheVariants.{Root, Cell}
 use Rattle.pictures.specs.declared.reachability.found.Found.{Found}
 
--- a path to the identity goes through so many reference cells, and none goes through fewer
+-- a path to the identity goes through d reference cells, and none goes through fewer
 pub record IsDistance (g : Graph) (id d : ℕ) : Type 0 where
   pub path : Path g d id
   pub least : (k : ℕ) → Path g k id → d ≤ k
@@ -18,7 +18,7 @@ Holds g (Root place) id = (place < length g.roots) × (slice_index g.roots place
 Holds g (Cell object cell) id = (cell < length (object_of g.objects object).refs)
     × (slice_index (object_of g.objects object).refs cell ≡ id)
 
--- a shortest path to the holder's end goes through so many reference cells, with the holder's own
+-- a shortest path to the holder's end goes through d reference cells, with the holder's own
 abbrev pub EndsAt : Graph → Holder → ℕ → Type 0
 EndsAt g (Root place) d = d ≡ 0
 EndsAt g (Cell object cell) d = (e : ℕ) × IsDistance g object e × (d ≡ e + 1)

@@ -43,7 +43,7 @@ open_line width height =
 abbrev pub title_text : Caption → List ℕ
 title_text caption = codes "<title>" ++ caption_text caption ++ codes "</title>"
 
--- the beginning of elements that belong together, of which this is told where the pointer is
+-- the beginning of elements that belong together, with what is shown when the pointer is on them
 abbrev pub group_line : Caption → List ℕ
 group_line caption = codes "<g>" ++ title_text caption
 
@@ -77,7 +77,7 @@ abbrev pub point_text : ℕ → ℕ → ℕ → List ℕ
 point_text x y size =
     codes "<text x='" ++ decimal x ++ codes "' y='" ++ decimal y ++ codes "' font-size='" ++ decimal size
 
--- text, of which a part stands at a point
+-- text that is anchored at a point
 abbrev pub text_line : ℕ → ℕ → ℕ → Anchor → Caption → List ℕ
 text_line x y size anchor caption = point_text x y size ++ anchor_text anchor ++ caption_text caption ++ codes "</text>"
 

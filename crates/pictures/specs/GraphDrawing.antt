@@ -14,7 +14,7 @@ use Rattle.pictures.specs.Lines.{each_from}
 use Rattle.pictures.specs.Search.{holders}
 use Rattle.pictures.specs.Statements.{dot_text}
 
--- the identities of the first objects of those that were found, at most so many
+-- the identities of the first objects that were found, at most this many
 abbrev pub shown_of : ℕ → List Found → List ℕ
 shown_of most found = map (λ f. f.id) (take most found)
 
@@ -24,7 +24,7 @@ root_at l place =
     if nat_lt place (l.mutators * l.slots) then Slot (place / l.slots) (place % l.slots)
     else Static (place - l.mutators * l.slots)
 
--- a holder, and the object that it holds: a root has a box, and a reference cell is told with its object
+-- a holder, and the object that it holds: a root has a box, and a reference cell is written with its object
 abbrev pub holder_drawn : Limits → Holder → ℕ → List Statement
 holder_drawn l (holds.Root place) id = Box (root_at l place) ∷ Holds (root_at l place) id ∷ []
 holder_drawn l (holds.Cell from cell) id = Cell from cell id ∷ []
@@ -50,7 +50,7 @@ objects_drawn g shown objects = flat_map (λ f. object_drawn g shown f.id) objec
 abbrev pub left_out : ℕ → List Statement
 left_out n = if n == 0 then [] else LeftOut n ∷ []
 
--- of a graph heap at most so many of the objects that were found
+-- what is drawn of a graph heap, with at most this many of the objects that were found
 abbrev pub graph_drawn : Graph → ℕ → List Found → List Statement
 graph_drawn g most found =
     let shown = shown_of most found in

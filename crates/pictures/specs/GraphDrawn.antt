@@ -1,4 +1,4 @@
--- What comes of drawing a graph heap.
+-- The outcome of drawing a graph heap.
 use Rattle.std.specs.Prelude.{◌≡◌, ℕ, List, ◌++◌, Result, Ok, Err}
 use Rattle.trace.specs.declared.fault.TextFault.{TextFault}
 use Rattle.trace.specs.declared.fault.TextFault.TheVariants.{Write, NoMemory}
@@ -8,8 +8,8 @@ use Rattle.pictures.specs.declared.reachability.found.Found.{Found}
 use Rattle.pictures.specs.Distance.{FindsAll}
 use Rattle.pictures.specs.GraphDrawing.{graph_picture}
 
--- Of the objects that can be reached, the nearest to the roots are drawn, at most so many; or a part of this is written
--- and then a write failed; or memory was refused, and nothing is written. There is no other fault.
+-- Of the objects that can be reached, the nearest to the roots are drawn, at most this many; or a part of this is
+-- written and then a write failed; or memory was refused, and nothing is written. There is no other fault.
 abbrev pub GraphDrawn : Graph → ℕ → Taken → Result (Unit {0}) TextFault → Type 0
 GraphDrawn g most taken (Ok drawn) =
     (found : List Found) × FindsAll g found × (taken.after ≡ taken.before ++ graph_picture g most found)

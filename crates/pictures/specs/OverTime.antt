@@ -47,7 +47,7 @@ sample_marks scale s end =
     ∷ Rectangle x 454 width 14 (phase_colour s.phase)
     ∷ objects_dash x width scale.objects s.objects
 
--- where the next sample begins, or, behind the last one, the picture ends
+-- where the next sample begins, or, after the last one, the picture ends
 abbrev pub next_x : ℕ → Option Sample → ℕ
 next_x lines None = 1160
 next_x lines (Some s) = line_x s.line lines

@@ -61,7 +61,7 @@ square squares number page =
 abbrev pub map_frame : HeapState → List Element
 map_frame h = frame 1200 (map_height (length h.store.pages)) PagesOfTheHeap
 
--- the phase, the units spent in the cycle that is on, or else in the last one, all pages, and the free ones; what
+-- the phase, the units spent in the cycle that runs, or else in the last one, all pages, and the free ones; what
 -- the colours mean; and how many old copies there are
 abbrev pub map_told : HeapState → List Element
 map_told h =

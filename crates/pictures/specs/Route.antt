@@ -29,7 +29,7 @@ pub record IsShortest (g : Graph) (id : ℕ) (r : Route) : Type 0 where
   pub path : IsPath g id r
   pub least : (k : ℕ) → Path g k id → length r.steps.items ≤ k
 
--- what is told of an object: a shortest path to it, or that it was made and none leads to it, or that it wasn't made
+-- how an object stands: a shortest path leads to it, or it was made and none leads to it, or it wasn't made
 abbrev pub StandsAs : Graph → ℕ → Standing → Type 0
 StandsAs g id (Reached r) = IsAmong (length g.objects) id × IsShortest g id r
 StandsAs g id Unreachable = IsAmong (length g.objects) id × (Reaches g id → ⊥)

@@ -5,8 +5,8 @@ use Rattle.pictures.specs.declared.over_time.TheConstants.{MOST_SAMPLES}
 use Rattle.pictures.specs.declared.timeline.sampler.Sampler.{Sampler}
 use Rattle.pictures.specs.Samples.{Moment, AreSamples}
 
--- These are the samples of moments, of which so many came since the last that was sampled. No less power of two is the
--- stride of so many moments.
+-- These are the samples of moments, and `since` moments came after the last that was sampled. No smaller power of two
+-- would do as the stride of this many moments.
 pub record AreTaken (moments : List Moment) (samples : List Sample) (stride since : ℕ) : Type 0 where
   pub each : AreSamples moments stride samples
   pub few : length samples ≤ MOST_SAMPLES
@@ -20,6 +20,6 @@ pub record AreTaken (moments : List Moment) (samples : List Sample) (stride sinc
 abbrev pub IsAlong : List Moment → Sampler → Type 0
 IsAlong moments s = AreTaken moments s.samples.items.items s.samples.stride s.since
 
--- a sampler along so many moments at most
+-- a sampler along at most this many moments
 abbrev pub IsAlongFew : ℕ → Sampler → Type 0
 IsAlongFew most s = (moments : List Moment) × IsAlong moments s × (length moments ≤ most)

@@ -14,21 +14,21 @@ use Rattle.pictures.specs.declared.sample.Sample.{Sample}
 use Rattle.pictures.specs.declared.over_time.TheConstants.{MOST_SAMPLES}
 use Rattle.pictures.specs.OverTime.{sample_of}
 
--- no cycle is on
+-- no cycle runs
 abbrev pub is_idle : Phase → Bool
 is_idle phases.Idle = true
 is_idle phase = false
 
--- a heap after so many lines
+-- a heap, and after how many lines
 pub record Moment : Type 0 where
   pub line : ℕ
   pub heap : HeapState
 
--- a heap after so many lines, by both
+-- the moment of a heap after this many lines
 abbrev pub moment : ℕ → HeapState → Moment
 moment line heap = record { line = line; heap = heap }
 
--- a sample of a moment: the objects are counted where no cycle is on
+-- a sample of a moment: the objects are counted where no cycle runs
 abbrev pub sampled : Moment → Sample
 sampled m = sample_of m.heap m.line (is_idle m.heap.phase)
 
@@ -49,11 +49,11 @@ abbrev pub AreSamples : List Moment → ℕ → List Sample → Type 0
 AreSamples moments stride samples =
     (i : ℕ) → slice_get samples i ≡ option_map sampled (slice_get moments (i * stride))
 
--- the most objects of any sample of which they were counted
+-- the most objects of any sample whose objects were counted
 abbrev pub greatest_objects : List Sample → ℕ
 greatest_objects samples = fold (λ most s. max most (unwrap_or s.objects 0)) 0 samples
 
--- The least power of two with which there are at most MOST_SAMPLES samples of so many moments.
+-- The least power of two with which there are at most MOST_SAMPLES samples of this many moments.
 pub record IsStride (moments stride : ℕ) : Type 0 where
   pub exponent : ℕ
   pub power : stride ≡ 2 ^ exponent

@@ -29,11 +29,11 @@ pub record IsIndexed (a : Inside) : Type 0 where
 abbrev pub IsAt : List Found → ℕ → ℕ → Type 0
 IsAt found id k = (k < length found) × ((found_at found k).id ≡ id)
 
--- what is told of an object stands at some place
+-- this stands at some place
 abbrev pub Stands : List Found → Found → Type 0
 Stands found f = (k : ℕ) × (k < length found) × (found_at found k ≡ f)
 
--- it stands at none
+-- an object stands at none
 abbrev pub IsNowhere : List Found → ℕ → Type 0
 IsNowhere found id = (k : ℕ) → k < length found → (found_at found k).id ≢ id
 
@@ -48,7 +48,7 @@ abbrev pub holders : Option ℕ → ℕ → Holder
 holders (Some object) cell = Cell object cell
 holders None cell = Root cell
 
--- an object that one of the first cells holds, so far from the roots
+-- an object that one of the first cells holds, this far from the roots
 pub record IsOneOf (cells : List ℕ) (d : ℕ) (holder : ℕ → Holder) (count : ℕ) (f : Found) : Type 0 where
   pub cell : ℕ
   pub below : cell < count
@@ -56,7 +56,7 @@ pub record IsOneOf (cells : List ℕ) (d : ℕ) (holder : ℕ → Holder) (count
   pub distance : f.distance ≡ d
   pub holder_is : f.holder ≡ holder cell
 
--- Of so many first cells, what they hold is found, if it is an object, and nothing else is added.
+-- What the first `count` cells hold is found, if it is an object, and nothing else is added.
 pub record Adds (cells : List ℕ) (d : ℕ) (holder : ℕ → Holder) (count : ℕ) (old new : Findings) : Type 0 where
   pub more : List Found
   pub grows : new.found ≡ old.found ++ more

@@ -3,7 +3,7 @@ use Rattle.std.specs.Prelude.{ℕ, ◌+◌, ◌-◌, ◌*◌, ◌/◌, ◌%◌, 
 use Rattle.pictures.specs.declared.squares.Squares.{Squares}
 use Rattle.pictures.specs.declared.squares.Squares.TheVariants.{Large, Middle, Small}
 
--- the largest squares of which so many fit
+-- the largest squares of which this many fit
 abbrev pub squares_for : ℕ → Squares
 squares_for pages = if nat_le pages 256 then Large else if nat_le pages 1024 then Middle else Small
 
@@ -25,6 +25,6 @@ square_y Large number = 84 + 44 * (number / 16)
 square_y Middle number = 84 + 22 * (number / 32)
 square_y Small number = 84 + 11 * (number / 64)
 
--- how high a map of so many pages is
+-- how high a map of this many pages is
 abbrev pub map_height : ℕ → ℕ
 map_height pages = square_y (squares_for pages) (pages - 1) + 11 * scale_of (squares_for pages) + 12

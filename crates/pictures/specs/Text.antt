@@ -1,4 +1,4 @@
--- What is told of why an object is alive: lines of text.
+-- The report of why an object is alive: lines of text.
 use Rattle.std.specs.Prelude.{◌≡◌, ℕ, ◌<◌, ◌⊎◌, Bool, true, false, List, ◌++◌, Ok, codes, decimal}
 use Rattle.std.specs.List.{flat_map}
 use Rattle.graph_heap.specs.declared.command.Limits.{Limits}
@@ -32,18 +32,18 @@ step_line step = codes "object " ++ (decimal step.object ++ (codes " cell " ++ (
 abbrev pub IsPathText : Limits → Route → List ℕ → Type 0
 IsPathText l r text = (line : List ℕ) × IsRootLine l r.root line × (text ≡ line ++ flat_map step_line r.steps.items)
 
--- a path begins with a root that there is
+-- a path begins with an existing root
 abbrev pub IsRooted : Limits → Standing → Type 0
 IsRooted l (Reached r) = r.root < root_cells l
 IsRooted l standing = Unit {0}
 
--- what is told of an object, some of whose blocks are held or not: the lines of the path to it, or one line
+-- the report of an object, some of whose blocks are held or not: the lines of the path to it, or one line
 abbrev pub TellsStanding : Limits → Bool → Standing → List ℕ → Type 0
 TellsStanding l held (Reached r) text = IsPathText l r text
 TellsStanding l true Unreachable text = text ≡ codes "unreachable held\n"
 TellsStanding l false Unreachable text = text ≡ codes "unreachable freed\n"
 TellsStanding l held NeverMade text = text ≡ codes "never made\n"
 
--- what is told of the object of an identity
+-- the report of the object of an identity
 abbrev pub PathTold : Graph → ℕ → Bool → List ℕ → Type 0
 PathTold g id held text = (standing : Standing) × StandsAs g id standing × TellsStanding g.limits held standing text

@@ -16,12 +16,12 @@ use Rattle.pictures.specs.Elements.{svg_text}
 use Rattle.pictures.specs.Frame.{frame, swatch, meaning}
 use Rattle.pictures.specs.Lines.{each_from}
 
--- so many powers of ten from one on, each with its double and its fivefold
+-- this many powers of ten from one on, each with two and five times as much
 abbrev pub round_numbers : ℕ → ℕ → List ℕ
 round_numbers power zero = []
 round_numbers power (suc more) = power ∷ 2 * power ∷ 5 * power ∷ round_numbers (10 * power) more
 
--- the ticks of which a timetable tells
+-- the ticks that a timetable covers
 abbrev pub span_of : Timetable → ℕ
 span_of t = max t.clock (last_end t.intervals)
 
@@ -33,7 +33,7 @@ pub record IsShare (config : Config) (t : Timetable) (window : ℕ) (share : Sha
       × (share.measured ≡ 1000 * least / window)
   pub promised_is : share.promised ≡ 1000 * bound_of config.collector_ticks config.mutator_ticks window / window
 
--- The shares of the first windows, of which the next, if there is one, is longer than the span.
+-- The shares of the first windows: the next window, if there is one, is longer than the span.
 pub record AreShares (config : Config) (t : Timetable) (shares : List Share) : Type 0 where
   pub each : AllZip (IsShare config t) (take (length shares) WINDOWS) shares
   pub next : length shares < length WINDOWS → span_of t < slice_index WINDOWS (length shares)

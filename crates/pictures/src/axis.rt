@@ -31,7 +31,7 @@ fn step(greatest: u64) -> u64
     round.unwrap_or(greatest).max(1)
 }
 
-/// Where a line of a trace stands, from 80 before its first line to 1160 behind its last one.
+/// Where a line of a trace stands, from 80 before its first line to 1160 after its last one.
 pub(crate) fn x_of(line: u64, lines: u64) -> u32
     ensures x { result ≡ line_x line lines }
     ensures within { (80 ≤ result) × (result ≤ 1160) }

@@ -78,10 +78,10 @@ pub enum Caption {
     Percent(u64),
     /// How many old copies there are.
     OldCopies(u64),
-    /// A page, by its number, and what is told of it, if it is in use.
+    /// A page, by its number, and what is seen of it, if it is in use.
     Page(u32, Option<PageView>),
-    /// The state of a heap: its phase, the units of work in the cycle that is on, or else in the last
-    /// one, how many pages there are, and how many are free.
+    /// The state of a heap: its phase, the units of work in the cycle that is running, or else in the
+    /// last one, how many pages there are, and how many are free.
     Heap {
         phase: Words,
         units: u64,
@@ -108,7 +108,7 @@ fn put_marks(out: &mut [u8], at: usize, page: PageView) -> usize
     }
 }
 
-/// Puts what is told of a page, and answers the place after it.
+/// Puts what is shown of a page, and answers the place after it.
 fn put_page(out: &mut [u8], at: usize, number: u32, page: Option<PageView>) -> usize
     requires { at + 130 ≤ length out.old }
     ensures text { take result out.new ≡ take at out.old ++ page_text number page }

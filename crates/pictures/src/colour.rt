@@ -1,4 +1,4 @@
-//! The colours of pictures. Those of one legend stay apart for who doesn't see red and green.
+//! The colours of pictures. Those of one legend can be told apart by those who don't see red and green.
 ghost use Rattle.std.specs.Prelude.{◌≡◌};
 ghost use Rattle.pictures.specs.Elements.{colour_code};
 

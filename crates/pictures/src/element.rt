@@ -37,7 +37,7 @@ pub enum Element {
     Open(u32, u32),
     /// The title of the document.
     Title(Words),
-    /// The beginning of elements that belong together, of which this is told where the pointer is.
+    /// The beginning of elements that belong together, with what is shown when the pointer is on them.
     Group(Caption),
     /// A filled rectangle: its upper left corner, its width and its height.
     Rectangle(u32, u32, u32, u32, Colour),
@@ -87,7 +87,7 @@ fn put_colour(out: &mut [u8], at: usize, name: &[u8], colour: Colour) -> usize
     put(out, end, b"'/>")
 }
 
-/// Puts the beginning of a picture, of which all is seen.
+/// Puts the beginning of a picture, all of which is seen.
 fn put_open(out: &mut [u8], width: u32, height: u32) -> usize
     requires { 256 ≤ length out.old }
     ensures text { take result out.new ≡ open_line width height }

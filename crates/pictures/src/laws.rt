@@ -9,7 +9,7 @@ pub fn samples_are_few()
     ensures { MOST_SAMPLES ≡ 1000 }
 {}
 
-/// The lengths of windows: 13 powers of ten, their doubles and their fivefolds, in rising order.
+/// The lengths of windows: 13 powers of ten, and two and five times these, in rising order.
 pub fn windows_are_round()
     ensures { WINDOWS ≡ round_numbers 1 13 }
 {}

@@ -36,7 +36,7 @@ fn item_at(samples: &[Sample], place: usize) -> Option<Sample>
     }
 }
 
-/// Where the next sample begins, or, behind the last one, the picture ends.
+/// Where the next sample begins, or, after the last one, the picture ends.
 fn end_of(scale: &Scale, next: Option<Sample>) -> u32
     ensures x { result ≡ next_x scale.now.lines next }
     ensures within { result ≤ 1160 }
@@ -138,7 +138,7 @@ fn axes() -> [Element; 18]
     ]
 }
 
-/// Writes the picture of so many samples.
+/// Writes the picture of these samples.
 fn draw_samples<K: Sink>(scale: &Scale, samples: &[Sample], sink: &mut K) -> Result<(), WriteFailed>
     ensures ok { OnOk result (K.taken sink.new ≡ K.taken sink.old ++ svg_text (time_chart scale.now samples.now)) }
     ensures err { OnErr result (GrowsByPart (K.taken sink.old) (K.taken sink.new)
@@ -154,7 +154,7 @@ fn draw_samples<K: Sink>(scale: &Scale, samples: &[Sample], sink: &mut K) -> Res
 /// its trace, from the new heap before line 1 to the last line of the scale. Each sample is drawn from its line to that
 /// of the next: the pages in use as a bar, below it the objects, where they were counted, as a dash, and at the bottom
 /// the phase as a band of colours. The scale says for which numbers of pages and of objects the whole height stands;
-/// what is more is drawn as high, and a line behind the last one of the scale as far. Axes have round numbers. Only the
+/// what is more is drawn as high, and a line after the last one of the scale as far. Axes have round numbers. Only the
 /// first MOST_SAMPLES samples are drawn. It takes no memory. After an error, which comes only where the sink failed,
 /// the sink has taken a beginning of the document.
 pub fn draw_time<K: Sink>(

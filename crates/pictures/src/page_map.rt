@@ -142,7 +142,7 @@ fn write_squares<K: Sink>(heap: &Heap, sink: &mut K) -> Result<(), WriteFailed>
     Ok(())
 }
 
-/// What is told of the heap as a whole, and what the colours mean.
+/// What is said of the heap as a whole, and what the colours mean.
 fn told(heap: &Heap) -> [Element; 15]
     ensures { result ≡ map_told heap.now }
 {
@@ -178,8 +178,8 @@ fn told(heap: &Heap) -> [Element; 15]
 /// a legend with the number of old copies, and a square for each page. Up to 256 pages stand 16 in a row, up to 1024
 /// 32, and more 64, so all pages that a heap may have fit on 1200 by 800 units; the number of the first stands before
 /// each row. The square of a page in use tells the words of a block, and a bar shows how many of its blocks are held;
-/// it has a colour of its own where the page is leaving, and another where it is receiving. Where the pointer is, a
-/// square tells its page's number, the words of a block, the held blocks of all, and its marks. It takes no memory.
+/// it has a colour of its own where the page is leaving, and another where it is receiving. Under the pointer a
+/// square shows its page's number, the words of a block, the held blocks of all, and its marks. It takes no memory.
 /// After an error, which comes only where the sink failed, the sink has taken a beginning of the document.
 pub fn draw_pages<K: Sink>(heap: &Heap, sink: &mut K) -> Result<(), WriteFailed>
     ensures ok { OnOk result (K.taken sink.new ≡ K.taken sink.old ++ pages_picture heap.now) }

@@ -17,8 +17,8 @@ pub struct Sample {
 }
 
 impl Sample {
-    /// What a heap is like now, after so many lines. Its objects are counted where `counted` says so, which takes time
-    /// that is linear in the words of the arena.
+    /// What a heap is like now, after this many lines. Its objects are counted where `counted` says so, which takes
+    /// time that is linear in the words of the arena.
     pub fn of(heap: &Heap, line: u64, counted: bool) -> Sample
         ensures { result ≡ sample_of heap.now line counted }
     {

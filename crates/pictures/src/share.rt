@@ -50,7 +50,7 @@ pub const WINDOWS: [u64; 39] = [
 pub struct Share {
     /// How many ticks the window has.
     pub window: u64,
-    /// What they had at least of any window of so many ticks.
+    /// What they had at least of any window of that many ticks.
     pub measured: u64,
     /// What the schedule promises them.
     pub promised: u64,

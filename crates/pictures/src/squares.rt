@@ -11,7 +11,7 @@ pub enum Squares {
 }
 
 impl Squares {
-    /// The largest squares of which so many fit.
+    /// The largest squares of which this many fit.
     pub(crate) fn for_pages(pages: usize) -> Squares
         ensures { result ≡ squares_for pages }
     {
@@ -62,7 +62,7 @@ impl Squares {
     }
 }
 
-/// How high a map of so many pages is.
+/// How high a map of this many pages is.
 pub(crate) fn height(pages: usize) -> u32
     requires { pages ≤ 4096 }
     ensures { result ≡ map_height pages }

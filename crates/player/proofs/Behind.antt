@@ -63,7 +63,7 @@ module _ (style : Style) (old : Stage) (lines : List (List ℕ)) (events : List 
       few = omega (arith, w.few, text_one w.behind line, ap length e, length-append line (10 ∷ rest));
     }
 
-    -- a line more, behind those of which all is written
+    -- a line more, after those that are all written
     behind_written : (version : Version) (mid : Stage) → LinesDone (PlaysLine style) old lines version events mid → length mid.taken ≤ length taken' → length (line ++ 10 ∷ rest) ≤ 65536 → IsWrittenUpTo style old (lines ++ line ∷ []) (events ++ more) rest taken'
     behind_written version mid done l small = record {
       before = lines;

@@ -22,7 +22,7 @@ pub command_line : (old : PlayerState) (m : ℕ) (c : Command) (course : Course)
 command_line old m c course (Ok r) d = Commands m c r.entry.reply course d
 command_line old m c course (Err e) d = tt
 
--- a cycle is begun, or one is on
+-- a cycle is begun, or one is running already
 pub cycle_begun : (old : PlayerState) (course : Course) (t : Timetable) (result : Result (Unit {0}) Busy) → is_ok result ≡ true → Does old.course (begin_done result) course → t ≡ started old.timetable
     → Begun old (record old { course = course; timetable = t })
 cycle_begun old course t (Ok done) w d e = (Cycle_begun ∷ [], subst (λ z. DoesLine old lines.Begin (Cycle_begun ∷ []) (record old { course = course; timetable = z })) (sym e) (Begins course d))

@@ -53,7 +53,7 @@ line_read text version lines.Begin spells only = event_read text version lines.B
 line_read text version (lines.Quantum budget) spells only = event_read text version (lines.Quantum budget) spells only refl
 line_read text version (lines.Tick n) spells only = event_read text version (lines.Tick n) spells only refl
 
--- what comes of the text of a line that was read and done
+-- the outcome of the text of a line that was read and done
 pub went : (style : Style) (text : Text) (taken taken' : List ℕ) (line : Line) (old new : PlayerState) (receipt : Option Receipt) (event : Bool) → LineRead text (Ok (Some line)) → LineDone line text.number old new (Ok receipt)
     → taken' ≡ taken ++ written_of style (entry_of receipt) → event ≡ says_event line → LinePlayed style text (stage old taken) (stage new taken') (Ok event)
 went style text taken taken' line old new receipt event read done written is =
@@ -96,7 +96,7 @@ first_done {style} {given} {old} {new} {reader} so n count end = inr (
   inl refl,
 )
 
--- How many events are left of at most so many, where there is a most.
+-- How many events are left after some, where their number is limited.
 abbrev pub AreLeft : Option ℕ → ℕ → Option ℕ → Type 0
 AreLeft None count left = left ≡ None
 AreLeft (Some n) count left = (k : ℕ) × (left ≡ Some k) × (k + count ≡ n)

@@ -57,7 +57,7 @@ ticked p q r n until t small e w d is =
           (Ticks n w.0 q (subst (λ u. u ≤ CLOCK_LIMIT) e small) due (subst (λ u. due_below u q.timetable.due ≡ None) e d.0))),
     )
 
--- the same, where the clock has stood still and the player is told by its fields
+-- the same, where the clock has stood still and the player is given by its fields
 pub ticked_by : (p q r s : PlayerState) (n until : ℕ) (t : Timetable) → until ≤ CLOCK_LIMIT → until ≡ p.timetable.clock + n → q.timetable.clock ≡ p.timetable.clock → ((es : List Event) × QuantaDue until p es q) → DueDone until q r (Ok false)
     → s ≡ r → t ≡ record s.timetable { clock = s.timetable.clock + n } → (es : List Event) × DoesLine p (lines.Tick n) es (record s { timetable = t })
 ticked_by p q r s n until t small e same w d is moved =

@@ -1,4 +1,4 @@
--- What becomes of what waits when lines have come to an end.
+-- What becomes of the text that still waits when the lines have ended.
 use Rattle.std.specs.Prelude.{◌≡◌, ℕ, ◌⊎◌, List, ◌++◌, Result, Err}
 use Rattle.trace.specs.declared.fault.TextFault.{TextFault}
 use Rattle.trace.specs.declared.fault.TextFault.TheVariants.{Write}

@@ -13,7 +13,7 @@ use Rattle.trace.specs.declared.line.Line.TheVariants as lines
 use Rattle.player.specs.declared.player.Player.TheInside.{Inside}
 
 -- A heap with its history, the timetable of the collector's quanta, and the budget of each of them, in
--- units. The memory that the timetable has reserved isn't told.
+-- units. The memory that the timetable has reserved isn't shown.
 pub record PlayerState : Type 0 where
   pub course : Course
   pub timetable : Timetable
@@ -52,8 +52,8 @@ pub data QuantaDue (until : ℕ) (p : PlayerState) : List Event → PlayerState 
       → Does q.course (Quantum_done q.budget units phase) course
       → QuantaDue until p (es ++ Quantum_done q.budget units phase ∷ []) (quantum_behind q due phase course)
 
--- What a line does: the events that are done, and the player after them. A cycle that is on is gone on
--- with. Ticks are the quanta that are due in them, and then the clock.
+-- What a line does: the events that are done, and the player after them. A cycle that is running already
+-- goes on. Ticks are the quanta that are due in them, and then the clock.
 pub data DoesLine (p : PlayerState) : Line → List Event → PlayerState → Type 0 where
   Skips : DoesLine p lines.Skip [] p
   Commands : (m : ℕ) (c : Command) (reply : Reply) (course : Course) → Does p.course (Command_done m c reply) course

@@ -81,7 +81,7 @@ Stops style NoMemory (lines.Tick n) number old new =
     × (new.player.timetable.due ≡ Some due) × (due < old.player.timetable.clock + n)) × (new.taken ≡ old.taken)
 Stops style fault line number old new = ⊥
 
--- the same of its text, of which no event may be a spelling, and which then doesn't tell the version
+-- the same of its text, which may spell no event, and then doesn't tell the version
 abbrev pub StopsText : Style → TextFault → Text → Stage → Stage → Type 0
 StopsText style fault text old new =
     (IsNoEvent fault text × (new ≡ old))
@@ -95,7 +95,7 @@ CutShort style reached old new =
     × ((new.player ≡ reached.state.player) ⊎ NextThere reached
     (λ text. StopsText style NoMemory text reached.state (stage new.player reached.state.taken)))
 
--- All that the first of these lines wrote is within the text that was taken. The lines behind these, with the rest, are
+-- All that the first of these lines wrote is within the text that was taken. The lines after these, with the rest, are
 -- at most a buffer of the input: none but those that waited there were done.
 pub record IsWrittenUpTo (style : Style) (old : Stage) (lines : List (List ℕ)) (events : List Event)
     (rest taken : List ℕ) : Type 0 where
@@ -113,7 +113,7 @@ pub record IsWrittenUpTo (style : Style) (old : Stage) (lines : List (List ℕ))
 
 -- What was played of an input: the lines that were done did these events, one after the other, what is
 -- written of their entries is written, and it ended so. Where a write failed, mid has all of that text, and the lines
--- of which not all was written waited in a buffer of the input.
+-- that weren't all written were waiting in a buffer of the input.
 pub record Played (style : Style) (given : Given) (old new : Stage)
     (result : Result (Unit {0}) TextFault) : Type 0 where
   pub over : GoneOver (PlaysLine style) given old
@@ -161,7 +161,7 @@ abbrev pub entry_of : Option Receipt → List Entry
 entry_of None = []
 entry_of (Some receipt) = receipt.entry ∷ []
 
--- What came of a line of this number, whatever the style and the text before it; and of a line's text.
+-- The outcome of a line of this number, whatever the style and the text before it; and that of a line's text.
 abbrev pub LineDone : Line → ℕ → PlayerState → PlayerState → Result (Option Receipt) TextFault → Type 0
 LineDone line number old new (Ok receipt) = (es : List Event) × DoesLine old line es new
     × (entries_in es ≡ entry_of receipt)

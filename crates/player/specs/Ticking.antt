@@ -10,7 +10,7 @@ use Rattle.player.specs.declared.player.TickFault.{TickFault}
 use Rattle.player.specs.declared.player.TickFault.TheVariants as faults
 use Rattle.player.specs.Player.{PlayerState, QuantaDue, behind_quantum, quantum_behind, DoesLine}
 
--- a cycle is begun, or one is on
+-- a cycle is begun, or one is running already
 abbrev pub Begun : PlayerState → PlayerState → Type 0
 Begun old new = (es : List Event) × DoesLine old lines.Begin es new
 
@@ -29,7 +29,7 @@ DueDone until old new (Ok true) =
 DueDone until old new (Ok false) = (due_below until old.timetable.due ≡ None) × (new ≡ old)
 DueDone until old new (Err refused) = (due : ℕ) × (old.timetable.due ≡ Some due) × (due < until) × (new ≡ old)
 
--- so many ticks passed, or would pass the clock's limit, or memory was refused for the interval of a
+-- n ticks passed, or would pass the clock's limit, or memory was refused for the interval of a
 -- quantum that is due in them
 abbrev pub Ticked : ℕ → PlayerState → PlayerState → Result (Unit {0}) TickFault → Type 0
 Ticked n old new (Ok passed) = (es : List Event) × DoesLine old (lines.Tick n) es new

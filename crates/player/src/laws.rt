@@ -9,7 +9,8 @@ ghost use Rattle.player.specs.declared.style.Style.{Style};
 ghost use Rattle.player.specs.New.{IsNew};
 ghost use Rattle.player.specs.Playing.{Stage, Played};
 
-/// What is played on a new player leaves a heap of which all holds that is promised, and space suffices for its events.
+/// What is played on a new player leaves a heap for which all that is promised holds, and space suffices for its
+/// events.
 pub fn plays_are_promised()
     ensures { (config : Config) (style : Style) (given : Given) (old new : Stage) (result : Result (Unit {0}) TextFault)
         (p : Played style given old new result) → IsNew config old.player → Holds new.player.course

@@ -84,7 +84,7 @@ impl TickFault {
     }
 }
 
-/// Whether no cycle is on in a phase.
+/// Whether no cycle is running in a phase.
 fn is_idle(phase: Phase) -> bool
     ensures { IsTrue result ↔ (phase ≡ phases.Idle) }
 {
@@ -92,7 +92,7 @@ fn is_idle(phase: Phase) -> bool
 }
 
 impl Player {
-    /// A new heap without history, at time 0. Only want of memory is refused.
+    /// A new heap without history, at time 0. Refused only for lack of memory.
     pub fn new(alloc: Global, config: &Config) -> Result<Player, NoMemory>
         ensures { IfOk result (IsNew config.now) }
     {
@@ -136,7 +136,7 @@ impl Player {
         self.recorded.call(mutator, command)
     }
 
-    /// Begins a cycle, and its schedule. A cycle that is on goes on.
+    /// Begins a cycle, and its schedule. A cycle that is running already goes on.
     pub fn begin(&mut self)
         ensures { Begun self.old self.new }
     {
@@ -172,8 +172,8 @@ impl Player {
         Ok(true)
     }
 
-    /// So many ticks pass: the quanta that are due in them are done, in order and each with its
-    /// interval, while the cycle is on; then the clock moves.
+    /// Lets ticks pass: the quanta that are due in them are done, in order and each with its
+    /// interval, while the cycle runs; then the clock moves.
     pub fn tick(&mut self, ticks: u64) -> Result<(), TickFault>
         ensures { Ticked ticks self.old self.new result }
     {

@@ -12,7 +12,7 @@ use crate::player::Player;
 use crate::style::Style;
 use trace::{LineReader, Sink, Source, TextFault, WriteBuffer};
 
-/// Writes what waits once lines have come to an end. Where that fails, it is what the play ends with.
+/// Writes what still waits when the lines have ended. Where that fails, it is what the play ends with.
 fn close<K: Sink>(
     waiting: &mut WriteBuffer,
     sink: &mut K,
@@ -29,7 +29,7 @@ fn close<K: Sink>(
     }
 }
 
-/// Whether an event is left, or there is no most.
+/// Whether an event is left, or their number isn't limited.
 fn is_any_left(left: Option<u32>) -> bool
     ensures some { IsTrue result → left ≢ Some 0 }
     ensures none { result ≡ false → left ≡ Some 0 }
@@ -37,7 +37,7 @@ fn is_any_left(left: Option<u32>) -> bool
     !matches!(left, Some(0))
 }
 
-/// How many events are left after a line, where there is a most.
+/// How many events are left after a line, where their number is limited.
 fn left_after(left: Option<u32>, is_event: bool) -> Option<u32>
     requires { left ≢ Some 0 }
     ensures { result ≡ option_map (λ n. n - (if is_event then 1 else 0)) left }

@@ -7,7 +7,7 @@ use Rattle.quanta.specs.declared.interval.Interval.{Interval}
 use Rattle.quanta.specs.Intervals.{IsSpaced}
 
 -- The ticks of a quantum, the ticks that the mutators have at least between two quanta, the time, when
--- a quantum is due while a cycle is on, the intervals of the quanta so far, and how many more have
+-- a quantum is due while a cycle runs, the intervals of the quanta so far, and how many more have
 -- their memory.
 pub record Timetable : Type 0 where
   pub collector_ticks : ℕ
@@ -26,7 +26,7 @@ abbrev pub start_after : ℕ → Option Interval → ℕ
 start_after q None = 0
 start_after q (Some i) = i.end + q
 
--- when the first quantum of a cycle that begins now is due: at once or, if that is later, so many ticks
+-- when the first quantum of a cycle that begins now is due: at once or, if that is later, `mutator_ticks`
 -- after the end of the last interval
 abbrev pub first_due : Timetable → ℕ
 first_due t = max t.clock (start_after t.mutator_ticks (last_or None t.intervals))
@@ -40,12 +40,12 @@ due_below until (Some due) = if nat_lt due until then Some due else None
 abbrev pub last_end : List Interval → ℕ
 last_end intervals = start_after 0 (last_or None intervals)
 
--- a timetable with memory for so many more intervals
+-- a timetable with memory for n more intervals
 abbrev pub with_reserved : Timetable → ℕ → Timetable
 with_reserved t n = record t { reserved = n }
 
--- One interval more, of a quantum at a time; the next quantum is due after it. Of the memory that was
--- reserved no more is gone than its own.
+-- One interval more, of a quantum at a time; the next quantum is due after it. No more of the memory that was
+-- reserved is gone than its own.
 pub record IsPlacedAt (due : ℕ) (old new : Timetable) : Type 0 where
   pub placed : new ≡ record old {
     intervals = old.intervals ++ (record { start = due; end = due + old.collector_ticks }) ∷ [];

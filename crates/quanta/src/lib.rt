@@ -1,5 +1,5 @@
 //! The schedule of the collector's quanta: a clock of ticks, when quanta are due, and the intervals
-//! that they took. The mutators have so many ticks at least between two intervals.
+//! that they took. The mutators have a least number of ticks between two intervals.
 #![tactic(auto)]
 
 pub mod clock_spent;

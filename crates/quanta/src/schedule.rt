@@ -14,7 +14,7 @@ use std::marker::Model;
 /// The greatest time that the clock shows, in ticks.
 pub const CLOCK_LIMIT: u64 = 1099511627776;
 
-/// The schedule of quanta: the clock, when a quantum is due while a cycle is on, and the intervals of
+/// The schedule of quanta: the clock, when a quantum is due while a cycle runs, and the intervals of
 /// the quanta that were placed. Contracts see these as one timetable, whose intervals are always
 /// spaced: in rising order, each as long as a quantum, and each at least the mutators' ticks after the
 /// end of the one before.
@@ -40,7 +40,7 @@ impl Model for Schedule {
 }
 
 impl Schedule {
-    /// A schedule at time 0, without intervals and with no cycle on. It takes no memory.
+    /// A schedule at time 0, without intervals and with no cycle running. It takes no memory.
     pub fn new(alloc: Global, config: &Config) -> Schedule
         ensures { result ≡ opening config.now.collector_ticks config.now.mutator_ticks }
     {
@@ -54,8 +54,8 @@ impl Schedule {
     }
 
     /// Begins a cycle: its first quantum is due at the clock or, if there was an earlier interval, the
-    /// mutators' ticks after that one's end, if that is later. Where a cycle is on, another begins in its
-    /// place.
+    /// mutators' ticks after that one's end, if that is later. Where a cycle is running, another begins in
+    /// its place.
     pub fn start_cycle(&mut self)
         ensures { self.new ≡ record self.old { due = Some (first_due self.old) } }
     {
@@ -73,7 +73,7 @@ impl Schedule {
         self.due = None;
     }
 
-    /// The time at which a quantum is due, in ticks, or None where no cycle is on or that time isn't
+    /// The time at which a quantum is due, in ticks, or None where no cycle is running or that time isn't
     /// below `until`.
     pub fn next_quantum(&self, until: u64) -> Option<u64>
         ensures due { result ≡ due_below until self.now.due }
@@ -86,7 +86,7 @@ impl Schedule {
         }
     }
 
-    /// Makes room for one more interval. Only want of memory is refused, and then nothing has changed;
+    /// Makes room for one more interval. Refused only for lack of memory, and then nothing has changed;
     /// no other call takes memory.
     pub fn reserve(&mut self) -> Result<(), NoMemory>
         ensures ok { OnOk result (0 < self.new.reserved) }
@@ -141,7 +141,7 @@ impl Schedule {
         self.intervals.as_slice()
     }
 
-    /// The ticks of which the schedule tells: the clock or, if it is later, the end of the last
+    /// The ticks that the schedule covers: the clock or, if it is later, the end of the last
     /// interval.
     pub fn span(&self) -> u64
         ensures span { result ≡ max self.now.clock (last_end self.now.intervals) }

@@ -10,7 +10,7 @@ use Rattle.raw_heap.specs.Heap.{state_of}
 abbrev pub Acts : RawHeap → ℕ → RawHeap → ℕ → Type 0
 Acts old room new units = Chain (state_of old) units (state_of new) × (0 < units) × (units ≤ room)
 
--- Actions are done that fit in the room; or nothing changes, where no cycle is on or the next action costs more than
+-- Actions are done that fit in the room; or nothing changes, where no cycle runs or the next action costs more than
 -- the room.
 abbrev pub ActsIn : RawHeap → ℕ → RawHeap → Option ℕ → Type 0
 ActsIn old room new (Some units) = Acts old room new units

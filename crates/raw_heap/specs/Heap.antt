@@ -25,7 +25,7 @@ state_of a = record {
   grey = grey_in a.nodes a.grey;
 }
 
--- The heap stands for some graph heaps, no object of which is too large, and what a cycle may spend is a
+-- The heap stands for some graph heaps in which no object is too large, and what a cycle may spend is a
 -- small number.
 pub record IsHeap (h : HeapState) : Type 0 where
   pub present : Graph

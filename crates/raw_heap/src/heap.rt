@@ -32,7 +32,7 @@ impl RawHeap {
     ghost use Rattle.raw_heap.specs.Heap.{state_of, IsRawHeap};
 
     /// A heap of free pages, with null roots and no object, and memory for all that it will ever hold.
-    /// Only want of memory is refused.
+    /// Refused only for lack of memory.
     pub fn new(alloc: Global, config: &Config) -> Result<RawHeap, NoMemory>
         ensures heap { IfOk result IsRawHeap }
         ensures opening { IfOk result (λ a. IsOpening (state_of a)) }

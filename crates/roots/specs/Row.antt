@@ -11,8 +11,8 @@ pub record Row : Type 0 where
   pub cells : List ℕ
   pub live : List Bool
 
--- what a row of roots keeps: it has its length, the identities are a limit that a word can tell, and each mutator is
--- live or not
+-- what a row of roots keeps: it has its length, the limit of identities is one that a word can hold, and each mutator
+-- is live or not
 pub record IsRow (r : Row) : Type 0 where
   pub whole : length r.cells ≡ root_cells r.limits
   pub few : root_cells r.limits ≤ 16640

@@ -31,7 +31,7 @@ impl Model for Roots {
 }
 
 impl Roots {
-    /// Null roots, where the first `live` mutators are live. Only want of memory is refused.
+    /// Null roots, where the first `live` mutators are live. Refused only for lack of memory.
     pub fn new(alloc: Global, config: &Config) -> Result<Roots, NoMemory>
         ensures limits { IfOk result (λ r. r.limits ≡ limits_of config.now) }
         ensures cells { IfOk result (λ r. r.cells ≡ replicate (root_cells r.limits) 0) }

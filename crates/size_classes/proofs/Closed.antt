@@ -5,7 +5,7 @@ use Rattle.size_classes.specs.Need.{blocks_needed, is_class, counts_at}
 use Rattle.size_classes.specs.Sizes.{class_for}
 use Rattle.size_classes.proofs.Cutting.{Pieces, Spines, pieces_are, spines_are}
 
--- Without going over the parts: all pieces but the last and all middle spines but the last have 256
+-- Without going through the parts: all pieces but the last and all middle spines but the last have 256
 -- words; the last piece, part 0 and the last middle spine are looked at one by one.
 abbrev blocks_in_all : ℕ → ℕ → ℕ
 blocks_in_all n class =
@@ -107,7 +107,7 @@ module _ (n class : ℕ) where
   by_spines false true e f = absurd (clash (spines_of n) (no_more 0 (spines_of n) e) (less 1 (spines_of n) f))
   by_spines false false e f = let z = none_left (spines_of n) (no_more 0 (spines_of n) e) in no_spine (λ p. blocks_needed n p class) part_at (counts_at 256 class) refl (λ p. refl) (pieces_of n) (spines_of n) z (lone_piece n (pieces_of n) (spines_of n) (pieces_are n) (spines_are n) z)
 
--- what an object needs of a class, without going over its parts
+-- what an object needs of a class, without going through its parts
 pub needed_closed : (n class : ℕ) → blocks_needed n (parts_in n) class ≡ blocks_in_all n class
 needed_closed n class = by_spines n class (nat_lt 0 (spines_of n)) (nat_lt 1 (spines_of n)) refl refl
 

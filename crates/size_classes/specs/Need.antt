@@ -9,7 +9,7 @@ abbrev pub is_class : ℕ → Option ℕ → Bool
 is_class class None = false
 is_class class (Some c) = c == class
 
--- how many of the first parts of an object of so many cells stand in blocks of a class
+-- how many of the first parts of an object with this many cells stand in blocks of a class
 abbrev pub blocks_needed : ℕ → ℕ → ℕ → ℕ
 blocks_needed cells zero class = 0
 blocks_needed cells (suc parts) class =
@@ -19,6 +19,6 @@ blocks_needed cells (suc parts) class =
 abbrev pub needed : Shape → ℕ → ℕ
 needed shape class = blocks_needed (cells_of shape) (parts_in (cells_of shape)) class
 
--- whether a block of so many words is of a class, as a number
+-- 1 where a block of this many words is of a class, else 0
 abbrev pub counts_at : ℕ → ℕ → ℕ
 counts_at words class = if is_class class (class_for words) then 1 else 0

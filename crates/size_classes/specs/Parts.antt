@@ -30,22 +30,22 @@ pub record Run : Type 0 where
   pub first : ℕ
   pub count : ℕ
 
--- to how many parts part 0 refers, of so many pieces and spines: all pieces, or the middle spines
+-- to how many parts part 0 refers, with k pieces and s spines: all pieces, or the middle spines
 abbrev pub heads_by : ℕ → ℕ → ℕ
 heads_by k s = if nat_le s 1 then k else s - 1
 
--- the first of what a part holds, of an object with so many spines
+-- the first of what a part holds, of an object with s spines
 abbrev pub first_by : ℕ → ℕ → ℕ
 first_by s part = if nat_lt part s then (if part == 0 then 1 else s + PART_CELLS * (part - 1))
     else PART_CELLS * (part - s)
 
--- how much a part holds, of so many cells, pieces and spines
+-- how much a part holds, of an object with n cells, k pieces and s spines
 abbrev pub count_by : ℕ → ℕ → ℕ → ℕ → ℕ
 count_by n k s part = if nat_lt part s
     then (if part == 0 then heads_by k s else min PART_CELLS (k - PART_CELLS * (part - 1)))
     else min PART_CELLS (n - PART_CELLS * (part - s))
 
--- what a part of an object of so many cells holds
+-- what a part of an object with n cells holds
 abbrev pub run_of : ℕ → ℕ → Run
 run_of n part = record {
   spine = nat_lt part (spines_of n);
@@ -61,23 +61,23 @@ part_cells n part = (run_of n part).count
 abbrev pub part_words : ℕ → ℕ → ℕ
 part_words n part = part_cells n part + 4
 
--- in which part cell i of an object of so many cells stands, and at which place among its part's
+-- in which part cell i of an object with n cells stands
 unfoldable pub part_in : ℕ → ℕ → ℕ
 part_in n i = spines_of n + i / PART_CELLS
 
--- at which place among its part's cell i of an object stands
+-- at which place in its part cell i of an object stands
 unfoldable pub column_in : ℕ → ℕ
 column_in i = i % PART_CELLS
 
--- which spine refers to a part but part 0, and in which of its cells
+-- which spine refers to a part other than part 0, of an object with k pieces and s spines
 abbrev pub holder_by : ℕ → ℕ → ℕ → ℕ
 holder_by k s part = if nat_le part (heads_by k s) then 0 else (part - s) / PART_CELLS + 1
 
--- in which cell of that spine, of an object of so many pieces and spines
+-- in which cell of that spine, of an object with k pieces and s spines
 abbrev pub seat_by : ℕ → ℕ → ℕ → ℕ
 seat_by k s part = if nat_le part (heads_by k s) then part - 1 else (part - s) % PART_CELLS
 
--- which spine refers to a part, of an object of so many cells
+-- which spine refers to a part, of an object with n cells
 abbrev pub holder_of : ℕ → ℕ → ℕ
 holder_of n part = holder_by (pieces_of n) (spines_of n) part
 

@@ -45,7 +45,7 @@ impl Row {
 }
 
 impl Key {
-    /// The keys, in the order in which they are looked at.
+    /// The keys, in the order in which they are checked.
     pub const ALL: [Key; 11] = [
         Key::Pages,
         Key::Mutators,
@@ -103,7 +103,7 @@ impl Key {
         }
     }
 
-    /// Whether a value is in its range, where there are so many mutators.
+    /// Whether a value is in its range, where there are this many mutators.
     #[tactic(auto, unfolding(crate::specs::Keys::is_between))]
     pub fn allows(self, mutators: i64, value: i64) -> bool
         ensures { result ≡ is_allowed mutators self value }

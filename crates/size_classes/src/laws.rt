@@ -51,7 +51,7 @@ pub fn settings_are_bounded()
     ensures most { MOST_BUDGET ≡ 1000000 }
 {}
 
-/// The order in which the keys of a configuration are looked at.
+/// The order in which the keys of a configuration are checked.
 pub fn keys_are_in_order()
     ensures { ALL ≡ Pages ∷ Mutators ∷ Slots ∷ Statics ∷ Identities ∷ DefragBelow ∷ DefragPages ∷ CollectorTicks
         ∷ MutatorTicks ∷ Rate ∷ Live ∷ [] }

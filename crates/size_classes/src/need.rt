@@ -33,7 +33,7 @@ impl Need {
         }
     }
 
-    /// So many blocks more, of so many words each.
+    /// Adds `count` blocks of this many words each.
     fn add(&mut self, words: u32, count: u32)
         requires words { words ≤ 256 }
         requires few { (class : ℕ) → class < CLASSES → slice_index self.old class + count < 2 ^ 32 }

@@ -9,14 +9,14 @@ use std::marker::Model;
 /// How many cells a part has at most.
 pub const PART_CELLS: usize = 252;
 
-/// How many pieces an object of so many cells has: one for each 252 cells, and at least one.
+/// How many pieces an object with this many cells has: one for each 252 cells, and at least one.
 fn pieces_in(cells: usize) -> usize
     ensures { result ≡ pieces_of cells }
 {
     cells.div_ceil(PART_CELLS).max(1)
 }
 
-/// How many spines an object of so many cells has: none, one, or a root spine and middle spines.
+/// How many spines an object with this many cells has: none, one, or a root spine and middle spines.
 pub fn spines_in(cells: usize) -> usize
     ensures { result ≡ spines_of cells }
 {
@@ -39,7 +39,7 @@ pub struct Run {
 }
 
 impl Run {
-    /// What a part of an object of so many cells holds.
+    /// What a part of an object with this many cells holds.
     pub fn of(cells: usize, part: u32) -> Run
         requires few { cells < 2 ^ 34 }
         ensures spine { result.spine ≡ (run_of cells part).spine }
@@ -82,8 +82,8 @@ pub struct Position {
 }
 
 impl Position {
-    /// The cell that refers to a part but part 0, of an object of so many cells: a middle spine is referred
-    /// to by the root spine, in order.
+    /// The cell that refers to a part other than part 0, of an object with this many cells: a middle spine is
+    /// referred to by the root spine, in order.
     pub fn of(cells: usize, part: u32) -> Position
         requires few { cells ≤ ARRAY_CELLS }
         requires some { 0 < part }

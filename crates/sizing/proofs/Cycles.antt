@@ -115,7 +115,7 @@ module _ (l : Limits) (es qs : List Event) (r new : Course) (old fin : Meter) (b
   beat_is : (beat_after work_beat qs ≡ (if work_beat.on then record work_beat { on = in_cycle new.heap.phase; asked = λ class. 0 } else work_beat)) × ((beat_after work_beat qs).on ≡ in_cycle new.heap.phase)
   beat_is = quanta_beat budget qs work_beat r new works.each works.some works.runs v.are.on
 
-  -- in tracing, and where none was on, a season stays; else its sweep has ended
+  -- in tracing, and where there was none, a season stays; else its sweep has ended
   season_by : (P : Season → Type 0) → (is_tracing new.heap.phase ≡ true → P work_season) → (is_tracing new.heap.phase ≡ false → work_season.tracing ≡ false → P work_season)
       → (is_tracing new.heap.phase ≡ false → work_season.tracing ≡ true → P (season_swept none_live work_season)) → P (season_at none_live work_season qs)
   season_by P on off ends = subst P (sym (season_is none_live).0) (by (is_tracing new.heap.phase) refl work_season.tracing refl)
@@ -152,7 +152,7 @@ module _ (l : Limits) (es qs : List Event) (r new : Course) (old fin : Meter) (b
     shapes = subst AllFit (sym present) v.are.shapes;
   }
 
-  -- what the counts of a season come to
+  -- what the counts of a season add up to
   record Rests : Type 0 where
     traces : is_tracing new.heap.phase ≡ true → fin.season ≡ old.season
     stays : old.season.tracing ≡ false → fin.season ≡ old.season

@@ -31,7 +31,7 @@ split_at (y ∷ ys) x h = elim (or_cases (y == x) (contains ys x) h) [
   | inr e ↦ (let s = split_at ys x e in (y ∷ s.0, s.1, ap (λ l. y ∷ l) s.2))
 ]
 
--- an element of a list of which each is apart from another
+-- an element of a list, each of whose elements is apart from another
 apart_at : (x : ℕ) (xs : List ℕ) (y : ℕ) → AllByRecursion (λ z. nat_eq x z ≡ false) xs → is_member nat_eq xs y ≡ true → nat_eq x y ≡ false
 apart_at x [] y all h = absurd (let n : false ≡ true = h in cc)
 apart_at x (z ∷ xs) y all h = elim (or_cases (nat_eq y z) (is_member nat_eq xs y) h) [

@@ -187,7 +187,7 @@ module _ (l : Limits) (es : List Event) (r new : Course) (m : ℕ) (c : Command)
         let q = v.needs.budget k in
         subst (λ o. HaveBudgets k (es ++ event ∷ []) ↔ IfSome o (λ budget. k ≤ budget)) (sym s.budget) (λ h. q.0 (p.0 h).0, λ h. p.1 (q.1 h, tt))
 
-    -- what a pace gives while a cycle is on, or while none is
+    -- what a pace gives while a cycle is running, or while none is
     abbrev given : Bool → Pace → ℕ → ℕ
     given o q class = if o then q.busy class else q.idle class
 

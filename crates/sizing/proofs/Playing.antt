@@ -75,7 +75,7 @@ command_enters p q line es m c reply (Ticks n fs r small w none) e = absurd (no_
     no_command p r until fs m c reply None_yet e = absurd (cc)
     no_command p r until fs m c reply (One_more gs s due units phase course w is below d) e = let same = ends_so gs (Quantum_done s.budget units phase) m c reply e in absurd (cc)
 
--- a beginning, by whether a cycle is on
+-- a beginning, by whether a cycle is running
 idle_or : (f : Phase) → in_cycle f ≡ true → f ≢ phases.Idle
 idle_or f on e = let z : true ≡ false = sym on ∙ ap in_cycle e in cc
 
@@ -152,11 +152,11 @@ entry_measured old new m c x y r same e f d counted =
     subst (λ k. LineMeasured (lines.Command m k) old new r) f
     (subst (λ k. LineMeasured (lines.Command k x.command) old new r) e (command_measured old new x.mutator x.command x.reply r d2 (subst (Counted old new r) same counted)))
 
--- whether a cycle is on
+-- whether a cycle is running
 pub at_on : (h : HeapState) (es : List Event) (run : Run) → IsAt h es run → run.meter.on ≡ in_cycle run.player.course.heap.phase
 at_on h es run a = a.measures.holds.on ∙ a.measures.are.on
 
--- a beginning, where none is on, and where one is
+-- a beginning, where none is running, and where one is
 pub begin_measured : (old new : Run) (r : Result (Unit {0}) NoMemory) (more : List Event) → DoesLine old.player lines.Begin more new.player → old.meter.on ≡ false
     → OnOk r ((l : Limits) (es : List Event) (x y : Course) → Measures l es x old.meter → IsCourse x → Begins x y → Measures l (es ++ Cycle_begun ∷ []) y new.meter) → LineMeasured lines.Begin old new r
 begin_measured old new (Ok done) more d off measured = λ h es a.

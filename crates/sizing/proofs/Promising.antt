@@ -55,7 +55,7 @@ one_of a b d pages h = by (cases_lt pages a) (cases_lt pages b)
     by (inl more) (inr l) = inr (inl l)
     by (inl more) (inl much) = inr (inr (omega (arith, h, more, much)))
 
--- pages enough for what was needed together fit
+-- enough pages for what was needed together fit
 fits_together : (c : Config) (n : Needed) → moved_pages c n ≤ c.pages → FitsTogether c (together_in n)
 fits_together c n h = one_of (pages_for (together_in n) (spare_in c) CLASSES) (still_pages n + below_in c) (sparse_pages (together_in n) + spare_in c) c.pages h
 

@@ -39,7 +39,7 @@ line_measured text line old new (Err Read) read e = inr (line, read.1, e)
 line_measured text line old new (Err Write) read e = inr (line, read.1, e)
 line_measured text line old new (Err Without_memory) read e = tt
 
--- a run from a new heap, of which nothing is measured yet
+-- a run from a new heap, with nothing measured yet
 module _ (first : Run) (at : IsAt first.player.course.heap [] first) where
   -- what lines did on a player is measured
   abbrev Known : (lines : List (List ℕ)) (version : Version) (events : List Event) (now : Run) → LinesDone (PlaysLine Nothing) (stage first.player []) lines version events (stage now.player []) → Type 0

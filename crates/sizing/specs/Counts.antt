@@ -19,14 +19,14 @@ abbrev pub IsTable : ℕ → List ℕ → List ℕ → Type 0
 IsTable limit table held = (class : ℕ) → class < CLASSES → (slice_index table class ≡ slice_index held class)
     × (slice_index table class < limit)
 
--- some class has so many, or more
+-- some class has this many, or more
 abbrev pub HasOver : ℕ → List ℕ → Type 0
 HasOver limit held = (class : ℕ) × (class < CLASSES) × (limit ≤ slice_index held class)
 
--- more pages than can be told
+-- more pages than can be counted
 abbrev pub TOO_MANY : ℕ
 TOO_MANY = 2 ^ 64
 
--- this is a number of pages, as far as both can be told
+-- this is a number of pages, as far as both can be counted
 abbrev pub IsPages : ℕ → ℕ → Type 0
 IsPages held pages = min held TOO_MANY ≡ min pages TOO_MANY

@@ -102,7 +102,7 @@ abbrev pub StatesAny : Option Members → Load → Type 0
 StatesAny None load = ⊥
 StatesAny (Some document) load = States document load
 
--- what is answered of these bytes: the load that they state where they have no fault, or their first fault, or no
+-- the answer to these bytes: the load that they state where they have no fault, or their first fault, or no
 -- memory where they are a text for which memory may be needed
 abbrev pub IsRead : List ℕ → Result LoadTable LoadFault → Type 0
 IsRead bytes (Ok load) = (bytes_fault bytes ≡ None) × StatesAny (document_of bytes) (load_in load)

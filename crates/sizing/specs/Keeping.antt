@@ -31,15 +31,15 @@ abbrev pub asked_in : ℕ → List Line → ℕ
 asked_in class [] = 0
 asked_in class (line ∷ rest) = asks_by class line + asked_in class rest
 
--- A command asks for too much of a class after these lines: from one of them on, or alone, so many blocks are
--- asked for, with those of the command, that they are more than the rate in the ticks between and the burst.
+-- A command asks for too much of a class after these lines: from one of them on, or by the command alone, more
+-- blocks are asked for, those of the command included, than the rate in the ticks between and the burst.
 abbrev pub AsksTooMuch : Load → List Line → Command → ℕ → Type 0
 AsksTooMuch l said c class =
     (before : List Line) × (since : List Line) × (said ≡ before ++ since)
     × (l.rate class * ticks_in since + l.burst class < asked_in class since + asks c class)
 
--- How a line breaks a load to which the lines before it keep. Of the classes of which a command asks for too
--- much the first is named; one that asks for too much of none comes too late after the last line `begin`.
+-- How a line breaks a load to which the lines before it keep. Where a command asks for too much of some classes,
+-- the first is named; one that asks for too much of none comes too late after the last line `begin`.
 abbrev pub BreaksBy : Load → ℕ → List Line → Line → Breach → Type 0
 BreaksBy l k said (lines.Command m c) (Asks class) =
     (class < CLASSES) × AsksTooMuch l said c class × ((other : ℕ) → other < class → ¬ AsksTooMuch l said c other)

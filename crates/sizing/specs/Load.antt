@@ -28,7 +28,7 @@ abbrev pub clock_after : ℕ → Line → ℕ
 clock_after clock (lines.Tick n) = clock + n
 clock_after clock _ = clock
 
--- From a start, since which so much was asked for, up to each command, commands ask for no more than the
+-- From a start, since which this much was asked for, up to each command, commands ask for no more than the
 -- rate in each of the ticks between, and the burst.
 abbrev pub AsksFrom : Load → ℕ → (ℕ → ℕ) → ℕ → List Line → Type 0
 AsksFrom l start asked clock [] = Unit {0}
@@ -58,7 +58,7 @@ StaysInBucket l level (lines.Begin ∷ rest) = StaysInBucket l level rest
 StaysInBucket l level (lines.Quantum budget ∷ rest) = StaysInBucket l level rest
 StaysInBucket l level (lines.Tick n ∷ rest) = StaysInBucket l (λ class. level class - l.rate class * n) rest
 
--- each command comes so many ticks at most after the last line `begin`, or the start, since which some passed
+-- each command comes at most `gap` ticks after the last line `begin`, or the start, which was `since` ticks before
 abbrev pub BeginsOften : ℕ → ℕ → List Line → Type 0
 BeginsOften gap since [] = Unit {0}
 BeginsOften gap since (lines.Skip ∷ rest) = BeginsOften gap since rest
@@ -105,7 +105,7 @@ AllLive live g (Cycle_on ∷ es) = AllLive live g es
 AllLive live g (Quantum_done budget units phase ∷ es) = AllLive live g es
 AllLive live g (Quantum_refused budget ∷ es) = AllLive live g es
 
--- The pace to which a load comes, where quanta take c ticks and have q ticks at least between them. From a
+-- The pace that a load makes, where quanta take c ticks and have q ticks at least between them. From a
 -- cycle's beginning or a quantum up to the next quantum fewer than c + q ticks pass.
 abbrev pub pace_of : Load → ℕ → ℕ → Pace
 pace_of l c q = record {

@@ -16,7 +16,7 @@ use Rattle.sizing.specs.declared.measured.Measured.{Measured}
 abbrev pub KeepTogether : (ℕ → ℕ) → Limits → List Event → Type 0
 KeepTogether blocks l es = (live : Lives) × AllKeep (WithinBlocks blocks live) live (opening_season l) es
 
--- They keep within so many pages, where each cycle gathers every class.
+-- They keep within this many pages, where each cycle gathers every class.
 abbrev pub KeepGathered : ℕ → Limits → List Event → Type 0
 KeepGathered pages l es = (live : Lives) × AllKeep (WithinPages pages) live (opening_season l) es
 
@@ -58,7 +58,7 @@ IsPaceWithin p most = (class : ℕ) → class < CLASSES → (p.live class ≤ mo
     × (p.busy class ≤ most.busy class) × (p.idle class ≤ most.idle class)
 
 -- Events keep to a pace with quanta of at least k units exactly where the pace is at least this one, and the
--- quanta have so many.
+-- quanta have that many.
 abbrev pub IsLeastPace : Limits → List Event → Pace → Type 0
 IsLeastPace l es p = (most : Pace) (k : ℕ)
     → AllKeepPace most k (opening_beat l) es ↔ (IsPaceWithin p most × HaveBudgets k es)
@@ -85,7 +85,7 @@ abbrev pub least_units : Config → Option ℕ → ℕ
 least_units c None = c.collector_ticks * c.rate
 least_units c (Some least) = min least (c.collector_ticks * c.rate)
 
--- a configuration of the same heaps, whose schedule gives a quantum so many units
+-- a configuration of the same heaps, whose schedule gives a quantum this many units
 pub record HasUnits (c : Config) (units : ℕ) (slow : Config) : Type 0 where
   pub same : settings_by slow ≡ settings_by c
   pub budget : slow.collector_ticks * slow.rate ≡ units

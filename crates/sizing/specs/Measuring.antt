@@ -25,7 +25,7 @@ use Rattle.sizing.specs.Measured.{IsMeasured}
 use Rattle.sizing.specs.Promises.{Promises}
 use Rattle.sizing.specs.Meter.{Measures}
 
--- An input was played to its end on a new player, this was measured of its events, and so much is promised of them.
+-- An input was played to its end on a new player, this was measured of its events, and what it promises holds of them.
 pub record RunMeasured (config : Config) (given : Given) (m : Measured) : Type 0 where
   pub old : PlayerState
   pub new : Stage
@@ -42,7 +42,7 @@ TraceMeasured config given (Err Without_memory) = Unit {0}
 TraceMeasured config given (Err fault) = (old : PlayerState) × (new : Stage)
     × Played Nothing given (stage old []) new (Err fault) × IsNew config old
 
--- the player has done these events from a new heap, and the meter holds what they come to
+-- the player has done these events from a new heap, and the meter holds what they add up to
 pub record IsAt (h : HeapState) (es : List Event) (run : Run) : Type 0 where
   pub opening : IsOpening h
   pub pages : 0 < length h.store.pages

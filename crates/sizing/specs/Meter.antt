@@ -18,7 +18,7 @@ use Rattle.sizing.specs.Measured.{IsLeastPace}
 abbrev pub none_live : Lives
 none_live n class = 0
 
--- the season after events, where cycles begin with so much live
+-- the season after events, where cycles begin with this much live
 abbrev pub season_at : Lives → Season → List Event → Season
 season_at live s [] = s
 season_at live s (e ∷ es) = season_at live (season_after live s e) es
@@ -66,7 +66,7 @@ pub record AreOf (s : Season) (b : Beat) (r : Course) : Type 0 where
   pub number : s.number ≤ s.cycles
   pub shapes : AllFit (present_of r)
 
--- the meter holds what they come to
+-- the meter holds this season and this beat
 pub record Holds (s : Season) (b : Beat) (m : Meter) : Type 0 where
   pub graph : m.graph ≡ s.graph
   pub on : m.on ≡ b.on
@@ -85,7 +85,7 @@ pub record Needs (l : Limits) (es : List Event) (m : Meter) : Type 0 where
   pub idle : AreBlocks m.idle pace.idle
   pub budget : (k : ℕ) → HaveBudgets k es ↔ IfSome m.budget (λ budget. k ≤ budget)
 
--- the same is said to be live where the first cycles begin, so many
+-- the same is said to be live where each cycle up to this one begins
 abbrev pub AgreeTo : ℕ → Lives → Lives → Type 0
 AgreeTo cycles lives live = (n : ℕ) → n ≤ cycles → live n ≡ lives n
 

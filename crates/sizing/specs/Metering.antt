@@ -1,4 +1,4 @@
--- What lines come to, in one pass.
+-- What lines add up to, in one pass.
 use Rattle.std.specs.Prelude.{◌≡◌, ℕ, ◌+◌, ◌-◌, ◌*◌, ◌^◌, ◌<◌, ◌≤◌, ◌⊎◌, min, slice_index, List, [], ◌∷◌, Option, Some, None, Result, Ok, Err}
 use Rattle.size_classes.specs.declared.class.TheConstants.{CLASSES}
 use Rattle.graph_heap.specs.declared.command.Command.{Command}
@@ -14,7 +14,7 @@ use Rattle.sizing.specs.declared.arrivals.keeping.Breach.{Breach}
 use Rattle.sizing.specs.declared.arrivals.keeping.Breach.TheVariants.{Asks, BeginsLate, SmallQuantum}
 use Rattle.sizing.specs.Load.{Load, StaysInBucket, BeginsOften, AreBudgets}
 
--- a line further: the level of a class's bucket, and the ticks since the last line `begin`, as they are counted
+-- after one more line: the level of a class's bucket, and the ticks since the last line `begin`, as they are counted
 abbrev pub level_after : Load → ℕ → ℕ → Line → ℕ
 level_after l class level (lines.Command m c) = level + asks c class
 level_after l class level (lines.Tick n) = level - l.rate class * n
@@ -50,7 +50,7 @@ Overflows l m c class =
     (class < CLASSES) × (l.burst class < levels_in m class + asks c class)
     × ((other : ℕ) → other < class → levels_in m other + asks c other ≤ l.burst other)
 
--- What came of a line, from one meter to another.
+-- The outcome of a line, from one meter to another.
 abbrev pub Metered : Load → ℕ → Meter → Line → Meter → Option Breach → Type 0
 Metered l k old line new None = Meters l old line new × IsWithin l new × KeepsOn l k old line
 Metered l k old (lines.Command m c) new (Some (Asks class)) = Overflows l old c class
@@ -63,7 +63,7 @@ Metered l k old line new (Some by) = ⊥
 abbrev pub NoEvent : TextFault → Text → Unit {0} → Unit {0} → Type 0
 NoEvent fault text old new = IsNoEvent fault text
 
--- What came of the text of a line: it tells the version of those after it, or is metered.
+-- The outcome of the text of a line: it tells the version of those after it, or is metered.
 abbrev pub TextMetered : Load → ℕ → Text → Meter → Meter → Result (Option Breach) TextFault → Type 0
 TextMetered l k text old new (Ok found) =
     (IsVersionLine text × (new ≡ old) × (found ≡ None))

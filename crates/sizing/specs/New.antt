@@ -16,12 +16,12 @@ use Rattle.space.specs.Fitting.{FitsIn}
 use Rattle.space.specs.Room.{AllHaveRoom}
 use Rattle.sizing.specs.Load.{Load, KeepsLoad, AllLive, pace_of}
 
--- the pace to which a load comes fits in a configuration's pages
+-- the pace that a load makes fits in a configuration's pages
 abbrev pub LoadFits : Config → Load → Type 0
 LoadFits config l = FitsIn config (pace_of l config.collector_ticks config.mutator_ticks) config.pages
 
 -- Lines that are played on a new player of a configuration, in a text that keeps to a load, while no more is live than
--- it has where a cycle begins, get no reply that is the refusal for want of space.
+-- it has where a cycle begins, get no reply that is the refusal for lack of space.
 abbrev pub LoadFindsRoom : Config → Load → Type 0
 LoadFindsRoom config l =
     (style : Style) (old new : Stage) (text : List (List ℕ)) (version : Version) (es : List Event)
@@ -30,7 +30,7 @@ LoadFindsRoom config l =
     → AllHaveRoom es
 
 -- What was played of an input on a new player of a configuration. Where the lines that were done keep to a load
--- whose pace fits in the configuration's pages, no reply is the refusal for want of space.
+-- whose pace fits in the configuration's pages, no reply is the refusal for lack of space.
 pub record PlayedNew (config : Config) (style : Style) (given : Given) (taken : Taken) (new : PlayerState)
     (result : Result (Unit {0}) TextFault) : Type 0 where
   pub old : PlayerState

@@ -18,7 +18,7 @@ use Rattle.sizing.specs.declared.measured.Measured.{Measured}
 use Rattle.sizing.specs.Measured.{KeepTogether, KeepGathered, KeepBudget, together_in, budget_in, least_units, HasUnits}
 use Rattle.sizing.specs.Reckoned.{still_pages, moved_pages, needed_pages}
 
--- in every run from a new heap of a configuration of which this holds, no reply is the refusal for want of space
+-- in every run from a new heap of a configuration for which this holds, no reply is the refusal for lack of space
 abbrev pub EachFindsRoom : Config → (Limits → List Event → Type 0) → Type 0
 EachFindsRoom config Keeps = (h : HeapState) (es : List Event) (new : Course) → IsOpening h
     → settings_of h ≡ settings_by config → Runs (opened h) es new → Keeps h.limits es → AllHaveRoom es
@@ -28,9 +28,9 @@ EachFindsRoom config Keeps = (h : HeapState) (es : List Event) (new : Course) �
 abbrev pub NeedNoMore : Needed → Limits → List Event → Type 0
 NeedNoMore n l es = KeepTogether (together_in n) l es × KeepGathered n.gathered l es
 
--- For which runs so many pages suffice, on any configuration that has them: where blocks are never moved, and with
--- moving as it is configured, for those that need no more blocks of any class; where moving follows each sweep and may
--- empty all pages, for those that need no more pages so; and for those that keep to the budget.
+-- For which runs these numbers of pages suffice, on any configuration that has them: where blocks are never moved, and
+-- with moving as it is configured, for those that need no more blocks of any class; where moving follows each sweep
+-- and may empty all pages, for those that need no more pages so; and for those that keep to the budget.
 pub record Suffices (n : Needed) : Type 0 where
   pub still : (c : Config) → c.defrag_below ≡ 0 → still_pages n ≤ c.pages
       → EachFindsRoom c (KeepTogether (together_in n))
@@ -40,7 +40,7 @@ pub record Suffices (n : Needed) : Type 0 where
       → EachFindsRoom c (KeepBudget (budget_in n))
 
 -- What is promised of a run with these events, of which this was measured, on a new heap of a configuration. Where the
--- pages are as many as it must have, no reply of this run is the refusal for want of space, nor is one of any run that
+-- pages are as many as it must have, no reply of this run is the refusal for lack of space, nor is one of any run that
 -- needs no more; the same of the pace, with quanta of no fewer units than any had; and the numbers of pages suffice on
 -- other configurations.
 pub record Promises (config : Config) (es : List Event) (m : Measured) : Type 0 where

@@ -9,7 +9,7 @@ use Rattle.sizing.specs.declared.most.Most.{Most}
 use Rattle.sizing.specs.declared.needed.Needed.{Needed}
 use Rattle.sizing.specs.Counts.{MOST, TOO_MANY, AreBlocks, IsTable, HasOver, IsPages}
 
--- so many blocks of each class more than before
+-- this many more blocks of each class than before
 abbrev pub AreAdded : List ℕ → List ℕ → List ℕ → Type 0
 AreAdded more old new =
     (class : ℕ) → class < CLASSES → slice_index new class ≡ min (slice_index old class + slice_index more class) MOST
@@ -25,7 +25,7 @@ pub record AreAllocated (more : List ℕ) (old new : Season) : Type 0 where
   pub base : AreAdded more old.since_base new.since_base
   pub swept : AreAdded more old.since_swept new.since_swept
 
--- a cycle is begun, while so many blocks are live
+-- a cycle is begun, while this many blocks are live
 pub record IsBegun (live : List ℕ) (old new : Season) : Type 0 where
   pub same : new ≡ record old { tracing = true; live_last = live; since_last = new.since_last }
   pub none : AreBlocks new.since_last (λ class. 0)
@@ -67,7 +67,8 @@ pub record AsksMost (s : Season) (asked : List ℕ) (old new : Most) : Type 0 wh
       → IsPages new.made (max most (pages_of (λ class. made class + more class)))
   pub live : new.live ≡ old.live
 
--- So many blocks are live where a cycle begins: the pages of live objects at most are no fewer than these take.
+-- This many blocks are live where a cycle begins: the most pages of live objects are what they were, or those that
+-- these take, if they are more.
 pub record LivesMost (live : List ℕ) (old new : Most) : Type 0 where
   pub same : new ≡ record old { live = new.live }
   pub most : (most : ℕ) (n : ℕ → ℕ) → IsPages old.live most → AreBlocks live n

@@ -31,7 +31,7 @@ pub fn needed_by(shape: &Shape) -> Blocks
     blocks
 }
 
-/// So many blocks more.
+/// Adds this many blocks.
 pub fn add(blocks: &mut Blocks, more: &Blocks)
     ensures { (class : ℕ) → class < CLASSES
         → slice_index blocks.new class ≡ min (slice_index blocks.old class + slice_index more.now class) MOST }
@@ -41,7 +41,7 @@ pub fn add(blocks: &mut Blocks, more: &Blocks)
     }
 }
 
-/// At least so many blocks.
+/// Raises blocks to at least these.
 pub fn raise(blocks: &mut Blocks, least: &Blocks)
     ensures { (class : ℕ) → class < CLASSES
         → slice_index blocks.new class ≡ max (slice_index blocks.old class) (slice_index least.now class) }

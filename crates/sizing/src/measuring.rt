@@ -13,7 +13,7 @@ use trace::{Source, TextFault, each_line};
 /// What a trace needs on a new heap of a configuration: its lines are played, one after the other, and nothing
 /// is written. The run keeps to what is answered, and to nothing that is less in some number. Where the configuration
 /// has the pages that it must have (`Needed::pages_in`), or the pace fits `Measured::slowest` of it, no reply of this
-/// run is the refusal for want of space, nor is one of any run that needs no more. A fault is that with which playing
+/// run is the refusal for lack of space, nor is one of any run that needs no more. A fault is that with which playing
 /// the trace ends; or memory was refused, for that or for the measure.
 pub fn measure<S: Source>(
     alloc: Global,

@@ -1,4 +1,4 @@
-//! What events come to, and what they needed at most.
+//! What events add up to, and what they needed at most.
 ghost use Rattle.std.specs.Prelude.{◌≡◌, ◌<◌, ◌≤◌, ◌^◌, ◌↔◌, ◌⊎◌, ℕ, true, false, List, [], ◌∷◌, ◌++◌, length, IfOk, OnOk, IfSome, IsNone, IsTrue};
 ghost use Rattle.graph_heap.specs.declared.command.Limits.{Limits as Bounds};
 ghost use Rattle.graph_heap.specs.Graph.{root_cells};
@@ -29,7 +29,7 @@ use std::alloc::Global;
 #[derive(Drop)]
 pub struct Meter {
     graph: Reference,
-    /// Whether a cycle is on.
+    /// Whether a cycle is running.
     on: bool,
     season: Season,
     /// What was asked for since the last beginning, or quantum of a cycle.
@@ -42,7 +42,7 @@ pub struct Meter {
     budget: Option<u32>,
 }
 
-/// The lesser of budgets, of which there may be only one.
+/// The lesser of two budgets, or the only one.
 fn least_of(least: Option<u32>, budget: u32) -> u32
     ensures { (k : ℕ) → k ≤ result ↔ (IfSome least (λ n. k ≤ n) × (k ≤ budget)) }
 {
@@ -72,14 +72,14 @@ impl Meter {
         })
     }
 
-    /// Whether a cycle is on.
+    /// Whether a cycle is running.
     pub fn is_on(&self) -> bool
         ensures { result ≡ self.now.on }
     {
         self.on
     }
 
-    /// The blocks for which a command asks, where nothing but want of space refuses it.
+    /// The blocks for which a command asks, where nothing but lack of space refuses it.
     fn asked_by(&self, entry: &Entry) -> Blocks
         ensures { length self.now.graph.roots ≡ root_cells self.now.graph.limits
             → AreBlocks result (asked_for self.now.graph entry.now.mutator entry.now.command) }
@@ -163,7 +163,7 @@ impl Meter {
         Ok(())
     }
 
-    /// Quanta are done, which end in this phase: what was asked for is counted anew while a cycle is on.
+    /// Quanta are done, which end in this phase: what was asked for is counted anew while a cycle runs.
     fn beat(&mut self, phase: Phase)
         ensures same { self.new ≡ record self.old { on = self.new.on; asked = self.new.asked } }
         ensures on { self.old.on ≡ true → (self.new.on ≡ pace.in_cycle phase) × AreBlocks self.new.asked (λ class. 0) }

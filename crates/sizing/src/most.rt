@@ -47,7 +47,7 @@ impl Most {
         self.made = self.made.max(pages_of(&made));
     }
 
-    /// Notes that so many blocks are live where a cycle begins.
+    /// Notes that this many blocks are live where a cycle begins.
     pub fn begin(&mut self, live: &Blocks)
         ensures { LivesMost live.now self.old self.new }
     {

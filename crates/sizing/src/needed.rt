@@ -33,7 +33,7 @@ fn moves_all(config: &Config) -> bool
 }
 
 impl Needed {
-    /// The pages that its blocks take together, where so many may be left sparse of each class.
+    /// The pages that its blocks take together, where this many of each class may be left sparse.
     fn pages(&self, spare: u32) -> u128
         ensures pages { result ≡ pages_for (together_in self.now) spare CLASSES }
         ensures within { result ≤ CLASSES * MOST_CLASS_PAGES }

@@ -12,7 +12,7 @@ use size_classes::{CLASSES, Class};
 use space::pages::MOST_BLOCKS;
 use space::pages_of_class;
 
-/// The whole pages that so many blocks of a class take, by its number.
+/// The whole pages that this many blocks of a class take, by its number.
 pub fn whole_of(number: usize, blocks: u128) -> u128
     requires class { number < CLASSES }
     requires blocks { blocks ≤ MOST_BLOCKS }
@@ -22,7 +22,7 @@ pub fn whole_of(number: usize, blocks: u128) -> u128
     pages_of_class(Class::new(number as u8), blocks, 0)
 }
 
-/// The pages of a class whose blocks were gathered, for so many: one more where they fill a page, which may be left.
+/// The pages of a class whose blocks were gathered, for this many: one more where they fill a page, which may be left.
 pub fn gathered_of(number: usize, blocks: u128) -> u128
     requires class { number < CLASSES }
     requires blocks { blocks ≤ MOST_BLOCKS }
@@ -34,7 +34,7 @@ pub fn gathered_of(number: usize, blocks: u128) -> u128
     pages_of_class(class, blocks, u32::from(left))
 }
 
-/// The whole pages that so many blocks of each class take.
+/// The whole pages that this many blocks of each class take.
 pub fn pages_of(blocks: &Blocks) -> u128
     ensures { (n : ℕ → ℕ) → AreBlocks blocks.now n → IsPages result (pages_of n) }
 {

@@ -5,14 +5,14 @@ ghost use Rattle.space.specs.Tally as tally;
 
 use heap_model::phase::Phase;
 
-/// Whether a cycle is on.
+/// Whether a cycle is running.
 pub fn in_cycle(phase: Phase) -> bool
     ensures { result ≡ pace.in_cycle phase }
 {
     !matches!(phase, Phase::Idle)
 }
 
-/// Whether a cycle is on, and its sweep hasn't ended.
+/// Whether a cycle is running, and its sweep hasn't ended.
 pub fn is_tracing(phase: Phase) -> bool
     ensures { result ≡ tally.is_tracing phase }
 {

@@ -24,7 +24,7 @@ pub struct Run {
 }
 
 impl Run {
-    /// A new player, of which nothing is measured yet.
+    /// A new player, with nothing measured yet.
     pub fn new(alloc: Global, config: &Config) -> Result<Run, NoMemory>
         ensures player { IfOk result (λ run. IsNew config.now run.player) }
         ensures measured { IfOk result (λ run. IsAt run.player.course.heap [] run) }
@@ -50,7 +50,7 @@ impl Run {
         self.meter.command(receipt.entry())
     }
 
-    /// Begins a cycle, or goes on with the one that is on.
+    /// Begins a cycle, or goes on with the one that is running.
     fn begin(&mut self) -> Result<(), NoMemory>
         ensures { LineMeasured lines.Begin self.old self.new result }
     {
@@ -72,7 +72,7 @@ impl Run {
         self.meter.quanta(budget, phase);
     }
 
-    /// Lets so many ticks pass.
+    /// Lets ticks pass.
     fn tick(&mut self, ticks: u64) -> Result<(), TickFault>
         ensures { TicksMeasured ticks self.old self.new result }
     {

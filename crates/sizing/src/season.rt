@@ -11,7 +11,7 @@ use heap_model::phase::Phase;
 /// The blocks of each class that objects need: those live where a cycle began, and those allocated since.
 #[derive(Clone, Copy, Debug, PartialEq, Eq)]
 pub struct Season {
-    /// Whether a cycle is on, and its sweep hasn't ended.
+    /// Whether a cycle is running, and its sweep hasn't ended.
     pub tracing: bool,
     /// What was live when the last cycle began.
     pub live_last: Blocks,
@@ -55,7 +55,7 @@ impl Season {
         add(&mut self.since_swept, blocks);
     }
 
-    /// A cycle is begun, while so many blocks are live.
+    /// A cycle is begun, while this many blocks are live.
     pub fn begin(&mut self, live: &Blocks)
         ensures { IsBegun live.now self.old self.new }
     {

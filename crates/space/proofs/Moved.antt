@@ -33,7 +33,7 @@ use Rattle.space.proofs.Shifted.{at_units, chain_at, change_at, stands_at}
 next_times : (n d : ℕ) → (n + 1) * d ≡ n * d + d
 next_times n d = grind arith
 
--- a cycle that is on moves, if it is past the end of its sweep
+-- a running cycle moves, if it is past the end of its sweep
 a_move : (q : Phase) → in_cycle q ≡ true → is_tracing q ≡ false → (m : Moving) × (q ≡ phases.Moving m)
 a_move phases.Idle on off = absurd (cc)
 a_move (phases.Roots next) on off = absurd (cc)
@@ -106,7 +106,7 @@ record IsSpent (k : ℕ) (h : HeapState) (r : Course) (t : Tally) (n : ℕ) : Ty
   none : is_tracing r.heap.phase ≡ true → ended ≡ 0
   moved : in_cycle r.heap.phase ≡ true → is_tracing r.heap.phase ≡ false → HasMoved k h r ended more units
 
--- with no cycle on there is nothing to keep
+-- with no cycle running there is nothing to keep
 idle_spent : (k : ℕ) (h : HeapState) (r : Course) (t : Tally) (n : ℕ) → cycle_limit r.heap ≡ cycle_limit h → settings_of r.heap ≡ settings_of h → in_cycle r.heap.phase ≡ false → IsSpent k h r t n
 idle_spent k h r t n limit settings off = record {
   limit = limit;
@@ -149,7 +149,7 @@ module _ (h : HeapState) (k : ℕ) (great : 256 ≤ k) where
           let o = v.one in
           few_quanta k (swept_units h + moving_units h + 255 * (moving_units h / (k - 255) + 1)) n (n * k) (omega (arith, great)) (omega arith) (let some : n * k ≤ swept_units h + moving_units h + 255 * (i.more + 1) = omega (arith, l, s, o, same, same_moving) in omega (arith, some, few))
 
-  -- a quantum with a cycle on, which doesn't end it
+  -- a quantum with a cycle running, which doesn't end it
   quantum_on : (r new : Course) (budget spends : ℕ) (phase : Phase) (t : Tally) (n : ℕ) → IsCourse r → IsSpent k h r t n → k ≤ budget → Collects r budget spends phase new → cycle_limit new.heap ≡ cycle_limit h → settings_of new.heap ≡ settings_of h
       → in_cycle r.heap.phase ≡ true → in_cycle new.heap.phase ≡ true → (b c : Bool) → is_tracing r.heap.phase ≡ b → is_tracing new.heap.phase ≡ c → IsSpent k h new (after_event t (Quantum_done budget spends phase)) (n + 1)
   quantum_on r new budget spends phase t n w i enough q limit settings on stays = by_sweep

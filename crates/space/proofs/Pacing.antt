@@ -113,7 +113,7 @@ quanta_after r Cycle_on n = n
 quanta_after r (Quantum_done budget units phase) n = if in_cycle r.heap.phase then n + 1 else n
 quanta_after r (Quantum_refused budget) n = n
 
--- What is kept, where n quanta of the cycle were done, and no cycle takes more than so many.
+-- What is kept, where n quanta of the cycle were done, and no cycle takes more than `most`.
 pub record IsPaced (r : Course) (t : Tally) (b : Beat) (p : Pace) (most n : ℕ) : Type 0 where
   pub graph : t.graph ≡ present_of r
   pub same : b.graph ≡ present_of r
@@ -124,7 +124,7 @@ pub record IsPaced (r : Course) (t : Tally) (b : Beat) (p : Pace) (most n : ℕ)
   pub since_last : (class : ℕ) → class < CLASSES → blocks_of (drop t.last t.graph.objects) class ≤ (if b.on then n * p.busy class else most * p.busy class) + b.asked class
   pub since_base : (class : ℕ) → class < CLASSES → blocks_of (drop t.base t.graph.objects) class ≤ (if b.on then most * p.busy class + p.idle class + n * p.busy class else most * p.busy class) + b.asked class
 
--- no cycle is on in idle alone
+-- only in idle no cycle is running
 pub idle_phase : (f : Phase) → in_cycle f ≡ false → f ≡ phases.Idle
 idle_phase phases.Idle e = refl
 idle_phase (phases.Roots next) e = absurd (cc)
@@ -221,7 +221,7 @@ module _ (p : Pace) (k most : ℕ) where
       present : present_of new ≡ present_of r
       present = collects_present r new budget units phase w q
 
-      -- with no cycle on
+      -- with no cycle running
       at_rest : b.on ≡ false → IsPaced new (if is_tracing phase then t else record t { base = t.last }) b p most n
       at_rest off =
           let still = idle_chain r.heap new.heap units q.turn.chain (idle_phase r.heap.phase (sym i.on ∙ off)) in
@@ -242,7 +242,7 @@ module _ (p : Pace) (k most : ℕ) where
           by_off class true z l = absurd (cc)
           by_off class false z l = l
 
-      -- with a cycle on
+      -- with a cycle running
       at_work : b.on ≡ true → IsPaced new (if is_tracing phase then t else record t { base = t.last }) (record b { on = in_cycle phase; asked = λ class. 0 }) p most (n + 1)
       at_work on = by_phase phase q.ends
         where

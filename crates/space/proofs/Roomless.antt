@@ -1,4 +1,4 @@
--- No command but New asks for blocks, or is refused for want of space.
+-- No command but New asks for blocks, or is refused for lack of space.
 use Rattle.std.specs.Prelude.{slice_index_or}
 use Rattle.std.proofs.Common.{◌≡◌, ℕ, ◌+◌, ◌-◌, ◌*◌, ◌≤◌, Bool, true, false, ◌&&◌, nat_lt, ◌==◌, if◌then◌else◌, List, [], ◌∷◌, length, slice_index, slice_get, Option, Some, None, Result, Ok, Err, ap, ◌∙◌, arith, refl}
 use Rattle.graph_heap.specs.declared.command.Shape.{Shape}
@@ -21,12 +21,12 @@ use Rattle.space.specs.Demand.{asked_by, asked_for}
 use Rattle.space.specs.Tally.{EveryNewFindsRoom}
 use Rattle.space.specs.Room.{AllHaveRoom, asks}
 
--- a refusal, if there is one, isn't for want of space
+-- a refusal, if there is one, isn't for lack of space
 abbrev pub IsOther : {A : Type 0} → Result A Refusal → Type 0
 IsOther (Ok x) = Unit {0}
 IsOther (Err e) = had_room (replies.Refused e) ≡ true
 
--- it asks for no block, and isn't refused for want of space
+-- it asks for no block, and isn't refused for lack of space
 abbrev IsRoomless : Result (Reply × Change) Refusal → Type 0
 IsRoomless r = (had_room (settled r).0 ≡ true) × ((class : ℕ) → asked_by (settled r).1 class ≡ 0)
 
@@ -155,7 +155,7 @@ asks_less g m (commands.Describe a) k = none_asked g m (commands.Describe a) k (
 asks_less g m commands.Join k = none_asked g m commands.Join k (λ n. n)
 asks_less g m commands.Leave k = none_asked g m commands.Leave k (λ n. n)
 
--- so where no new object is refused for want of space, no command is
+-- so where no new object is refused for lack of space, no command is
 other_has_room : (room : Bool) (g : Graph) (m : ℕ) (c : Command) → (IsNew c → ⊥) → had_room (reply_of room g m c) ≡ true
 unfolding reply_of
 other_has_room room g m c n = (others_roomless room g m c n).0

@@ -9,7 +9,7 @@ use Rattle.heap_model.specs.Standing.{Stands}
 use Rattle.heap_model.specs.Action.{Action, Scans_root, Ends_roots, Scans_header, Scans_cell, Ends_marking, Frees_block, Passes_block, Closes_page, Ends_sweep, Looks_at_page, Chooses_page, Chooses_none, Moves_block, Ends_moving, Shades, Was_marked, Is_marked, AtPass, In_pass, After_page, MovingDone, No_class, No_page, Chain, Nothing_done, Then}
 use Rattle.heap_model.specs.Change.{Records, Records_nothing, Records_main, Clears, Clears_none, Clears_next, DoesChange, Does_nothing, Does_root, Does_ref, Does_word, Does_new, Does_join, Does_leave}
 
--- a heap, as if so many units had been spent
+-- a heap, as if this many units had been spent
 abbrev pub at_units : ℕ → HeapState → HeapState
 at_units u h = record h { units = u }
 
@@ -65,7 +65,7 @@ change_at u h after g c (Does_new cell id shape k new at r makes takes) = Does_n
 change_at u h after g c (Does_join m) = Does_join m
 change_at u h after g c (Does_leave m k clears) = Does_leave m (at_units u k) (clears_at u h _ _ k clears)
 
--- it stands for the same graph heaps, if its phase has come to so many units
+-- it stands for the same graph heaps, if this many units are within those of its phase
 pub stands_at : (u : ℕ) (h : HeapState) (present snapshot : Graph) → Stands h present snapshot → IsWithin (at_units u h) h.phase → Stands (at_units u h) present snapshot
 stands_at u h present snapshot w within =
     let c = w.consistent in

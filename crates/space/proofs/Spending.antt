@@ -60,7 +60,7 @@ all_spent h after budget spent t none away = elim t.ends [
     by_cost cost (Of_move p m) l = absurd (none (moves.Emptying m.class m.page m.block m.chosen) m.phase)
     by_cost cost (Of_other on other) l = omega (arith, l)
 
--- while a cycle is on, each of its n quanta spent at least d units
+-- while a cycle runs, each of its n quanta spent at least d units
 abbrev pub HaveSpent : ℕ → Course → ℕ → Type 0
 HaveSpent d r n = in_cycle r.heap.phase ≡ true → n * d ≤ r.heap.units
 

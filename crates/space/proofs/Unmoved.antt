@@ -51,7 +51,7 @@ none_moving h blocks (moves.Emptying class page block chosen) placed w e =
     let some = some_leaving h.store.pages page p.0 p.1 p.2 in
     omega (arith, few, none, some)
 
--- a cycle that is on, and moves nothing, is before the end of its sweep
+-- a running cycle that moves nothing is before the end of its sweep
 still_tracing : (q : Phase) → ((m : Moving) → q ≡ phases.Moving m → ⊥) → in_cycle q ≡ true → is_tracing q ≡ true
 still_tracing phases.Idle none on = absurd (cc)
 still_tracing (phases.Roots next) none on = refl

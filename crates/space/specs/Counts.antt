@@ -32,7 +32,7 @@ used_pages pages class = count_by (is_of class) pages
 abbrev pub leaving_pages : List (Option Page) → ℕ
 leaving_pages pages = count_by is_leaving pages
 
--- No class has more pages than so many blocks take, and no more pages are leaving than may be.
+-- No class has more pages than this many blocks take, and no more pages are leaving than may be.
 pub record IsBounded (pages : List (Option Page)) (blocks : ℕ → ℕ) (spare : ℕ) : Type 0 where
   pub used : (class : ℕ) → class < CLASSES → used_pages pages class ≤ class_pages spare class (blocks class)
   pub leaving : leaving_pages pages ≤ spare

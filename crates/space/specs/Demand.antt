@@ -28,7 +28,7 @@ blocks_of objects class = sum_by (λ o. needed o.shape class) objects
 abbrev pub blocks_by : Graph → List ℕ → ℕ → ℕ
 blocks_by g ids class = sum_by (λ id. needed (object_of g.objects id).shape class) ids
 
--- What is live needs at most so many blocks of each class: whatever can be reached is among identities that
+-- What is live needs at most this many blocks of each class: whatever can be reached is among identities that
 -- need no more.
 pub record LiveWithin (g : Graph) (most : ℕ → ℕ) : Type 0 where
   pub ids : List ℕ
@@ -40,6 +40,6 @@ abbrev pub asked_by : Change → ℕ → ℕ
 asked_by (changes.New cell id shape) class = needed shape class
 asked_by _ class = 0
 
--- the blocks of a class for which a command of mutator m asks, where nothing but want of space refuses it
+-- the blocks of a class for which a command of mutator m asks, where nothing but lack of space refuses it
 abbrev pub asked_for : Graph → ℕ → Command → ℕ → ℕ
 asked_for g m c = asked_by (change_by true g m c)

@@ -1,4 +1,4 @@
--- Whether a configuration has pages enough.
+-- Whether a configuration has enough pages.
 use Rattle.std.specs.Prelude.{ℕ, ◌+◌, ◌-◌, ◌*◌, ◌/◌, ◌<◌, ◌≤◌, Bool, ◌==◌, nat_le, if◌then◌else◌, slice_index, Option, Some, None}
 use Rattle.size_classes.specs.declared.class.TheConstants.{CLASSES, PAGE_WORDS}
 use Rattle.size_classes.specs.declared.config.Config.{Config}
@@ -29,14 +29,14 @@ Fits c d = space_for d (spare_in c) ≤ c.pages
 abbrev pub below_in : Config → ℕ
 below_in c = if c.defrag_pages == 0 then 0 else c.defrag_below
 
--- the units that roots, marking and sweeping spend at most, in a heap of a configuration with so many pages: one for
+-- the units that roots, marking and sweeping spend at most, in a heap of a configuration with this many pages: one for
 -- each root cell and each word; for each page as many as one of the smallest class has blocks, and one; as many blocks
 -- once more, and four where phases change
 abbrev pub swept_at : Config → ℕ → ℕ
 swept_at c pages =
     c.mutators * c.slots + c.statics + PAGE_WORDS * pages + (blocks_in 0 + 1) * pages + (blocks_in 0 + 4)
 
--- the units that moving spends at most, in a heap of a configuration with so many pages
+-- the units that moving spends at most, in a heap of a configuration with this many pages
 abbrev pub moving_at : Config → ℕ → ℕ
 moving_at c pages = (c.defrag_pages + CLASSES) * pages + PAGE_WORDS * pages + 1
 
@@ -54,12 +54,12 @@ quanta_at c pages =
 abbrev pub unmoved_quanta_at : Config → ℕ → ℕ
 unmoved_quanta_at c pages = swept_at c pages / (c.collector_ticks * c.rate) + 1
 
--- the pages that a pace takes in a heap that has so many, with those that moving may leave sparse
+-- the pages that a pace takes in a heap that has this many, with those that moving may leave sparse
 abbrev pub moved_pages : Config → Pace → ℕ → ℕ
 moved_pages c p pages = space_for (demand_of p (quanta_at c pages)) (spare_in c)
 
--- the pages that a pace takes in a heap that has so many, with as many that stay free as moving begins below, so that
--- it never begins
+-- the pages that a pace takes in a heap that has this many, with as many free ones as moving begins below, so that it
+-- never begins
 abbrev pub unmoved_pages : Config → Pace → ℕ → ℕ
 unmoved_pages c p pages = space_for (demand_of p (unmoved_quanta_at c pages)) 0 + below_in c
 
@@ -67,7 +67,7 @@ unmoved_pages c p pages = space_for (demand_of p (unmoved_quanta_at c pages)) 0 
 abbrev pub is_unmoved : Config → Pace → ℕ → Bool
 is_unmoved c p pages = nat_le (unmoved_pages c p pages) (moved_pages c p pages)
 
--- the pages that a pace takes in a heap that has so many, the fewer of both
+-- the pages that a pace takes in a heap that has this many: the fewer of the two
 abbrev pub pages_needed : Config → Pace → ℕ → ℕ
 pages_needed c p pages = if is_unmoved c p pages then unmoved_pages c p pages else moved_pages c p pages
 
@@ -75,8 +75,8 @@ pages_needed c p pages = if is_unmoved c p pages then unmoved_pages c p pages el
 abbrev pub quanta_needed : Config → Pace → ℕ → ℕ
 quanta_needed c p pages = if is_unmoved c p pages then unmoved_quanta_at c pages else quanta_at c pages
 
--- A pace fits in so many pages: they are as many as it takes in a heap that has so many. With more pages a
--- cycle takes longer.
+-- A pace fits in this many pages: it takes no more in a heap that has this many. With more pages a cycle takes
+-- longer.
 abbrev pub FitsIn : Config → Pace → ℕ → Type 0
 FitsIn c p pages = pages_needed c p pages ≤ pages
 

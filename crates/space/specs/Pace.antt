@@ -12,14 +12,14 @@ use Rattle.heap_model.specs.Event.{Event, Command_done, Cycle_begun, Cycle_on, Q
 use Rattle.space.specs.Demand.{Demand, LiveWithin, asked_for}
 
 -- Of each size class: how many blocks live objects need at most where a cycle begins; how many are asked for
--- at most while a cycle is on, from its beginning or a quantum up to the next quantum; and how many from the
+-- at most while a cycle runs, from its beginning or a quantum up to the next quantum; and how many from the
 -- end of a cycle until the next begins.
 pub record Pace : Type 0 where
   pub live : ℕ → ℕ
   pub busy : ℕ → ℕ
   pub idle : ℕ → ℕ
 
--- The graph heap to which the events lead; whether a cycle is on; and how many blocks were asked for since
+-- The graph heap to which the events lead; whether a cycle runs; and how many blocks were asked for since
 -- the last beginning, or quantum of a cycle.
 pub record Beat : Type 0 where
   pub graph : Graph
@@ -30,7 +30,7 @@ pub record Beat : Type 0 where
 abbrev pub opening_beat : Limits → Beat
 opening_beat l = record { graph = opening l; on = false; asked = λ class. 0 }
 
--- a cycle is on in this phase
+-- a cycle runs in this phase
 abbrev pub in_cycle : Phase → Bool
 in_cycle phases.Idle = false
 in_cycle (phases.Roots next) = true
@@ -38,7 +38,7 @@ in_cycle (phases.Marking part cell) = true
 in_cycle (phases.Sweeping page block) = true
 in_cycle (phases.Moving m) = true
 
--- where events have come to after one more
+-- the beat after one more event
 abbrev pub next_beat : Beat → Event → Beat
 next_beat b (Command_done m c reply) =
     record b {
@@ -79,7 +79,7 @@ moved_quanta h k = (swept_units h + moving_units h + 255 * (moving_units h / (k 
 abbrev pub unmoved_quanta : HeapState → ℕ → ℕ
 unmoved_quanta h k = swept_units h / k + 1
 
--- the demand to which a pace comes where a cycle takes at most so many quanta: two cycles, and the time
+-- the demand of a pace where a cycle takes at most this many quanta: that of two cycles, and of the time
 -- between them
 abbrev pub demand_of : Pace → ℕ → Demand
 demand_of p quanta = record { live = p.live; allocated = λ class. 2 * (quanta * p.busy class) + p.idle class }

@@ -1,4 +1,4 @@
--- For what a command asks, whatever the heap is; and that no reply is the refusal for want of space.
+-- What a command asks for, whatever the heap is; and that no reply is the refusal for lack of space.
 use Rattle.std.specs.Prelude.{◌≡◌, ℕ, true, if◌then◌else◌, List, [], ◌∷◌}
 use Rattle.graph_heap.specs.declared.command.Command.{Command}
 use Rattle.graph_heap.specs.declared.command.Command.TheVariants as commands
@@ -12,7 +12,7 @@ abbrev pub asks : Command → ℕ → ℕ
 asks (commands.New dst shape) class = if fits shape then needed shape class else 0
 asks _ class = 0
 
--- no reply is the refusal for want of space
+-- no reply is the refusal for lack of space
 abbrev pub HasRoom : Event → Type 0
 HasRoom (Command_done m c reply) = had_room reply ≡ true
 HasRoom Cycle_begun = Unit {0}
@@ -20,7 +20,7 @@ HasRoom Cycle_on = Unit {0}
 HasRoom (Quantum_done budget units phase) = Unit {0}
 HasRoom (Quantum_refused budget) = Unit {0}
 
--- no reply among events is the refusal for want of space
+-- no reply among events is the refusal for lack of space
 abbrev pub AllHaveRoom : List Event → Type 0
 AllHaveRoom [] = Unit {0}
 AllHaveRoom (e ∷ es) = HasRoom e × AllHaveRoom es

@@ -10,7 +10,7 @@ abbrev pub class_sum : (ℕ → ℕ) → ℕ → ℕ
 class_sum number zero = 0
 class_sum number (suc class) = class_sum number class + number class
 
--- The pages that a class takes for so many blocks, and `spare` more that may be left sparse; none where it
+-- The pages that a class takes for this many blocks, and `spare` more that may be left sparse; none where it
 -- has no block.
 abbrev pub class_pages : ℕ → ℕ → ℕ → ℕ
 class_pages spare class blocks = if blocks == 0 then 0 else whole_pages class blocks + spare

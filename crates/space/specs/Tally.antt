@@ -1,4 +1,4 @@
--- What a list of events comes to, by the events alone: no heap is looked at.
+-- What a list of events adds up to, by the events alone: no heap is looked at.
 use Rattle.std.specs.Prelude.{◌≡◌, ℕ, ◌+◌, ◌<◌, ◌≤◌, Bool, true, false, if◌then◌else◌, List, [], ◌∷◌, length, drop}
 use Rattle.graph_heap.specs.declared.command.Limits.{Limits}
 use Rattle.graph_heap.specs.declared.command.Command.{Command}
@@ -23,7 +23,7 @@ pub record Tally : Type 0 where
 abbrev pub opening_tally : Limits → Tally
 opening_tally l = record { graph = opening l; last = 0; base = 0 }
 
--- a cycle is on, and its sweep hasn't ended
+-- a cycle runs, and its sweep hasn't ended
 abbrev pub is_tracing : Phase → Bool
 is_tracing phases.Idle = false
 is_tracing (phases.Roots next) = true
@@ -31,7 +31,7 @@ is_tracing (phases.Marking part cell) = true
 is_tracing (phases.Sweeping page block) = true
 is_tracing (phases.Moving m) = false
 
--- where events have come to after one more
+-- the tally after one more event
 abbrev pub after_event : Tally → Event → Tally
 after_event t (Command_done m c reply) =
     record t { graph = after_entry t.graph (record { mutator = m; command = c; reply = reply }) }
@@ -55,12 +55,12 @@ abbrev pub AllKeepTo : Demand → Tally → List Event → Type 0
 AllKeepTo d t [] = Unit {0}
 AllKeepTo d t (e ∷ es) = KeepsTo d t e × AllKeepTo d (after_event t e) es
 
--- a new object isn't refused for want of space
+-- a new object isn't refused for lack of space
 abbrev pub FindsRoom : Command → Reply → Type 0
 FindsRoom (commands.New dst shape) reply = had_room reply ≡ true
 FindsRoom _ reply = Unit {0}
 
--- an event isn't a new object that is refused for want of space
+-- an event isn't a new object that is refused for lack of space
 abbrev pub NewFindsRoom : Event → Type 0
 NewFindsRoom (Command_done m c reply) = FindsRoom c reply
 NewFindsRoom Cycle_begun = Unit {0}
@@ -68,7 +68,7 @@ NewFindsRoom Cycle_on = Unit {0}
 NewFindsRoom (Quantum_done budget units phase) = Unit {0}
 NewFindsRoom (Quantum_refused budget) = Unit {0}
 
--- no new object is refused for want of space, in all of the events
+-- no new object is refused for lack of space, in all of the events
 abbrev pub EveryNewFindsRoom : List Event → Type 0
 EveryNewFindsRoom [] = Unit {0}
 EveryNewFindsRoom (e ∷ es) = NewFindsRoom e × EveryNewFindsRoom es

@@ -1,4 +1,4 @@
-//! Whether a configuration has pages enough, so that no new object is refused for want of space.
+//! Whether a configuration has enough pages, so that no new object is refused for lack of space.
 ghost use Rattle.std.specs.Prelude.{◌≡◌, ◌≤◌, ◌↔◌, IsTrue};
 ghost use Rattle.space.specs.Fitting.{pace_in, spare_in, below_in, swept_at, moving_at, quanta_at, unmoved_quanta_at};
 ghost use Rattle.space.specs.Fitting.{moved_pages, unmoved_pages, pages_needed, quanta_needed, FitsIn, IsLeast};
@@ -28,7 +28,7 @@ pub fn below(config: &Config) -> u32
     }
 }
 
-/// The units that roots, marking and sweeping spend at most, in a heap of the configuration with so many pages.
+/// The units that roots, marking and sweeping spend at most, in a heap of the configuration with this many pages.
 fn swept(config: &Config, pages: u32) -> u64
     requires { pages ≤ MOST_PAGES }
     ensures swept { result ≡ swept_at config.now pages }
@@ -41,7 +41,7 @@ fn swept(config: &Config, pages: u32) -> u64
     roots + arena + (most + 1) * count + (most + 4)
 }
 
-/// The units that moving spends at most, in a heap of the configuration with so many pages.
+/// The units that moving spends at most, in a heap of the configuration with this many pages.
 fn moving(config: &Config, pages: u32) -> u64
     requires { pages ≤ MOST_PAGES }
     ensures moving { result ≡ moving_at config.now pages }
@@ -53,8 +53,8 @@ fn moving(config: &Config, pages: u32) -> u64
     looks + arena + 1
 }
 
-/// The quanta of the schedule that a cycle takes at most, in a heap of the configuration with so many pages. Those that
-/// end in moving may leave a part of their budgets.
+/// The quanta of the schedule that a cycle takes at most, in a heap of the configuration with this many pages. Those
+/// that end in moving may leave a part of their budgets.
 fn quanta(config: &Config, pages: u32) -> u64
     requires { pages ≤ MOST_PAGES }
     ensures quanta { result ≡ quanta_at config.now pages }
@@ -76,7 +76,7 @@ fn unmoved_quanta(config: &Config, pages: u32) -> u64
     swept(config, pages) / u64::from(config.budget()) + 1
 }
 
-/// What a pace takes in a heap of a configuration with so many pages.
+/// What a pace takes in a heap of a configuration with this many pages.
 #[derive(Clone, Copy, Debug, PartialEq, Eq)]
 pub struct Needs {
     /// The pages.
@@ -113,8 +113,8 @@ impl Needs {
     }
 }
 
-/// What a pace takes in a heap of a configuration with so many pages, the fewer pages of two: with those that moving
-/// may leave sparse, or with as many that stay free as moving begins below. In the second case it never begins, and
+/// What a pace takes in a heap of a configuration with this many pages, in the way that takes fewer: with those that
+/// moving may leave sparse, or with as many free ones as moving begins below. In the second case it never begins, and
 /// fewer quanta suffice for a cycle.
 pub fn pace_needs(config: &Config, pace: &Pace, pages: u32) -> Needs
     requires { pages ≤ MOST_PAGES }
@@ -130,7 +130,7 @@ pub fn pace_needs(config: &Config, pace: &Pace, pages: u32) -> Needs
     }
 }
 
-/// Whether so many pages are as many as a pace takes in a heap that has so many.
+/// Whether a pace takes no more than this many pages in a heap that has this many.
 fn fits_in(config: &Config, pace: &Pace, pages: u32) -> bool
     requires { pages ≤ MOST_PAGES }
     ensures { IsTrue result ↔ FitsIn config.now (pace_in pace.now) pages }

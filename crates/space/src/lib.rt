@@ -1,4 +1,4 @@
-//! The space bound: how many pages make it impossible that a new object is refused for want of space.
+//! The space bound: with how many pages no new object is ever refused for lack of space.
 #![tactic(auto)]
 
 pub mod bound;

@@ -12,7 +12,7 @@ use size_classes::{CLASSES, Class};
 pub const MOST_QUANTA: u64 = 7_000_000_000;
 
 /// Of each size class: how many blocks live objects need at most where a cycle begins; how many are asked for
-/// at most while a cycle is on, from its beginning or a quantum up to the next quantum; and how many from the
+/// at most while a cycle runs, from its beginning or a quantum up to the next quantum; and how many from the
 /// end of a cycle until the next begins.
 #[derive(Clone, Copy, Debug, PartialEq, Eq)]
 pub struct Pace {
@@ -22,7 +22,7 @@ pub struct Pace {
 }
 
 impl Pace {
-    /// How many pages it takes, where a cycle takes at most so many quanta, and so many pages may be left
+    /// How many pages it takes, where a cycle takes at most this many quanta, and this many pages may be left
     /// sparse for each class.
     pub fn pages(&self, quanta: u64, spare: u32) -> u128
         requires { quanta ≤ MOST_QUANTA }

@@ -19,8 +19,8 @@ ghost use Rattle.space.specs.Space.{pages_for};
 ghost use Rattle.space.specs.Counts.{main_blocks, IsBounded};
 ghost use Rattle.space.specs.Placement.{HasBoundedPages, IsTidy, KeepsOnly, KeepsShapes};
 
-/// Pages that are within the bound for so many blocks of each class have room for as many blocks as, with
-/// those that are held, are no more.
+/// Pages that are within the bound for this many blocks of each class have room for more blocks, where these and
+/// those that are held are together no more than that.
 pub fn bounded_pages_have_room()
     ensures { (pages : List (Option Page)) (blocks need : ℕ → ℕ) (spare : ℕ) → ArePages pages
         → IsBounded pages blocks spare → pages_for blocks spare CLASSES ≤ length pages
@@ -29,7 +29,7 @@ pub fn bounded_pages_have_room()
 {}
 
 /// The parts of an object that take their blocks leave pages within the bound, where what is held and what
-/// they need are no more than so many blocks of each class; and so many more blocks are held.
+/// they need are no more than its blocks of each class; and as many more blocks are held.
 pub fn taken_blocks_stay_bounded()
     ensures { (cells : ℕ) (at : ℕ → ℕ) (old : List (Option Page)) (parts : ℕ) (new : List (Option Page))
         (blocks : ℕ → ℕ) (spare : ℕ) → ArePages old → IsBounded old blocks spare
@@ -56,8 +56,8 @@ pub fn actions_stay_tidy()
 {}
 
 /// A command's change leaves blocks where they should stand, no identity comes back that was gone, and the
-/// pages stay within their bound, where what is held and what is asked for are no more than so many blocks of
-/// each class.
+/// pages stay within their bound, where what is held and what is asked for are no more than its blocks of each
+/// class.
 pub fn changes_stay_tidy()
     ensures tidy { (h after : HeapState) (g : Graph) (c : Change) → h.next ≡ length g.objects + 1
         → DoesChange h g c after → IsTidy h.store g.objects → IsTidy after.store (changed g c).objects }

@@ -40,8 +40,8 @@ pub fn sweep_next(heap: &mut RawHeap, page: u32, block: u32, room: u32) -> u32
     close_pages(heap, page, block, room)
 }
 
-/// Closes a page, all of whose blocks were looked at, and the free pages right after it for which there is
-/// room. Answers how many.
+/// Closes a page whose blocks are all swept, and the free pages right after it for which there is room.
+/// Answers how many.
 fn close_pages(heap: &mut RawHeap, page: u32, block: u32, room: u32) -> u32
     requires heap { IsRawHeap heap.old }
     requires phase { heap.old.phase ≡ phases.Sweeping page block }
@@ -77,7 +77,7 @@ fn free_until(nodes: &Nodes, from: usize, end: usize) -> usize
     page
 }
 
-/// Looks at so many blocks of a page, from the next one on.
+/// Looks at `count` blocks of a page, from the next one on.
 fn sweep_blocks(heap: &mut RawHeap, page: u32, block: u32, count: u32)
     requires heap { IsRawHeap heap.old }
     requires phase { heap.old.phase ≡ phases.Sweeping page block }
@@ -95,7 +95,7 @@ fn sweep_blocks(heap: &mut RawHeap, page: u32, block: u32, count: u32)
 }
 
 /// The phase after a sweep: moving begins where pages may be emptied, and fewer are free than the
-/// configuration wants.
+/// configuration asks for.
 fn after_sweep(heap: &RawHeap) -> Phase
     ensures { result ≡ actions.after_sweep (state_of heap.now) }
 {

@@ -131,7 +131,7 @@ pub record Exact {A : Type 0} (read : List ℕ → Option A) (text : A → List 
   pub found : (bytes : List ℕ) (x : A) → read bytes ≡ Some x → (bytes ≡ text x) × Fits x
   pub only : (x : A) → Fits x → read (text x) ≡ Some x
 
--- numbers of so many bits are numbers of 64
+-- numbers of this many bits are numbers of 64
 abbrev pub Narrow : ℕ → Type 0
 Narrow bits = (n : ℕ) → n < 2 ^ bits → n < 2 ^ 64
 

@@ -34,7 +34,7 @@ pub none_found : (bytes : List ℕ) (o : Option ℕ) → IsFirstByte (is_byte 10
 none_found bytes None first h = none_in (take 257 bytes) first
 none_found bytes (Some i) first h = absurd (cc h)
 
--- so many bytes as are searched are the first 257
+-- the bytes that are searched are the first 257
 pub front_is : (bytes : List ℕ) (n : ℕ) → n ≡ min (length bytes) 257 → take n bytes ≡ take 257 bytes
 front_is bytes n e =
     let same : n ≡ min 257 (length bytes) = omega (arith, e) in

@@ -1,4 +1,4 @@
--- Going over lines: what is done so far, and how it goes on and ends.
+-- Going through lines: what is done so far, and how it goes on and ends.
 use Rattle.std.proofs.Common.{Bool, true, false, ◌≡◌, ℕ, ◌+◌, ◌≤◌, inl, inr, List, [], ◌∷◌, ◌++◌, length, arith, length-append, append_assoc, append-nil, ap, ◌∙◌, sym, subst, refl}
 use Rattle.std.specs.Prelude.{IsTrue, Ok, Err, Option, Some, None}
 use Rattle.trace.specs.declared.fault.TextFault.{TextFault}
@@ -45,7 +45,7 @@ line_more given after kept kept' line ended lines r comes is small = record {
   small = omega (arith, small, length-append line (10 ∷ kept'));
 }
 
--- where going over lines came to
+-- the place reached in going through lines
 abbrev pub reached_by : {S E : Type 0} {Moves : Text → S → List E → S → Type 0} {given : Given} {old : S} {End : Reached S E → Type 0} → GoneOver Moves given old End → Reached S E
 reached_by over = record { lines = over.lines; version = over.version; events = over.events; state = over.mid; rest = over.rest }
 
@@ -98,7 +98,7 @@ module _ {S E : Type 0} {Moves : Text → S → List E → S → Type 0} {given 
   abbrev call : List ℕ → Bool → Given
   call after ended = record { before = given.after; after = after; ended = ended }
 
-  -- where the lines so far came to, with a rest
+  -- the place reached by the lines so far, with a rest
   abbrev reached : List ℕ → Reached S E
   reached rest = record { lines = so.lines; version = reader.next; events = so.events; state = mid; rest = rest }
 
@@ -148,7 +148,7 @@ module _ {S E : Type 0} {Moves : Text → S → List E → S → Type 0} {given 
             let rest = next.text.bytes ++ 10 ∷ next.kept in
             ends_after after rest ended End e.text e.small (so_it_ends count rest (next.text.bytes, next.kept, refl, e.says, subst P (same ∙ is_next) this))
 
-        -- the next line comes to a fault
+        -- the next line leads to a fault
         abbrev pub ends_at : (A : Type 0) (Stops : TextFault → Text → S → S → Type 0) (fault : TextFault) (new : S) → Stops fault text mid new
             → GoneOver Moves (later given after ended) old (λ r. Ends Stops {A = A} r ended new (Err fault))
         ends_at A Stops fault new stops =

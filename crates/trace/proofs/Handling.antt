@@ -55,7 +55,7 @@ module _ {H S E : Type 0} (Handles : Text → H → H → Result (Unit {0}) Text
       done_all f given new o.mid end o.lines o.version o.events o.rest o.read o.done o.ends.0 o.ends.1 o.ends.2 h.tells.0 h.tells.1
 
   module _ (Stops : TextFault → Text → S → S → Type 0) (A : Type 0) (given : Given) (new : H) where
-    -- the input is gone over
+    -- all of the input is done
     abbrev pub over_all : {end : InputEnd} (all : A) → AllMoved given new end → GoneOver Moves given (state first) (λ reached. Ends Stops reached given.ended (state new) (Ok all))
     over_all {end = end} all a = record { lines = a.lines; version = end.version; events = a.events; mid = state new; rest = a.rest; read = a.read; done = a.done; ends = (a.none, a.ended, refl) }
 
@@ -69,7 +69,7 @@ module _ {H S E : Type 0} (Handles : Text → H → H → Result (Unit {0}) Text
       stopped lines version told events mid rest done knows (inl none) = inl (none.0, ap state none.1)
       stopped lines version told events mid rest done knows (inr there) = inr (there.0, there.1, there.2, there.3, stops lines version events mid done knows there.0 there.4)
 
-      -- the input is gone over up to the fault
+      -- the input is done up to the fault
       pub over_stopped : Follows → LinesHandled Handles given first new (Err fault) → GoneOver Moves given (state first) (λ reached. Ends Stops {A = A} reached given.ended (state new) (Err fault))
       over_stopped f h =
           let o = h.over in

@@ -1,4 +1,4 @@
--- The number of which bytes are the spelling.
+-- The number that bytes spell.
 use Rattle.std.proofs.Common.{◌≡◌, ℕ, ◌^◌, ◌<◌, Bool, true, false, ◌&&◌, cond, List, Some, None, nat_lt, Option, ap, ◌∙◌, sym, refl, subst}
 use Rattle.std.specs.Prelude.{decimal}
 use Rattle.std.specs.Str.{bytes_eq}

@@ -1,4 +1,4 @@
--- What it is to go over the lines of an input, one after the other, of which the first may tell their version.
+-- What it is to go through the lines of an input, one after the other, where the first may tell their version.
 use Rattle.std.specs.Prelude.{◌≡◌, ℕ, ◌+◌, ◌<◌, ◌≤◌, Bool, IsTrue, ◌⊎◌, List, [], ◌∷◌, ◌++◌, length, take, Result, Ok, Err}
 use Rattle.trace.specs.declared.fault.LineFault.TheVariants.{TooLong, NotEnded}
 use Rattle.trace.specs.declared.fault.TextFault.{TextFault}
@@ -15,7 +15,7 @@ pub record LinesRead (given : Given) (lines : List (List ℕ)) (rest : List ℕ)
   pub splits : Splits text lines rest
   pub small : length rest ≤ 65536
 
--- After so many lines the rest has no further line, for this fault.
+-- After this many lines the rest has no further line, because of this fault.
 abbrev pub NoLine : TextFault → ℕ → List ℕ → Bool → Type 0
 -- 256 bytes came, and the next byte is there and is no LF
 NoLine (At_line k TooLong) count rest ended = (k ≡ count + 1) × (256 < length rest) × NoLf (take 257 rest)
@@ -27,12 +27,12 @@ NoLine Read count rest ended = IsLine rest
 NoLine Write count rest ended = ⊥
 NoLine NoMemory count rest ended = ⊥
 
--- The rest begins with a line, of which this holds.
+-- The rest begins with a line for which this holds.
 abbrev pub NextLine : (List ℕ → Type 0) → List ℕ → Type 0
 NextLine Is rest = (line : List ℕ) × (more : List ℕ) × (rest ≡ line ++ 10 ∷ more) × IsLine line × Is line
 
--- Where going over lines came to: these lines are done, with these events, and lead to a state. The next line would be
--- of this version, and the rest isn't done.
+-- The place that is reached among lines: these are done, with these events, and lead to a state. The next line would
+-- be of this version, and the rest isn't done.
 pub record Reached (S E : Type 0) : Type 0 where
   pub lines : List (List ℕ)
   pub version : Version
@@ -40,7 +40,7 @@ pub record Reached (S E : Type 0) : Type 0 where
   pub state : S
   pub rest : List ℕ
 
--- the next line there, of which this holds
+-- the next line there is one for which this holds
 abbrev pub NextThere : {S E : Type 0} → Reached S E → (Text → Type 0) → Type 0
 NextThere reached Is = NextLine (λ line. Is (text_after reached.lines reached.version line)) reached.rest
 
@@ -64,7 +64,7 @@ module _ {S E : Type 0} (Moves : Text → S → List E → S → Type 0) where
         → LinesDone old (lines ++ line ∷ []) next (events ++ more) new
 
   -- What was done of an input: the bytes that it gave are these lines and a rest, and the lines did these
-  -- events. Ends says how it came to where it is.
+  -- events. Ends says why it ended there.
   pub record GoneOver (given : Given) (old : S) (Ends : Reached S E → Type 0) : Type 0 where
     pub lines : List (List ℕ)
     pub version : Version
@@ -77,11 +77,11 @@ module _ {S E : Type 0} (Moves : Text → S → List E → S → Type 0) where
 
 -- Stops fault text old new: at the line, a fault comes, and leaves this state.
 module _ {S E : Type 0} (Stops : TextFault → Text → S → S → Type 0) where
-  -- How going over lines ends, with this state.
+  -- How going through lines ends, with this state.
   abbrev pub Ends : {A : Type 0} → Reached S E → Bool → S → Result A TextFault → Type 0
   -- all lines of the input are done
   Ends reached ended new (Ok all) = (reached.rest ≡ []) × IsTrue ended × (new ≡ reached.state)
-  -- there is no next line, or the next line comes to the fault
+  -- there is no next line, or the next line leads to the fault
   Ends reached ended new (Err fault) =
       (NoLine fault (length reached.lines) reached.rest ended × (new ≡ reached.state))
       ⊎ NextThere reached (λ text. Stops fault text reached.state new)

@@ -58,7 +58,7 @@ pub record EntriesChecked (given : Given) (old new : Graph) (result : Result Che
   pub legal : IsLegal old over.events
   pub leads : over.mid ≡ after old over.events
 
--- What came of one line.
+-- The outcome of one line.
 abbrev pub LineChecked : Text → Graph → Graph → Result Outcome TextFault → Type 0
 LineChecked text old new (Ok outcomes.Skipped) = Goes DoesNothing DoesEntry text old [] new
 LineChecked text old new (Ok outcomes.Done) = (e : Entry) × Goes DoesNothing DoesEntry text old (e ∷ []) new

@@ -1,4 +1,4 @@
--- What comes of reading a line of a trace.
+-- The outcome of reading a line of a trace.
 use Rattle.std.specs.Prelude.{◌≡◌, Option, Some, None, Result, Ok, Err}
 use Rattle.trace.specs.declared.fault.LineFault.TheVariants.{NotAnEvent}
 use Rattle.trace.specs.declared.fault.TextFault.{TextFault}

@@ -2,7 +2,7 @@
 use Rattle.std.specs.Prelude.{◌≡◌, ℕ, ◌^◌, ◌<◌, ◌≤◌, List, length, take, get_or, decimal}
 use Rattle.std.specs.Str.Parse.{AllDigits, digits_value}
 
--- The first bytes, so many, are digits, and this is the number that they write.
+-- The first `count` bytes are digits, and this is the number that they write.
 pub record Row (bytes : List ℕ) (n count : ℕ) : Type 0 where
   pub within : count ≤ length bytes
   pub digits : AllDigits 10 (take count bytes)
@@ -12,7 +12,7 @@ pub record Row (bytes : List ℕ) (n count : ℕ) : Type 0 where
 abbrev pub NoDigitAt : List ℕ → ℕ → Type 0
 NoDigitAt bytes i = i < length bytes → 48 ≤ get_or bytes i 0 → get_or bytes i 0 ≤ 57 → ⊥
 
--- The first bytes, so many, are the spelling of a number below 2 ^ 64.
+-- The first `count` bytes are the spelling of a number below 2 ^ 64.
 pub record Fronts (bytes : List ℕ) (n count : ℕ) : Type 0 where
   pub fits : n < 2 ^ 64
   pub within : count ≤ length bytes

@@ -30,7 +30,7 @@ abbrev pub ◌>>=◌ : {A B : Type 0} → Option A → (A → Option B) → Opti
 None >>= f = None
 (Some x) >>= f = f x
 
--- the number below 2 ^ bits of which the bytes are the spelling
+-- the number below 2 ^ bits that the bytes spell
 unfoldable pub number_in : ℕ → List ℕ → Option ℕ
 number_in bits bytes = if nat_lt (digits_value 10 bytes) (2 ^ bits) && bytes_eq bytes (decimal (digits_value 10 bytes))
     then Some (digits_value 10 bytes) else None
@@ -48,11 +48,11 @@ field_in bits bytes = do
   n ← number_in bits c.0
   Some (n, c.1)
 
--- a number of so many bits, a blank, and after it what another reader gives
+-- a number of this many bits, a blank, and after it what another reader gives
 abbrev pub number_then : {A : Type 0} → ℕ → (List ℕ → Option A) → List ℕ → Option (ℕ × A)
 number_then bits read bytes = field_in bits bytes >>= λ a. read a.1 >>= λ b. Some (a.0, b)
 
--- numbers of so many bits each, parted by blanks
+-- numbers of a, b and c bits, separated by blanks
 unfoldable pub two_in : ℕ → ℕ → List ℕ → Option (ℕ × ℕ)
 two_in a b = number_then a (number_in b)
 
@@ -70,7 +70,7 @@ after_in word bytes = if bytes_eq (take (length word) bytes) word then Some (dro
 abbrev pub comparing : List Keyword
 comparing = keywords.CompareStore ∷ keywords.ComparePut ∷ keywords.CompareStatic ∷ []
 
--- the kinds whose words begin with these two bytes; of bytes with which no word begins they are some kinds
+-- the kinds whose words begin with these two bytes; for bytes with which no word begins, some of the kinds
 unfoldable pub keywords_by : ℕ → ℕ → List Keyword
 keywords_by first second =
     if first == 110 then keywords.New ∷ [] else

@@ -15,7 +15,7 @@ use Rattle.trace.specs.Spelling.{Spells, is_skipped}
 use Rattle.trace.specs.Streams.{Given}
 use Rattle.trace.specs.TextLine.{Text, IsVersionLine}
 
--- A line of scripts is skipped, or is a command of one of so many mutators.
+-- A line of scripts is skipped, or is a command of one of this many mutators.
 abbrev pub IsOfScripts : ℕ → Line → Type 0
 IsOfScripts mutators lines.Skip = Unit {0}
 IsOfScripts mutators (lines.Command m c) = m < mutators
@@ -53,7 +53,7 @@ ScriptLineIs mutators version faults.NoSuchMutator text = (m : ℕ) × (c : Comm
     × Spells version text (lines.Command m c) × (mutators ≤ m)
 ScriptLineIs mutators version fault text = ⊥
 
--- a line that spells a command of one of so many mutators
+-- a line that spells a command of one of this many mutators
 abbrev pub IsCommand : ℕ → Version → List ℕ → Type 0
 IsCommand mutators version text = (m : ℕ) × (c : Command) × Spells version text (lines.Command m c) × (m < mutators)
 
@@ -64,11 +64,11 @@ ScriptStops mutators (At_line k fault) text old new = (k ≡ text.number)
 ScriptStops mutators NoMemory text old new = IsCommand mutators text.version text.bytes
 ScriptStops mutators fault text old new = ⊥
 
--- what is answered of scripts: their version, and the commands of each mutator
+-- what is read of scripts: their version, and the commands of each mutator
 abbrev pub ReadScripts : Type 0
 ReadScripts = Version × Vec (Vec Command Global) Global
 
--- Scripts of so many mutators, as the lines of an input are.
+-- Scripts of this many mutators, as the lines of an input are.
 pub record AreScripts (given : Given) (mutators : ℕ) (result : Result ReadScripts TextFault) : Type 0 where
   pub over : GoneOver (Goes AsksNothing (DoesScript mutators)) given tt
       (λ reached. Ends (ScriptStops mutators) reached given.ended tt result)
@@ -93,7 +93,7 @@ abbrev pub with_line : List (List Command) → Line → List (List Command)
 with_line scripts (lines.Command m c) = one_more scripts m c
 with_line scripts line = scripts
 
--- What came of one line: it tells the version of those after it, or asks for something.
+-- The outcome of one line: it tells the version of those after it, or asks for something.
 abbrev pub LineAdded : Text → Vec (Vec Command Global) Global → Vec (Vec Command Global) Global
     → Result (Unit {0}) TextFault → Type 0
 LineAdded text old new (Ok done) =

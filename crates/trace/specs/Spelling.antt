@@ -29,7 +29,7 @@ version_line = codes "version 2"
 abbrev pub TellsVersion : ℕ → List ℕ → Type 0
 TellsVersion number line = (number ≡ 1) × (line ≡ version_line)
 
--- numbers in decimal, without leading zeros, each parted from the next by one blank (byte 32)
+-- numbers in decimal, without leading zeros, each separated from the next by one blank (byte 32)
 abbrev pub two : ℕ → ℕ → List ℕ
 two a b = decimal a ++ 32 ∷ decimal b
 

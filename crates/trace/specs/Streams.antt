@@ -41,11 +41,11 @@ pub record Begins (given : List ℕ) (ended : Bool) (all : List ℕ) : Type 0 wh
 abbrev pub GrowsByPart : List ℕ → List ℕ → List ℕ → Type 0
 GrowsByPart old new bytes = (n : ℕ) × (n < length bytes) × (new ≡ old ++ take n bytes)
 
--- a line: at most 256 bytes, none of which is LF (byte 10)
+-- none of the bytes is LF (byte 10)
 abbrev pub NoLf : List ℕ → Type 0
 NoLf bytes = All (λ b. b ≢ 10) bytes
 
--- a line has at most 256 bytes, none of which is LF
+-- a line: at most 256 bytes, none of which is LF
 abbrev pub IsLine : List ℕ → Type 0
 IsLine line = NoLf line × (length line ≤ 256)
 

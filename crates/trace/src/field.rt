@@ -1,4 +1,4 @@
-//! Numbers in decimal, parted by blanks.
+//! Numbers in decimal, separated by blanks.
 ghost use Rattle.std.specs.Prelude.{◌≡◌, ℕ, ◌<◌, ◌≤◌, ◌^◌, ◌==◌, List, ◌++◌, Some, IfSome, decimal, length, option_map, position};
 ghost use Rattle.trace.specs.Numbers.{Row, NoDigitAt, Fronts};
 ghost use Rattle.trace.specs.Reading.{number_in, cut_at, after_in, field_in, two_in, three_in, four_in};
@@ -26,7 +26,7 @@ fn front_digits(bytes: &[u8]) -> (u64, usize)
     (n, at)
 }
 
-/// The number at the front, of which 19 digits are read.
+/// The number at the front, where its first 19 digits are read.
 #[inline(always)]
 fn long_number(bytes: &[u8], n: u64) -> Option<(u64, usize)>
     requires { Row bytes.now n 19 }

@@ -25,7 +25,7 @@ pub enum Line {
     Begin,
     /// One quantum of this budget, in units.
     Quantum(u32),
-    /// So many ticks pass.
+    /// This many ticks pass.
     Tick(u64),
 }
 

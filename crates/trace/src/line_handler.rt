@@ -1,4 +1,4 @@
-//! Going over the lines of an input.
+//! Going through the lines of an input.
 ghost use Rattle.std.specs.Prelude.{◌≡◌, ℕ, ◌+◌, Result, OnOk};
 ghost use Rattle.trace.specs.declared.fault.TextFault.{TextFault};
 ghost use Rattle.trace.specs.GoneOver.{reads_failed};
@@ -17,7 +17,7 @@ pub trait LineHandler {
     /// What holds of it before the line of a number, from 1.
     ghost is_ready: { ℕ → Self → Type 0 };
 
-    /// What comes of a line: the handler before and after it, and the outcome.
+    /// What a line does: the handler before and after it, and the outcome.
     ghost handles: { Text → Self → Self → Result (Unit {0}) TextFault → Type 0 };
 
     /// Does a line, and reads nothing.
@@ -37,7 +37,7 @@ pub struct InputEnd {
     pub version: Version,
 }
 
-/// Hands a handler the lines of a source, of which the first may tell their version, one after the other, to the
+/// Hands a handler the lines of a source, where the first may tell their version, one after the other, to the
 /// source's end or the first fault.
 pub fn each_line<S: Source, H: LineHandler>(
     source: &mut S,

@@ -200,8 +200,8 @@ impl LineReader {
         TextFault::Line(self.number + 1, fault)
     }
 
-    /// Hands out the next line. Ok(false) is the end of the input. An error takes no line: what came of
-    /// one is kept.
+    /// Hands out the next line. Ok(false) is the end of the input. An error takes no line: what has come
+    /// of one is kept.
     pub fn next_line<S: Source>(&mut self, source: &mut S) -> Result<bool, TextFault>
         // The source has given the bytes that are kept, and at least one for each line.
         requires { self.old.text.number + length self.old.kept ≤ length (S.given source.old) }

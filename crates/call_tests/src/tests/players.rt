@@ -1,5 +1,5 @@
-//! A tick that is refused memory and goes on, replies of a front of a trace, texts of faults, of which the program has its
-//! own, and a write of no bytes.
+//! A tick that is refused memory and goes on, replies of a front of a trace, texts of faults, for which the program has
+//! its own, and a write of no bytes.
 use super::*;
 use graph_heap::NoMemory;
 use player::{Player, Style, TickFault, play, play_first};
@@ -48,7 +48,7 @@ fn ticks_end_where_memory_is_refused(rt: HostRuntime) -> Result<(), Fail> {
     Ok(())
 }
 
-/// The replies of what is read at once are one write, also behind the last event that is asked for.
+/// The replies of what is read at once are one write, also after the last event that is asked for.
 #[test]
 fn replies_up_to_an_event_are_written(rt: HostRuntime) -> Result<(), Fail> {
     let trace = "0 new 0 plain 0 1\n0 put 0 0 7\n0 get 0 0\n";

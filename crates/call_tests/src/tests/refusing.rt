@@ -7,7 +7,7 @@ use std::alloc::{AllocError, AllocGlobal};
 use std::fmt::Display;
 use std::test::Fail;
 
-/// The heap is in this phase, has spent so many units, and slot 0 holds its one object.
+/// The heap is in this phase, has spent this many units, and slot 0 holds its one object.
 fn unchanged(rt: &impl Abort, heap: &mut Heap, phase: Phase, units: u64) {
     let described = Reply::Described(1, Shape::Plain { refs: 0, words: 1 });
     assert_eq!(rt; heap.phase(), phase);
@@ -15,7 +15,7 @@ fn unchanged(rt: &impl Abort, heap: &mut Heap, phase: Phase, units: u64) {
     assert_eq!(rt; heap.step(0, Command::Describe { a: 0 }), described);
 }
 
-/// Budgets that are out of range are refused, and so is a beginning while a cycle is on.
+/// Budgets that are out of range are refused, and so is a beginning while a cycle is running.
 fn refuses(rt: &impl Abort, heap: &mut Heap, phase: Phase, units: u64) {
     unchanged(rt, heap, phase, units);
     for budget in [0, 255, 1_000_001, u32::MAX] {
@@ -32,8 +32,8 @@ fn refuses(rt: &impl Abort, heap: &mut Heap, phase: Phase, units: u64) {
     }
 }
 
-/// Spends budgets: of each so many units, and afterwards the heap is in this phase, has spent so many units in all, and
-/// refuses as before.
+/// Spends budgets: of each this many units, and afterwards the heap is in this phase, has spent this many units in all,
+/// and refuses as before.
 fn spends(rt: &impl Abort, heap: &mut Heap, rows: &[(u32, u32, Phase, u64)]) {
     for (budget, units, phase, all) in rows {
         let spent = Spent {

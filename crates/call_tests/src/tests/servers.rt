@@ -120,8 +120,8 @@ fn new(dst: u32, shape: Shape) -> Command {
     Command::New { dst, shape }
 }
 
-/// So many large objects are made, in the slots from 0 on, and commands follow with these replies; then a cycle,
-/// and more commands.
+/// Large objects are made, in the slots from 0 on, and commands follow with these replies; then a cycle, and more
+/// commands.
 #[derive(Clone, Copy)]
 struct Row<'a> {
     objects: u32,
@@ -145,7 +145,7 @@ fn call_all<N: Naming, R: Wait + Abort>(
     Ok(())
 }
 
-/// A whole cycle, between quanta in idle, which spend nothing. While it is on none begins, and a budget that no
+/// A whole cycle, between quanta in idle, which spend nothing. While it runs none begins, and a budget that no
 /// quantum may have changes nothing.
 fn collect<N: Naming, R: Wait + Abort>(
     rt: &R,

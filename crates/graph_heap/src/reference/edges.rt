@@ -15,7 +15,7 @@ impl Reference {
         &self.limits
     }
 
-    /// The roots, of which each holds an identity, or 0 for null: the slots of mutator 0, of mutator 1 and so on, and
+    /// The roots, each of which holds an identity, or 0 for null: the slots of mutator 0, of mutator 1 and so on, and
     /// then the statics.
     pub fn roots(&self) -> &[u64]
         ensures { result.now ≡ self.now.roots }
@@ -23,7 +23,7 @@ impl Reference {
         self.roots.as_slice()
     }
 
-    /// The reference cells of an object, of which each holds an identity, or 0 for null. Null, and an identity that
+    /// The reference cells of an object, each of which holds an identity, or 0 for null. Null, and an identity that
     /// isn't given yet, has none.
     pub fn refs(&self, id: u64) -> &[u64]
         ensures { result.now ≡ (graph.object_of self.now.objects id).refs }

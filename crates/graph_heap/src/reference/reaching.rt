@@ -31,7 +31,7 @@ impl Model for Found {
 }
 
 impl Found {
-    /// None yet, of so many objects.
+    /// None yet, of this many objects.
     fn none(alloc: Global, objects: usize) -> Result<Found, NoMemory>
         ensures { IfOk result (λ f. f ≡ record { ids = []; objects = objects }) }
     {
@@ -67,7 +67,7 @@ impl Found {
         Ok(())
     }
 
-    /// The one that was found at a place, from 0, if so many were.
+    /// The one that was found at a place, from 0, if there are that many.
     fn at(&self, place: usize) -> Option<u64>
         ensures found { IfSome result (λ id. (place < length self.now.ids) × (id ≡ slice_index self.now.ids place)
             × IsAmong self.now.objects id) }
@@ -124,7 +124,7 @@ impl Reference {
         }
     }
 
-    /// The shape of the object for which a command of a mutator asks, where nothing but want of space refuses
+    /// The shape of the object for which a command of a mutator asks, where nothing but lack of space refuses
     /// it.
     pub fn asked_for(&self, mutator: u32, command: &Command) -> Option<Shape>
         ensures { result ≡ new_shape (settled (effect_of true self.now mutator command.now)).1 }

@@ -29,7 +29,7 @@ pub fn static_of(limits: &Limits, k: u32) -> Result<usize, Refusal>
     }
 }
 
-/// Writes null to so many roots, from one on.
+/// Writes null to `count` roots, from one on.
 pub fn null_cells(cells: &mut [u64], first: usize, count: usize)
     requires { first + count < 2 ^ 64 }
     ensures { cells.new ≡ nulled cells.old first count }

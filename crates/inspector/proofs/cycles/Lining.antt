@@ -39,7 +39,7 @@ command_logs number p q line es m c log (Goes_on d) e steps is = absurd (cc)
 command_logs number p q line es m c log (Spends budget units phase course d) e steps is = absurd (cc)
 command_logs number p q line es m c log (Ticks n fs r small w none) e steps is = absurd (cc)
 
--- a beginning, where no cycle is on, and where one is
+-- a beginning, where no cycle is running, and where one is
 pub begin_logs : (number : ℕ) (p q : PlayerState) (line : Line) (es : List Event) (old new : Log) (does : DoesLine p line es q) → line ≡ lines.Begin → p.course.heap.phase ≡ phases.Idle
     → ((steps : List Step) (s : Step) → IsLog steps s.before old → begins s ≡ true → s.line ≡ number → s.before ≡ p.course → IsLog (steps ++ s ∷ []) s.after new) → (steps : List Step) → IsLog steps p.course old → IsLog (steps ++ steps_of number p line es q does) q.course new
 begin_logs number p q line es old new Skips e idle logs steps is = absurd (cc)
@@ -126,7 +126,7 @@ ticks_log number n until first mid new es line logged is small clock none does e
       λ steps i. subst (λ (log : Log). IsLog (steps ++ steps_due number (first.player.timetable.clock + n) first.player l.0 mid.player l.1) mid.player.course log) (sym same) (l.2 steps i),
     )
 
--- a cycle is on in a phase
+-- a cycle is running in a phase
 pub is_on : (f : Phase) → in_cycle f ≡ true → f ≢ phases.Idle
 is_on f on e = let z : true ≡ false = sym on ∙ ap in_cycle e in cc
 

@@ -64,7 +64,7 @@ module _ (steps : List Step) (s : Step) (old : Base) (base : IsBase steps old) w
       }
 
 module _ (earlier : List Step) (first : Step) (later : List Step) (s : Step) (old : Open) (is : IsOpen earlier first later old) where
-  -- the sweep and the end are told with the step
+  -- the sweep and the end are reported with the step
   pub open_more : (new : Open) → new.line ≡ old.line → new.base ≡ old.base → new.place ≡ old.place → new.free ≡ old.free → new.quanta ≡ min (old.quanta + cond (works s) 1 0) (2 ^ 64 - 1) → new.longest ≡ max old.longest (units_by s)
       → SweptBy earlier first (later ++ s ∷ []) new.sweep → IsEnd first (later ++ s ∷ []) new.end → IsOpen earlier first (later ++ s ∷ []) new
   open_more new line base place free quanta longest sweep end = record {

@@ -105,7 +105,7 @@ pub held_more : (n : ℕ) (b : Bool) → min (counted n + cond b 1 0) (2 ^ 64 - 
 held_more n true = omega arith
 held_more n false = omega arith
 
--- how a sweep is told after one step more, by whether it was told before
+-- how a sweep is reported after one step more, by whether it was reported before
 module _ (earlier : List Step) (first : Step) (later : List Step) (s : Step) where
   pub swept_some : (o : Option Sweep) → is_some o ≡ true → SweptBy earlier first later o → SweptBy earlier first (later ++ s ∷ []) o
   swept_some None e is = absurd (cc)
@@ -120,7 +120,7 @@ module _ (earlier : List Step) (first : Step) (later : List Step) (s : Step) whe
   swept_now None e ends none sweep is = (later, s, [], refl, none, ends, is)
   swept_now (Some other) e ends none sweep is = absurd (cc)
 
--- how an end is told after one step more, by whether it was told before
+-- how an end is reported after one step more, by whether it was reported before
 module _ (first : Step) (later : List Step) (s : Step) where
   pub end_some : (o : Option End) → is_some o ≡ true → IsEnd first later o → IsEnd first (later ++ s ∷ []) o
   end_some None e is = absurd (cc)

@@ -40,7 +40,7 @@ line_logged text line old new (Err Without_memory) read e = tt
 pub version_logged : (text : Text) (w : Watch) → LineRead text (Ok None) → TextLogged text w w (Ok tt)
 version_logged text w read = ([], inl (read, refl, (refl, refl)), logs_none w)
 
--- a watch of a new player, of which nothing is logged yet
+-- a watch of a new player, with nothing logged yet
 module _ (first : Watch) (none : IsLog [] first.player.course first.log) where
   -- the steps of the lines are logged
   abbrev Known : (lines : List (List ℕ)) (version : Version) (events : List Event) (now : Watch) → LinesDone (PlaysLine Nothing) (stage first.player []) lines version events (stage now.player []) → Type 0

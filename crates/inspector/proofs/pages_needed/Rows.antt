@@ -11,7 +11,7 @@ use Rattle.inspector.specs.ClassLines.{class_lines}
 use Rattle.inspector.specs.NeededReport.{blocks_line, form_lines, fewest_pages, fewest_for, fewest_line, pages_line, needed_report}
 use Rattle.inspector.proofs.TextLines.{four_lines}
 
--- the numbers of what was needed, and the four parts that are told of them
+-- the numbers of what was needed, and the four parts that report them
 pub whole_report : (n : Needed) (k : Config) (still moved budgeted moving pages own : ℕ) → still ≡ still_pages n → moved ≡ moved_pages k n → budgeted ≡ budget_pages (budget_in n) → moving ≡ min n.gathered budgeted → pages ≡ fewest_pages still moved moving → own ≡ needed_pages k n
     → (start forms fewest last : List ℕ) → start ≡ class_lines (blocks_line n) CLASSES → forms ≡ form_lines still moved budgeted n → fewest ≡ fewest_line still moved pages → last ≡ pages_line By_demand own k.pages
     → start ++ (forms ++ (fewest ++ (last ++ []))) ≡ needed_report k n

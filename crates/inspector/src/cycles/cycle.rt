@@ -1,7 +1,6 @@
-//! What is told of a cycle.
+//! What is reported of a cycle.
 
-/// What the sweep of a cycle did, of which the figures are of the heap after the quantum in which it ended, or of the
-/// history up to there.
+/// What the sweep of a cycle did, by the heap after the quantum in which it ended, or by the history up to there.
 #[derive(Clone, Copy, Debug, PartialEq, Eq)]
 pub struct Sweep {
     /// How many objects were freed.
@@ -23,7 +22,7 @@ pub struct Sweep {
 pub struct Cycle {
     /// The number of the line that began it, from 1.
     pub line: u64,
-    /// How many quanta found it on.
+    /// How many quanta found it running.
     pub quanta: u64,
     /// How many units they spent.
     pub units: u64,

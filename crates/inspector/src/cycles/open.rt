@@ -26,7 +26,7 @@ pub struct Base {
     pub place: usize,
 }
 
-/// What is told of a cycle's end.
+/// What is reported of a cycle's end.
 #[derive(Clone, Copy, Debug, PartialEq, Eq)]
 pub struct End {
     /// The units of the cycle.
@@ -98,7 +98,7 @@ impl Base {
 }
 
 impl End {
-    /// What is told of a cycle that ends with this heap, which has so many old copies.
+    /// What is reported of a cycle that ends with this heap, which has this many old copies.
     fn of(heap: &Heap, old: usize) -> End
         ensures { result ≡ record { units = heap.now.units; moved = old } }
     {
@@ -196,7 +196,7 @@ impl Open {
         }
     }
 
-    /// How it ended; or with this heap, where it is still on.
+    /// How it ended; or with this heap, where it is still running.
     fn end(&self, heap: &Heap) -> End
         ensures { (later : List Step) (first : Step) → IsEnd first later self.now.end
             → (count_by ends_cycle later ≡ 0 → (end_of first later).heap ≡ heap.now)

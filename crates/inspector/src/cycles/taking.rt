@@ -10,7 +10,7 @@ use size_classes::Config;
 use std::alloc::Global;
 use trace::{Source, TextFault, each_line};
 
-/// Plays the lines of a trace on a new heap of a configuration, one after the other, of which nothing is written, and
+/// Plays the lines of a trace on a new heap of a configuration, one after the other, writes nothing of them, and
 /// answers the cycles of the run, with the figures of each. A fault is that with which playing the trace ends; or
 /// memory was refused, for that or for the cycles.
 pub fn take_cycles<S: Source>(

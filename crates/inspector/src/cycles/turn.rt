@@ -20,7 +20,7 @@ pub struct Mark {
 /// What a quantum was to the cycle that it found.
 #[derive(Clone, Copy, Debug, PartialEq, Eq)]
 pub struct Turn {
-    /// Whether it found one on.
+    /// Whether it found one running.
     pub works: bool,
     /// Whether it ended the sweep.
     pub ends_sweep: bool,

@@ -30,7 +30,7 @@ pub struct Watch {
 }
 
 impl Watch {
-    /// A new player, of which no step is logged yet.
+    /// A new player, with no step logged yet.
     pub fn new(alloc: Global, config: &Config) -> Result<Watch, NoMemory>
         ensures player { IfOk result (λ w. IsNew config.now w.player) }
         ensures log { IfOk result (λ w. IsLog [] w.player.course w.log) }
@@ -56,7 +56,7 @@ impl Watch {
         Ok(())
     }
 
-    /// Begins a cycle, or goes on with the one that is on.
+    /// Begins a cycle, or goes on with the one that is running.
     fn begin(&mut self, number: u64) -> Result<(), NoMemory>
         ensures { OnOk result (LineLogged number lines.Begin self.old self.new) }
     {
@@ -95,8 +95,7 @@ impl Watch {
         Ok(true)
     }
 
-    /// Lets so many ticks pass: the quanta that are due in them are done and logged, one by one, and then the clock
-    /// moves.
+    /// Lets ticks pass: the quanta that are due in them are done and logged, one by one, and then the clock moves.
     fn tick(&mut self, number: u64, ticks: u64) -> Result<(), TickFault>
         ensures { TicksLogged number ticks self.old self.new result }
     {
@@ -108,7 +107,7 @@ impl Watch {
         self.player.tick(ticks)
     }
 
-    /// The cycles of the steps, of which the last one is on, or followed by none.
+    /// The cycles of the steps; the last one is still running, or no other follows it.
     pub fn cycles(self) -> Result<Cycles, NoMemory>
         ensures { IfOk result (λ cycles. (steps : List Step) → IsLog steps self.player.course self.log
             → AreCycles steps cycles.items.items) }

@@ -1,4 +1,4 @@
-//! Whether what is told of a load holds for a run.
+//! Whether what is reported of a load holds for a run.
 ghost use Rattle.std.specs.Prelude.{◌≡◌, ◌↔◌, ℕ, ◌<◌, ◌≤◌, IsTrue, IfOk, slice_index, string_bytes};
 ghost use Rattle.size_classes.specs.declared.class.TheConstants.{CLASSES};
 ghost use Rattle.inspector.specs.LoadReport.{IsCovered, covered_line};
@@ -34,7 +34,7 @@ pub(crate) fn is_covered(load: &Load, kept: &Kept, measured: &Option<Pace>) -> b
     }
 }
 
-/// Whether what is told of the load holds for the run too.
+/// Whether what is reported of the load holds for the run too.
 pub(crate) fn covered_line(alloc: Global, covered: bool) -> Result<String, AllocError>
     ensures { IfOk result (λ line. string_bytes line ≡ covered_line covered) }
 {

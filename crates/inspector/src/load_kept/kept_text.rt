@@ -1,4 +1,4 @@
-//! What is told of whether a trace keeps to a load.
+//! What is reported of whether a trace keeps to a load.
 ghost use Rattle.std.specs.Prelude.{◌≡◌, IfOk, string_bytes};
 ghost use Rattle.sizing.specs.declared.arrivals.keeping.Breach.TheVariants.{Asks};
 ghost use Rattle.inspector.specs.LoadReport.{breach_line, kept_line};
@@ -7,7 +7,7 @@ use size_classes::Class;
 use sizing::arrivals::{Breach, Kept};
 use std::alloc::{AllocError, Global};
 
-/// That with the line of a number more blocks of a class are asked for.
+/// Says that with the line of this number too many blocks of a class are asked for.
 fn asks_line(alloc: Global, line: u64, class: Class) -> Result<String, AllocError>
     ensures { IfOk result (λ text. string_bytes text ≡ breach_line line (Asks class)) }
 {
@@ -17,7 +17,7 @@ fn asks_line(alloc: Global, line: u64, class: Class) -> Result<String, AllocErro
     )
 }
 
-/// That the line of a number breaks the load, and how.
+/// Says that the line of this number breaks the load, and how.
 fn breach_line(alloc: Global, line: u64, by: Breach) -> Result<String, AllocError>
     ensures { IfOk result (λ text. string_bytes text ≡ breach_line line by) }
 {

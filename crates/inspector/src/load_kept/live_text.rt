@@ -1,4 +1,4 @@
-//! What is told of the classes of which more blocks were live than a load has.
+//! What is reported of the classes with more live blocks than a load has.
 ghost use Rattle.std.specs.Prelude.{◌≡◌, IfOk, string_bytes};
 ghost use Rattle.space.specs.Fitting.{pace_in};
 ghost use Rattle.sizing.specs.Fitting.{load_in};
@@ -28,7 +28,7 @@ fn class_line(
     format!(in alloc; "size {size} live {live}, the load has {most}\n")
 }
 
-/// The lines of all classes of which more blocks were live than the load has, if they could be measured.
+/// The lines of all classes with more live blocks than the load has, if they could be measured.
 pub(crate) fn live_told(
     alloc: Global,
     load: &Load,

@@ -1,4 +1,4 @@
-//! All that is told of a trace and a load.
+//! All that is reported of a trace and a load.
 ghost use Rattle.std.specs.Prelude.{IfOk, string_bytes};
 ghost use Rattle.sizing.specs.Fitting.{load_in};
 ghost use Rattle.inspector.specs.LoadReport.{IsNeedReport, IsLoadReport};
@@ -12,7 +12,7 @@ use sizing::arrivals::{Kept, Load};
 use space::Pace;
 use std::alloc::{AllocError, Global};
 
-/// What is told of the pages that a load needs.
+/// What is reported of the pages that a load needs.
 fn need_report(alloc: Global, config: &Config, load: &Load) -> Result<String, AllocError>
     ensures { IfOk result (λ text. IsNeedReport config.now (load_in load.now) (string_bytes text)) }
 {
@@ -20,11 +20,11 @@ fn need_report(alloc: Global, config: &Config, load: &Load) -> Result<String, Al
     pace_report(alloc, config, &pace, Scope::Load)
 }
 
-/// What is told of a load in a heap of a configuration, and of a trace: whether the trace keeps to the load, or else
-/// the first line with which it breaks it, and how; of each class of which more blocks were live where a cycle began
-/// than the load has, its size in words and the blocks of both, or without a measured pace that these blocks are too
-/// many; whether the load covers the run, or nothing is promised of it; and what is told of the pages that the load
-/// needs, as of the pace to which it comes.
+/// What is reported of a load in a heap of a configuration, and of a trace: whether the trace keeps to the load, or
+/// else the first line with which it breaks it, and how; of each class with more live blocks where a cycle began than
+/// the load has, its size in words and the blocks of both, or without a measured pace that these blocks are too many;
+/// whether the load covers the run, or nothing is promised of it; and what is reported of the pages that the load
+/// needs, as of the pace that it makes.
 pub fn load_report(
     alloc: Global,
     config: &Config,

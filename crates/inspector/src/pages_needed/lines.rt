@@ -1,21 +1,21 @@
-//! Lines that all that is told shares.
+//! Lines that all reports of pages share.
 ghost use Rattle.std.specs.Prelude.{◌≡◌, ◌++◌, IfOk, string_bytes, codes, decimal};
 ghost use Rattle.inspector.specs.NeededReport.{verdict, pages_line, too_many};
 
 use std::alloc::{AllocError, Global};
 
-/// The runs of which it is told whether pages suffice.
+/// The runs for which pages are said to suffice or not.
 #[derive(Clone, Copy, Debug, PartialEq, Eq)]
 pub enum Scope {
     /// A run that was measured, and each that needs no more.
     Demand,
     /// A run that was measured, and each at its pace.
     Pace,
-    /// Those that keep to a load, of which no more is live than it has.
+    /// Those that keep to a load, while no more is live than it has.
     Load,
 }
 
-/// Whether pages suffice, as it is told: for which runs, or that they may not.
+/// How a report says whether pages suffice: for which runs, or that they may not.
 fn verdict(scope: Scope, suffice: bool) -> &'static str
     ensures { result.now ≡ verdict scope suffice }
 {
@@ -27,7 +27,7 @@ fn verdict(scope: Scope, suffice: bool) -> &'static str
     }
 }
 
-/// How many pages are needed, of how many that there are.
+/// How many pages are needed, out of how many.
 pub(crate) fn pages_line(
     alloc: Global,
     scope: Scope,
@@ -40,7 +40,7 @@ pub(crate) fn pages_line(
     format!(in alloc; "pages {needed} of {pages}{verdict}")
 }
 
-/// What is told where no table has room for the blocks.
+/// What is reported where no table has room for the blocks.
 pub(crate) fn too_many(alloc: Global) -> Result<String, AllocError>
     ensures { IfOk result (λ line. string_bytes line ≡ too_many) }
 {

@@ -1,4 +1,4 @@
-//! What is told of what a run needed.
+//! What is reported of what a run needed.
 ghost use Rattle.std.specs.Prelude.{◌≡◌, ◌≤◌, IfOk, string_bytes};
 ghost use Rattle.size_classes.specs.declared.config.TheConstants.{MOST_PAGES};
 ghost use Rattle.inspector.specs.NeededReport.{blocks_line, still_line, moved_line, gathered_line, budget_line, form_lines};
@@ -82,7 +82,7 @@ fn fewest_pages(still: u128, moved: u128, moving: u128) -> u128
     still.min(moved).min(moving).max(1)
 }
 
-/// The keys of a configuration to set for so many pages.
+/// The keys of a configuration to set for this many pages.
 fn keys_line(alloc: Global, still: u128, moved: u128, pages: u128) -> Result<String, AllocError>
     requires { pages ≤ MOST_PAGES }
     ensures { IfOk result (λ line. string_bytes line ≡ keys_line still moved pages) }
@@ -126,9 +126,9 @@ fn needed_lines(alloc: Global, config: &Config, needed: &Needed) -> Result<Strin
     .concat(alloc)
 }
 
-/// What is told of what a run needed: of each class of which blocks are needed its size in words, how many of them
+/// What is reported of what a run needed: of each class whose blocks are needed its size in words, how many of them
 /// together, and the pages that they take; then how many pages suffice in each way, and for which runs; the fewest of
-/// these, with the keys to set for them; last how many pages the configuration must have, of how many that it has, and
+/// these, with the keys to set for them; last how many pages the configuration must have, out of how many it has, and
 /// whether they suffice for this run and each that needs no more. Without numbers, that the blocks are too many.
 pub fn needed_report(
     alloc: Global,

@@ -1,4 +1,4 @@
-//! What is told of a pace.
+//! What is reported of a pace.
 ghost use Rattle.std.specs.Prelude.{◌≡◌, Some, IfOk, string_bytes};
 ghost use Rattle.space.specs.Fitting.{pace_in};
 ghost use Rattle.inspector.specs.NeededReport.{pace_line, quanta_line, from_line, least_lines, pace_report, IsPaceReport};
@@ -70,11 +70,11 @@ fn lines_with(
     .concat(alloc)
 }
 
-/// What is told of a pace in a heap of a configuration, with quanta of its schedule's units: of each class of which
-/// blocks are needed its size in words, the blocks of live objects, of what is asked for while a cycle is on up to
-/// the next quantum, and between two cycles; with how many quanta of a cycle the pages are reckoned; how many pages
-/// are needed, of how many that there are, and for which runs they suffice; the least number of pages that does, and
-/// from how many on each does. Without a pace, that the blocks are too many.
+/// What is reported of a pace in a heap of a configuration, with quanta of its schedule's units: of each class whose
+/// blocks are needed its size in words, the blocks of live objects, of what is asked for while a cycle runs up to the
+/// next quantum, and between two cycles; with how many quanta of a cycle the pages are reckoned; how many pages are
+/// needed, out of how many there are, and for which runs they suffice; the least number of pages that does, and from
+/// how many on each does. Without a pace, that the blocks are too many.
 pub fn pace_report(
     alloc: Global,
     config: &Config,

@@ -21,7 +21,7 @@ use satb_barrier::flush_all;
 use sweeper::sweep_next;
 
 /// Does the next actions of the collector, one or more of the same kind, if their units fit in the room that
-/// is left, and answers them. Nothing changes where they don't, or where no cycle is on. The buffers are
+/// is left, and answers them. Nothing changes where they don't, or where no cycle is running. The buffers are
 /// empty.
 fn act(heap: &mut RawHeap, room: u32) -> Option<u32>
     requires heap { IsRawHeap heap.old }
@@ -42,7 +42,7 @@ fn act(heap: &mut RawHeap, room: u32) -> Option<u32>
     }
 }
 
-/// Does actions while their units fit in what is left of a budget, until no cycle is on, and answers the
+/// Does actions while their units fit in what is left of a budget, until no cycle is running, and answers the
 /// units spent. The buffers are empty.
 fn spend(heap: &mut RawHeap, budget: u32) -> u32
     requires heap { IsRawHeap heap.old }
@@ -76,7 +76,7 @@ impl Heap {
     }
 
     /// Begins a cycle: the sense of the colour is turned, so that no block is marked. It costs nothing.
-    /// Refused while a cycle is on, and then nothing changes.
+    /// Refused while a cycle is running, and then nothing changes.
     pub fn begin(&mut self) -> Result<(), Busy>
         ensures begins { Begins self.old self.new result }
         ensures agrees { (g : Graph) → Agrees self.old g → Agrees self.new g }
@@ -91,8 +91,8 @@ impl Heap {
     }
 
     /// Spends units of a budget: what mutators recorded goes into the list of grey parts, and then the next
-    /// action is done while its units fit in what is left, until no cycle is on. It never begins a cycle. Refused
-    /// outside 256 to 1000000 units, and then nothing changes.
+    /// action is done while its units fit in what is left, until no cycle is running. It never begins a cycle.
+    /// Refused outside 256 to 1000000 units, and then nothing changes.
     pub fn quantum(&mut self, budget: u32) -> Result<Spent, BudgetOutOfRange>
         ensures spends { Spends self.old budget self.new result }
         ensures ends { IfOk result (λ s. (s.phase ≡ phases.Idle) ⊎ (budget < s.units + 256)) }

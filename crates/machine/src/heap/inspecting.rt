@@ -1,4 +1,4 @@
-//! What is told of the heap as a whole, for a report.
+//! What can be seen of the heap as a whole, for a report.
 ghost use Rattle.std.specs.Prelude.{◌≡◌, ◌≤◌, ◌↔◌, length, IfSome, IsTrue};
 ghost use Rattle.heap_model.specs.Pages.{page_at};
 ghost use Rattle.heap_model.specs.Pages as page_list;
@@ -28,7 +28,7 @@ impl Heap {
         self.raw.nodes.free_pages()
     }
 
-    /// What is told of a page: None where it is free, or where there is no such page.
+    /// What can be seen of a page: None where it is free, or where there is no such page.
     pub fn page(&self, page: usize) -> Option<PageView>
         ensures view { result ≡ view_of (page_at self.now.store.pages page) }
         ensures within { IfSome result (λ v. v.held ≤ 512) }

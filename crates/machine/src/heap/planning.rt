@@ -226,7 +226,7 @@ impl Heap {
         Ok(Planned::reply(Reply::Is(first.identity == second.identity)))
     }
 
-    /// The identity and the shape of an object are told.
+    /// Says the identity and the shape of an object.
     #[inline(always)]
     fn plan_describe(&self, mutator: u32, a: u32) -> Plan
         ensures { Deeds self.now mutator (Command.Describe a) result }

@@ -75,7 +75,7 @@ fn write_new(heap: &mut RawHeap, mutator: u32, root: usize, shape: Shape)
     heap.next += 1;
 }
 
-/// So many roots, from one on, get null one after the other, written by a mutator.
+/// This many roots, from one on, get null one after the other, written by a mutator.
 fn null_roots(heap: &mut RawHeap, mutator: u32, first: usize, count: usize)
     requires heap { IsRawHeap heap.old }
     requires mutator { mutator < heap.old.roots.limits.mutators }

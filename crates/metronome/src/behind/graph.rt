@@ -10,7 +10,7 @@ use pictures::graph::draw_graph;
 use std::alloc::Global;
 use trace::Sink;
 
-/// Draws the objects of a graph heap that can be reached, at most so many, nearest to the roots first.
+/// Draws the objects of a graph heap that can be reached, at most `most`, nearest to the roots first.
 pub(crate) fn tell_graph<K: Sink>(
     alloc: Global,
     graph: &Reference,

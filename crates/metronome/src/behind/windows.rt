@@ -52,8 +52,8 @@ fn write_windows<K: Sink>(
     Ok(())
 }
 
-/// What is told of a window: the least that the mutators had of any, what the schedule promises, and the
-/// share in thousandths; or none, where no window of so many ticks has passed.
+/// What is reported of a window: the least that the mutators had of any, what the schedule promises, and the
+/// share in thousandths; or none, where no window of that many ticks has passed.
 fn window_line(
     alloc: Global,
     config: &Config,

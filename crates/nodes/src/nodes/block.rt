@@ -12,8 +12,8 @@ use super::{Nodes, Referent};
 use graph_heap::Shape;
 use size_classes::{PART_CELLS, Run};
 
-/// How many reference cells a part has, of an object with so many reference and word cells: a spine
-/// has only such, a piece has its share.
+/// How many reference cells a part has, of an object with this many reference and word cells: a spine
+/// has nothing else, a piece has its share.
 #[inline(always)]
 #[tactic(auto, unfolding(heap_model::specs::Cut::width_in))]
 fn width_of(refs: u32, words: u32, part: u32) -> usize

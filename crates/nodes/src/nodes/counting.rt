@@ -1,4 +1,4 @@
-//! What is told of a page, and the blocks of all pages, counted.
+//! What can be seen of a page, and the blocks of all pages, counted.
 ghost use Rattle.std.specs.Prelude.{◌≡◌, ◌+◌, ◌-◌, ◌*◌, ◌^◌, ◌<◌, ◌≤◌, length, true, IfSome};
 ghost use Rattle.size_classes.specs.Parts.{cells_of};
 ghost use Rattle.heap_model.specs.Pages.{page_at};
@@ -36,7 +36,7 @@ fn cells_in(shape: Shape) -> usize
 }
 
 impl Nodes {
-    /// What is told of a page: None where it is free, or where there is no such page.
+    /// What can be seen of a page: None where it is free, or where there is no such page.
     pub fn page(&self, page: usize) -> Option<PageView>
         ensures view { result ≡ view_of (page_at self.now.pages page) }
         ensures within { IfSome result (λ v. v.held ≤ 512) }

@@ -42,7 +42,7 @@ impl PageTable {
         self.free_blocks[class.number()]
     }
 
-    /// Whether there is room for the parts of an object: the blocks that are needed beside the free ones
+    /// Whether there is room for the parts of an object: the blocks that are needed besides the free ones
     /// are taken in whole pages, and these together are at most the free pages.
     #[inline(always)]
     pub fn room(&self, parts: &Parts) -> bool
@@ -56,7 +56,7 @@ impl PageTable {
         self.free_blocks(class) > 0 || self.free_pages() > 0
     }
 
-    /// Whether there is room for so many blocks of each class.
+    /// Whether there is room for this many blocks of each class.
     #[inline(never)]
     fn room_for(&self, need: &Need) -> bool
         ensures { Tells self.now (λ pages. result ≡ has_room pages (λ class. slice_index need.now class)) }
@@ -69,7 +69,7 @@ impl PageTable {
         pages <= self.free_pages() as u64
     }
 
-    /// How many free pages so many blocks of a class need.
+    /// How many free pages this many blocks of a class need.
     fn pages_for(&self, class: Class, blocks: u32) -> u64
         ensures pages { Tells self.now (λ pages. result ≡ whole_pages class (blocks - free_blocks pages class)) }
         ensures within { result ≤ 2 ^ 32 }
@@ -108,7 +108,7 @@ impl PageTable {
         }
     }
 
-    /// What is told of a page: None where it is free, or where there is no such page.
+    /// What can be seen of a page: None where it is free, or where there is no such page.
     pub fn page(&self, page: usize) -> Option<PageView>
         ensures view { Tells self.now (λ pages. result ≡ view_of (page_at pages page)) }
         ensures within { Tells self.now (λ pages. IfSome result (λ v. v.held ≤ 512)) }

@@ -13,7 +13,7 @@ use Rattle.pictures.specs.Search.{Findings, IsAt, holders, IsOneOf, Adds}
 use Rattle.pictures.specs.Route.{IsLinked}
 use Rattle.pictures.proofs.reachability.Places.{at_left, at_right, place_in, below_more}
 
--- the object is among those found, so far from the roots at most
+-- the object is among those found, at most this far from the roots
 abbrev pub IsWithin : List Found → ℕ → ℕ → Type 0
 IsWithin found id most = (k : ℕ) × (k < length found) × ((found_at found k).id ≡ id) × ((found_at found k).distance ≤ most)
 

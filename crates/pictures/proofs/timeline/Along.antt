@@ -150,7 +150,7 @@ module _ (moments : List Moment) (h : Moment) (samples : List Sample) (stride si
         count = omega (arith, half, longer, ap (λ n. n * (stride * 2)) (length-append even (sampled h ∷ [])), add-mul (length even) 1 (stride * 2));
       }
 
--- the stride is that of so many moments
+-- the stride is that of this many moments
 pub is_stride : (moments : List Moment) (samples : List Sample) (stride since : ℕ) → AreTaken moments samples stride since → IsStride (length moments) stride
 is_stride moments samples stride since t = record {
   exponent = t.exponent;

@@ -31,7 +31,7 @@ moment_more moments h s false is a = absurd (cc)
 pub few_more : (number : ℕ) (m : Moment) (old new : Sampler) → IsAlongFew number old → ((moments : List Moment) → IsAlong moments old → IsAlong (moments ++ m ∷ []) new) → IsAlongFew (number + 1) new
 few_more number m old new few goes = (few.0 ++ m ∷ [], goes few.0 few.1, omega (arith, few.2, length-append few.0 (m ∷ [])))
 
--- a run of a new player, of which the first sample is taken
+-- a run of a new player, with its first sample taken
 module _ (first : SampledRun) (along : IsAlong (moment 0 first.player.course.heap ∷ []) first.sampler) where
   -- the samples are those of the moments of the lines
   abbrev Known : (lines : List (List ℕ)) (version : Version) (events : List Event) (now : SampledRun) → LinesDone (PlaysLine Nothing) (stage first.player []) lines version events (stage now.player []) → Type 0

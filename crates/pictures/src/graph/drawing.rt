@@ -41,7 +41,7 @@ fn write_left_out<K: Sink>(n: usize, sink: &mut K) -> Result<(), WriteFailed>
     write_line(sink, Statement::LeftOut(n as u64))
 }
 
-/// A graph heap of which the first objects of those that were found are drawn, at most so many.
+/// A graph heap, whose first objects that were found are drawn, at most `most` of them.
 #[derive(Drop)]
 struct Drawing<'a> {
     graph: &'a Reference,
@@ -152,7 +152,7 @@ impl<'a> Drawing<'a> {
 }
 
 /// Writes a graph heap to a sink as a DOT document, which Graphviz lays out, in lines that end with LF: the objects
-/// that can be reached, at most so many of them, nearest to the roots first, each with its identity and its shape; a
+/// that can be reached, at most `most` of them, nearest to the roots first, each with its identity and its shape; a
 /// box for each root that holds one of them; each reference between them, with the index of its cell; and how many
 /// objects aren't drawn, if there are any. It takes memory for the search alone, before the first write. It fails where a
 /// write failed, and then the sink has taken a beginning of the document, or where memory was refused.

@@ -27,7 +27,7 @@ impl Model for Search {
 }
 
 impl Search {
-    /// Nothing found yet, of so many objects.
+    /// Nothing found yet, of this many objects.
     pub(crate) fn none(alloc: Global, objects: usize) -> Result<Search, NoMemory>
         ensures { IfOk result (λ s. s ≡ record { found = []; objects = objects }) }
     {
@@ -55,7 +55,7 @@ impl Search {
         Ok(())
     }
 
-    /// Adds the objects that cells hold, so far from the roots. The cells are those of an object, or else they are the
+    /// Adds the objects that cells hold, this far from the roots. The cells are those of an object, or else they are
     /// roots.
     pub(crate) fn add_all(
         &mut self,
@@ -75,7 +75,7 @@ impl Search {
         Ok(())
     }
 
-    /// The object that was found at a place, from 0, if so many were.
+    /// The object that was found at a place, from 0, if there are that many.
     pub(crate) fn at(&self, place: usize) -> Option<Found>
         ensures found { IfSome result (λ f. (place < length self.now.found) × (f ≡ found_at self.now.found place)) }
         ensures none { IsNone result → length self.now.found ≤ place }
@@ -89,7 +89,7 @@ impl Search {
         }
     }
 
-    /// What is told of an object that was found.
+    /// What was found of an object.
     pub(crate) fn one(&self, id: u64) -> Found
         requires { (k : ℕ) × IsAt self.now.found id k }
         ensures { (k : ℕ) → IsAt self.now.found id k → found_at self.now.found k ≡ result }

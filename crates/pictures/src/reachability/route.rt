@@ -19,7 +19,7 @@ pub struct Step {
     pub cell: usize,
 }
 
-/// A path: a root, by its place in the row of roots, and the reference cells after it, of which each is one of the
+/// A path: a root, by its place in the row of roots, and the reference cells after it, each of them one of the
 /// object that the root, or the cell before it, holds.
 #[derive(Debug, Drop)]
 pub struct Route {

@@ -1,4 +1,4 @@
-//! What is told of why an object is alive.
+//! What is reported of why an object is alive.
 ghost use Rattle.std.specs.Prelude.{◌≡◌, ◌<◌, IfOk, string_bytes};
 ghost use Rattle.std.specs.List.{flat_map};
 ghost use Rattle.graph_heap.specs.Graph.{root_cells};
@@ -51,7 +51,7 @@ fn route_lines(alloc: Global, limits: &Limits, route: &Route) -> Result<String, 
     Ok(text)
 }
 
-/// What is told of an object, some of whose blocks are still held or not.
+/// What is reported of an object, some of whose blocks are still held or not.
 fn standing_text(
     alloc: Global,
     limits: &Limits,

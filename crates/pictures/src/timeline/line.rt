@@ -8,7 +8,7 @@ ghost use Rattle.player.specs.declared.style.Style.TheVariants.{Nothing};
 use player::{Player, do_line, is_event};
 use trace::{TextFault, TextLine, read_numbered};
 
-/// Does the line of this text, of which nothing is written. Answers whether it is that of an event.
+/// Does the line of this text, and writes nothing of it. Answers whether it is that of an event.
 pub fn play_line(text: TextLine, player: &mut Player) -> Result<bool, TextFault>
     ensures played { LinePlayed Nothing (text_in text.entry) (stage player.old []) (stage player.new []) result }
     ensures reads { reads_failed result ≡ 0 }

@@ -17,7 +17,7 @@ pub struct Sampler {
     since: u64,
 }
 
-/// A sample of a heap after so many lines. Its objects are counted where no cycle is on.
+/// A sample of a heap after this many lines. Its objects are counted where no cycle is running.
 fn sample(line: u64, heap: &Heap) -> Sample
     ensures { result ≡ sampled (moment line heap.now) }
 {
@@ -42,7 +42,7 @@ impl Sampler {
         })
     }
 
-    /// The event of this line led to this heap, of which a sample is taken where the stride is full.
+    /// The event of this line led to this heap: a sample of it is taken where the stride is full.
     pub fn event(&mut self, line: u64, heap: &Heap) -> Result<(), NoMemory>
         requires { (moments : List Moment) × IsAlong moments self.old × (length moments < 2 ^ 64) }
         ensures { OnOk result ((moments : List Moment) → IsAlong moments self.old

@@ -28,7 +28,7 @@ fn keep_even(items: &mut Vec<Sample>)
 }
 
 impl Samples {
-    /// The most objects of any sample of which they were counted, and 0 where they were of none.
+    /// The most objects of any sample whose objects were counted, and 0 where there is no such sample.
     pub fn most_objects(&self) -> u64
         ensures { result ≡ greatest_objects self.now.items.items }
     {

@@ -49,11 +49,11 @@ impl LineHandler for SampledRun {
     }
 }
 
-/// Plays the lines of a trace on a new heap of a configuration, one after the other, of which nothing is
-/// written, and takes samples of the heap: the first of the new heap, and then one after each stride of
+/// Plays the lines of a trace on a new heap of a configuration, one after the other, writes nothing of
+/// them, and takes samples of the heap: the first of the new heap, and then one after each stride of
 /// events. Commands, beginnings, quanta and ticks are events; lines that are skipped, and that of the version,
 /// aren't. The stride is the least power of two with which there are at most `MOST_SAMPLES` samples. In a sample
-/// of a heap that has no cycle on, the objects are counted, and each tells how many lines were done. A fault is that
+/// of a heap without a running cycle, the objects are counted, and each tells how many lines were done. A fault is that
 /// with which playing the trace ends; or memory was refused, for that or for the samples.
 pub fn take_samples<S: Source>(
     alloc: Global,

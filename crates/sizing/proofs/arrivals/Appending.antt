@@ -1,4 +1,4 @@
--- Lines and one more: what they come to, and what they keep to.
+-- Lines and one more: what they add up to, and what they keep to.
 use Rattle.std.proofs.Common.{◌≡◌, ℕ, ◌+◌, ◌-◌, ◌*◌, ◌<◌, ◌≤◌, List, [], ◌∷◌, ◌++◌, subst}
 use Rattle.size_classes.specs.declared.class.TheConstants.{CLASSES}
 use Rattle.trace.specs.declared.line.Line.{Line}

@@ -44,14 +44,14 @@ pub record IsSoon (c q start until : ℕ) (t : Timetable) (b : Beat) : Type 0 wh
   pub due : b.on ≡ true → (d : ℕ) × (t.due ≡ Some d) × (d < start + c + q)
   pub spaced : start_after q (last_or None t.intervals) < until + c + q
 
--- a quantum with no cycle on
+-- a quantum with no cycle running
 pub rests : (r new : Course) (b : Beat) (budget units : ℕ) (phase : Phase) → b.on ≡ false → b.on ≡ in_cycle r.heap.phase → Collects r budget units phase new → (new.heap ≡ r.heap) × (phase ≡ phases.Idle)
 rests r new b budget units phase off on d =
     let i = idle_phase r.heap.phase (sym on ∙ off) in
     let still = idle_chain r.heap new.heap units d.turn.chain i in
     (still.0, sym d.ends ∙ ap (λ (h : HeapState). h.phase) still.0 ∙ i)
 
--- the beginnings of a quantum that is due: a cycle is on
+-- the beginnings of a quantum that is due: a cycle is running
 pub some_due : (c q k : ℕ) (p : PlayerState) (b : Beat) (due : ℕ) → IsTimed c q k p b → p.timetable.due ≡ Some due → b.on ≡ true
 some_due c q k p b due i is = elim (on_or_off b.on) [
   | inl on ↦ on

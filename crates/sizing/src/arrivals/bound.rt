@@ -26,7 +26,7 @@ pub fn lines_keep_a_pace()
 {}
 
 /// The space bound by the clock. Where the lines of a text are played on a new player of a configuration, and
-/// keep to a load whose pace fits in the configuration's pages, no reply is the refusal for want of space.
+/// keep to a load whose pace fits in the configuration's pages, no reply is the refusal for lack of space.
 pub fn lines_find_room()
     ensures { (config : Numbers) (l : Load) → LoadFits config l → LoadFindsRoom config l }
 {}
@@ -37,8 +37,8 @@ pub fn buckets_bound_arrivals()
     ensures { (l : Load) (said : List Line) → StaysInBucket l (λ class. 0) said ↔ Arrives l 0 said }
 {}
 
-/// Of a text that says lines and keeps to a load each beginning keeps to it, as that of a trace of which not all
-/// lines could be played.
+/// Each beginning of a text that says lines and keeps to a load keeps to it too: that of a trace, for example, whose
+/// lines couldn't all be played.
 pub fn beginnings_keep_to_loads()
     ensures { (l : Load) (k : ℕ) (text more : List (List ℕ)) (version : Version) (said : List Line)
         → Says (text ++ more) version said → KeepsLoad l k (text ++ more) → KeepsLoad l k text }

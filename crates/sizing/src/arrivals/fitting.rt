@@ -1,4 +1,4 @@
-//! Whether a configuration has pages enough for a load.
+//! Whether a configuration has enough pages for a load.
 ghost use Rattle.std.specs.Prelude.{◌↔◌, IsTrue};
 ghost use Rattle.space.specs.Fitting.{FitsIn, IsLeast};
 ghost use Rattle.sizing.specs.Load.{pace_of};

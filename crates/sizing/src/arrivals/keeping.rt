@@ -17,7 +17,7 @@ use trace::{Line, LineReader, Source, TextFault, TextLine, read_numbered};
 #[derive(Clone, Copy, Debug, PartialEq, Eq)]
 pub enum Breach {
     /// From some line on, or by its command alone, more blocks of the class are asked for than the rate in the
-    /// ticks between and the burst: of the classes of which that is so, the first.
+    /// ticks between and the burst: the first class for which that is so.
     Asks(Class),
     /// Its command comes more ticks after the last line `begin`, or the start, than the gap.
     BeginsLate,
@@ -34,8 +34,8 @@ pub enum Kept {
     Breaks { line: u64, by: Breach },
 }
 
-/// What the lines so far come to: how many blocks are in the bucket of each class, and how many ticks have
-/// passed since the last line `begin`, or the start, of which no more than 18446744073709551615 are counted.
+/// What the lines so far add up to: how many blocks are in the bucket of each class, and how many ticks have
+/// passed since the last line `begin`, or the start; no more than 18446744073709551615 are counted.
 #[derive(Clone, Copy)]
 struct Meter {
     levels: [u64; CLASSES],
@@ -66,7 +66,7 @@ fn fill(levels: &mut [u64; CLASSES], need: &Need, burst: &[u32; CLASSES]) -> Opt
     None
 }
 
-/// Drains the buckets at a rate for so many ticks.
+/// Drains the buckets at a rate for this many ticks.
 fn drain(levels: &mut [u64; CLASSES], rate: &[u32; CLASSES], ticks: u64)
     ensures { (class : ℕ) → class < CLASSES
         → slice_index levels.new class ≡ slice_index levels.old class - slice_index rate.now class * ticks }
@@ -119,7 +119,7 @@ impl Meter {
         None
     }
 
-    /// Counts a line. Answers how it breaks the load, with quanta of at least so many units, if it does.
+    /// Counts a line. Answers how it breaks the load, with quanta of at least `budget` units, if it does.
     fn note(&mut self, line: &Line, load: &Load, budget: u32) -> Option<Breach>
         requires { IsWithin (load_in load.now) self.old }
         ensures { Metered (load_in load.now) budget self.old line.now self.new result }

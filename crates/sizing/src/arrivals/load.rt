@@ -1,4 +1,4 @@
-//! What a program asks for by the clock, and the pace to which that comes.
+//! What a program asks for by the clock, and the pace that this makes.
 ghost use Rattle.std.specs.Prelude.{◌≡◌, ℕ, ◌+◌, ◌*◌, ◌<◌, ◌^◌, slice_index};
 ghost use Rattle.space.specs.Fitting.{pace_in};
 ghost use Rattle.sizing.specs.Load.{pace_of};
@@ -18,7 +18,7 @@ pub struct Load {
     pub gap: u32,
 }
 
-/// Notes of each class the blocks that are asked for in so many ticks.
+/// Notes of each class the blocks that are asked for in this many ticks.
 fn ask(blocks: &mut [u64; CLASSES], rate: &[u32; CLASSES], burst: &[u32; CLASSES], ticks: u32)
     ensures { (class : ℕ) → class < CLASSES
         → slice_index blocks.new class ≡ slice_index rate.now class * ticks + slice_index burst.now class }
@@ -28,7 +28,7 @@ fn ask(blocks: &mut [u64; CLASSES], rate: &[u32; CLASSES], burst: &[u32; CLASSES
     }
 }
 
-/// The blocks of each class that are asked for in so many ticks.
+/// The blocks of each class that are asked for in this many ticks.
 fn asked_in(rate: &[u32; CLASSES], burst: &[u32; CLASSES], ticks: u32) -> [u64; CLASSES]
     ensures { (class : ℕ) → class < CLASSES
         → slice_index result class ≡ slice_index rate.now class * ticks + slice_index burst.now class }
@@ -39,7 +39,7 @@ fn asked_in(rate: &[u32; CLASSES], burst: &[u32; CLASSES], ticks: u32) -> [u64; 
 }
 
 impl Load {
-    /// The pace to which it comes, with the schedule of a configuration.
+    /// The pace that it makes, with the schedule of a configuration.
     pub fn pace(&self, config: &Config) -> Pace
         ensures { IsSamePace (pace_in result)
             (pace_of (load_in self.now) config.now.collector_ticks config.now.mutator_ticks) }

@@ -18,7 +18,7 @@ pub struct Run {
 }
 
 /// Plays the lines of a source on a new player of a configuration, as `player::play` does. Where the lines that
-/// were done keep to a load whose pace fits in the configuration's pages, no reply is the refusal for want of
+/// were done keep to a load whose pace fits in the configuration's pages, no reply is the refusal for lack of
 /// space. Where memory is refused for the player, nothing is read, and nothing is written.
 pub fn play_new<S: Source, K: Sink>(
     alloc: Global,

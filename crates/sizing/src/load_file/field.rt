@@ -18,7 +18,7 @@ pub enum Field {
 }
 
 impl Field {
-    /// The keys, in the order in which they are looked at.
+    /// The keys, in the order in which they are checked.
     pub const ALL: [Field; 3] = [Field::Live, Field::Rate, Field::Burst];
 
     /// The name by which a table gives it.
@@ -39,7 +39,7 @@ impl fmt::Display for Field {
     }
 }
 
-/// The order in which the keys of a class's table are looked at. It does nothing: its contract is the law.
+/// The order in which the keys of a class's table are checked. It does nothing: its contract is the law.
 pub fn fields_are_in_order()
     ensures { ALL ≡ Live ∷ Rate ∷ Burst ∷ [] }
 {}

@@ -8,16 +8,16 @@ ghost use Rattle.trace.specs.Histories.{LineChecked, EntriesChecked};
 use crate::{EntryLine, LineFault, LineReader, Source, TextFault, TextLine, read_entry};
 use graph_heap::Reference;
 
-/// What became of a history that was checked.
+/// The outcome of checking a history.
 #[derive(Clone, Copy, Debug, PartialEq, Eq)]
 pub enum Checked {
-    /// Each entry is a step of the graph heap at its place. There are so many.
+    /// Each entry is a step of the graph heap at its place. There are this many.
     Good(u64),
     /// The entry of this line, counted from 1, is the first that isn't.
     Wrong(u64),
 }
 
-/// What became of one line.
+/// The outcome of one line.
 #[derive(Clone, Copy)]
 enum Outcome {
     /// It has no entry. It may tell the version.
@@ -48,7 +48,7 @@ fn check_line(text: TextLine, reference: &mut Reference) -> Result<Outcome, Text
     }
 }
 
-/// Plays the entries of a source's lines, of which the first may tell their version, on a graph heap, from where that
+/// Plays the entries of a source's lines, where the first line may tell their version, on a graph heap, from where that
 /// stands: to the source's end, or to the first entry that isn't a step, and then no line after it is looked at. The
 /// graph heap is left as it is after the entries before.
 pub fn check_entries<S: Source>(

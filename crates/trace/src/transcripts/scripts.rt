@@ -70,7 +70,7 @@ impl LineHandler for Scripts {
     }
 }
 
-/// So many empty scripts.
+/// This many empty scripts.
 fn empty(alloc: Global, mutators: u32) -> Result<Vec<Vec<Command>>, NoMemory>
     ensures lists { IfOk result (λ scripts. lists_in scripts ≡ replicate mutators []) }
     ensures len { IfOk result (λ scripts. vec_len scripts ≡ mutators) }

@@ -6,7 +6,7 @@ use Rattle.nodes.specs.Links.{KeepsLinks}
 use Rattle.arraylets.proofs.Linking.{Made}
 use Rattle.arraylets.proofs.making.make_parts.Given as goal
 
--- so many parts are made, there is room for the others, and the links in headers stay
+-- this many parts are made, there is room for the others, and the links in headers stay
 abbrev pub invariant-loop-part : goal.invariant-loop-part
 invariant-loop-part l = record {
   made : Made l.fn.nodes l.shape l.colour l.identity l.spines l.part l.nodes;

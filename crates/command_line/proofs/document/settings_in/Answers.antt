@@ -10,7 +10,7 @@ use Rattle.command_line.specs.Document.{mutators_of, number_for, HasRange}
 use Rattle.command_line.proofs.Values.{mutators_same, some_live}
 use Rattle.command_line.proofs.document.settings_in.Goals as goal
 
--- settings of which each is in its range, where that has a number
+-- settings, each of which is in its range, where that has a number
 settings_within : (document : Members) (s : Settings) → s.mutators ≡ number_for document Mutators
     → (HasRange document Pages → is_allowed (mutators_of document) Pages s.pages ≡ true)
     → (HasRange document Mutators → is_allowed (mutators_of document) Mutators s.mutators ≡ true)

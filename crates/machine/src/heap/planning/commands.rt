@@ -147,7 +147,7 @@ impl Heap {
         settled!(self, mutator, false, self.plan_describe(mutator, a))
     }
 
-    /// The mutator comes to be live.
+    /// The mutator becomes live.
     #[inline(always)]
     pub fn join(&mut self, mutator: u32) -> Reply
         ensures { Steps self.old mutator Command.Join result self.new }

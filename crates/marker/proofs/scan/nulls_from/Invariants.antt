@@ -2,7 +2,7 @@ use Rattle.std.proofs.Common.{◌≡◌, ℕ, ◌+◌, ◌-◌, ◌<◌, ◌≤�
 use Rattle.heap_model.specs.Store.{node_of}
 use Rattle.marker.proofs.scan.nulls_from.Given as goal
 
--- so many are null
+-- the cells so far are null
 abbrev pub invariant-loop-nulls : goal.invariant-loop-nulls
 invariant-loop-nulls l = (l.nulls ≤ l.most) × ((k : ℕ) → l.from ≤ k → k < l.from + l.nulls → get_or (node_of l.nodes l.block).cells k 0 ≡ 0)
 

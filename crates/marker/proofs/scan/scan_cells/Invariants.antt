@@ -6,7 +6,7 @@ use Rattle.raw_heap.specs.Heap.{state_of}
 use Rattle.marker.specs.Scanning.{scanning}
 use Rattle.marker.proofs.scan.scan_cells.Given as goal
 
--- so many cells were scanned
+-- this many cells were scanned
 abbrev pub invariant-loop-scanned : goal.invariant-loop-scanned
 invariant-loop-scanned l =
     ((units : ℕ) → Chain (state_of (scanning l.fn.heap l.part l.cell units)) l.scanned (state_of (scanning l.heap l.part (l.cell + l.scanned) (units + l.scanned))))

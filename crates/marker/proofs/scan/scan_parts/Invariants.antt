@@ -5,7 +5,7 @@ use Rattle.raw_heap.specs.Heap.{state_of}
 use Rattle.marker.specs.Scanning.{scanning}
 use Rattle.marker.proofs.scan.scan_parts.Given as goal
 
--- by so many units marking has come to this place
+-- with this many units marking has got to this place
 abbrev pub invariant-loop-units : goal.invariant-loop-units
 invariant-loop-units l =
     Chain (state_of l.fn.heap) l.units (state_of (scanning l.heap l.scan.part l.scan.cell (l.fn.heap.units + l.units))) × (l.scan.width ≡ (seen (state_of l.heap)).width l.scan.part)

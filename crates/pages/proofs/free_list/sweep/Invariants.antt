@@ -6,7 +6,7 @@ use Rattle.pages.specs.Together.{Together}
 use Rattle.pages.proofs.Sweeping.{SoFar}
 use Rattle.pages.proofs.free_list.sweep.Given as goal
 
--- at so many blocks it has looked
+-- it has looked at this many blocks
 abbrev pub invariant-loop-looked : goal.invariant-loop-looked
 invariant-loop-looked l =
     (l.looked ≤ l.count) × (length l.arena ≡ length l.fn.arena) × IsFreeList l.arena (2048 * l.page) l.fn.row.class l.row.first l.row.held × (l.row ≡ record l.fn.row { first = l.row.first; held = l.row.held })

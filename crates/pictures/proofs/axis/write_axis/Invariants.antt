@@ -4,7 +4,7 @@ use Rattle.pictures.specs.Elements.{svg_text}
 use Rattle.pictures.proofs.Parts.{SoFar}
 use Rattle.pictures.proofs.axis.write_axis.Given as goal
 
--- the numbers so far are written, so many are left, and no call has failed
+-- the numbers so far are written, `left` are left, and no call has failed
 abbrev pub invariant-loop-place : goal.invariant-loop-place
 invariant-loop-place g l = record {
   left : ℕ;

@@ -1,7 +1,7 @@
 //! Whether a configuration has pages enough, so that no new object is refused for want of space.
 ghost use Rattle.std.specs.Prelude.{◌≡◌, ◌≤◌, ◌↔◌, IsTrue};
 ghost use Rattle.space.specs.Fitting.{pace_in, spare_in, below_in, swept_at, moving_at, quanta_at, unmoved_quanta_at};
-ghost use Rattle.space.specs.Fitting.{moved_pages, unmoved_pages, pages_needed, quanta_needed, FitsIn, IsLeast};
+ghost use Rattle.space.specs.Fitting.{moved_pages, unmoved_pages, IsNeeded, FitsIn, IsLeast};
 
 use crate::pace::{MOST_QUANTA, Pace};
 use size_classes::{CLASSES, Class, Config, LEAST_BUDGET, MOST_PAGES, PAGE_WORDS};
@@ -118,8 +118,7 @@ impl Needs {
 /// fewer quanta suffice for a cycle.
 pub fn pace_needs(config: &Config, pace: &Pace, pages: u32) -> Needs
     requires { pages ≤ MOST_PAGES }
-    ensures pages { result.pages ≡ pages_needed config.now (pace_in pace.now) pages }
-    ensures quanta { result.quanta ≡ quanta_needed config.now (pace_in pace.now) pages }
+    ensures { IsNeeded config.now (pace_in pace.now) pages result }
 {
     let unmoved = Needs::unmoved(config, pace, pages);
     let moved = Needs::moved(config, pace, pages);

@@ -12,11 +12,7 @@ use Rattle.space.specs.Space.{space_for}
 
 -- the pace that a table by class states
 abbrev pub pace_in : PaceTable → Pace
-pace_in p = record {
-  live = λ class. slice_index p.live class;
-  busy = λ class. slice_index p.busy class;
-  idle = λ class. slice_index p.idle class;
-}
+pace_in p = record { live = slice_index p.live; busy = slice_index p.busy; idle = slice_index p.idle }
 
 -- how many pages may be left sparse, in a heap of a configuration
 abbrev pub spare_in : Config → ℕ

@@ -22,6 +22,9 @@ use row::{null_cells, set_cell, slot_of, static_of};
 use std::alloc::Global;
 use std::marker::Model;
 
+/// What a command does: its reply and what changes, or why it is refused.
+type Deed = Result<(Reply, Change), Refusal>;
+
 /// The slow heap: objects in a vector by their identity, which never move or go, and the row of
 /// roots. Contracts see it as the graph heap.
 #[derive(Drop)]
@@ -164,13 +167,7 @@ impl Reference {
         Ok(self.roots[at])
     }
 
-    fn make(
-        &self,
-        room: bool,
-        mutator: u32,
-        dst: u32,
-        shape: Shape,
-    ) -> Result<(Reply, Change), Refusal>
+    fn make(&self, room: bool, mutator: u32, dst: u32, shape: Shape) -> Deed
         ensures { result ≡ deed_of room self.now mutator (Command.New dst shape) }
     {
         let cell = slot_of(&self.limits, mutator, dst)?;
@@ -182,7 +179,7 @@ impl Reference {
         Ok((Reply::Made(id), Change::New { cell, id, shape }))
     }
 
-    fn load(&self, mutator: u32, dst: u32, obj: u32, i: u32) -> Result<(Reply, Change), Refusal>
+    fn load(&self, mutator: u32, dst: u32, obj: u32, i: u32) -> Deed
         ensures { result ≡ deed_of true self.now mutator (Command.Load dst obj i) }
     {
         let cell = slot_of(&self.limits, mutator, dst)?;
@@ -191,7 +188,7 @@ impl Reference {
         Ok((Reply::Ref(id), Change::Root { cell, id }))
     }
 
-    fn store(&self, mutator: u32, obj: u32, i: u32, src: u32) -> Result<(Reply, Change), Refusal>
+    fn store(&self, mutator: u32, obj: u32, i: u32, src: u32) -> Deed
         ensures { result ≡ deed_of true self.now mutator (Command.Store obj i src) }
     {
         let id = self.held(mutator, obj)?;
@@ -200,14 +197,7 @@ impl Reference {
         Ok((Reply::Done, Change::Ref { id, i, value }))
     }
 
-    fn compare_store(
-        &self,
-        mutator: u32,
-        obj: u32,
-        i: u32,
-        expect: u32,
-        new: u32,
-    ) -> Result<(Reply, Change), Refusal>
+    fn compare_store(&self, mutator: u32, obj: u32, i: u32, expect: u32, new: u32) -> Deed
         ensures { result ≡ deed_of true self.now mutator (Command.CompareStore obj i expect new) }
     {
         let id = self.held(mutator, obj)?;
@@ -221,7 +211,7 @@ impl Reference {
         }
     }
 
-    fn get(&self, mutator: u32, obj: u32, i: u32) -> Result<(Reply, Change), Refusal>
+    fn get(&self, mutator: u32, obj: u32, i: u32) -> Deed
         ensures { result ≡ deed_of true self.now mutator (Command.Get obj i) }
     {
         let id = self.held(mutator, obj)?;
@@ -229,7 +219,7 @@ impl Reference {
         Ok((Reply::Word(value), Change::Nothing))
     }
 
-    fn put(&self, mutator: u32, obj: u32, i: u32, word: u64) -> Result<(Reply, Change), Refusal>
+    fn put(&self, mutator: u32, obj: u32, i: u32, word: u64) -> Deed
         ensures { result ≡ deed_of true self.now mutator (Command.Put obj i word) }
     {
         let id = self.held(mutator, obj)?;
@@ -237,14 +227,7 @@ impl Reference {
         Ok((Reply::Done, Change::Word { id, i, value: word }))
     }
 
-    fn compare_put(
-        &self,
-        mutator: u32,
-        obj: u32,
-        i: u32,
-        old: u64,
-        new: u64,
-    ) -> Result<(Reply, Change), Refusal>
+    fn compare_put(&self, mutator: u32, obj: u32, i: u32, old: u64, new: u64) -> Deed
         ensures { result ≡ deed_of true self.now mutator (Command.ComparePut obj i old new) }
     {
         let id = self.held(mutator, obj)?;
@@ -256,7 +239,7 @@ impl Reference {
         }
     }
 
-    fn copy(&self, mutator: u32, dst: u32, src: u32) -> Result<(Reply, Change), Refusal>
+    fn copy(&self, mutator: u32, dst: u32, src: u32) -> Deed
         ensures { result ≡ deed_of true self.now mutator (Command.Copy dst src) }
     {
         let cell = slot_of(&self.limits, mutator, dst)?;
@@ -264,14 +247,14 @@ impl Reference {
         Ok((Reply::Done, Change::Root { cell, id }))
     }
 
-    fn clear(&self, mutator: u32, dst: u32) -> Result<(Reply, Change), Refusal>
+    fn clear(&self, mutator: u32, dst: u32) -> Deed
         ensures { result ≡ deed_of true self.now mutator (Command.Clear dst) }
     {
         let cell = slot_of(&self.limits, mutator, dst)?;
         Ok((Reply::Done, Change::Root { cell, id: 0 }))
     }
 
-    fn load_static(&self, mutator: u32, dst: u32, k: u32) -> Result<(Reply, Change), Refusal>
+    fn load_static(&self, mutator: u32, dst: u32, k: u32) -> Deed
         ensures { result ≡ deed_of true self.now mutator (Command.LoadStatic dst k) }
     {
         let cell = slot_of(&self.limits, mutator, dst)?;
@@ -280,7 +263,7 @@ impl Reference {
         Ok((Reply::Ref(id), Change::Root { cell, id }))
     }
 
-    fn store_static(&self, mutator: u32, k: u32, src: u32) -> Result<(Reply, Change), Refusal>
+    fn store_static(&self, mutator: u32, k: u32, src: u32) -> Deed
         ensures { result ≡ deed_of true self.now mutator (Command.StoreStatic k src) }
     {
         let id = self.held(mutator, src)?;
@@ -288,13 +271,7 @@ impl Reference {
         Ok((Reply::Done, Change::Root { cell, id }))
     }
 
-    fn compare_static(
-        &self,
-        mutator: u32,
-        k: u32,
-        expect: u32,
-        new: u32,
-    ) -> Result<(Reply, Change), Refusal>
+    fn compare_static(&self, mutator: u32, k: u32, expect: u32, new: u32) -> Deed
         ensures { result ≡ deed_of true self.now mutator (Command.CompareStatic k expect new) }
     {
         let expected = self.held(mutator, expect)?;
@@ -308,7 +285,7 @@ impl Reference {
         }
     }
 
-    fn same(&self, mutator: u32, a: u32, b: u32) -> Result<(Reply, Change), Refusal>
+    fn same(&self, mutator: u32, a: u32, b: u32) -> Deed
         ensures { result ≡ deed_of true self.now mutator (Command.Same a b) }
     {
         let first = self.held(mutator, a)?;
@@ -316,7 +293,7 @@ impl Reference {
         Ok((Reply::Is(first == second), Change::Nothing))
     }
 
-    fn describe(&self, mutator: u32, a: u32) -> Result<(Reply, Change), Refusal>
+    fn describe(&self, mutator: u32, a: u32) -> Deed
         ensures { result ≡ deed_of true self.now mutator (Command.Describe a) }
     {
         let id = self.held(mutator, a)?;

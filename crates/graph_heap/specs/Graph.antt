@@ -71,14 +71,20 @@ with_word o i v = record { shape = o.shape; refs = o.refs; words = slice_set o.w
 abbrev pub put_object : List Object → ℕ → Object → List Object
 put_object objects id o = if id == 0 then objects else slice_set objects (id - 1) o
 
+-- the objects with another value in a reference cell of one
+abbrev pub put_ref : List Object → ℕ → ℕ → ℕ → List Object
+put_ref objects id i v = put_object objects id (with_ref (object_of objects id) i v)
+
+-- the objects with another value in a word cell of one
+abbrev pub put_word : List Object → ℕ → ℕ → ℕ → List Object
+put_word objects id i v = put_object objects id (with_word (object_of objects id) i v)
+
 -- the graph heap after a change
 abbrev pub changed : Graph → Change → Graph
 changed g changes.Nothing = g
 changed g (changes.Root cell id) = record g { roots = slice_set g.roots cell id }
-changed g (changes.Ref id i value) =
-    record g { objects = put_object g.objects id (with_ref (object_of g.objects id) i value) }
-changed g (changes.Word id i value) =
-    record g { objects = put_object g.objects id (with_word (object_of g.objects id) i value) }
+changed g (changes.Ref id i value) = record g { objects = put_ref g.objects id i value }
+changed g (changes.Word id i value) = record g { objects = put_word g.objects id i value }
 changed g (changes.New cell id shape) =
     record g { objects = g.objects ++ new_object shape ∷ []; roots = slice_set g.roots cell id }
 changed g (changes.Join m) = record g { live = slice_set g.live m true }

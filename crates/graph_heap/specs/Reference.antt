@@ -1,7 +1,9 @@
 -- The slow heap, as a graph heap.
-use Rattle.std.specs.Prelude.{◌≡◌, ◌≤◌, map, length}
+use Rattle.std.specs.Prelude.{◌≡◌, ℕ, ◌≤◌, map, length, slice_index, Result, Ok}
+use Rattle.graph_heap.specs.declared.command.Refusal.{Refusal}
 use Rattle.graph_heap.specs.declared.reference.Reference.TheInside.{Inside}
 use Rattle.graph_heap.specs.Graph.{Graph, root_cells}
+use Rattle.graph_heap.specs.Effect.{◌>>=◌, slot_at}
 use Rattle.graph_heap.specs.Stored.{object_in}
 
 -- the slow heap's fields, as a graph heap
@@ -17,3 +19,7 @@ graph_in a = record {
 pub record IsRow (a : Inside) : Type 0 where
   pub row : length a.roots.items ≡ root_cells a.limits
   pub live : a.limits.mutators ≤ length a.live.items
+
+-- what a slot of a mutator holds
+abbrev pub held_at : Graph → ℕ → ℕ → Result ℕ Refusal
+held_at g m slot = slot_at g.limits m slot >>= λ at. Ok (slice_index g.roots at)

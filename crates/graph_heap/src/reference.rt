@@ -4,6 +4,7 @@ ghost use Rattle.graph_heap.specs.Shape as shapes;
 ghost use Rattle.graph_heap.specs.Graph.{changed, opening};
 ghost use Rattle.graph_heap.specs.Effect as effect;
 ghost use Rattle.graph_heap.specs.Effect.{deed_of, effect_of, fitting, reply_of, next_of};
+ghost use Rattle.graph_heap.specs.Reference.{held_at};
 ghost use Rattle.graph_heap.specs.History as history;
 ghost use Rattle.graph_heap.specs.History.{IsEntryOf, after_entry};
 
@@ -20,6 +21,9 @@ use crate::stored::{StoredObject, made_of, object_of, ref_of, set_ref_of, set_wo
 use row::{null_cells, set_cell, slot_of, static_of};
 use std::alloc::Global;
 use std::marker::Model;
+
+/// What a command does: its reply and what changes, or why it is refused.
+type Deed = Result<(Reply, Change), Refusal>;
 
 /// The slow heap: objects in a vector by their identity, which never move or go, and the row of
 /// roots. Contracts see it as the graph heap.
@@ -155,13 +159,15 @@ impl Reference {
         }
     }
 
-    fn make(
-        &self,
-        room: bool,
-        mutator: u32,
-        dst: u32,
-        shape: Shape,
-    ) -> Result<(Reply, Change), Refusal>
+    /// What a slot of a mutator holds.
+    fn held(&self, mutator: u32, slot: u32) -> Result<u64, Refusal>
+        ensures { result ≡ held_at self.now mutator slot }
+    {
+        let at = slot_of(&self.limits, mutator, slot)?;
+        Ok(self.roots[at])
+    }
+
+    fn make(&self, room: bool, mutator: u32, dst: u32, shape: Shape) -> Deed
         ensures { result ≡ deed_of room self.now mutator (Command.New dst shape) }
     {
         let cell = slot_of(&self.limits, mutator, dst)?;
@@ -173,78 +179,58 @@ impl Reference {
         Ok((Reply::Made(id), Change::New { cell, id, shape }))
     }
 
-    fn load(&self, mutator: u32, dst: u32, obj: u32, i: u32) -> Result<(Reply, Change), Refusal>
+    fn load(&self, mutator: u32, dst: u32, obj: u32, i: u32) -> Deed
         ensures { result ≡ deed_of true self.now mutator (Command.Load dst obj i) }
     {
         let cell = slot_of(&self.limits, mutator, dst)?;
-        let at = slot_of(&self.limits, mutator, obj)?;
-        let id = ref_of(self.objects.as_slice(), self.roots[at], i)?;
+        let object = self.held(mutator, obj)?;
+        let id = ref_of(self.objects.as_slice(), object, i)?;
         Ok((Reply::Ref(id), Change::Root { cell, id }))
     }
 
-    fn store(&self, mutator: u32, obj: u32, i: u32, src: u32) -> Result<(Reply, Change), Refusal>
+    fn store(&self, mutator: u32, obj: u32, i: u32, src: u32) -> Deed
         ensures { result ≡ deed_of true self.now mutator (Command.Store obj i src) }
     {
-        let at = slot_of(&self.limits, mutator, obj)?;
-        let from = slot_of(&self.limits, mutator, src)?;
-        let id = self.roots[at];
+        let id = self.held(mutator, obj)?;
+        let value = self.held(mutator, src)?;
         ref_of(self.objects.as_slice(), id, i)?;
-        let value = self.roots[from];
         Ok((Reply::Done, Change::Ref { id, i, value }))
     }
 
-    fn compare_store(
-        &self,
-        mutator: u32,
-        obj: u32,
-        i: u32,
-        expect: u32,
-        new: u32,
-    ) -> Result<(Reply, Change), Refusal>
+    fn compare_store(&self, mutator: u32, obj: u32, i: u32, expect: u32, new: u32) -> Deed
         ensures { result ≡ deed_of true self.now mutator (Command.CompareStore obj i expect new) }
     {
-        let at = slot_of(&self.limits, mutator, obj)?;
-        let expected = slot_of(&self.limits, mutator, expect)?;
-        let from = slot_of(&self.limits, mutator, new)?;
-        let id = self.roots[at];
+        let id = self.held(mutator, obj)?;
+        let expected = self.held(mutator, expect)?;
+        let value = self.held(mutator, new)?;
         let held = ref_of(self.objects.as_slice(), id, i)?;
-        let value = self.roots[from];
-        if held == self.roots[expected] {
+        if held == expected {
             Ok((Reply::Stored, Change::Ref { id, i, value }))
         } else {
             Ok((Reply::Kept(held), Change::Nothing))
         }
     }
 
-    fn get(&self, mutator: u32, obj: u32, i: u32) -> Result<(Reply, Change), Refusal>
+    fn get(&self, mutator: u32, obj: u32, i: u32) -> Deed
         ensures { result ≡ deed_of true self.now mutator (Command.Get obj i) }
     {
-        let at = slot_of(&self.limits, mutator, obj)?;
-        let value = word_of(self.objects.as_slice(), self.roots[at], i)?;
+        let id = self.held(mutator, obj)?;
+        let value = word_of(self.objects.as_slice(), id, i)?;
         Ok((Reply::Word(value), Change::Nothing))
     }
 
-    fn put(&self, mutator: u32, obj: u32, i: u32, word: u64) -> Result<(Reply, Change), Refusal>
+    fn put(&self, mutator: u32, obj: u32, i: u32, word: u64) -> Deed
         ensures { result ≡ deed_of true self.now mutator (Command.Put obj i word) }
     {
-        let at = slot_of(&self.limits, mutator, obj)?;
-        let id = self.roots[at];
+        let id = self.held(mutator, obj)?;
         word_of(self.objects.as_slice(), id, i)?;
         Ok((Reply::Done, Change::Word { id, i, value: word }))
     }
 
-    fn compare_put(
-        &self,
-        mutator: u32,
-        obj: u32,
-        i: u32,
-        old: u64,
-        new: u64,
-    ) -> Result<(Reply, Change), Refusal>
+    fn compare_put(&self, mutator: u32, obj: u32, i: u32, old: u64, new: u64) -> Deed
         ensures { result ≡ deed_of true self.now mutator (Command.ComparePut obj i old new) }
     {
-        let at = slot_of(&self.limits, mutator, obj)?;
-        let id = self.roots[at];
+        let id = self.held(mutator, obj)?;
         let found = word_of(self.objects.as_slice(), id, i)?;
         if found == old {
             Ok((Reply::Stored, Change::Word { id, i, value: new }))
@@ -253,23 +239,22 @@ impl Reference {
         }
     }
 
-    fn copy(&self, mutator: u32, dst: u32, src: u32) -> Result<(Reply, Change), Refusal>
+    fn copy(&self, mutator: u32, dst: u32, src: u32) -> Deed
         ensures { result ≡ deed_of true self.now mutator (Command.Copy dst src) }
     {
         let cell = slot_of(&self.limits, mutator, dst)?;
-        let from = slot_of(&self.limits, mutator, src)?;
-        let id = self.roots[from];
+        let id = self.held(mutator, src)?;
         Ok((Reply::Done, Change::Root { cell, id }))
     }
 
-    fn clear(&self, mutator: u32, dst: u32) -> Result<(Reply, Change), Refusal>
+    fn clear(&self, mutator: u32, dst: u32) -> Deed
         ensures { result ≡ deed_of true self.now mutator (Command.Clear dst) }
     {
         let cell = slot_of(&self.limits, mutator, dst)?;
         Ok((Reply::Done, Change::Root { cell, id: 0 }))
     }
 
-    fn load_static(&self, mutator: u32, dst: u32, k: u32) -> Result<(Reply, Change), Refusal>
+    fn load_static(&self, mutator: u32, dst: u32, k: u32) -> Deed
         ensures { result ≡ deed_of true self.now mutator (Command.LoadStatic dst k) }
     {
         let cell = slot_of(&self.limits, mutator, dst)?;
@@ -278,52 +263,40 @@ impl Reference {
         Ok((Reply::Ref(id), Change::Root { cell, id }))
     }
 
-    fn store_static(&self, mutator: u32, k: u32, src: u32) -> Result<(Reply, Change), Refusal>
+    fn store_static(&self, mutator: u32, k: u32, src: u32) -> Deed
         ensures { result ≡ deed_of true self.now mutator (Command.StoreStatic k src) }
     {
-        let from = slot_of(&self.limits, mutator, src)?;
+        let id = self.held(mutator, src)?;
         let cell = static_of(&self.limits, k)?;
-        let id = self.roots[from];
         Ok((Reply::Done, Change::Root { cell, id }))
     }
 
-    fn compare_static(
-        &self,
-        mutator: u32,
-        k: u32,
-        expect: u32,
-        new: u32,
-    ) -> Result<(Reply, Change), Refusal>
+    fn compare_static(&self, mutator: u32, k: u32, expect: u32, new: u32) -> Deed
         ensures { result ≡ deed_of true self.now mutator (Command.CompareStatic k expect new) }
     {
-        let expected = slot_of(&self.limits, mutator, expect)?;
-        let from = slot_of(&self.limits, mutator, new)?;
+        let expected = self.held(mutator, expect)?;
+        let id = self.held(mutator, new)?;
         let cell = static_of(&self.limits, k)?;
         let held = self.roots[cell];
-        let id = self.roots[from];
-        if held == self.roots[expected] {
+        if held == expected {
             Ok((Reply::Stored, Change::Root { cell, id }))
         } else {
             Ok((Reply::Kept(held), Change::Nothing))
         }
     }
 
-    fn same(&self, mutator: u32, a: u32, b: u32) -> Result<(Reply, Change), Refusal>
+    fn same(&self, mutator: u32, a: u32, b: u32) -> Deed
         ensures { result ≡ deed_of true self.now mutator (Command.Same a b) }
     {
-        let first = slot_of(&self.limits, mutator, a)?;
-        let second = slot_of(&self.limits, mutator, b)?;
-        Ok((
-            Reply::Is(self.roots[first] == self.roots[second]),
-            Change::Nothing,
-        ))
+        let first = self.held(mutator, a)?;
+        let second = self.held(mutator, b)?;
+        Ok((Reply::Is(first == second), Change::Nothing))
     }
 
-    fn describe(&self, mutator: u32, a: u32) -> Result<(Reply, Change), Refusal>
+    fn describe(&self, mutator: u32, a: u32) -> Deed
         ensures { result ≡ deed_of true self.now mutator (Command.Describe a) }
     {
-        let at = slot_of(&self.limits, mutator, a)?;
-        let id = self.roots[at];
+        let id = self.held(mutator, a)?;
         let object = object_of(self.objects.as_slice(), id)?;
         Ok((Reply::Described(id, object.shape), Change::Nothing))
     }

@@ -1,8 +1,7 @@
 //! The objects of the slow heap.
 ghost use Rattle.std.specs.Prelude.{◌≡◌, map, slice_get, slice_index, slice_set, length, nat_lt, if◌then◌else◌, IfOk, Ok, Err};
 ghost use Rattle.graph_heap.specs.Shape as shapes;
-ghost use Rattle.graph_heap.specs.Graph as graph;
-ghost use Rattle.graph_heap.specs.Graph.{new_object, put_object, with_ref, with_word};
+ghost use Rattle.graph_heap.specs.Graph.{new_object, put_ref, put_word};
 ghost use Rattle.graph_heap.specs.Effect.{object_at, ref_at, word_at, Sees};
 ghost use Rattle.graph_heap.specs.Stored.{object_in};
 ghost use Rattle.graph_heap.specs.declared.command.Refusal.TheVariants as refusals;
@@ -126,9 +125,7 @@ fn set_cell(cells: &mut [u64], i: u32, value: u64)
 
 /// Writes a reference cell, if it is there.
 pub fn set_ref_of(objects: &mut [StoredObject], id: u64, i: u32, value: u64)
-    ensures { map object_in objects.new
-        ≡ put_object (map object_in objects.old) id
-        (with_ref (graph.object_of (map object_in objects.old) id) i value) }
+    ensures { map object_in objects.new ≡ put_ref (map object_in objects.old) id i value }
 {
     if id != 0 && id as usize <= objects.len() {
         set_cell(objects[id as usize - 1].refs.as_mut_slice(), i, value);
@@ -137,9 +134,7 @@ pub fn set_ref_of(objects: &mut [StoredObject], id: u64, i: u32, value: u64)
 
 /// Writes a word cell, if it is there.
 pub fn set_word_of(objects: &mut [StoredObject], id: u64, i: u32, value: u64)
-    ensures { map object_in objects.new
-        ≡ put_object (map object_in objects.old) id
-        (with_word (graph.object_of (map object_in objects.old) id) i value) }
+    ensures { map object_in objects.new ≡ put_word (map object_in objects.old) id i value }
 {
     if id != 0 && id as usize <= objects.len() {
         set_cell(objects[id as usize - 1].words.as_mut_slice(), i, value);

@@ -1,6 +1,7 @@
 -- How many quanta a cycle takes at most.
 use Rattle.std.proofs.Common.{◌≡◌, ℕ, zero, suc, ◌+◌, ◌-◌, ◌*◌, ◌/◌, ◌<◌, ◌≤◌, ◌⊎◌, inl, inr, length, refl, ap, sym, ◌∙◌, subst, arith}
 use Rattle.std.proofs.Math.Nat.{lt-div-mul-add}
+use Rattle.size_classes.specs.declared.class.TheConstants.{CLASSES}
 use Rattle.heap_model.specs.declared.phase.Phase.TheVariants as phases
 use Rattle.heap_model.specs.State.{HeapState}
 use Rattle.heap_model.specs.Action.{Chain, Nothing_done, Then}
@@ -16,7 +17,7 @@ use Rattle.heap_model.proofs.Stood.{stands_chain, stands_limit}
 
 pub same_limit : (h after : HeapState) → length after.roots ≡ length h.roots → length after.store.pages ≡ length h.store.pages → after.defrag_pages ≡ h.defrag_pages → cycle_limit after ≡ cycle_limit h
 same_limit h after r p d =
-    let e : (after.defrag_pages + 38) * length after.store.pages ≡ (h.defrag_pages + 38) * length h.store.pages = ap (λ z. (z + 38) * length after.store.pages) d ∙ ap (λ z. (h.defrag_pages + 38) * z) p in
+    let e : (after.defrag_pages + CLASSES) * length after.store.pages ≡ (h.defrag_pages + CLASSES) * length h.store.pages = ap (λ z. (z + CLASSES) * length after.store.pages) d ∙ ap (λ z. (h.defrag_pages + CLASSES) * z) p in
     omega arith
 
 -- what a cycle may spend stays through actions

@@ -2,6 +2,7 @@
 use Rattle.std.proofs.Common.{◌≡◌, ℕ, ◌+◌, ◌<◌, ◌≤◌, ◌⊎◌, inl, inr, Bool, true, false, refl, ap, sym, ◌∙◌, arith}
 use Rattle.std.specs.Prelude.{Option, Some, None, slice_get, position}
 use Rattle.std.proofs.lemmas.Option.{same_Some}
+use Rattle.size_classes.specs.declared.class.TheConstants.{CLASSES}
 use Rattle.size_classes.specs.Sizes.{size_of}
 use Rattle.size_classes.proofs.Table.{size_high}
 use Rattle.heap_model.specs.declared.phase.Phase.{Phase}
@@ -70,7 +71,7 @@ action_costs h after cost (Chooses_page class page best chosen b q new at few la
 action_costs h after cost (Chooses_none class page best chosen at few last is) = pass_costs h class page best chosen at
 action_costs h after cost (Moves_block class page block chosen i to j p q new e at leaving next place there empty w0 pages) =
     Of_move p (record { class = class; page = page; block = block; chosen = chosen; next = i; to = to; phase = e; emptied = at; is_next = next; place = place })
-action_costs h after cost (Ends_moving (No_class page best chosen e)) = other_costs h (phases.Moving (moves.Pass 38 page best chosen)) e refl refl
+action_costs h after cost (Ends_moving (No_class page best chosen e)) = other_costs h (phases.Moving (moves.Pass CLASSES page best chosen)) e refl refl
 action_costs h after cost (Ends_moving (No_page class page block chosen p e at done less)) = done_costs h class page block chosen p e at done
 
 -- and the state says one cost

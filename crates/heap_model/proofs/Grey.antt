@@ -7,6 +7,7 @@ use Rattle.std.proofs.lemmas.Bool.{ne_eqb}
 use Rattle.std.proofs.lemmas.List.{length-map}
 use Rattle.std.proofs.lemmas.Map.Steps.{length-le_from_distinct_below}
 use Rattle.graph_heap.specs.Graph.{Graph}
+use Rattle.size_classes.specs.declared.class.TheConstants.{MOST_BLOCKS}
 use Rattle.heap_model.specs.declared.phase.Phase.{Phase}
 use Rattle.heap_model.specs.declared.phase.Phase.TheVariants as phases
 use Rattle.heap_model.specs.declared.phase.Candidate.{Candidate}
@@ -93,7 +94,7 @@ module _ (h : Heap) (size : ℕ → ℕ) (n : ℕ) (a : LieApart h size (4 * n))
   few xs o w = subst (λ k. k ≤ n) (length-map xs quarter) (length-le_from_distinct_below (map quarter xs) n (distinct xs o w) (below xs w))
 
 -- how many words of the arena the four words of each block's header alone may take
-quarters : (h : HeapState) → arena_words h ≡ 4 * (512 * length h.store.pages)
+quarters : (h : HeapState) → arena_words h ≡ 4 * (MOST_BLOCKS * length h.store.pages)
 quarters h = omega arith
 
 nonzero : (xs : List ℕ) (y : ℕ) → contains xs 0 ≡ false → contains xs y ≡ true → 0 < y
@@ -111,7 +112,7 @@ module _ (h : HeapState) (pages : ArePages h.store.pages) (whole : IsWhole h.sto
     held = λ x e. held_behind h x (nonzero h.grey x null e) (g.held x e);
     marked = g.marked;
     once = g.once;
-    few = few (seen h) (size_behind h) (512 * length h.store.pages) (subst (LieApart (seen h) (size_behind h)) (quarters h) (lie_apart h pages whole)) h.grey g.once (λ y e. (g.held y e, nonzero h.grey y null e));
+    few = few (seen h) (size_behind h) (MOST_BLOCKS * length h.store.pages) (subst (LieApart (seen h) (size_behind h)) (quarters h) (lie_apart h pages whole)) h.grey g.once (λ y e. (g.held y e, nonzero h.grey y null e));
   }
 
 -- in roots and marking

@@ -12,29 +12,7 @@ move_cell h g s at x y b free n i k = let e = b.held n k in grind arith
 
 pub move_base : (h : Heap) (g s : PartGraph) (at : Name → ℕ) (receiving : ℕ → Bool) (x y : ℕ) → Base h g s at → Resting h g s at → Moving h receiving
     → h.held x ≡ true → h.forward x ≡ x → x ≢ 0 → receiving x ≡ false → h.held y ≡ false → Base (move h x y) g s (moved at x y)
-move_base h g s at receiving x y b r m held main some leaving free = record {
-  grows = b.grows;
-  next = b.next;
-  null_held = grind arith;
-  null_forward = grind arith;
-  null_name = grind arith;
-  null_at = grind arith;
-  null_width = grind arith;
-  null_words = grind arith;
-  null_shape = grind arith;
-  below = grind arith;
-  held = grind arith;
-  main = grind arith;
-  name = grind arith;
-  width = grind arith;
-  words = grind arith;
-  shape = grind arith;
-  cell_held = grind arith;
-  cell = λ n i k l. rw (move_cell h g s at x y b free n i k) (move_forward h at receiving x y m main leaving free (h.cell (at n) i) (g.target n i) (b.cell_held n i k l) (b.cell n i k l));
-  root_held = grind arith;
-  root = grind arith;
-  only = grind arith;
-}
+move_base h g s at receiving x y b r m held main some leaving free = grind (arith, move_cell, move_forward)
 
 pub move_resting : (h : Heap) (g s : PartGraph) (at : Name → ℕ) (receiving : ℕ → Bool) (x y : ℕ) → Base h g s at → Resting h g s at → Moving h receiving
     → h.held x ≡ true → h.forward x ≡ x → x ≢ 0 → receiving x ≡ false → h.held y ≡ false → Resting (move h x y) g s (moved at x y)

@@ -5,6 +5,7 @@ use Rattle.std.proofs.lemmas.Option.{slice_get_within, same_Some}
 use Rattle.std.proofs.lemmas.List.Quantifiers.{position-Some}
 use Rattle.std.proofs.Math.Nat.{mul-le-mul_right}
 use Rattle.graph_heap.specs.Graph.{Graph}
+use Rattle.size_classes.specs.declared.class.TheConstants.{CLASSES}
 use Rattle.size_classes.specs.Parts.{part_cells, cells_of}
 use Rattle.size_classes.specs.Sizes.{size_of}
 use Rattle.heap_model.specs.declared.phase.Phase.TheVariants as phases
@@ -122,7 +123,7 @@ choose_act h present snapshot class page best chosen c p new k at good there w p
 -- moving ends
 pub moving_end_act : (h : HeapState) (present snapshot : Graph) → Consistent h present snapshot → MovingDone h → Consistent (goes_to h 1 phases.Idle) present snapshot
 moving_end_act h present snapshot c (No_class page best chosen e) =
-    let c0 = at_phase h (phases.Moving (moves.Pass 38 page best chosen)) (view present) (view snapshot) e c.parts in
+    let c0 = at_phase h (phases.Moving (moves.Pass CLASSES page best chosen)) (view present) (view snapshot) e c.parts in
     again h (goes_to h 1 phases.Idle) present snapshot c refl refl refl c.whole (record { at = c0.at; base = c0.base; stage = c0.stage.0 })
 moving_end_act h present snapshot c (No_page class page block chosen p e at done all) =
     let c0 = at_phase h (phases.Moving (moves.Emptying class page block chosen)) (view present) (view snapshot) e c.parts in

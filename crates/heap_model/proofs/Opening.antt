@@ -3,10 +3,11 @@ use Rattle.std.proofs.Common.{◌≡◌, ℕ, ◌-◌, ◌/◌, ◌%◌, ◌<◌
 use Rattle.std.specs.Prelude.{Option, None}
 use Rattle.std.proofs.lemmas.List.{length-replicate, get_or-replicate, get_or_past}
 use Rattle.graph_heap.specs.declared.command.Limits.{Limits}
+use Rattle.graph_heap.specs.declared.command.Shape.TheVariants.{Plain}
 use Rattle.graph_heap.specs.Graph.{Object, no_object, object_of, opening, root_cells}
 use Rattle.heap_model.specs.Pages.{Page, page_at}
 use Rattle.heap_model.specs.Store.{is_held, held_in}
-use Rattle.heap_model.specs.Core.{Name, null, Kept, Base}
+use Rattle.heap_model.specs.Core.{Name, null, PartGraph, Heap, Kept, Grows, Base}
 use Rattle.heap_model.specs.Cut.{width_in, width_of, words_of, name_of, view}
 use Rattle.heap_model.specs.Collector.{In_idle}
 use Rattle.heap_model.specs.State.{HeapState, seen, collector_of, progress_of}
@@ -54,6 +55,12 @@ opening_kept l roots n k = elim (kept_cases roots (view (opening l)) (view (open
 opening_root : (h : HeapState) → IsOpening h → (j : ℕ) → (seen h).root j ≡ 0
 opening_root h o j = ap (λ z. get_or z j 0) o.roots ∙ no_refs (root_cells h.limits) j
 
+-- where null alone is held, and nothing else is kept, each block lies where null lies
+null_alone : (h : Heap) (g : PartGraph) → Grows h.roots g g → h.next ≡ g.next → 0 < h.next → h.held 0 ≡ true → h.forward 0 ≡ 0 → h.name 0 ≡ null → h.width 0 ≡ 0 → h.words 0 ≡ [] → h.shape 0 ≡ Plain 0 0
+    → g.words null ≡ [] → ((n : Name) → g.shape n ≡ Plain 0 0) → ((n : Name) → g.width n ≡ 0) → ((n : Name) → Kept h.roots g g n → n ≡ null) → ((x : ℕ) → h.held x ≡ true → x ≡ 0) → ((j : ℕ) → h.root j ≡ 0)
+    → Base h g g (λ n. 0)
+null_alone h g grows next some held forward name width words shape no_words plain narrow none only root = grind arith
+
 pub opening_stands : (h : HeapState) → IsOpening h → Consistent h (opening h.limits) (opening h.limits)
 opening_stands h o =
     let g = view (opening h.limits) in
@@ -64,36 +71,17 @@ opening_stands h o =
     let row' : length h.roots ≡ length (opening h.limits).roots = row ∙ sym (length-replicate {A = ℕ} (root_cells h.limits) 0) in
     let held = held_null h o in
     let root = opening_root h o in
-    let base : Base (seen h) g g (λ n. 0) = record {
-      grows = record {
-        next = omega arith;
-        width = λ n l. refl;
-        count = λ k l. refl;
-        reached = λ n r. let e = none n (kept_reach roots g g n r) in subst (λ (z : Name). z.identity < g.next) (sym e) (omega arith);
-        kept_root = λ j l. subst (λ z. Kept roots g g z) (sym (ap name_of (no_refs (root_cells h.limits) j))) k0;
-        kept_target = λ n i k l. absurd (let w = opening_wide h.limits n in omega arith);
-      };
-      next = o.next;
-      null_held = refl;
-      null_forward = refl;
-      null_name = refl;
-      null_at = refl;
-      null_width = refl;
-      null_words = refl;
-      null_shape = refl;
-      below = λ x l. let e = held x l in subst (λ z. ((seen h).name z).identity < h.next) (sym e) (let p : h.next ≡ 1 = o.next in omega arith);
-      held = λ n k. refl;
-      main = λ n k. refl;
-      name = λ n k. sym (none n k);
-      width = λ n k. sym (opening_wide h.limits n);
-      words = λ n k. let e = none n k in sym (ap (λ z. g.words z) e ∙ ap (λ z. words_of z 0) (none_there 0) ∙ no_words);
-      shape = λ n k. sym (ap (λ (z : Object). z.shape) (none_there n.identity));
-      cell_held = λ n i k l. refl;
-      cell = λ n i k l. refl;
-      root_held = λ j l. ap (seen h).held (root j);
-      root = λ j l. ap (seen h).forward (root j);
-      only = λ x l f k. held x l;
+    let grows : Grows roots g g = record {
+      next = omega arith;
+      width = λ n l. refl;
+      count = λ k l. refl;
+      reached = λ n r. let e = none n (kept_reach roots g g n r) in subst (λ (z : Name). z.identity < g.next) (sym e) (omega arith);
+      kept_root = λ j l. subst (λ z. Kept roots g g z) (sym (ap name_of (no_refs (root_cells h.limits) j))) k0;
+      kept_target = λ n i k l. absurd (let w = opening_wide h.limits n in omega arith);
     } in
+    let words = ap (λ z. words_of z 0) (none_there 0) ∙ no_words in
+    let shape = λ (n : Name). ap (λ (z : Object). z.shape) (none_there n.identity) in
+    let base = null_alone (seen h) g grows o.next (let p : h.next ≡ 1 = o.next in omega arith) refl refl refl refl refl refl words shape (opening_wide h.limits) none held root in
     record {
       limits = refl;
       live = o.live;

@@ -10,6 +10,7 @@ use Rattle.std.proofs.lemmas.List.Quantifiers.{position-Some}
 use Rattle.std.proofs.lemmas.Option.{slice_get_within, get_or_from_slice_get}
 use Rattle.std.proofs.Math.Nat.{eq-zero-or-pos, mul-one, div-eq_of_lt, add-div_right}
 use Rattle.graph_heap.specs.declared.command.Shape.{Shape}
+use Rattle.size_classes.specs.declared.class.TheConstants.{CLASSES}
 use Rattle.size_classes.specs.Sizes.{blocks_in, class_for}
 use Rattle.size_classes.specs.Parts.{cells_of, parts_in, part_words}
 use Rattle.size_classes.specs.Need.{blocks_needed, needed, is_class}
@@ -66,8 +67,8 @@ term_below pages need (suc c) class h = elim (last c class h) [
 ]
 
 -- needs that are the same for each class
-pub room_same : (pages : List (Option Page)) (m n : ℕ → ℕ) → ((k : ℕ) → k < 38 → m k ≡ n k) → has_room pages m ≡ has_room pages n
-room_same pages m n e = ap (λ x. leb x (free_pages pages)) (terms_same pages pages n m 38 (λ k l. ap (λ x. whole_pages k (x - free_blocks pages k)) (e k l)))
+pub room_same : (pages : List (Option Page)) (m n : ℕ → ℕ) → ((k : ℕ) → k < CLASSES → m k ≡ n k) → has_room pages m ≡ has_room pages n
+room_same pages m n e = ap (λ x. leb x (free_pages pages)) (terms_same pages pages n m CLASSES (λ k l. ap (λ x. whole_pages k (x - free_blocks pages k)) (e k l)))
 
 -- some item passes where a sum of what the passing ones add is above 0
 first_within : {A : Type 0} (p : A → Bool) (f : A → ℕ) (xs : List A) → ((x : A) → p x ≡ false → f x ≡ 0) → 0 < sum_by f xs → position_or_len p xs < length xs
@@ -119,15 +120,15 @@ whole_one n b p q = elim (eq-zero-or-pos ((n + (b - 1)) / b)) [
   | inr h ↦ h
 ]
 
-free_one : (pages : List (Option Page)) (need : ℕ → ℕ) (class : ℕ) → class < 38 → 0 < need class → has_room pages need ≡ true → free_blocks pages class ≡ 0 → 0 < free_pages pages
+free_one : (pages : List (Option Page)) (need : ℕ → ℕ) (class : ℕ) → class < CLASSES → 0 < need class → has_room pages need ≡ true → free_blocks pages class ≡ 0 → 0 < free_pages pages
 free_one pages need class small some room z =
-    let t = term_below pages need 38 class small in
-    let r = leb-true (pages_needed pages need 38) (free_pages pages) room in
+    let t = term_below pages need CLASSES class small in
+    let r = leb-true (pages_needed pages need CLASSES) (free_pages pages) room in
     let o = whole_one (need class - free_blocks pages class) (blocks_in class) (omega (arith, z, some)) (blocks_some class small) in
     omega (arith, t, r, o)
 
 -- where there is room and a block is needed, a page gives it
-pub room_gives : (pages : List (Option Page)) (need : ℕ → ℕ) (class : ℕ) → class < 38 → 0 < need class → has_room pages need ≡ true → IsSome (page_for pages class)
+pub room_gives : (pages : List (Option Page)) (need : ℕ → ℕ) (class : ℕ) → class < CLASSES → 0 < need class → has_room pages need ≡ true → IsSome (page_for pages class)
 room_gives pages need class small some room = elim (eq-zero-or-pos (free_blocks pages class)) [
   | inl z ↦ either_some _ _ (inr (first_passing is_free (λ o. one_if (is_free o)) pages counted (free_one pages need class small some room z)))
   | inr h ↦ either_some _ _ (inl (first_passing (is_usable class) (free_on class) pages (free_if_usable class) h))
@@ -189,11 +190,11 @@ room_less : (a b f g : ℕ) → leb a f ≡ true → b + 1 ≡ a → g + 1 ≡ f
 room_less a b f g r e h = le-leb b g (let t = leb-true a f r in omega arith)
 
 -- a block of a page in use is taken
-room_used : (old : List (Option Page)) (m n : ℕ → ℕ) (class page index : ℕ) (p : Page) → has_room old m ≡ true → m class ≡ n class + 1 → ((k : ℕ) → k < 38 → k ≢ class → n k ≡ m k)
+room_used : (old : List (Option Page)) (m n : ℕ → ℕ) (class page index : ℕ) (p : Page) → has_room old m ≡ true → m class ≡ n class + 1 → ((k : ℕ) → k < CLASSES → k ≢ class → n k ≡ m k)
     → page < length old → page_at old page ≡ Some p → is_usable class (Some p) ≡ true → IsOpen p index → has_room (set old page (Some (with_held p index true))) n ≡ true
 room_used old m n class page index p room here others l at usable o =
-    room_kept (pages_needed old m 38) (pages_needed new n 38) (free_pages old) (free_pages new) room
-    (terms_same old new m n 38 (λ k b. term k b (eqb_tells k class)))
+    room_kept (pages_needed old m CLASSES) (pages_needed new n CLASSES) (free_pages old) (free_pages new) room
+    (terms_same old new m n CLASSES (λ k b. term k b (eqb_tells k class)))
     (same_zero (free_pages new) (free_pages old) (free_set old page (Some p) v l at))
   where
     v : Option Page
@@ -216,7 +217,7 @@ room_used old m n class page index p room here others l at usable o =
         let e = other_class p.class class k (eqb-true p.class class parts.0) d in
         as_many (free_blocks new k) (free_blocks old k) (free_on k (Some p)) (free_on k v) (blocks_set old page k (Some p) v l at) (other_on p k e) (other_on (with_held p index true) k e)
 
-    term : (k : ℕ) → k < 38 → ((eqb k class ≡ true) × (k ≡ class)) ⊎ ((eqb k class ≡ false) × (k ≢ class)) → class_pages new n k ≡ class_pages old m k
+    term : (k : ℕ) → k < CLASSES → ((eqb k class ≡ true) × (k ≡ class)) ⊎ ((eqb k class ≡ false) × (k ≢ class)) → class_pages new n k ≡ class_pages old m k
     term k b (inl e) = subst (λ c. class_pages new n c ≡ class_pages old m c) (sym e.1) (ap (whole_pages class) (missing_same (m class) (n class) (free_blocks old class) (free_blocks new class) here own))
     term k b (inr d) = pages_same k (m k) (n k) (free_blocks old k) (free_blocks new k) (others k b d.1) (other k d.1)
 
@@ -260,12 +261,12 @@ fresh_fewer : (a b y x n : ℕ) → a + 0 ≡ b + y → b ≡ 0 → y + 1 ≡ x 
 fresh_fewer a b y x n e z f g = omega arith
 
 -- a block of a page that was free is taken
-room_fresh : (old : List (Option Page)) (m n : ℕ → ℕ) (class page index : ℕ) → class < 38 → has_room old m ≡ true → m class ≡ n class + 1 → ((k : ℕ) → k < 38 → k ≢ class → n k ≡ m k)
+room_fresh : (old : List (Option Page)) (m n : ℕ → ℕ) (class page index : ℕ) → class < CLASSES → has_room old m ≡ true → m class ≡ n class + 1 → ((k : ℕ) → k < CLASSES → k ≢ class → n k ≡ m k)
     → position (is_usable class) old ≡ None → page < length old → page_at old page ≡ None → IsOpen (fresh_page class) index
     → has_room (set old page (Some (with_held (fresh_page class) index true))) n ≡ true
 room_fresh old m n class page index small room here others none l at o =
-    room_less (pages_needed old m 38) (pages_needed new n 38) (free_pages old) (free_pages new) room
-    (terms_less old new m n class 38 small (pages_less class (m class) (n class) (free_blocks old class) (free_blocks new class) (blocks_some class small) here (no_blocks old class none) own)
+    room_less (pages_needed old m CLASSES) (pages_needed new n CLASSES) (free_pages old) (free_pages new) room
+    (terms_less old new m n class CLASSES small (pages_less class (m class) (n class) (free_blocks old class) (free_blocks new class) (blocks_some class small) here (no_blocks old class none) own)
     (λ k b d. pages_same k (m k) (n k) (free_blocks old k) (free_blocks new k) (others k b d) (other k d)))
     (less_one (free_pages new) (free_pages old) (free_set old page None v l at))
   where
@@ -284,7 +285,7 @@ room_fresh old m n class page index small room here others none l at o =
     other k d = as_many (free_blocks new k) (free_blocks old k) 0 (free_on k v) (blocks_set old page k None v l at) refl (other_on (with_held (fresh_page class) index true) k (other_class class class k refl d))
 
 -- where there is room, there is room for the rest once a block is taken
-pub room_left : (old new : List (Option Page)) (m n : ℕ → ℕ) (class page index : ℕ) → class < 38 → has_room old m ≡ true → m class ≡ n class + 1 → ((k : ℕ) → k < 38 → k ≢ class → n k ≡ m k)
+pub room_left : (old new : List (Option Page)) (m n : ℕ → ℕ) (class page index : ℕ) → class < CLASSES → has_room old m ≡ true → m class ≡ n class + 1 → ((k : ℕ) → k < CLASSES → k ≢ class → n k ≡ m k)
     → TakesBlock old class page index new → has_room new n ≡ true
 room_left old new m n class page index small room here others w =
     subst (λ z. has_room z n ≡ true) (sym w.new_is) (by_usable (position (is_usable class) old) refl w.page_is)
@@ -332,14 +333,14 @@ next_other cells part parts class k e d =
     no_more (blocks_needed cells parts k) (blocks_needed cells part k) (blocks_needed cells (part + 1) k) (one_if (eqb class k))
     (more_needed cells part class k e) (ap one_if (other_class class class k refl d))
 
-pub next_given : (pages : List (Option Page)) (cells part parts class : ℕ) → part < parts → class < 38 → class_for (part_words cells part) ≡ Some class
+pub next_given : (pages : List (Option Page)) (cells part parts class : ℕ) → part < parts → class < CLASSES → class_for (part_words cells part) ≡ Some class
     → has_room pages (needed_from cells part parts) ≡ true → IsSome (page_for pages class)
 next_given pages cells part parts class h small e room = room_gives pages (needed_from cells part parts) class small (above _ _ (next_own cells part parts class h e)) room
   where
     above : (a b : ℕ) → a ≡ b + 1 → 0 < a
     above a b e = omega arith
 
-pub next_left : (old new : List (Option Page)) (cells part parts class page index : ℕ) → part < parts → class < 38 → class_for (part_words cells part) ≡ Some class
+pub next_left : (old new : List (Option Page)) (cells part parts class page index : ℕ) → part < parts → class < CLASSES → class_for (part_words cells part) ≡ Some class
     → has_room old (needed_from cells part parts) ≡ true → TakesBlock old class page index new → has_room new (needed_from cells (part + 1) parts) ≡ true
 next_left old new cells part parts class page index h small e room w =
     room_left old new (needed_from cells part parts) (needed_from cells (part + 1) parts) class page index small room (next_own cells part parts class h e) (λ k b d. next_other cells part parts class k e d) w

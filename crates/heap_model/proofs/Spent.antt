@@ -5,6 +5,7 @@ use Rattle.std.proofs.lemmas.Bool.{cases_Bool, cases_eq}
 use Rattle.std.proofs.lemmas.Option.{slice_get_within}
 use Rattle.std.proofs.Math.Nat.{mul-le-mul_left, mul-le-mul_right}
 use Rattle.graph_heap.specs.Graph.{Graph}
+use Rattle.size_classes.specs.declared.class.TheConstants.{CLASSES, MOST_BLOCKS}
 use Rattle.size_classes.specs.Sizes.{size_of}
 use Rattle.size_classes.proofs.Table.{size_low}
 use Rattle.heap_model.specs.declared.phase.Phase.{Phase}
@@ -161,11 +162,11 @@ cell_within h k present snapshot part cell new w c e l wr sh i =
     some_part : (heap : Heap) (part cell : ℕ) → heap.width 0 ≡ 0 → cell < heap.width part → 0 < part
     some_part heap part cell z l = elim (cases_eq part 0) [ inl e ↦ absurd (let q : heap.width part ≡ 0 = ap heap.width e ∙ z in omega arith) | inr ne ↦ omega arith ]
 
--- a page has at most 512 blocks
-few_blocks : (p : Page) (block : ℕ) → 4 ≤ size_of p.class → (block + 1) * size_of p.class ≤ 2048 → block + 1 ≤ 512
+-- a page has no more blocks than one of the smallest class
+few_blocks : (p : Page) (block : ℕ) → 4 ≤ size_of p.class → (block + 1) * size_of p.class ≤ 2048 → block + 1 ≤ MOST_BLOCKS
 few_blocks p block low within = let m = mul-le-mul_left (block + 1) low in omega arith
 
-block_few : (s : Store) (page block : ℕ) (p : Page) → ArePages s.pages → page_at s.pages page ≡ Some p → block < length p.held → block + 1 ≤ 512
+block_few : (s : Store) (page block : ℕ) (p : Page) → ArePages s.pages → page_at s.pages page ≡ Some p → block < length p.held → block + 1 ≤ MOST_BLOCKS
 block_few s page block p w e l = let is = is_page s page p w e in few_blocks p block (size_low p.class is.class) (block_within p block is l)
 
 marking_end_within : (h : HeapState) (present snapshot : Graph) (part cell : ℕ) → ArePages h.store.pages → Consistent h present snapshot → h.phase ≡ phases.Marking part cell → IsWithin h (phases.Marking part cell) → IsWithin (goes_to h 1 (phases.Sweeping 0 0)) (phases.Sweeping 0 0)
@@ -208,7 +209,7 @@ looks_within : (h : HeapState) (class page : ℕ) (best best' : Option Candidate
 unfolding moving_work
 looks_within h class page best best' chosen l i = let a = i.0 in let b = i.1 in let d = i.3 in (omega arith, b, omega arith, d)
 
-chooses_none_within : (h : HeapState) (class page : ℕ) (best : Option Candidate) (chosen : ℕ) → class < 38 → page + 1 ≡ length h.store.pages → IsWithin h (phases.Moving (moves.Pass class page best chosen))
+chooses_none_within : (h : HeapState) (class page : ℕ) (best : Option Candidate) (chosen : ℕ) → class < CLASSES → page + 1 ≡ length h.store.pages → IsWithin h (phases.Moving (moves.Pass class page best chosen))
     → let p = phases.Moving (moves.Pass (class + 1) 0 None chosen) in IsWithin (goes_to h 1 p) p
 unfolding moving_work
 chooses_none_within h class page best chosen few last i =
@@ -235,7 +236,7 @@ size_kept s t page b p q l pages e same = ap (λ z. size_in (page_at z (b / 2048
     by_page true f = let here : b / 2048 ≡ page = same_number (b / 2048) page f in ap size_of same ∙ sym (ap size_in e) ∙ sym (ap (λ z. size_in (page_at s.pages z)) here)
     by_page false f = refl
 
-chooses_within : (h : HeapState) (class page c chosen : ℕ) (best : Option Candidate) (p : Page) (new : Store) → class < 38 → page + 1 ≡ length h.store.pages → page_at h.store.pages c ≡ Some p
+chooses_within : (h : HeapState) (class page c chosen : ℕ) (best : Option Candidate) (p : Page) (new : Store) → class < CLASSES → page + 1 ≡ length h.store.pages → page_at h.store.pages c ≡ Some p
     → KeepsBlocks h.store new → new.pages ≡ set h.store.pages c (Some (record p { leaving = true })) → IsWithin h (phases.Moving (moves.Pass class page best chosen))
     → let q = phases.Moving (moves.Emptying class c 0 (chosen + 1)) in IsWithin (goes_to (record h { store = new }) 1 q) q
 unfolding moving_work
@@ -286,14 +287,14 @@ moving_end_within h present snapshot some w c (No_class page best chosen e) i =
     let v = subst (λ z. IsWithin h z) e i in
     let b = moving_bound h present snapshot w c in
     let a = v.0 in let q = v.2 in let d = v.3 in
-    let m = next_pass (chosen + 38) (chosen + 38 + 1) (length h.store.pages) (omega arith) in
-    let n = more_pages (chosen + 38 + 1) (h.defrag_pages + 38) (length h.store.pages) (omega arith) in
+    let m = next_pass (chosen + CLASSES) (chosen + CLASSES + 1) (length h.store.pages) (omega arith) in
+    let n = more_pages (chosen + CLASSES + 1) (h.defrag_pages + CLASSES) (length h.store.pages) (omega arith) in
     omega arith
 moving_end_within h present snapshot some w c (No_page class page block chosen p e at done all) i =
     let v = subst (λ z. IsWithin h z) e i in
     let b = moving_bound h present snapshot w c in
     let a = v.0 in let q = v.1 in let d = v.2 in
-    let n = more_pages (chosen + class) (h.defrag_pages + 38) (length h.store.pages) (omega arith) in
+    let n = more_pages (chosen + class) (h.defrag_pages + CLASSES) (length h.store.pages) (omega arith) in
     omega arith
 
 -- what is moved is a main copy, of its page's size
@@ -352,12 +353,12 @@ limit_kept h p s some w c i = by_phase h.phase refl i
         let b = moving_bound h p s w c in
         let a = v.0 in let f = v.1 in let q = v.2 in let d = v.3 in
         let m = next_pass (chosen + class) (chosen + class + 1) (length h.store.pages) refl in
-        let n = more_pages (chosen + class + 1) (h.defrag_pages + 38) (length h.store.pages) (omega arith) in
+        let n = more_pages (chosen + class + 1) (h.defrag_pages + CLASSES) (length h.store.pages) (omega arith) in
         omega arith
     by_phase (phases.Moving (moves.Emptying class page block chosen)) e v =
         let b = moving_bound h p s w c in
         let a = v.0 in let f = v.1 in let d = v.2 in
-        let n = more_pages (chosen + class) (h.defrag_pages + 38) (length h.store.pages) (omega arith) in
+        let n = more_pages (chosen + class) (h.defrag_pages + CLASSES) (length h.store.pages) (omega arith) in
         omega arith
 
 -- a cycle begins with nothing spent

@@ -2,6 +2,7 @@
 use Rattle.std.proofs.Common.{refl, ◌≡◌, ℕ, ◌<◌, ◌≤◌, true, false, length, ap, subst, sym, ◌∙◌, arith}
 use Rattle.std.specs.Prelude.{Some, None}
 use Rattle.graph_heap.specs.Graph.{Graph, opening}
+use Rattle.size_classes.specs.declared.class.TheConstants.{CLASSES}
 use Rattle.heap_model.specs.declared.phase.Phase.TheVariants as phases
 use Rattle.heap_model.specs.declared.phase.Moving.TheVariants as moves
 use Rattle.heap_model.specs.Pages.{page_at}
@@ -96,7 +97,7 @@ idle_rests h after cost (Chooses_page class page best chosen b q new (After_page
 idle_rests h after cost (Chooses_none class page best chosen (In_pass class0 page0 best0 chosen0 e) few last is) i = let z : phases.Idle ≡ phases.Moving (moves.Pass class page best chosen) = sym i ∙ e in cc
 idle_rests h after cost (Chooses_none class page best chosen (After_page class0 page0 block chosen0 r e at l done less) few last is) i = let z : phases.Idle ≡ phases.Moving (moves.Emptying class page0 block chosen) = sym i ∙ e in cc
 idle_rests h after cost (Moves_block class page block chosen k to j q r new e at leaving next place there empty w0 pages) i = let z : phases.Idle ≡ phases.Moving (moves.Emptying class page block chosen) = sym i ∙ e in cc
-idle_rests h after cost (Ends_moving (No_class page best chosen e)) i = let z : phases.Idle ≡ phases.Moving (moves.Pass 38 page best chosen) = sym i ∙ e in cc
+idle_rests h after cost (Ends_moving (No_class page best chosen e)) i = let z : phases.Idle ≡ phases.Moving (moves.Pass CLASSES page best chosen) = sym i ∙ e in cc
 idle_rests h after cost (Ends_moving (No_page class page block chosen q e at done less)) i = let z : phases.Idle ≡ phases.Moving (moves.Emptying class page block chosen) = sym i ∙ e in cc
 
 pub idle_chain : (h after : HeapState) (spent : ℕ) → Chain h spent after → h.phase ≡ phases.Idle → (after ≡ h) × (spent ≡ 0)

@@ -3,6 +3,7 @@ use Rattle.std.proofs.Common.{◌≡◌, ℕ, ◌/◌, ◌<◌, true, false, Lis
 use Rattle.std.specs.Prelude.{Option, Some, None, nat_le}
 use Rattle.std.proofs.lemmas.List.{length-replicate}
 use Rattle.std.proofs.lemmas.List.Quantifiers.{position-Some}
+use Rattle.size_classes.specs.declared.class.TheConstants.{CLASSES}
 use Rattle.size_classes.specs.Sizes.{sizes, size_of, blocks_in, class_for}
 use Rattle.heap_model.specs.Pages.{Page, IsPage, ArePages, page_at, page_of_class, fresh_page, with_held, TakesBlock}
 use Rattle.heap_model.specs.Store.{Store, is_held, size_at, size_in}
@@ -12,21 +13,21 @@ use Rattle.heap_model.proofs.Held.{held_block}
 use Rattle.heap_model.proofs.Placed.{pages_same, pages_then, takes_keeps, page_for_within}
 use Rattle.heap_model.proofs.Marks.{pages_put, some_page, held_page}
 
-pub class_low : (words class : ℕ) → class_for words ≡ Some class → class < 38
+pub class_low : (words class : ℕ) → class_for words ≡ Some class → class < CLASSES
 unfolding class_for
 class_low words class e = (position-Some (λ size. nat_le words size) sizes class 0 e).0
 
-pub fresh_is : (class : ℕ) → class < 38 → IsPage (fresh_page class)
+pub fresh_is : (class : ℕ) → class < CLASSES → IsPage (fresh_page class)
 fresh_is class l = record { class = l; blocks = length-replicate (blocks_in class) false; marks = refl }
 
-given_page : (pages : List (Option Page)) (class page : ℕ) → class < 38 → ArePages pages → IsPage (page_of_class class (page_at pages page))
+given_page : (pages : List (Option Page)) (class page : ℕ) → class < CLASSES → ArePages pages → IsPage (page_of_class class (page_at pages page))
 given_page pages class page l w = by_page (page_at pages page) refl
   where
     by_page : (o : Option Page) → page_at pages page ≡ o → IsPage (page_of_class class o)
     by_page None e = fresh_is class l
     by_page (Some p) e = w.each page p e
 
-pub block_pages : (old new : List (Option Page)) (class page index : ℕ) → class < 38 → ArePages old → TakesBlock old class page index new → ArePages new
+pub block_pages : (old new : List (Option Page)) (class page index : ℕ) → class < CLASSES → ArePages old → TakesBlock old class page index new → ArePages new
 block_pages old new class page index l w t =
     pages_put old new page _ (page_for_within old class page t.page_is) t.new_is w
     (some_page (with_held (page_of_class class (page_at old page)) index true) (held_page (page_of_class class (page_at old page)) index true (given_page old class page l w)))

@@ -3,6 +3,7 @@ use Rattle.std.proofs.Common.{Bool, List, ◌≡◌, ◌≢◌, ℕ, ◌+◌, �
 use Rattle.std.proofs.lemmas.Bool.{cases_Bool, cases_eq}
 use Rattle.graph_heap.specs.declared.command.Shape.{Shape}
 use Rattle.graph_heap.specs.Shape.{fits}
+use Rattle.size_classes.specs.declared.class.TheConstants.{CLASSES}
 use Rattle.heap_model.specs.declared.phase.Phase.{Phase}
 use Rattle.heap_model.specs.declared.phase.Phase.TheVariants as phases
 use Rattle.heap_model.specs.declared.phase.Moving.TheVariants as moves
@@ -34,7 +35,7 @@ more_within h after w i = subst (λ z. IsWithin after z) (sym w.phase) (by_phase
     by_phase : (q : Phase) → IsWithin h q → IsWithin after q
     by_phase phases.Idle v =
         let a = w.units in let r = w.roots in let p = w.pages in let d = w.defrag in
-        let e : (h.defrag_pages + 38) * length h.store.pages ≡ (after.defrag_pages + 38) * length after.store.pages = ap (λ z. (z + 38) * length h.store.pages) (sym d) ∙ ap (λ z. (after.defrag_pages + 38) * z) (sym p) in
+        let e : (h.defrag_pages + CLASSES) * length h.store.pages ≡ (after.defrag_pages + CLASSES) * length after.store.pages = ap (λ z. (z + CLASSES) * length h.store.pages) (sym d) ∙ ap (λ z. (after.defrag_pages + CLASSES) * z) (sym p) in
         omega arith
     by_phase (phases.Roots next) v = let a = w.units in let r = w.roots in let b = v.0 in let c = v.1 in (omega arith, omega arith, w.grey v.2)
     by_phase (phases.Marking part cell) v = let a = w.units in let r = w.roots in let m = w.marking in let b = v.0 in (omega arith, w.grey v.1)

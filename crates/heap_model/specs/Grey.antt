@@ -1,5 +1,6 @@
 -- The grey parts of a heap.
 use Rattle.std.specs.Prelude.{◌≡◌, ℕ, ◌-◌, ◌*◌, ◌<◌, ◌≤◌, true, false, length}
+use Rattle.size_classes.specs.declared.class.TheConstants.{MOST_BLOCKS}
 use Rattle.heap_model.specs.Collector.{contains, Once}
 use Rattle.heap_model.specs.State.{HeapState, seen}
 use Rattle.heap_model.specs.Store.{is_held}
@@ -12,4 +13,4 @@ pub record AreGrey (h : HeapState) : Type 0 where
   pub held : (x : ℕ) → contains h.grey x ≡ true → is_held h.store (x - 1) ≡ true
   pub marked : (x : ℕ) → contains h.grey x ≡ true → (seen h).marked x ≡ true
   pub once : Once h.grey
-  pub few : length h.grey ≤ 512 * length h.store.pages
+  pub few : length h.grey ≤ MOST_BLOCKS * length h.store.pages

@@ -1,6 +1,7 @@
 -- Reading the heap through forwarding, by address.
 use Rattle.std.specs.Prelude.{◌≡◌, ◌≢◌, ℕ, ◌-◌, ◌<◌, true, ◌==◌, if◌then◌else◌, length, slice_index}
-use Rattle.size_classes.specs.Parts.{holder_of, seat_of}
+use Rattle.graph_heap.specs.Graph.{Graph, object_of}
+use Rattle.size_classes.specs.Parts.{cells_of, holder_of, part_in, seat_of}
 use Rattle.heap_model.specs.Store.{Store, is_held, node_of}
 use Rattle.heap_model.specs.Core.{Name}
 use Rattle.heap_model.specs.State.{HeapState}
@@ -11,6 +12,13 @@ pub record IsMainCopy (s : Store) (address : ℕ) (n : Name) : Type 0 where
   pub forward : (node_of s address).forward ≡ address
   pub identity : (node_of s address).identity ≡ n.identity
   pub part : (node_of s address).part ≡ n.part
+
+-- the block at an address is a main copy of the part that has cell i of an object, reference cells or word cells
+abbrev pub HasCell : HeapState → Graph → ℕ → ℕ → ℕ → Type 0
+HasCell h g id i address = IsMainCopy h.store address (record {
+  identity = id;
+  part = part_in (cells_of (object_of g.objects id).shape) i;
+})
 
 -- a reference, other than null, leads by way of its forwarding word to the main copy of a part
 pub record LeadsTo (h : HeapState) (x : ℕ) (n : Name) : Type 0 where

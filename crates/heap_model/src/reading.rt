@@ -3,14 +3,14 @@
 ghost use Rattle.std.specs.Prelude.{◌≡◌, ◌≢◌, ◌↔◌, ℕ, ◌+◌, ◌-◌, ◌<◌, length, slice_index};
 ghost use Rattle.graph_heap.specs.Graph.{Graph, object_of};
 ghost use Rattle.graph_heap.specs.Reach.{Reaches};
-ghost use Rattle.size_classes.specs.Parts.{cells_of, holder_of, seat_of, part_in, column_in};
+ghost use Rattle.size_classes.specs.Parts.{cells_of, holder_of, seat_of, column_in};
 ghost use Rattle.heap_model.specs.Store.{node_of};
 ghost use Rattle.heap_model.specs.Core.{Name};
 ghost use Rattle.heap_model.specs.Agree.{IsMain, Reads};
 ghost use Rattle.heap_model.specs.Cut.{count_of, name_of};
 ghost use Rattle.heap_model.specs.State.{HeapState, seen, width_at};
 ghost use Rattle.heap_model.specs.Agreement.{Agrees, IsWhole};
-ghost use Rattle.heap_model.specs.Reading.{IsMainCopy, LeadsTo, Refers, spine_at, block_of};
+ghost use Rattle.heap_model.specs.Reading.{IsMainCopy, HasCell, LeadsTo, Refers, spine_at, block_of};
 ghost use Rattle.heap_model.specs.declared.phase.Phase.TheVariants as phases;
 ghost use Rattle.heap_model.specs.declared.phase.Moving.{Moving};
 ghost use Rattle.heap_model.specs.Action.{Action};
@@ -60,10 +60,7 @@ pub fn shape_shown()
 pub fn ref_shown()
     ensures { (h : HeapState) (g : Graph) (id i address : ℕ) → Agrees h g → Reaches g id
         → i < length (object_of g.objects id).refs
-        → IsMainCopy h.store address (record {
-          identity = id;
-          part = part_in (cells_of (object_of g.objects id).shape) i;
-        })
+        → HasCell h g id i address
         → Reads (seen h) (slice_index (node_of h.store address).cells (column_in i))
         (name_of (slice_index (object_of g.objects id).refs i)) }
 {}
@@ -84,10 +81,7 @@ pub fn piece_shown()
 pub fn word_shown()
     ensures { (h : HeapState) (g : Graph) (id k address : ℕ) → Agrees h g → Reaches g id
         → k < length (object_of g.objects id).words
-        → IsMainCopy h.store address (record {
-          identity = id;
-          part = part_in (cells_of (object_of g.objects id).shape) k;
-        })
+        → HasCell h g id k address
         → slice_index (node_of h.store address).cells (width_at (node_of h.store address) + column_in k)
         ≡ slice_index (object_of g.objects id).words k }
 {}

@@ -3,7 +3,7 @@
 ghost use Rattle.std.specs.Prelude.{◌≡◌, ℕ, ◌+◌, ◌<◌, ◌≤◌, ◌⊎◌, [], ◌∷◌};
 ghost use Rattle.graph_heap.specs.declared.command.TheConstants.{ARRAY_CELLS};
 ghost use Rattle.size_classes.specs.Parts.{parts_in, spines_of, run_of, part_in, column_in, holder_of, seat_of};
-ghost use Rattle.size_classes.specs.declared.class.TheConstants.{CLASSES, PAGE_WORDS};
+ghost use Rattle.size_classes.specs.declared.class.TheConstants.{CLASSES, MOST_BLOCKS, PAGE_WORDS};
 ghost use Rattle.size_classes.specs.declared.config.TheConstants.{LEAST_BUDGET, MOST_BUDGET, MOST_PAGES};
 ghost use Rattle.size_classes.specs.declared.key.Key.{Key};
 ghost use Rattle.size_classes.specs.declared.key.Key.TheVariants.{Pages, Mutators, Slots, Statics, Identities, DefragBelow, DefragPages, CollectorTicks, MutatorTicks, Rate, Live};
@@ -37,9 +37,10 @@ pub fn cells_stand()
         × (column_in ((run_of n p).first + c) ≡ c) }
 {}
 
-/// The words of a page, the size classes, and the cells of a piece of an array.
+/// The words of a page and the most blocks of one, the size classes, and the cells of a piece of an array.
 pub fn sizes_are_fixed()
     ensures page { PAGE_WORDS ≡ 2048 }
+    ensures blocks { MOST_BLOCKS ≡ 512 }
     ensures classes { CLASSES ≡ 38 }
     ensures piece { PART_CELLS ≡ 252 }
 {}

@@ -10,7 +10,7 @@ pub mod need;
 pub mod parts;
 mod settings;
 
-pub use class::{CLASSES, Class, PAGE_WORDS, class_of};
+pub use class::{CLASSES, Class, MOST_BLOCKS, PAGE_WORDS, class_of};
 pub use config::{Config, LEAST_BUDGET, MOST_BUDGET, MOST_PAGES};
 pub use fault::ConfigFault;
 pub use key::{Key, Row};

@@ -2,7 +2,7 @@
 use Rattle.std.proofs.Common.{◌≡◌, ℕ, ◌+◌, ◌-◌, ◌*◌, ◌/◌, ◌<◌, ◌≤◌, Bool, true, false, ◌==◌, if◌then◌else◌, List, length, ap, ◌∙◌, sym, subst, arith, refl}
 use Rattle.std.proofs.lemmas.List.{length-replicate}
 use Rattle.graph_heap.specs.Graph.{root_cells}
-use Rattle.size_classes.specs.declared.class.TheConstants.{CLASSES, PAGE_WORDS}
+use Rattle.size_classes.specs.declared.class.TheConstants.{CLASSES, MOST_BLOCKS, PAGE_WORDS}
 use Rattle.size_classes.specs.declared.config.TheConstants.{LEAST_BUDGET}
 use Rattle.size_classes.specs.declared.config.Config.{Config}
 use Rattle.size_classes.specs.Config.{limits_of}
@@ -24,16 +24,16 @@ use Rattle.space.proofs.Moved.{pace_keeps}
 use Rattle.space.proofs.Unmoved.{unmoved_suffices, unmoved_keeps}
 use Rattle.space.proofs.Running.{space_suffices}
 
--- a page of the smallest class has 512 blocks
-most : blocks_in 0 ≡ 512
+-- a page of the smallest class has the most blocks
+most : blocks_in 0 ≡ MOST_BLOCKS
 unfolding size_of blocks_in
 most = refl
 
 swept_by : (roots pages : ℕ) (config : Config) → roots ≡ config.mutators * config.slots + config.statics → pages ≡ config.pages
-    → roots + PAGE_WORDS * pages + 513 * pages + 516 ≡ swept_at config config.pages
+    → roots + PAGE_WORDS * pages + (MOST_BLOCKS + 1) * pages + (MOST_BLOCKS + 4) ≡ swept_at config config.pages
 swept_by roots pages config r p =
-    ap (λ z. z + PAGE_WORDS * pages + 513 * pages + 516) r
-    ∙ ap (λ z. config.mutators * config.slots + config.statics + PAGE_WORDS * z + 513 * z + 516) p
+    ap (λ z. z + PAGE_WORDS * pages + (MOST_BLOCKS + 1) * pages + (MOST_BLOCKS + 4)) r
+    ∙ ap (λ z. config.mutators * config.slots + config.statics + PAGE_WORDS * z + (MOST_BLOCKS + 1) * z + (MOST_BLOCKS + 4)) p
     ∙ ap (λ b. config.mutators * config.slots + config.statics + PAGE_WORDS * config.pages + (b + 1) * config.pages + (b + 4)) (sym most)
 
 module _ (config : Config) (h : HeapState) (o : IsOpening h) (same : settings_of h ≡ settings_by config) where

@@ -3,6 +3,7 @@ use Rattle.std.proofs.Common.{◌≡◌, ◌≢◌, ℕ, ◌+◌, ◌-◌, ◌*�
 use Rattle.std.proofs.lemmas.Nat.{le-div}
 use Rattle.std.proofs.Math.Nat.{mul-le-mul_right}
 use Rattle.graph_heap.specs.Graph.{Graph}
+use Rattle.size_classes.specs.declared.class.TheConstants.{CLASSES}
 use Rattle.heap_model.specs.declared.phase.Phase.{Phase}
 use Rattle.heap_model.specs.declared.phase.Phase.TheVariants as phases
 use Rattle.heap_model.specs.declared.phase.Moving.{Moving}
@@ -72,14 +73,14 @@ moving_high h present snapshot w (moves.Pass class page best chosen) e =
     let b = moving_bound h present snapshot w.pages w.consistent in
     let a = v.0 in let f = v.1 in let q = v.2 in let d = v.3 in
     let m = next_times (chosen + class) (length h.store.pages) in
-    let l : chosen + class + 1 ≤ h.defrag_pages + 38 = omega (arith, f, d) in
+    let l : chosen + class + 1 ≤ h.defrag_pages + CLASSES = omega (arith, f, d) in
     let n = mul-le-mul_right (length h.store.pages) l in
     omega (arith, a, b, q, m, n)
 moving_high h present snapshot w (moves.Emptying class page block chosen) e =
     let v = subst (λ z. IsWithin h z) e w.within in
     let b = moving_bound h present snapshot w.pages w.consistent in
     let a = v.0 in let f = v.1 in let d = v.2 in
-    let l : chosen + class ≤ h.defrag_pages + 38 = omega (arith, f, d) in
+    let l : chosen + class ≤ h.defrag_pages + CLASSES = omega (arith, f, d) in
     let n = mul-le-mul_right (length h.store.pages) l in
     omega (arith, a, b, n)
 
@@ -130,7 +131,7 @@ module _ (h : HeapState) (k : ℕ) (great : 256 ≤ k) where
       same_moving =
           let pages : length r.heap.store.pages ≡ length h.store.pages = ap (λ (s : HeapSettings). s.pages) i.settings in
           let defrag : r.heap.defrag_pages ≡ h.defrag_pages = ap (λ (s : HeapSettings). s.defrag_pages) i.settings in
-          ap (λ z. (z + 38) * length r.heap.store.pages + 2048 * length r.heap.store.pages + 1) defrag ∙ ap (λ z. (h.defrag_pages + 38) * z + 2048 * z + 1) pages
+          ap (λ z. (z + CLASSES) * length r.heap.store.pages + 2048 * length r.heap.store.pages + 1) defrag ∙ ap (λ z. (h.defrag_pages + CLASSES) * z + 2048 * z + 1) pages
 
       by_sweep : (b : Bool) → is_tracing r.heap.phase ≡ b → n + 1 ≤ (swept_units h + moving_units h + 255 * (moving_units h / (k - 255) + 1)) / k + 1
       by_sweep true e =

@@ -1,9 +1,11 @@
 -- Which of two ways takes the fewer pages.
-use Rattle.std.proofs.Common.{◌≡◌, ℕ, ◌<◌, ◌≤◌, true, false, if◌then◌else◌, ap, sym, arith}
+use Rattle.std.proofs.Common.{◌≡◌, ℕ, ◌+◌, ◌<◌, ◌≤◌, ◌∙◌, true, false, if◌then◌else◌, ap, sym, arith}
 use Rattle.std.specs.Prelude.{nat_le}
 use Rattle.size_classes.specs.declared.config.Config.{Config}
-use Rattle.space.specs.Pace.{Pace}
-use Rattle.space.specs.Fitting.{quanta_at, unmoved_quanta_at, moved_pages, unmoved_pages, pages_needed, quanta_needed}
+use Rattle.space.specs.declared.fitting.Needs.{Needs}
+use Rattle.space.specs.Pace.{Pace, demand_of}
+use Rattle.space.specs.Space.{space_for}
+use Rattle.space.specs.Fitting.{spare_in, below_in, quanta_at, unmoved_quanta_at, moved_pages, unmoved_pages, IsNeeded}
 
 yes : (u m : ℕ) → u ≤ m → nat_le u m ≡ true
 yes u m l = grind arith
@@ -17,15 +19,39 @@ no_more u m x y e f l = yes u m (omega (arith, e, f, l))
 more : (u m x y : ℕ) → x ≡ u → y ≡ m → y < x → nat_le u m ≡ false
 more u m x y e f l = no u m (omega (arith, e, f, l))
 
-module _ (c : Config) (p : Pace) (pages x y : ℕ) (e : x ≡ unmoved_pages c p pages) (f : y ≡ moved_pages c p pages) where
+-- what one of the two ways takes: so many pages, with so many quanta a cycle
+pub record Takes (needs : Needs) (count cycle : ℕ) : Type 0 where
+  pub pages : needs.pages ≡ count
+  pub quanta : needs.quanta ≡ cycle
+
+module _ (c : Config) (p : Pace) (count : ℕ) where
+  -- where blocks never move, no page may be left sparse, and some stay free
+  pub unmoved_takes : (needs : Needs) (quanta free : ℕ) → quanta ≡ unmoved_quanta_at c count → free ≡ below_in c → needs.pages ≡ space_for (demand_of p quanta) 0 + free → needs.quanta ≡ quanta
+      → Takes needs (unmoved_pages c p count) (unmoved_quanta_at c count)
+  unmoved_takes needs quanta free q f e d = record {
+    pages = e ∙ ap (λ n. space_for (demand_of p n) 0 + free) q ∙ ap (λ n. space_for (demand_of p (unmoved_quanta_at c count)) 0 + n) f;
+    quanta = d ∙ q;
+  }
+
+  -- where they move, some may be left sparse, and none has to stay free
+  pub moved_takes : (needs : Needs) (quanta sparse : ℕ) → quanta ≡ quanta_at c count → sparse ≡ spare_in c → needs.pages ≡ space_for (demand_of p quanta) sparse + 0 → needs.quanta ≡ quanta
+      → Takes needs (moved_pages c p count) (quanta_at c count)
+  moved_takes needs quanta sparse q s e d =
+      let none : needs.pages ≡ space_for (demand_of p quanta) sparse = omega (arith, e) in
+      record { pages = none ∙ ap (λ n. space_for (demand_of p n) sparse) q ∙ ap (space_for (demand_of p (quanta_at c count))) s; quanta = d ∙ q }
+
   -- where blocks that never move take no more pages, what is needed is what these need
-  pub unmoved_needed : x ≤ y → (unmoved_pages c p pages ≡ pages_needed c p pages) × (unmoved_quanta_at c pages ≡ quanta_needed c p pages)
-  unmoved_needed l =
-      let t = no_more (unmoved_pages c p pages) (moved_pages c p pages) x y e f l in
-      (sym (ap (λ z. if z then unmoved_pages c p pages else moved_pages c p pages) t), sym (ap (λ z. if z then unmoved_quanta_at c pages else quanta_at c pages) t))
+  pub unmoved_needed : (u m : Needs) → Takes u (unmoved_pages c p count) (unmoved_quanta_at c count) → Takes m (moved_pages c p count) (quanta_at c count) → u.pages ≤ m.pages → IsNeeded c p count u
+  unmoved_needed u m t s l =
+      let e = no_more (unmoved_pages c p count) (moved_pages c p count) u.pages m.pages t.pages s.pages l in record {
+        pages = t.pages ∙ sym (ap (λ z. if z then unmoved_pages c p count else moved_pages c p count) e);
+        quanta = t.quanta ∙ sym (ap (λ z. if z then unmoved_quanta_at c count else quanta_at c count) e);
+      }
 
   -- and else what is needed where they move
-  pub moved_needed : y < x → (moved_pages c p pages ≡ pages_needed c p pages) × (quanta_at c pages ≡ quanta_needed c p pages)
-  moved_needed l =
-      let t = more (unmoved_pages c p pages) (moved_pages c p pages) x y e f l in
-      (sym (ap (λ z. if z then unmoved_pages c p pages else moved_pages c p pages) t), sym (ap (λ z. if z then unmoved_quanta_at c pages else quanta_at c pages) t))
+  pub moved_needed : (u m : Needs) → Takes u (unmoved_pages c p count) (unmoved_quanta_at c count) → Takes m (moved_pages c p count) (quanta_at c count) → m.pages < u.pages → IsNeeded c p count m
+  moved_needed u m t s l =
+      let e = more (unmoved_pages c p count) (moved_pages c p count) u.pages m.pages t.pages s.pages l in record {
+        pages = s.pages ∙ sym (ap (λ z. if z then unmoved_pages c p count else moved_pages c p count) e);
+        quanta = s.quanta ∙ sym (ap (λ z. if z then unmoved_quanta_at c count else quanta_at c count) e);
+      }

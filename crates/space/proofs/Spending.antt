@@ -2,6 +2,7 @@
 use Rattle.std.proofs.Common.{◌≡◌, ◌≢◌, ℕ, ◌+◌, ◌*◌, ◌/◌, ◌<◌, ◌≤◌, inl, inr, Bool, true, false, if◌then◌else◌, length, ap, ◌∙◌, sym, subst, arith, refl}
 use Rattle.std.proofs.lemmas.Nat.{le-div}
 use Rattle.graph_heap.specs.Graph.{Graph}
+use Rattle.size_classes.specs.declared.class.TheConstants.{CLASSES}
 use Rattle.heap_model.specs.declared.phase.Phase.{Phase}
 use Rattle.heap_model.specs.declared.phase.Phase.TheVariants as phases
 use Rattle.heap_model.specs.declared.phase.Moving.{Moving}
@@ -34,8 +35,8 @@ pub same_swept : (h after : HeapState) → cycle_limit after ≡ cycle_limit h �
 same_swept h after limit same =
     let pages : length after.store.pages ≡ length h.store.pages = ap (λ (s : HeapSettings). s.pages) same in
     let defrag : after.defrag_pages ≡ h.defrag_pages = ap (λ (s : HeapSettings). s.defrag_pages) same in
-    let looks : (after.defrag_pages + 38) * length after.store.pages ≡ (h.defrag_pages + 38) * length h.store.pages =
-    ap (λ z. (z + 38) * length after.store.pages) defrag ∙ ap (λ z. (h.defrag_pages + 38) * z) pages in
+    let looks : (after.defrag_pages + CLASSES) * length after.store.pages ≡ (h.defrag_pages + CLASSES) * length h.store.pages =
+    ap (λ z. (z + CLASSES) * length after.store.pages) defrag ∙ ap (λ z. (h.defrag_pages + CLASSES) * z) pages in
     omega (arith, limit, pages, looks)
 
 -- up to the end of the sweep no more is spent than roots, marking and sweeping spend

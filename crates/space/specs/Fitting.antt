@@ -1,9 +1,10 @@
 -- Whether a configuration has enough pages.
-use Rattle.std.specs.Prelude.{ℕ, ◌+◌, ◌-◌, ◌*◌, ◌/◌, ◌<◌, ◌≤◌, Bool, ◌==◌, nat_le, if◌then◌else◌, slice_index, Option, Some, None}
+use Rattle.std.specs.Prelude.{◌≡◌, ℕ, ◌+◌, ◌-◌, ◌*◌, ◌/◌, ◌<◌, ◌≤◌, Bool, ◌==◌, nat_le, if◌then◌else◌, slice_index, Option, Some, None}
 use Rattle.size_classes.specs.declared.class.TheConstants.{CLASSES, PAGE_WORDS}
 use Rattle.size_classes.specs.declared.config.Config.{Config}
 use Rattle.size_classes.specs.declared.config.TheConstants.{LEAST_BUDGET, MOST_PAGES}
 use Rattle.size_classes.specs.Sizes.{blocks_in}
+use Rattle.space.specs.declared.fitting.Needs.{Needs}
 use Rattle.space.specs.declared.pace.Pace.{Pace as PaceTable}
 use Rattle.space.specs.Demand.{Demand}
 use Rattle.space.specs.Pace.{Pace, demand_of}
@@ -11,11 +12,7 @@ use Rattle.space.specs.Space.{space_for}
 
 -- the pace that a table by class states
 abbrev pub pace_in : PaceTable → Pace
-pace_in p = record {
-  live = λ class. slice_index p.live class;
-  busy = λ class. slice_index p.busy class;
-  idle = λ class. slice_index p.idle class;
-}
+pace_in p = record { live = slice_index p.live; busy = slice_index p.busy; idle = slice_index p.idle }
 
 -- how many pages may be left sparse, in a heap of a configuration
 abbrev pub spare_in : Config → ℕ
@@ -74,6 +71,11 @@ pages_needed c p pages = if is_unmoved c p pages then unmoved_pages c p pages el
 -- the quanta with which these pages are reckoned
 abbrev pub quanta_needed : Config → Pace → ℕ → ℕ
 quanta_needed c p pages = if is_unmoved c p pages then unmoved_quanta_at c pages else quanta_at c pages
+
+-- what a pace takes in a heap of a configuration with this many pages
+pub record IsNeeded (c : Config) (p : Pace) (count : ℕ) (needs : Needs) : Type 0 where
+  pub pages : needs.pages ≡ pages_needed c p count
+  pub quanta : needs.quanta ≡ quanta_needed c p count
 
 -- A pace fits in this many pages: it takes no more in a heap that has this many. With more pages a cycle takes
 -- longer.

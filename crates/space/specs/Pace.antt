@@ -33,10 +33,7 @@ opening_beat l = record { graph = opening l; on = false; asked = λ class. 0 }
 -- a cycle runs in this phase
 abbrev pub in_cycle : Phase → Bool
 in_cycle phases.Idle = false
-in_cycle (phases.Roots next) = true
-in_cycle (phases.Marking part cell) = true
-in_cycle (phases.Sweeping page block) = true
-in_cycle (phases.Moving m) = true
+in_cycle phase = true
 
 -- the beat after one more event
 abbrev pub next_beat : Beat → Event → Beat

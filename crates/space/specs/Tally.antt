@@ -26,10 +26,8 @@ opening_tally l = record { graph = opening l; last = 0; base = 0 }
 -- a cycle runs, and its sweep hasn't ended
 abbrev pub is_tracing : Phase → Bool
 is_tracing phases.Idle = false
-is_tracing (phases.Roots next) = true
-is_tracing (phases.Marking part cell) = true
-is_tracing (phases.Sweeping page block) = true
 is_tracing (phases.Moving m) = false
+is_tracing phase = true
 
 -- the tally after one more event
 abbrev pub after_event : Tally → Event → Tally

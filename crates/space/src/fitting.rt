@@ -1,7 +1,9 @@
 //! Whether a configuration has enough pages, so that no new object is refused for lack of space.
-ghost use Rattle.std.specs.Prelude.{◌≡◌, ◌≤◌, ◌↔◌, IsTrue};
+ghost use Rattle.std.specs.Prelude.{◌≡◌, ◌+◌, ◌≤◌, ◌↔◌, IsTrue};
 ghost use Rattle.space.specs.Fitting.{pace_in, spare_in, below_in, swept_at, moving_at, quanta_at, unmoved_quanta_at};
-ghost use Rattle.space.specs.Fitting.{moved_pages, unmoved_pages, pages_needed, quanta_needed, FitsIn, IsLeast};
+ghost use Rattle.space.specs.Fitting.{IsNeeded, FitsIn, IsLeast};
+ghost use Rattle.space.specs.Pace.{demand_of};
+ghost use Rattle.space.specs.Space.{space_for};
 
 use crate::pace::{MOST_QUANTA, Pace};
 use size_classes::{CLASSES, Class, Config, LEAST_BUDGET, MOST_PAGES, PAGE_WORDS};
@@ -86,28 +88,15 @@ pub struct Needs {
 }
 
 impl Needs {
-    /// What it takes with the pages that moving may leave sparse.
-    fn moved(config: &Config, pace: &Pace, pages: u32) -> Needs
-        requires { pages ≤ MOST_PAGES }
-        ensures pages { result.pages ≡ moved_pages config.now (pace_in pace.now) pages }
-        ensures quanta { result.quanta ≡ quanta_at config.now pages }
+    /// What a pace takes where a cycle takes so many quanta: with so many pages that may be left sparse for each
+    /// class, and so many others that stay free.
+    fn of(pace: &Pace, quanta: u64, sparse: u32, free: u32) -> Needs
+        requires { quanta ≤ MOST_QUANTA }
+        ensures pages { result.pages ≡ space_for (demand_of (pace_in pace.now) quanta) sparse + free }
+        ensures quanta { result.quanta ≡ quanta }
     {
-        let quanta = quanta(config, pages);
         Needs {
-            pages: pace.pages(quanta, spare(config)),
-            quanta,
-        }
-    }
-
-    /// What it takes with as many pages that stay free as moving begins below, so that it never begins.
-    fn unmoved(config: &Config, pace: &Pace, pages: u32) -> Needs
-        requires { pages ≤ MOST_PAGES }
-        ensures pages { result.pages ≡ unmoved_pages config.now (pace_in pace.now) pages }
-        ensures quanta { result.quanta ≡ unmoved_quanta_at config.now pages }
-    {
-        let quanta = unmoved_quanta(config, pages);
-        Needs {
-            pages: pace.pages(quanta, 0) + u128::from(below(config)),
+            pages: pace.pages(quanta, sparse) + u128::from(free),
             quanta,
         }
     }
@@ -118,11 +107,10 @@ impl Needs {
 /// fewer quanta suffice for a cycle.
 pub fn pace_needs(config: &Config, pace: &Pace, pages: u32) -> Needs
     requires { pages ≤ MOST_PAGES }
-    ensures pages { result.pages ≡ pages_needed config.now (pace_in pace.now) pages }
-    ensures quanta { result.quanta ≡ quanta_needed config.now (pace_in pace.now) pages }
+    ensures { IsNeeded config.now (pace_in pace.now) pages result }
 {
-    let unmoved = Needs::unmoved(config, pace, pages);
-    let moved = Needs::moved(config, pace, pages);
+    let unmoved = Needs::of(pace, unmoved_quanta(config, pages), 0, below(config));
+    let moved = Needs::of(pace, quanta(config, pages), spare(config), 0);
     if unmoved.pages <= moved.pages {
         unmoved
     } else {

@@ -1,24 +1,15 @@
-use Rattle.std.proofs.Common.{◌∙◌, arith}
 use Rattle.space.specs.Fitting.{pace_in}
-use Rattle.space.proofs.Needed.{unmoved_needed, moved_needed}
+use Rattle.space.proofs.Needed.{unmoved_takes, moved_takes, unmoved_needed, moved_needed}
 use Rattle.space.proofs.fitting.pace_needs.Goals as goal
 
-pub returns-then-unmoved-moved-clause-pages : goal.returns-then-unmoved-moved-clause-pages
-returns-then-unmoved-moved-clause-pages c =
-    let needed = unmoved_needed c.args.config.now (pace_in c.args.pace.now) c.args.pages c.unmoved-unmoved.result.pages c.moved-moved.result.pages c.unmoved-unmoved.ensures.pages c.moved-moved.ensures.pages (omega (arith, c.if-unmoved-moved.true)) in
-    c.unmoved-unmoved.ensures.pages ∙ needed.0
+pub returns-then-unmoved-moved : goal.returns-then-unmoved-moved
+returns-then-unmoved-moved c =
+    let unmoved = unmoved_takes c.args.config.now (pace_in c.args.pace.now) c.args.pages c.of-unmoved.result c.unmoved_quanta.result c.below.result c.unmoved_quanta.ensures.quanta c.below.ensures c.of-unmoved.ensures.pages c.of-unmoved.ensures.quanta in
+    let moved = moved_takes c.args.config.now (pace_in c.args.pace.now) c.args.pages c.of-moved.result c.quanta.result c.spare.result c.quanta.ensures.quanta c.spare.ensures c.of-moved.ensures.pages c.of-moved.ensures.quanta in
+    unmoved_needed c.args.config.now (pace_in c.args.pace.now) c.args.pages c.of-unmoved.result c.of-moved.result unmoved moved c.if-unmoved-moved.true
 
-pub returns-then-unmoved-moved-clause-quanta : goal.returns-then-unmoved-moved-clause-quanta
-returns-then-unmoved-moved-clause-quanta c =
-    let needed = unmoved_needed c.args.config.now (pace_in c.args.pace.now) c.args.pages c.unmoved-unmoved.result.pages c.moved-moved.result.pages c.unmoved-unmoved.ensures.pages c.moved-moved.ensures.pages (omega (arith, c.if-unmoved-moved.true)) in
-    c.unmoved-unmoved.ensures.quanta ∙ needed.1
-
-pub returns-else-unmoved-moved-clause-pages : goal.returns-else-unmoved-moved-clause-pages
-returns-else-unmoved-moved-clause-pages c =
-    let needed = moved_needed c.args.config.now (pace_in c.args.pace.now) c.args.pages c.unmoved-unmoved.result.pages c.moved-moved.result.pages c.unmoved-unmoved.ensures.pages c.moved-moved.ensures.pages (omega (arith, c.if-unmoved-moved.false)) in
-    c.moved-moved.ensures.pages ∙ needed.0
-
-pub returns-else-unmoved-moved-clause-quanta : goal.returns-else-unmoved-moved-clause-quanta
-returns-else-unmoved-moved-clause-quanta c =
-    let needed = moved_needed c.args.config.now (pace_in c.args.pace.now) c.args.pages c.unmoved-unmoved.result.pages c.moved-moved.result.pages c.unmoved-unmoved.ensures.pages c.moved-moved.ensures.pages (omega (arith, c.if-unmoved-moved.false)) in
-    c.moved-moved.ensures.quanta ∙ needed.1
+pub returns-else-unmoved-moved : goal.returns-else-unmoved-moved
+returns-else-unmoved-moved c =
+    let unmoved = unmoved_takes c.args.config.now (pace_in c.args.pace.now) c.args.pages c.of-unmoved.result c.unmoved_quanta.result c.below.result c.unmoved_quanta.ensures.quanta c.below.ensures c.of-unmoved.ensures.pages c.of-unmoved.ensures.quanta in
+    let moved = moved_takes c.args.config.now (pace_in c.args.pace.now) c.args.pages c.of-moved.result c.quanta.result c.spare.result c.quanta.ensures.quanta c.spare.ensures c.of-moved.ensures.pages c.of-moved.ensures.quanta in
+    moved_needed c.args.config.now (pace_in c.args.pace.now) c.args.pages c.of-unmoved.result c.of-moved.result unmoved moved c.if-unmoved-moved.false

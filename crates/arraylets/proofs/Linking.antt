@@ -14,10 +14,11 @@ use Rattle.heap_model.specs.Store.{Store, is_held, node_of, Writes, Adds}
 use Rattle.heap_model.specs.Pages.{Page, TakesBlock}
 use Rattle.heap_model.specs.Taking.{Takes, Nothing_taken, Part_taken}
 use Rattle.heap_model.specs.Header.{ShapeFits}
-use Rattle.heap_model.specs.Making.{made, Making, MakesObject, Nothing_made, Part_made}
+use Rattle.heap_model.specs.Making.{made, part_of, Making, MakesObject, Nothing_made, Part_made}
+use Rattle.heap_model.specs.Making.{Made as OneObject}
 use Rattle.heap_model.proofs.Seen.{held_pages}
 use Rattle.nodes.specs.Links.{KeepsLinks}
-use Rattle.arraylets.specs.Made.{MakesPart}
+use Rattle.arraylets.specs.Made.{LinksPart}
 
 -- the links stay where nothing is done, and after two steps, each of which keeps them
 pub links_same : (s : Store) → KeepsLinks s s
@@ -52,7 +53,7 @@ same_or : (a b : ℕ) → (a ≡ b) ⊎ (a ≢ b)
 same_or a b = grind arith
 
 -- spines are few
-cells_few : (shape : Shape) → fits shape ≡ true → cells_of shape ≤ 4000000
+pub cells_few : (shape : Shape) → fits shape ≡ true → cells_of shape ≤ 4000000
 cells_few (Plain refs words) f = grind arith
 cells_few (RefArray n) f = grind arith
 cells_few (WordArray n) f = grind arith
@@ -72,34 +73,43 @@ parts_few shape part f l =
 spines_most : (n k s : ℕ) → Pieces n k → Spines k s → n ≤ 4000000 → s ≤ 64
 spines_most n k s a b l = grind arith
 
-pub spine_before : (shape : Shape) (part : ℕ) → fits shape ≡ true → 0 < part → part < parts_in (cells_of shape)
-    → (holder_of (cells_of shape) part < part) × (holder_of (cells_of shape) part < 64) × (seat_of (cells_of shape) part < part_cells (cells_of shape) (holder_of (cells_of shape) part))
-spine_before shape part f some below =
-    let n = cells_of shape in
+pub spine_in : (n part : ℕ) → n ≤ 4000000 → 0 < part → part < parts_in n → (holder_of n part < part) × (holder_of n part < 64) × (seat_of n part < part_cells n (holder_of n part))
+spine_in n part few some below =
     let q = held_by n (pieces_of n) (spines_of n) (pieces_are n) (spines_are n) part some below in
-    let most = spines_most n (pieces_of n) (spines_of n) (pieces_are n) (spines_are n) (cells_few shape f) in
+    let most = spines_most n (pieces_of n) (spines_of n) (pieces_are n) (spines_are n) few in
     (q.1, omega (arith, q.0, most), q.2)
 
--- the spine is as it was when the part was added
-module _ (s t : Store) (shape : Shape) (part address : ℕ) (node : Node) (added : Adds s t address node) (spines : List ℕ) (spine cell : ℕ) (es : spine ≡ holder_of (cells_of shape) part) (ec : cell ≡ seat_of (cells_of shape) part)
-    (held : is_held s (get_or spines (holder_of (cells_of shape) part) 0) ≡ true) where
-  pub spine_held : is_held t (get_or spines spine 0) ≡ true
-  spine_held = subst (λ k. is_held t (get_or spines k 0) ≡ true) (sym es) (added_held s t address node added _ held)
+spine_before : (shape : Shape) (part : ℕ) → fits shape ≡ true → 0 < part → part < parts_in (cells_of shape)
+    → (holder_of (cells_of shape) part < part) × (holder_of (cells_of shape) part < 64) × (seat_of (cells_of shape) part < part_cells (cells_of shape) (holder_of (cells_of shape) part))
+spine_before shape part f some below = spine_in (cells_of shape) part (cells_few shape f) some below
 
-  pub cell_within : fits shape ≡ true → 0 < part → part < parts_in (cells_of shape) → length (node_of s (get_or spines (holder_of (cells_of shape) part) 0)).cells ≡ part_cells (cells_of shape) (holder_of (cells_of shape) part)
-      → cell < length (node_of t (get_or spines spine 0)).cells
-  cell_within f some below cells =
-      let e : length (node_of t (get_or spines (holder_of (cells_of shape) part) 0)).cells ≡ part_cells (cells_of shape) (holder_of (cells_of shape) part) = ap (λ (x : Node). length x.cells) (added.others _ held) ∙ cells in
-      let l : seat_of (cells_of shape) part < length (node_of t (get_or spines (holder_of (cells_of shape) part) 0)).cells = subst (λ n. seat_of (cells_of shape) part < n) (sym e) (spine_before shape part f some below).2 in
-      subst (λ k. cell < length (node_of t (get_or spines k 0)).cells) (sym es) (subst (λ c. c < length (node_of t (get_or spines (holder_of (cells_of shape) part) 0)).cells) (sym ec) l)
+-- a part is written into its spine
+module _ (n : ℕ) (s t : Store) (spines : List ℕ) (part spine cell address : ℕ) (es : spine ≡ holder_of n part) (ec : cell ≡ seat_of n part) where
+  pub spine_held : is_held s (get_or spines (holder_of n part) 0) ≡ true → is_held s (get_or spines spine 0) ≡ true
+  spine_held h = subst (λ k. is_held s (get_or spines k 0) ≡ true) (sym es) h
 
--- the part is written where the spine has it
-pub written_by : (s t : Store) (shape : Shape) (part : ℕ) (spines : List ℕ) (spine cell address : ℕ) → spine ≡ holder_of (cells_of shape) part → cell ≡ seat_of (cells_of shape) part
-    → Writes s t (get_or spines spine 0) (with_cell (node_of s (get_or spines spine 0)) cell (address + 1))
-    → Writes s t (get_or spines (holder_of (cells_of shape) part) 0) (with_cell (node_of s (get_or spines (holder_of (cells_of shape) part) 0)) (seat_of (cells_of shape) part) (address + 1))
-written_by s t shape part spines spine cell address es ec w =
-    subst (λ k. Writes s t (get_or spines k 0) (with_cell (node_of s (get_or spines k 0)) (seat_of (cells_of shape) part) (address + 1))) es
-    (subst (λ i. Writes s t (get_or spines spine 0) (with_cell (node_of s (get_or spines spine 0)) i (address + 1))) ec w)
+  pub cell_within : n ≤ 4000000 → 0 < part → part < parts_in n → length (node_of s (get_or spines (holder_of n part) 0)).cells ≡ part_cells n (holder_of n part) → cell < length (node_of s (get_or spines spine 0)).cells
+  cell_within few some below cells =
+      subst (λ k. cell < length (node_of s (get_or spines k 0)).cells) (sym es)
+      (subst (λ c. c < length (node_of s (get_or spines (holder_of n part) 0)).cells) (sym ec) (subst (λ l. seat_of n part < l) (sym cells) (spine_in n part few some below).2))
+
+  pub linked_by : 0 < part → Writes s t (get_or spines spine 0) (with_cell (node_of s (get_or spines spine 0)) cell (address + 1)) → LinksPart n s (get_or spines (holder_of n part) 0) part address t
+  linked_by some w = record {
+    root = λ e. absurd (omega (arith, some, e));
+    written = λ l. subst (λ k. Writes s t (get_or spines k 0) (with_cell (node_of s (get_or spines k 0)) (seat_of n part) (address + 1))) es
+        (subst (λ i. Writes s t (get_or spines spine 0) (with_cell (node_of s (get_or spines spine 0)) i (address + 1))) ec w);
+  }
+
+-- which takes no block
+pub linked_pages : (n : ℕ) (s : Store) (spine part address : ℕ) (t : Store) → LinksPart n s spine part address t → t.pages ≡ s.pages
+linked_pages n s spine part address t w = elim (eq-zero-or-pos part) [ inl e ↦ ap (λ (x : Store). x.pages) (w.root e) | inr l ↦ (w.written l).pages ]
+
+-- A part of an object is made: it stands in a block that was free, at an address, and is then written into its cell of
+-- the spine that refers to it. Spine p stands at the address `spines p`.
+pub record MakesPart (old : Store) (object : OneObject) (spines : ℕ → ℕ) (part address : ℕ) (new : Store) : Type 0 where
+  pub between : Store
+  pub added : Adds old between address (part_of object part address)
+  pub linked : LinksPart (cells_of object.shape) between (spines (holder_of (cells_of object.shape) part)) part address new
 
 -- one part is made
 module _ (old new : Store) (shape : Shape) (colour : Bool) (id : ℕ) (spines : ℕ → ℕ) (part address : ℕ) (w : MakesPart old (made shape colour id) spines part address new) where
@@ -107,28 +117,28 @@ module _ (old new : Store) (shape : Shape) (colour : Bool) (id : ℕ) (spines : 
   Stands s b k = (is_held s b ≡ true) × (length (node_of s b).cells ≡ part_cells (cells_of shape) k)
 
   then_written : (P : Store → Type 0) → P w.between → (0 < part → P w.between → P new) → P new
-  then_written P p q = elim (eq-zero-or-pos part) [ inl e ↦ subst P (sym (w.root e)) p | inr l ↦ q l p ]
+  then_written P p q = elim (eq-zero-or-pos part) [ inl e ↦ subst P (sym (w.linked.root e)) p | inr l ↦ q l p ]
 
   pub part_held : (b : ℕ) → is_held old b ≡ true → is_held new b ≡ true
-  part_held b h = then_written (λ s. is_held s b ≡ true) (added_held old w.between address _ w.added b h) (λ l k. held_pages w.between new b (w.written l).pages ∙ k)
+  part_held b h = then_written (λ s. is_held s b ≡ true) (added_held old w.between address _ w.added b h) (λ l k. held_pages w.between new b (w.linked.written l).pages ∙ k)
 
   written_stands : (b k : ℕ) → 0 < part → (length (node_of w.between b).cells ≡ part_cells (cells_of shape) k) → is_held w.between b ≡ true → length (node_of new b).cells ≡ part_cells (cells_of shape) k
   written_stands b k l e h = elim (same_or b (spines (holder_of (cells_of shape) part))) [
     | inl same ↦
-        ap (λ z. length (node_of new z).cells) same ∙ ap (λ (x : Node). length x.cells) (w.written l).here ∙ length-set (node_of w.between (spines (holder_of (cells_of shape) part))).cells (seat_of (cells_of shape) part) (address + 1)
+        ap (λ z. length (node_of new z).cells) same ∙ ap (λ (x : Node). length x.cells) (w.linked.written l).here ∙ length-set (node_of w.between (spines (holder_of (cells_of shape) part))).cells (seat_of (cells_of shape) part) (address + 1)
         ∙ ap (λ z. length (node_of w.between z).cells) (sym same) ∙ e
-    | inr apart ↦ ap (λ (x : Node). length x.cells) ((w.written l).others b h apart) ∙ e
+    | inr apart ↦ ap (λ (x : Node). length x.cells) ((w.linked.written l).others b h apart) ∙ e
   ]
 
   pub new_stands : Stands new address part
   new_stands = then_written (λ s. Stands s address part)
       (w.added.held, ap (λ (x : Node). length x.cells) w.added.here ∙ length-replicate {A = ℕ} (part_cells (cells_of shape) part) 0)
-      (λ l q. (held_pages w.between new address (w.written l).pages ∙ q.0, written_stands address part l q.1 q.0))
+      (λ l q. (held_pages w.between new address (w.linked.written l).pages ∙ q.0, written_stands address part l q.1 q.0))
 
   pub old_stands : (b k : ℕ) → Stands old b k → Stands new b k
   old_stands b k i = then_written (λ s. Stands s b k)
       (added_held old w.between address _ w.added b i.0, ap (λ (x : Node). length x.cells) (w.added.others b i.0) ∙ i.1)
-      (λ l q. (held_pages w.between new b (w.written l).pages ∙ q.0, written_stands b k l q.1 q.0))
+      (λ l q. (held_pages w.between new b (w.linked.written l).pages ∙ q.0, written_stands b k l q.1 q.0))
 
 -- the addresses of parts that aren't made yet may be any
 module _ (old : Store) (shape : Shape) (colour : Bool) (id : ℕ) (at at' : ℕ → ℕ) (f : fits shape ≡ true) where
@@ -179,6 +189,11 @@ module _ (old s t : Store) (shape : Shape) (colour : Bool) (id : ℕ) (spines sp
       let e = m.known (holder_of (cells_of shape) part) q.0 q.1 in
       subst (λ b. (is_held s b ≡ true) × (length (node_of s b).cells ≡ part_cells (cells_of shape) (holder_of (cells_of shape) part))) (sym e) (m.stands (holder_of (cells_of shape) part) q.0)
 
+  -- also when the part was added
+  pub spine_later : (u : Store) (node : Node) → Adds s u address node → 0 < part → (is_held u (get_or spines (holder_of (cells_of shape) part) 0) ≡ true)
+      × (length (node_of u (get_or spines (holder_of (cells_of shape) part) 0)).cells ≡ part_cells (cells_of shape) (holder_of (cells_of shape) part))
+  spine_later u node added l = let q = spine_stands l in (added_held s u address node added _ q.0, ap (λ (x : Node). length x.cells) (added.others _ q.0) ∙ q.1)
+
   module _ (w : MakesPart s (made shape colour id) (λ p. get_or spines p 0) part address t)
       (taken : (class : ℕ) × (index : ℕ) × (class_for (part_words (cells_of shape) part) ≡ Some class) × TakesBlock s.pages class (address / 2048) index t.pages)
       (here : part < 64 → get_or spines' part 0 ≡ address) (others : (p : ℕ) → p ≢ part → get_or spines' p 0 ≡ get_or spines p 0) where
@@ -199,7 +214,7 @@ module _ (old s t : Store) (shape : Shape) (colour : Bool) (id : ℕ) (spines sp
         let q = spine_before shape part f l below in
         let e : get_or spines (holder_of (cells_of shape) part) 0 ≡ at' (holder_of (cells_of shape) part) = m.known (holder_of (cells_of shape) part) q.0 q.1 ∙ before (holder_of (cells_of shape) part) q.0 in
         subst (λ b. Writes w.between t b (with_cell (node_of w.between b) (seat_of (cells_of shape) part) (at' part + 1))) e
-        (subst (λ z. Writes w.between t (get_or spines (holder_of (cells_of shape) part) 0) (with_cell (node_of w.between (get_or spines (holder_of (cells_of shape) part) 0)) (seat_of (cells_of shape) part) (z + 1))) (sym at_here) (w.written l))
+        (subst (λ z. Writes w.between t (get_or spines (holder_of (cells_of shape) part) 0) (with_cell (node_of w.between (get_or spines (holder_of (cells_of shape) part) 0)) (seat_of (cells_of shape) part) (z + 1))) (sym at_here) (w.linked.written l))
 
     pub one_more : Made old shape colour id spines' (part + 1) t
     one_more = record {
@@ -210,7 +225,7 @@ module _ (old s t : Store) (shape : Shape) (colour : Bool) (id : ℕ) (spines sp
       ];
       making = Part_made part s w.between t (making_at old shape colour id m.at at' f part s (omega arith) before m.making)
           (subst (λ b. Adds s w.between b (new_node b (record { shape = shape; part = part; colour = colour }) id)) (sym at_here) w.added)
-          w.root links;
+          w.linked.root links;
       takes = Part_taken part taken.0 taken.1 s.pages t.pages (taking_at (cells_of shape) m.at at' old.pages part s.pages before m.takes) taken.2
           (subst (λ z. TakesBlock s.pages taken.0 (z / 2048) taken.1 t.pages) (sym at_here) taken.3);
       stands = λ p l. elim (same_or p part) [

@@ -1,6 +1,7 @@
 //! How objects are made.
 ghost use Rattle.std.specs.Prelude.{◌≡◌, ◌≢◌, ◌+◌, ◌/◌, ◌<◌, ◌≤◌, ℕ, Bool, true, length, slice_index, Some};
 ghost use Rattle.graph_heap.specs.declared.command.Shape.{Shape};
+ghost use Rattle.graph_heap.specs.declared.command.TheConstants.{ARRAY_CELLS};
 ghost use Rattle.graph_heap.specs.Shape.{fits};
 ghost use Rattle.size_classes.specs.Sizes.{class_for};
 ghost use Rattle.size_classes.specs.Parts.{cells_of, parts_in, part_cells, part_words, holder_of};
@@ -9,10 +10,10 @@ ghost use Rattle.heap_model.specs.Block.{new_node};
 ghost use Rattle.heap_model.specs.Pages.{has_room, TakesBlock};
 ghost use Rattle.heap_model.specs.Room.{needed_from};
 ghost use Rattle.heap_model.specs.Store.{Store, is_held, node_of, Adds};
-ghost use Rattle.heap_model.specs.Making.{made, MakesObject};
+ghost use Rattle.heap_model.specs.Making.{MakesObject};
 ghost use Rattle.heap_model.specs.Taking.{Takes};
 ghost use Rattle.nodes.specs.Links.{KeepsLinks};
-ghost use Rattle.arraylets.specs.Made.{MakesPart};
+ghost use Rattle.arraylets.specs.Made.{LinksPart};
 
 use graph_heap::Shape;
 use nodes::Nodes;
@@ -54,35 +55,19 @@ fn make_part(
         .unwrap()
 }
 
-/// Makes a part of an object as above, and writes it into the spine that refers to it, which stands
-/// already.
-fn make_linked(
-    nodes: &mut Nodes,
-    shape: Shape,
-    parts: &Parts,
-    spines: &Spines,
-    part: u32,
-    colour: bool,
-    identity: u64,
-) -> usize
-    requires fits { fits shape ≡ true }
-    requires parts { parts.now ≡ cells_of shape }
-    requires part { part < parts_in (cells_of shape) }
-    requires room { has_room nodes.old.pages (needed_from (cells_of shape) part (parts_in (cells_of shape))) ≡ true }
-    requires held { 0 < part → is_held nodes.old (slice_index spines.now (holder_of (cells_of shape) part)) ≡ true }
-    requires cells { 0 < part → length
-        (node_of nodes.old (slice_index spines.now (holder_of (cells_of shape) part))).cells
-        ≡ part_cells (cells_of shape) (holder_of (cells_of shape) part) }
-    ensures made { MakesPart nodes.old (made shape colour identity) (λ p. slice_index spines.now p) part result
+/// Writes a part that was made into the spine that refers to it, which stands already. Nothing refers to part 0.
+#[inline(always)]
+fn link(nodes: &mut Nodes, parts: &Parts, spines: &Spines, part: u32, block: usize)
+    requires few { parts.now ≤ ARRAY_CELLS }
+    requires part { part < parts_in parts.now }
+    requires within { block ≤ 8388608 }
+    requires held { 0 < part → is_held nodes.old (slice_index spines.now (holder_of parts.now part)) ≡ true }
+    requires cells { 0 < part → length (node_of nodes.old (slice_index spines.now (holder_of parts.now part))).cells
+        ≡ part_cells parts.now (holder_of parts.now part) }
+    ensures linked { LinksPart parts.now nodes.old (slice_index spines.now (holder_of parts.now part)) part block
         nodes.new }
-    ensures taken { (class : ℕ) × (index : ℕ) × (class_for (part_words (cells_of shape) part) ≡ Some class)
-        × TakesBlock nodes.old.pages class (result / 2048) index nodes.new.pages }
-    ensures room { has_room nodes.new.pages (needed_from (cells_of shape) (part + 1) (parts_in (cells_of shape)))
-        ≡ true }
-    ensures within { result ≤ 8388608 }
     ensures links { KeepsLinks nodes.old nodes.new }
 {
-    let block = make_part(nodes, shape, parts, part, colour, identity);
     if part > 0 {
         let position = parts.position(part);
         nodes.set_cell(
@@ -91,7 +76,6 @@ fn make_linked(
             block as u64 + 1,
         );
     }
-    block
 }
 
 /// Notes the address of a part, where it may be a spine.
@@ -117,7 +101,8 @@ fn make_parts(nodes: &mut Nodes, shape: Shape, parts: &Parts, colour: bool, iden
 {
     let mut spines: Spines = [0; SPINES];
     for part in 0..parts.count() {
-        let block = make_linked(nodes, shape, parts, &spines, part, colour, identity);
+        let block = make_part(nodes, shape, parts, part, colour, identity);
+        link(nodes, parts, &spines, part, block);
         note(&mut spines, part, block);
     }
     spines[0]

@@ -21,7 +21,7 @@ pub writes_width : (s new : Store) (a i v : ℕ) → Writes s new a (with_cell (
 writes_width s new a i v w = ap width_at w.here
 
 -- a null cell is scanned
-pub null_scanned : (a : RawHeap) (part cell : ℕ) → a.phase ≡ phases.Marking part cell → (part ≡ 0 → ⊥) → cell < width_at (node_of a.nodes (part - 1)) → get_or (node_of a.nodes (part - 1)).cells cell 0 ≡ 0
+null_scanned : (a : RawHeap) (part cell : ℕ) → a.phase ≡ phases.Marking part cell → (part ≡ 0 → ⊥) → cell < width_at (node_of a.nodes (part - 1)) → get_or (node_of a.nodes (part - 1)).cells cell 0 ≡ 0
     → Action (state_of a) 1 (goes_to (state_of a) 1 (phases.Marking part (cell + 1)))
 null_scanned a part cell ep ne below null =
     let h = state_of a in

@@ -140,8 +140,9 @@ fn scan_cells(heap: &mut RawHeap, part: u64, cell: usize, count: usize)
     }
 }
 
-/// Scans the next reference cell of a part, and where it is null those after it up to the first that isn't, at most
-/// `most` in all. Answers how many it scanned.
+/// Scans the next reference cell of a part: it is corrected to the main copy, and that is shaded. Null stays as it is,
+/// and the cells after it are scanned too, up to the first that isn't null, this many in all at most. Answers how many it
+/// scanned.
 #[inline(always)]
 fn scan_run(heap: &mut RawHeap, part: u64, cell: usize, most: usize) -> usize
     requires heap { IsScanning heap.old part cell }
@@ -160,7 +161,9 @@ fn scan_run(heap: &mut RawHeap, part: u64, cell: usize, most: usize) -> usize
     if reference == 0 {
         return 1 + nulls_from(&heap.nodes, block, cell + 1, most - 1);
     }
-    scan_cell(heap, part, cell);
+    let main = heap.nodes.follow(reference).reference;
+    heap.nodes.set_cell(block, cell, main);
+    shade(heap, main);
     1
 }
 
@@ -178,26 +181,4 @@ fn nulls_from(nodes: &Nodes, block: usize, from: usize, most: usize) -> usize
         nulls += 1;
     }
     nulls
-}
-
-/// Scans a reference cell of a part: it is corrected to the main copy, and that is shaded. Null stays as it is.
-#[inline(always)]
-fn scan_cell(heap: &mut RawHeap, part: u64, cell: usize)
-    requires heap { IsScanning heap.old part cell }
-    requires some { part ≢ 0 }
-    requires left { cell < width_at (node_of heap.old.nodes (part - 1)) }
-    ensures acts { (units : ℕ) → Action (state_of (scanning heap.old part cell units)) 1
-        (state_of (scanning heap.new part (cell + 1) (units + 1))) }
-    ensures width { width_at (node_of heap.new.nodes (part - 1)) ≡ width_at (node_of heap.old.nodes (part - 1)) }
-    ensures buffers { heap.new.grey.buffers ≡ heap.old.grey.buffers }
-    ensures same { heap.new ≡ record heap.old { nodes = heap.new.nodes; grey = heap.new.grey } }
-{
-    let block = part as usize - 1;
-    let reference = heap.nodes.cell(block, cell);
-    if reference == 0 {
-        return;
-    }
-    let main = heap.nodes.follow(reference).reference;
-    heap.nodes.set_cell(block, cell, main);
-    shade(heap, main);
 }

@@ -1,7 +1,7 @@
 -- The links of held blocks: where one is read or written, and where another word of a block is.
 use Rattle.std.proofs.Common.{◌≡◌, ◌≢◌, ℕ, ◌+◌, ◌<◌, ◌≤◌, true, List, Option, length, set, get_or, ap, ◌∙◌, sym, subst, arith, refl, length-set, inl, inr}
 use Rattle.std.proofs.lemmas.Bool.{cases_eq}
-use Rattle.std.proofs.lemmas.List.{get_or-set_other}
+use Rattle.std.proofs.lemmas.List.{get_or-set_same, get_or-set_other}
 use Rattle.heap_model.specs.Action.{KeepsBlocks}
 use Rattle.heap_model.specs.Pages.{Page}
 use Rattle.heap_model.specs.Store.{Store, IsStore, size_at, is_held, node_of}
@@ -14,7 +14,7 @@ use Rattle.nodes.specs.Joined.{IsHeader, AreNodes}
 use Rattle.nodes.specs.Links.{KeepsLinks}
 use Rattle.nodes.proofs.Joining.{HeldBlock, still_nodes, through}
 use Rattle.nodes.proofs.Places.{held_place, apart}
-use Rattle.nodes.proofs.Writing.{in_words, four, others_stay, cell_within, held_here, block, later}
+use Rattle.nodes.proofs.Writing.{in_words, four, header_inside, others_stay, cell_within, held_here, block, later}
 
 module _ (s : Store) (whole : IsStore s) (a : ℕ) (held : is_held s a ≡ true) where
   -- no other word of the block is the link of a held block
@@ -94,12 +94,18 @@ module _ (rows : List (Option PageRecord)) (words : List ℕ) (t : Store) (is : 
     pub linked_nodes : AreNodes rows new
     linked_nodes = still_nodes rows words new are.together a here link_write are was_held (subst IsHeader (sym (ap (λ w. get_or w (a + 1) 0) e ∙ get_or-set_other words (a + 3) (a + 1) v 0 (omega arith))) (are.headers a was_held))
 
-    pub links : joined rows new ≡ record t { words = set t.words (a + 3) v }
-    links =
-        through rows words new are.together a here link_write (λ x. x ≡ record t { words = set t.words (a + 3) v })
-        (linked_by (joined rows words) t is are.whole a held v new e)
-
-    pub keeps_said : KeepsBlocks t (joined rows new)
-    keeps_said =
-        through rows words new are.together a here link_write (λ x. KeepsBlocks t x)
-        (blocks_by (joined rows words) t is are.whole a held v new e)
+    -- the link is there, and held blocks say what they said
+    pub relinked : record {
+      linked : joined rows new ≡ record t { words = set t.words (a + 3) v };
+      there : get_or new (a + 3) 0 ≡ v;
+      kept : KeepsBlocks t (joined rows new);
+    }
+    relinked = record {
+      linked =
+          through rows words new are.together a here link_write (λ x. x ≡ record t { words = set t.words (a + 3) v })
+          (linked_by (joined rows words) t is are.whole a held v new e);
+      there = ap (λ w. get_or w (a + 3) 0) e ∙ get_or-set_same words (a + 3) v 0 (header_inside _ t is are.whole a held);
+      kept =
+          through rows words new are.together a here link_write (λ x. KeepsBlocks t x)
+          (blocks_by (joined rows words) t is are.whole a held v new e);
+    }

@@ -4,7 +4,8 @@ use Rattle.std.specs.Prelude.{IfSome, slice_get}
 use Rattle.std.specs.Option.{option_copied_mut}
 use Rattle.std.proofs.lemmas.List.{get_or_read}
 use Rattle.size_classes.specs.Sizes.{size_of, blocks_in}
-use Rattle.heap_model.specs.Pages.{page_at, page_of_class, with_held}
+use Rattle.heap_model.specs.Pages.{page_at, page_of_class, with_held, IsOpen}
+use Rattle.heap_model.specs.Store.{address_of}
 use Rattle.pages.specs.declared.bits.BitRow.{BitRow}
 use Rattle.pages.specs.declared.page.PageRecord.{PageRecord}
 use Rattle.pages.specs.BitRow.{has_bit}
@@ -86,16 +87,20 @@ module _ (rows pages : List (Option PageRecord)) (seen : rows ≡ pages) (usable
       outside : SameOutside words new (2048 * page)
       outside = popped_outside pages words new together.classes page old there block place was_free is
 
-      pub taken_together : Together (set rows page (Some row)) new
-      taken_together = together_by pages words new together page below old row there (old.held + 1) old.receiving row_is chain outside (set rows page (Some row)) after (index_on old.class page block) true flags
-
-      pub taken_open : slice_get (page_of_class class (page_at (pages_in pages words) page)).held (index_on class page block) ≡ Some false
-      taken_open = ap (λ k. slice_get (page_of_class class (page_at (pages_in pages words) page)).held (index_on k page block)) (sym class_is) ∙ open_by pages words page old (index_on old.class page block) class below there was_free
-
-      pub taken_pages : pages_in (set rows page (Some row)) new ≡ set (pages_in pages words) page (Some (with_held (page_of_class class (page_at (pages_in pages words) page)) (index_on class page block) true))
-      taken_pages =
-          taken_by pages words new together page below old row there (old.held + 1) old.receiving row_is chain outside (set rows page (Some row)) after (index_on old.class page block) true flags refl class
-          ∙ ap (λ k. set (pages_in pages words) page (Some (with_held (page_of_class class (page_at (pages_in pages words) page)) (index_on k page block) true))) class_is
-
-      pub taken_keeps : KeepsHeld (pages_in pages words) words new
-      taken_keeps = popped_keeps pages words new together.classes page old there block place was_free is
+      -- the page's list runs through its other free blocks, the block was free and is held, and held blocks keep their words
+      pub taken : record {
+        together : Together (set rows page (Some row)) new;
+        place : block ≡ address_of class page (index_on class page block);
+        free : IsOpen (page_of_class class (page_at (pages_in pages words) page)) (index_on class page block);
+        held : pages_in (set rows page (Some row)) new ≡ set (pages_in pages words) page (Some (with_held (page_of_class class (page_at (pages_in pages words) page)) (index_on class page block) true));
+        words : KeepsHeld (pages_in pages words) words new;
+      }
+      taken = record {
+        together = together_by pages words new together page below old row there (old.held + 1) old.receiving row_is chain outside (set rows page (Some row)) after (index_on old.class page block) true flags;
+        place = subst (λ k. block ≡ address_of k page (index_on k page block)) class_is place;
+        free = ap (λ k. slice_get (page_of_class class (page_at (pages_in pages words) page)).held (index_on k page block)) (sym class_is) ∙ open_by pages words page old (index_on old.class page block) class below there was_free;
+        held =
+            taken_by pages words new together page below old row there (old.held + 1) old.receiving row_is chain outside (set rows page (Some row)) after (index_on old.class page block) true flags refl class
+            ∙ ap (λ k. set (pages_in pages words) page (Some (with_held (page_of_class class (page_at (pages_in pages words) page)) (index_on k page block) true))) class_is;
+        words = popped_keeps pages words new together.classes page old there block place was_free is;
+      }

@@ -13,7 +13,8 @@ pub record IsMainCopy (s : Store) (address : ℕ) (n : Name) : Type 0 where
   pub identity : (node_of s address).identity ≡ n.identity
   pub part : (node_of s address).part ≡ n.part
 
--- the block at an address is a main copy of the part that has cell i of an object, reference cells or word cells
+-- the block at an address is a main copy of the part that has cell i of an object, of its reference cells or of its
+-- word cells
 abbrev pub HasCell : HeapState → Graph → ℕ → ℕ → ℕ → Type 0
 HasCell h g id i address = IsMainCopy h.store address (record {
   identity = id;

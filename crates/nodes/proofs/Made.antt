@@ -5,6 +5,7 @@ use Rattle.heap_model.specs.Header.{Header, HeaderFits, header_word}
 use Rattle.heap_model.specs.Block.{cell_count, new_node, new_words, spliced}
 use Rattle.heap_model.specs.Pages.{Page, page_for, page_at, page_of_class, with_held, IsOpen, TakesBlock}
 use Rattle.heap_model.specs.Store.{Store, IsStore, Adds, is_held, size_at, address_of}
+use Rattle.size_classes.specs.declared.class.TheConstants.{CLASSES}
 use Rattle.size_classes.specs.Sizes.{size_of}
 use Rattle.pages.specs.declared.page.PageRecord.{PageRecord}
 use Rattle.pages.specs.Together.{joined, pages_in, Together, KeepsHeld}
@@ -17,7 +18,7 @@ use Rattle.nodes.proofs.Carried.{adds_then}
 use Rattle.nodes.proofs.Joining.{HeldBlock, held_block, writes_spliced, same_pages, still_store, still_together, through, word_kept, word_spliced}
 use Rattle.nodes.proofs.Making.{fit, within, few_words, page_place, free_before, held_after, same_after, whole_after, size_here, made_store, adds}
 
-module _ (s t : Store) (is : s ≡ t) (whole : IsStore s) (class k i size : ℕ) (small : class < 38) (size_is : size ≡ size_of class) (found : page_for s.pages class ≡ Some k) (was_free : IsOpen (page_of_class class (page_at s.pages k)) i) where
+module _ (s t : Store) (is : s ≡ t) (whole : IsStore s) (class k i size : ℕ) (small : class < CLASSES) (size_is : size ≡ size_of class) (found : page_for s.pages class ≡ Some k) (was_free : IsOpen (page_of_class class (page_at s.pages k)) i) where
   pub block_small : i * size + size ≤ 2048
   block_small =
       let f : (i + 1) * size ≤ 2048 = subst (λ n. (i + 1) * n ≤ 2048) (sym size_is) (fit s whole class k i small found was_free) in
@@ -74,7 +75,7 @@ module _ (s t : Store) (is : s ≡ t) (whole : IsStore s) (class k i size : ℕ)
           (both (λ x. Adds midway x (address_of class k i) (new_node (address_of class k i) h identity)) (adds midway midway_whole class k i small found was_free identity h fits room'))))
 
 -- with the records: the part is written in a block that is held by then
-module _ (rows : List (Option PageRecord)) (words : List ℕ) (t : Store) (is : joined rows words ≡ t) (are : AreNodes rows words) (class k i size : ℕ) (small : class < 38) (size_is : size ≡ size_of class)
+module _ (rows : List (Option PageRecord)) (words : List ℕ) (t : Store) (is : joined rows words ≡ t) (are : AreNodes rows words) (class k i size : ℕ) (small : class < CLASSES) (size_is : size ≡ size_of class)
     (found : page_for (pages_in rows words) class ≡ Some k) (was_free : IsOpen (page_of_class class (page_at (pages_in rows words) k)) i) (address : ℕ) (at : address ≡ 2048 * k + i * size)
     (h : Header) (fits : HeaderFits h) (identity cells : ℕ) (count : cells ≡ cell_count h) (room : cells + 4 ≤ size_of class)
     (after : List (Option PageRecord)) (mid : List ℕ) (together : Together after mid) (taken : pages_in after mid ≡ set (pages_in rows words) k (Some (with_held (page_of_class class (page_at (pages_in rows words) k)) i true)))

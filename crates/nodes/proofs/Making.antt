@@ -5,6 +5,7 @@ use Rattle.std.proofs.lemmas.Bool.{eqb-true, ne_eqb, and_parts}
 use Rattle.std.proofs.lemmas.List.{get_or-set_other, get_or-set_same, length-replicate}
 use Rattle.std.proofs.lemmas.List.Quantifiers.{position-Some}
 use Rattle.std.proofs.lemmas.Option.{slice_get_within, get_or_from_slice_get, slice_get-get_or}
+use Rattle.size_classes.specs.declared.class.TheConstants.{CLASSES}
 use Rattle.size_classes.specs.Sizes.{size_of, blocks_in}
 use Rattle.size_classes.proofs.Table.{size_low}
 use Rattle.heap_model.specs.Header.{Header, HeaderFits}
@@ -83,13 +84,13 @@ set_same pages k x h = get_or-set_same pages k x None h
 set_other : (pages : List (Option Page)) (k j : ℕ) (x : Option Page) → j ≢ k → page_at (set pages k x) j ≡ page_at pages j
 set_other pages k j x ne = get_or-set_other pages k j x None ne
 
-fresh_is : (class : ℕ) → class < 38 → IsPage (fresh_page class)
+fresh_is : (class : ℕ) → class < CLASSES → IsPage (fresh_page class)
 fresh_is class h = record { class = h; blocks = length-replicate (blocks_in class) false; marks = refl }
 
 with_is : (p : Page) (i : ℕ) → IsPage p → IsPage (with_held p i true)
 with_is p i w = record { class = w.class; blocks = length-set p.held i true ∙ w.blocks; marks = w.marks }
 
-module _ (s : Store) (whole : IsStore s) (class k i : ℕ) (low38 : class < 38) (found : page_for s.pages class ≡ Some k) (was_free : IsOpen (page_of_class class (page_at s.pages k)) i) where
+module _ (s : Store) (whole : IsStore s) (class k i : ℕ) (known : class < CLASSES) (found : page_for s.pages class ≡ Some k) (was_free : IsOpen (page_of_class class (page_at s.pages k)) i) where
   pub within : k < length s.pages
   within = (chosen_page s.pages class k found).0
 
@@ -109,7 +110,7 @@ module _ (s : Store) (whole : IsStore s) (class k i : ℕ) (low38 : class < 38) 
   is_page = by_case chosen
     where
       by_case : Chosen class (page_at s.pages k) → IsPage (page_of_class class (page_at s.pages k))
-      by_case (WasFree e) = subst (λ x. IsPage (page_of_class class x)) (sym e) (fresh_is class low38)
+      by_case (WasFree e) = subst (λ x. IsPage (page_of_class class x)) (sym e) (fresh_is class known)
       by_case (WasUsed p e is) = subst (λ x. IsPage (page_of_class class x)) (sym e) (whole.pages k p (slice_get-get_or s.pages k None within ∙ ap Some e))
 
   class_is : (page_of_class class (page_at s.pages k)).class ≡ class
@@ -120,7 +121,7 @@ module _ (s : Store) (whole : IsStore s) (class k i : ℕ) (low38 : class < 38) 
       by_case (WasUsed p e is) = subst (λ x. (page_of_class class x).class ≡ class) (sym e) is
 
   low : 4 ≤ size_of class
-  low = size_low class low38
+  low = size_low class known
 
   index_below : i < 2048 / size_of class
   unfolding blocks_in

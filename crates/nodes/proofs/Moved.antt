@@ -4,6 +4,7 @@ use Rattle.std.proofs.Common.{◌≡◌, ◌≢◌, ℕ, ◌+◌, ◌*◌, ◌/�
 use Rattle.std.specs.Prelude.{IfSome, IsSomeAnd}
 use Rattle.std.proofs.lemmas.List.{get_or-set_same, get_or-set_other, get_or-take, get_or-drop}
 use Rattle.std.proofs.lemmas.Option.{slice_get_within}
+use Rattle.size_classes.specs.declared.class.TheConstants.{CLASSES}
 use Rattle.size_classes.specs.Sizes.{size_of}
 use Rattle.size_classes.proofs.Table.{size_low}
 use Rattle.heap_model.specs.Action.{MovesBlock}
@@ -120,7 +121,7 @@ module _ (rows : List (Option PageRecord)) (words : List ℕ) (t : Store) (is : 
           source_block = held_block after mid a source_held_then
 
           source_low : 4 ≤ size_of source_block.row.class
-          source_low = size_low source_block.row.class (subst (λ o. IfSome o (λ r. r.class < 38)) source_block.row_is (together.classes (a / 2048)))
+          source_low = size_low source_block.row.class (subst (λ o. IfSome o (λ r. r.class < CLASSES)) source_block.row_is (together.classes (a / 2048)))
 
           forwards : WritesBlock mid first a (size_of source_block.row.class)
           forwards = writes_first mid first a (size_of source_block.row.class) b small (omega (arith, source_low)) (omega (arith, from_fits, four_words)) first_is

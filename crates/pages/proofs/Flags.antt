@@ -9,6 +9,7 @@ use Rattle.std.proofs.lemmas.Option.{slice_get_within, slice_get-get_or, get_or_
 use Rattle.std.proofs.lemmas.List.{same_lists, get_or_past}
 use Rattle.std.proofs.lemmas.Bool.{cases_order}
 use Rattle.std.proofs.Math.Nat.{mul-le-mul_right, div-mul-le_self, div-zero}
+use Rattle.size_classes.specs.declared.class.TheConstants.{CLASSES}
 use Rattle.size_classes.specs.Sizes.{sizes, size_of, blocks_in}
 use Rattle.size_classes.proofs.Table.{size_low}
 use Rattle.pages.specs.FreeList.{flags_at, free_mark}
@@ -61,9 +62,9 @@ flags_set words new at size n i b within same here =
     ])
 
 -- ---- classes
-pub class_known : (class : ℕ) → 0 < size_of class → class < 38
+pub class_known : (class : ℕ) → 0 < size_of class → class < CLASSES
 unfolding size_of
-class_known class some = elim (cases_lt class 38) [
+class_known class some = elim (cases_lt class CLASSES) [
   | inl h ↦ h
   | inr past ↦ absurd (let none : get_or sizes class 0 ≡ 0 = get_or_past sizes class 0 past in omega (arith, some, none))
 ]

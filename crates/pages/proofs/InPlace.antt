@@ -3,6 +3,7 @@ use Rattle.std.proofs.Common.{◌≡◌, ◌≢◌, ℕ, ◌+◌, ◌-◌, ◌*�
 use Rattle.std.specs.Prelude.{IfSome, slice_get}
 use Rattle.std.specs.Option.{option_copied_mut}
 use Rattle.std.proofs.lemmas.List.{get_or_read}
+use Rattle.size_classes.specs.declared.class.TheConstants.{CLASSES}
 use Rattle.size_classes.specs.Sizes.{size_of, blocks_in}
 use Rattle.heap_model.specs.Pages.{page_at, page_of_class, with_held, IsOpen}
 use Rattle.heap_model.specs.Store.{address_of}
@@ -31,8 +32,8 @@ module _ (rows pages : List (Option PageRecord)) (seen : rows ≡ pages) (usable
   after : set rows page (Some row) ≡ set pages page (Some row)
   after = ap (λ l. set l page (Some row)) seen
 
-  known : old.class < 38
-  known = subst (λ o. IfSome o (λ r. r.class < 38)) there (together.classes page)
+  known : old.class < CLASSES
+  known = subst (λ o. IfSome o (λ r. r.class < CLASSES)) there (together.classes page)
 
   -- the row of bits and the number of the class, as they were read
   module _ (number : ℕ) (number_is : number ≡ old.class) (had : ℕ) (had_is : had ≡ get_or free_blocks number had) where

@@ -4,6 +4,7 @@ use Rattle.std.specs.Prelude.{position, count_by, sum_by, IfSome, IsSomeAnd, IsN
 use Rattle.std.proofs.lemmas.Bool.{cases_eq, cases_lt, ne_eqb, lt-ltb, le-ltb}
 use Rattle.std.proofs.lemmas.List.{length-set, get_or-set_same, get_or-set_other, map-set, get_or-map, get_or_read, get_or_past, get_or_default, set-get_or, length-map, length-replicate, get_or-replicate, length_push, get_or_push, get_or_append_left}
 use Rattle.std.proofs.lemmas.List.Sums.{sum_by-set, sum_by-cons, get_or-le-sum_by, prefix_len_is}
+use Rattle.size_classes.specs.declared.class.TheConstants.{CLASSES}
 use Rattle.size_classes.specs.Sizes.{blocks_in}
 use Rattle.pages.specs.declared.bits.BitRow.{BitRow}
 use Rattle.pages.specs.declared.page.PageRecord.{PageRecord}
@@ -24,20 +25,20 @@ cond_few : (b : Bool) (n m : ℕ) → n ≤ m → cond b n 0 ≤ m
 cond_few true n m h = h
 cond_few false n m h = omega arith
 
-row_few : (class : ℕ) → class < 38 → (o : Option PageRecord) → row_free_on class o ≤ 512
+row_few : (class : ℕ) → class < CLASSES → (o : Option PageRecord) → row_free_on class o ≤ 512
 row_few class known None = omega arith
 row_few class known (Some r) = elim (cases_eq r.class class) [
   | inl e ↦ cond_few (eqb r.class class && not r.leaving) (blocks_in r.class - r.held) 512 (let f = blocks_most class known in let g = ap blocks_in e in omega (arith, f, g))
   | inr ne ↦ (let f = ap (λ b. cond (b && not r.leaving) (blocks_in r.class - r.held) 0) (ne_eqb r.class class ne) in omega (arith, f))
 ]
 
-pub rows_few : (class : ℕ) → class < 38 → (rows : List (Option PageRecord)) → sum_by (row_free_on class) rows ≤ 512 * length rows
+pub rows_few : (class : ℕ) → class < CLASSES → (rows : List (Option PageRecord)) → sum_by (row_free_on class) rows ≤ 512 * length rows
 rows_few class known [] = omega arith
 rows_few class known (o ∷ rows) = omega (arith, sum_by-cons (row_free_on class) o rows, row_few class known o, rows_few class known rows)
 
 -- one record is put in the place of another
 module _ (rows : List (Option PageRecord)) (usable : List BitRow) (free : BitRow) (free_blocks : List ℕ) (free_pages : ℕ) (b : IsIndex rows usable free free_blocks free_pages)
-    (page class : ℕ) (row : Option PageRecord) (below : page < length rows) (was : OfClass class (row_at rows page)) (is : OfClass class row) (known : class < 38) where
+    (page class : ℕ) (row : Option PageRecord) (below : page < length rows) (was : OfClass class (row_at rows page)) (is : OfClass class row) (known : class < CLASSES) where
   here : row_at (set rows page row) page ≡ row
   here = get_or-set_same rows page row None below
 
@@ -57,7 +58,7 @@ module _ (rows : List (Option PageRecord)) (usable : List BitRow) (free : BitRow
   page_some = let w = get_or-le-sum_by (λ o. bit (row_free o)) rows page None below in omega (arith, w, b.pages_are)
 
   blocks_after : (n : ℕ) → n ≡ get_or free_blocks class 0 - row_free_on class (row_at rows page) + row_free_on class row
-      → (c : ℕ) → c < 38 → get_or (set free_blocks class n) c 0 ≡ sum_by (row_free_on c) (set rows page row)
+      → (c : ℕ) → c < CLASSES → get_or (set free_blocks class n) c 0 ≡ sum_by (row_free_on c) (set rows page row)
   blocks_after n e c h = elim (cases_eq c class) [
     | inl same ↦
         (let s = sum_by-set (row_free_on class) rows page row None below in
@@ -76,7 +77,7 @@ module _ (rows : List (Option PageRecord)) (usable : List BitRow) (free : BitRow
   pages_after n e = let s = sum_by-set (λ o. bit (row_free o)) rows page row None below in omega (arith, s, e, b.pages_are)
 
   module _ (one new : BitRow) (read : one ≡ get_or usable class one) (set_here : has_bit new page ≡ bit (row_usable class row)) (set_others : (i : ℕ) → i < 4096 → i ≢ page → has_bit new i ≡ has_bit one i) where
-    usable_after : (c k : ℕ) → c < 38 → k < 4096 → class_bit (set usable class new) c k ≡ bit (row_usable c (row_at (set rows page row) k))
+    usable_after : (c k : ℕ) → c < CLASSES → k < 4096 → class_bit (set usable class new) c k ≡ bit (row_usable c (row_at (set rows page row) k))
     usable_after c k hc hk =
         let f : BitRow → ℕ = λ r. has_bit r k in
         ap (λ (l : List ℕ). get_or l c 0) (map-set f usable class new) ∙ elim (cases_eq c class) [
@@ -137,7 +138,7 @@ none_free (Some r) false e = refl
 
 -- as the code computes it
 module _ (rows : List (Option PageRecord)) (pages : List (Option PageRecord)) (seen : rows ≡ pages) (usable : List BitRow) (free : BitRow) (free_blocks : List ℕ) (free_pages : ℕ) (b : IsIndex rows usable free free_blocks free_pages)
-    (page class : ℕ) (row : Option PageRecord) (below : page < length pages) (was : OfClass class (row_at pages page)) (is : OfClass class row) (known : class < 38)
+    (page class : ℕ) (row : Option PageRecord) (below : page < length pages) (was : OfClass class (row_at pages page)) (is : OfClass class row) (known : class < CLASSES)
     (number : ℕ) (number_is : number ≡ class) (old : Option PageRecord) (read : old ≡ get_or rows page old) (less more : ℕ) (less_is : less ≡ row_free_on class old) (more_is : more ≡ row_free_on class row)
     (had : ℕ) (had_is : had ≡ get_or free_blocks number had) where
   within : page < length rows
@@ -199,7 +200,7 @@ used_kept class (Some r) h = refl
 
 -- a page in use gets another record
 module _ (rows : List (Option PageRecord)) (pages : List (Option PageRecord)) (seen : rows ≡ pages) (usable : List BitRow) (free : BitRow) (free_blocks : List ℕ) (free_pages : ℕ) (b : IsIndex rows usable free free_blocks free_pages)
-    (page class : ℕ) (old row : Option PageRecord) (below : page < length pages) (was_of : IsSomeAnd (row_at pages page) (λ r. r.class ≡ class)) (is_of : IsSomeAnd row (λ r. r.class ≡ class)) (known : class < 38)
+    (page class : ℕ) (old row : Option PageRecord) (below : page < length pages) (was_of : IsSomeAnd (row_at pages page) (λ r. r.class ≡ class)) (is_of : IsSomeAnd row (λ r. r.class ≡ class)) (known : class < CLASSES)
     (number : ℕ) (number_is : number ≡ class) (read : old ≡ get_or rows page old) (less more : ℕ) (less_is : less ≡ row_free_on class old) (more_is : more ≡ row_free_on class row)
     (one : BitRow) (one_is : one ≡ get_or usable number one) where
   inside : page < length rows
@@ -248,7 +249,7 @@ usable_leaving r leaving = ap (λ b. b && (not r.leaving && ltb r.held (blocks_i
 
 -- a page in use has another record of its class in the same place
 module _ (rows : List (Option PageRecord)) (usable : List BitRow) (free : BitRow) (free_blocks : List ℕ) (free_pages : ℕ) (b : IsIndex rows usable free free_blocks free_pages)
-    (page : ℕ) (old row : PageRecord) (below : page < length rows) (was : row_at rows page ≡ Some old) (same : row.class ≡ old.class) (known : old.class < 38) where
+    (page : ℕ) (old row : PageRecord) (below : page < length rows) (was : row_at rows page ≡ Some old) (same : row.class ≡ old.class) (known : old.class < CLASSES) where
   in_class : OfClass old.class (row_at rows page)
   in_class = subst (OfClass old.class) (sym was) refl
 
@@ -304,7 +305,7 @@ module _ (rows : List (Option PageRecord)) (usable : List BitRow) (free : BitRow
         bit_kept (get_or free_blocks old.class 0 - 1) fewer_counted
         (usable_now ∙ lt-ltb row.held (blocks_in old.class) (omega (arith, left, more, some)) ∙ sym (usable_plain old plain ∙ lt-ltb old.held (blocks_in old.class) some))
 
-pub usable_is : (rows : List (Option PageRecord)) (usable : List BitRow) (free : BitRow) (free_blocks : List ℕ) (free_pages : ℕ) (b : IsIndex rows usable free free_blocks free_pages) (class number : ℕ) → class < 38 → number ≡ class
+pub usable_is : (rows : List (Option PageRecord)) (usable : List BitRow) (free : BitRow) (free_blocks : List ℕ) (free_pages : ℕ) (b : IsIndex rows usable free free_blocks free_pages) (class number : ℕ) → class < CLASSES → number ≡ class
     → (one : BitRow) → one ≡ get_or usable number one → (r : Option ℕ) → IfSome r (λ k. k < 4096) → IfSome r (λ k. has_bit one k ≡ 1) → IfSome r (λ k. (i : ℕ) → i < k → has_bit one i ≡ 0) → (IsNone r → (i : ℕ) → i < 4096 → has_bit one i ≡ 0)
     → r ≡ position (row_usable class) rows
 usable_is rows usable free free_blocks free_pages b class number known is one read r =
@@ -328,18 +329,18 @@ none_counted : (n : ℕ) → count_by row_free (replicate n None) ≡ n
 none_counted zero = refl
 none_counted (suc n) = let s = sum_by-cons (λ o. bit (row_free o)) None (replicate n None) in omega (arith, s, none_counted n)
 
-pub fresh_book : (n : ℕ) (usable : List BitRow) (free : BitRow) → n ≤ 4096 → length usable ≡ 38 → ((c k : ℕ) → c < 38 → k < 4096 → class_bit usable c k ≡ 0) → ((k : ℕ) → k < n → has_bit free k ≡ 1) → ((k : ℕ) → n ≤ k → k < 4096 → has_bit free k ≡ 0)
-    → IsIndex (replicate n None) usable free (replicate 38 0) n
+pub fresh_book : (n : ℕ) (usable : List BitRow) (free : BitRow) → n ≤ 4096 → length usable ≡ CLASSES → ((c k : ℕ) → c < CLASSES → k < 4096 → class_bit usable c k ≡ 0) → ((k : ℕ) → k < n → has_bit free k ≡ 1) → ((k : ℕ) → n ≤ k → k < 4096 → has_bit free k ≡ 0)
+    → IsIndex (replicate n None) usable free (replicate CLASSES 0) n
 fresh_book n usable free few long none some past =
     let size : length (replicate {A = Option PageRecord} n None) ≡ n = length-replicate n None in
     record {
       few = omega (arith, size, few);
       classes = long;
-      counts = length-replicate {A = ℕ} 38 0;
+      counts = length-replicate {A = ℕ} CLASSES 0;
       usable_bits = λ c k hc hk. none c k hc hk ∙ ap (λ o. bit (row_usable c o)) (sym (row_none n k));
       free_bits = λ k h. some k (omega (arith, h, size)) ∙ ap (λ o. bit (row_free o)) (sym (row_none n k));
       free_past = λ k h p. past k (omega (arith, p, size)) h;
-      blocks_are = λ c h. get_or-replicate {A = ℕ} 38 c 0 0 h ∙ sym (none_summed c n);
+      blocks_are = λ c h. get_or-replicate {A = ℕ} CLASSES c 0 0 h ∙ sym (none_summed c n);
       pages_are = sym (none_counted n);
     }
 

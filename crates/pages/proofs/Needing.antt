@@ -2,6 +2,7 @@
 use Rattle.std.proofs.Common.{◌≡◌, ℕ, ◌+◌, ◌-◌, ◌*◌, ◌/◌, ◌%◌, ◌<◌, ◌≤◌, ◌^◌, List, Option, min, ap, ◌∙◌, arith, add-one, leb, slice_index}
 use Rattle.std.specs.Int.{div_ceil}
 use Rattle.std.proofs.lemmas.Grind.{common_steps}
+use Rattle.size_classes.specs.declared.class.TheConstants.{CLASSES}
 use Rattle.size_classes.specs.Sizes.{blocks_in}
 use Rattle.heap_model.specs.Pages.{free_blocks, free_pages, has_room, whole_pages, pages_needed}
 use Rattle.pages.specs.declared.page.PageRecord.{PageRecord}
@@ -22,8 +23,8 @@ needs_by rows need number class sum blocks more k is read e h = record {
   few = omega (arith, k.few, h);
 }
 
-pub room_by : (rows : List (Option PageRecord)) (need : ℕ → ℕ) (number sum free : ℕ) → Needs rows need number sum → number ≡ 38 → Tells rows (λ pages. free ≡ free_pages pages) → Tells rows (λ pages. leb sum free ≡ has_room pages need)
-room_by rows need number sum free k is e = λ words t. let pages = pages_in rows words in ap (λ n. leb n free) (k.sum_is words t ∙ ap (pages_needed pages need) is) ∙ ap (leb (pages_needed pages need 38)) (e words t)
+pub room_by : (rows : List (Option PageRecord)) (need : ℕ → ℕ) (number sum free : ℕ) → Needs rows need number sum → number ≡ CLASSES → Tells rows (λ pages. free ≡ free_pages pages) → Tells rows (λ pages. leb sum free ≡ has_room pages need)
+room_by rows need number sum free k is e = λ words t. let pages = pages_in rows words in ap (λ n. leb n free) (k.sum_is words t ∙ ap (pages_needed pages need) is) ∙ ap (leb (pages_needed pages need CLASSES)) (e words t)
 
 round_up : (a b : ℕ) → 0 < b → a / b + min 1 (a % b) ≡ (a + (b - 1)) / b
 round_up a b some = grind (arith, common_steps)

@@ -4,6 +4,7 @@ use Rattle.std.specs.Prelude.{count_by, IfSome, IsSomeAnd, IsTrue, is_some, slic
 use Rattle.std.proofs.lemmas.Bool.{cases_eq, ne_eqb}
 use Rattle.std.proofs.lemmas.List.{get_or_past, set-get_or}
 use Rattle.std.proofs.lemmas.Option.{slice_get_within, same_Some}
+use Rattle.size_classes.specs.declared.class.TheConstants.{CLASSES}
 use Rattle.size_classes.specs.Sizes.{size_of, blocks_in}
 use Rattle.heap_model.specs.Pages.{Page, page_at, free_on}
 use Rattle.heap_model.specs.Action.{held_on, closed, is_choosable, IsNext}
@@ -29,7 +30,7 @@ module _ (rows : List (Option PageRecord)) (words : List ℕ) (t : Together rows
   pub held_count : (r : PageRecord) → row_at rows k ≡ Some r → (r.held ≡ count_by (λ b. b) (flags r)) × (r.held ≤ 512)
   held_count r there =
       let c = subst (λ o. IfSome o (λ r. IsFreeList words (2048 * k) r.class r.first r.held)) there (t.each k) in
-      let known : r.class < 38 = subst (λ o. IfSome o (λ r. r.class < 38)) there (t.classes k) in
+      let known : r.class < CLASSES = subst (λ o. IfSome o (λ r. r.class < CLASSES)) there (t.classes k) in
       let n = runs_count words (2048 * k) (size_of r.class) c.free (flags r) r.first c.runs in
       let all = counts_add (flags r) in
       let long = length-flags words (2048 * k) (size_of r.class) (blocks_in r.class) in
@@ -102,7 +103,7 @@ module _ (rows : List (Option PageRecord)) (words : List ℕ) (t : Together rows
   found_within r from is (Some i) some =
       let w = slice_get_within (flags r) i true some.1 in
       let long = length-flags words (2048 * k) (size_of r.class) (blocks_in r.class) in
-      let known : r.class < 38 = subst (λ o. IfSome o (λ r. r.class < 38)) (sym is) (t.classes k) in
+      let known : r.class < CLASSES = subst (λ o. IfSome o (λ r. r.class < CLASSES)) (sym is) (t.classes k) in
       let m = blocks_most r.class known in
       omega (arith, w, long, m)
 

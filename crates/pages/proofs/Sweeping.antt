@@ -4,6 +4,7 @@ use Rattle.std.specs.Prelude.{IfSome, IsSomeAnd, slice_get}
 use Rattle.std.proofs.lemmas.Bool.{cases_lt}
 use Rattle.std.proofs.lemmas.List.{get_or-set_same, get_or_past, set-get_or, set-set}
 use Rattle.std.proofs.lemmas.Option.{slice_get_within, none-some}
+use Rattle.size_classes.specs.declared.class.TheConstants.{CLASSES}
 use Rattle.size_classes.specs.Sizes.{size_of, blocks_in}
 use Rattle.heap_model.specs.Header.{header_in}
 use Rattle.heap_model.specs.Pages.{Page, page_at, with_held}
@@ -57,7 +58,7 @@ module _ (rows : List (Option PageRecord)) (words new : List ℕ) (t : Together 
 
   outside : SameOutside words new (2048 * page)
   outside =
-      let w = inside_page words page old.class index true (subst (λ o. IfSome o (λ r. r.class < 38)) there (t.classes page)) held in
+      let w = inside_page words page old.class index true (subst (λ o. IfSome o (λ r. r.class < CLASSES)) there (t.classes page)) held in
       outside_two words new (2048 * page) _ _ _ _ is (omega arith) (omega (arith, w)) (omega arith) (omega (arith, w))
 
   pub goes_together : Together (set rows page (Some row)) new

@@ -8,6 +8,7 @@ use Rattle.std.proofs.lemmas.List.Sums.{sum_by-cons}
 use Rattle.std.proofs.lemmas.List.FromFn.{length-enumerate_from, get_or-enumerate_from}
 use Rattle.std.proofs.lemmas.Option.{slice_get_within}
 use Rattle.std.proofs.lemmas.List.Quantifiers.{position-Some}
+use Rattle.size_classes.specs.declared.class.TheConstants.{CLASSES}
 use Rattle.size_classes.proofs.Table.{size_low, blocks_some}
 use Rattle.size_classes.specs.Sizes.{size_of, blocks_in}
 use Rattle.heap_model.specs.Pages.{Page, page_at, is_usable, is_free, free_on, with_held, page_of_class, fresh_page, first_of, page_for}
@@ -48,7 +49,7 @@ pages_set rows words new page row below same =
     ])
 
 -- a page with the same words is the same
-pub page_same : (words new : List ℕ) (at : ℕ) (o : Option PageRecord) → ((i : ℕ) → i < 2048 → get_or new (at + i) 0 ≡ get_or words (at + i) 0) → IfSome o (λ r. r.class < 38) → page_by new at o ≡ page_by words at o
+pub page_same : (words new : List ℕ) (at : ℕ) (o : Option PageRecord) → ((i : ℕ) → i < 2048 → get_or new (at + i) 0 ≡ get_or words (at + i) 0) → IfSome o (λ r. r.class < CLASSES) → page_by new at o ≡ page_by words at o
 page_same words new at None same low = refl
 page_same words new at (Some r) same low =
     ap (λ (f : List Bool). let p : Page = record { class = r.class; leaving = r.leaving; receiving = r.receiving; held = f } in Some p)
@@ -145,7 +146,7 @@ module _ (rows : List (Option PageRecord)) (words : List ℕ) (t : Together rows
       ∙ fold-map (λ p. cond (is_free p) 1 0) (λ n. n) 0 (pages_in rows words)
 
 -- ---- a page's record and words are changed
-module _ (rows : List (Option PageRecord)) (words new : List ℕ) (t : Together rows words) (page : ℕ) (row : PageRecord) (below : page < length rows) (known : row.class < 38)
+module _ (rows : List (Option PageRecord)) (words new : List ℕ) (t : Together rows words) (page : ℕ) (row : PageRecord) (below : page < length rows) (known : row.class < CLASSES)
     (chain : IsFreeList new (2048 * page) row.class row.first row.held) (outside : SameOutside words new (2048 * page)) where
   elsewhere : (k : ℕ) → k ≢ page → (i : ℕ) → i < 2048 → get_or new (2048 * k + i) 0 ≡ get_or words (2048 * k + i) 0
   elsewhere k ne i h = elim (cases_lt k page) [
@@ -153,7 +154,7 @@ module _ (rows : List (Option PageRecord)) (words new : List ℕ) (t : Together 
     | inr l ↦ outside.above (2048 * k + i) (omega (arith, l, ne))
   ]
 
-  other_chain : (k : ℕ) → k ≢ page → (o : Option PageRecord) → IfSome o (λ r. r.class < 38) → IsRow words (2048 * k) o → IsRow new (2048 * k) o
+  other_chain : (k : ℕ) → k ≢ page → (o : Option PageRecord) → IfSome o (λ r. r.class < CLASSES) → IsRow words (2048 * k) o → IsRow new (2048 * k) o
   other_chain k ne None c h = tt
   other_chain k ne (Some r) c h =
       let low = size_low r.class c in
@@ -179,8 +180,8 @@ module _ (rows : List (Option PageRecord)) (words new : List ℕ) (t : Together 
   together_changed = record {
     len = outside.len ∙ t.len ∙ ap (λ n. 2048 * n) (sym (length-set rows page (Some row)));
     classes = λ k. elim (cases_eq k page) [
-      | inl e ↦ subst (λ o. IfSome o (λ r. r.class < 38)) (sym (ap (row_at (set rows page (Some row))) e ∙ row_there)) known
-      | inr ne ↦ subst (λ o. IfSome o (λ r. r.class < 38)) (sym (row_other k ne)) (t.classes k)
+      | inl e ↦ subst (λ o. IfSome o (λ r. r.class < CLASSES)) (sym (ap (row_at (set rows page (Some row))) e ∙ row_there)) known
+      | inr ne ↦ subst (λ o. IfSome o (λ r. r.class < CLASSES)) (sym (row_other k ne)) (t.classes k)
     ];
     each = λ k. elim (cases_eq k page) [
       | inl e ↦ subst (λ n. IsRow new (2048 * n) (row_at (set rows page (Some row)) n)) (sym e) (subst (IsRow new (2048 * page)) (sym row_there) chain)
@@ -220,8 +221,8 @@ module _ (rows : List (Option PageRecord)) (words new : List ℕ) (t : Together 
   same_class : row.class ≡ old.class
   same_class = ap (λ (r : PageRecord). r.class) row_is
 
-  known : row.class < 38
-  known = let k : old.class < 38 = subst (λ o. IfSome o (λ r. r.class < 38)) there (t.classes page) in omega (arith, k, same_class)
+  known : row.class < CLASSES
+  known = let k : old.class < CLASSES = subst (λ o. IfSome o (λ r. r.class < CLASSES)) there (t.classes page) in omega (arith, k, same_class)
 
   own_chain : IsFreeList new (2048 * page) row.class row.first row.held
   own_chain = subst (λ c. IsFreeList new (2048 * page) c row.first row.held) (sym same_class) (subst (IsFreeList new (2048 * page) old.class row.first) (sym (ap (λ (r : PageRecord). r.held) row_is)) chain)
@@ -265,14 +266,14 @@ pub held_by : (rows : List (Option PageRecord)) (words : List ℕ) (page : ℕ) 
 held_by rows words page old index below there h = subst (λ o. IsSomeAnd o (λ p. slice_get p.held index ≡ Some true)) (page_read rows words page old below there) h
 
 -- the words of a block lie on its page
-pub inside_page : (words : List ℕ) (page class index : ℕ) (b : Bool) → class < 38 → slice_get (flags_of words (2048 * page) class) index ≡ Some b → 2048 * page + index * size_of class + 3 < 2048 * page + 2048
+pub inside_page : (words : List ℕ) (page class index : ℕ) (b : Bool) → class < CLASSES → slice_get (flags_of words (2048 * page) class) index ≡ Some b → 2048 * page + index * size_of class + 3 < 2048 * page + 2048
 inside_page words page class index b known h =
     let w = slice_get_within (flags_of words (2048 * page) class) index b h in
     let f = block_fits class index (omega (arith, w, length-flags words (2048 * page) (size_of class) (blocks_in class))) in
     omega (arith, f, size_low class known)
 
 -- a free page has got a class
-module _ (rows : List (Option PageRecord)) (words new : List ℕ) (t : Together rows words) (page class : ℕ) (below : page < length rows) (known : class < 38) (row : PageRecord)
+module _ (rows : List (Option PageRecord)) (words new : List ℕ) (t : Together rows words) (page class : ℕ) (below : page < length rows) (known : class < CLASSES) (row : PageRecord)
     (row_is : row ≡ record { class = class; first = row.first; held = 0; leaving = false; receiving = false }) (chain : IsFreeList new (2048 * page) class row.first 0) (outside : SameOutside words new (2048 * page))
     (flags : flags_of new (2048 * page) class ≡ replicate (blocks_in class) false) (after : List (Option PageRecord)) (after_is : after ≡ set rows page (Some row)) where
   class_is : row.class ≡ class
@@ -281,8 +282,8 @@ module _ (rows : List (Option PageRecord)) (words new : List ℕ) (t : Together 
   held_is : row.held ≡ 0
   held_is = ap (λ (r : PageRecord). r.held) row_is
 
-  row_known : row.class < 38
-  row_known = subst (λ c. c < 38) (sym class_is) known
+  row_known : row.class < CLASSES
+  row_known = subst (λ c. c < CLASSES) (sym class_is) known
 
   row_chain : IsFreeList new (2048 * page) row.class row.first row.held
   row_chain = subst (λ c. IsFreeList new (2048 * page) c row.first row.held) (sym class_is) (subst (IsFreeList new (2048 * page) class row.first) (sym held_is) chain)

@@ -7,6 +7,7 @@ use Rattle.std.proofs.lemmas.Bool.{cases_eq}
 use Rattle.std.proofs.lemmas.Option.{slice_get_within, slice_get-get_or, get_or_from_slice_get}
 use Rattle.std.proofs.lemmas.List.{same_lists, length-replicate, get_or-replicate}
 use Rattle.std.proofs.Math.Nat.{mul-le-mul_right, mul-div_cancel, div-mul-le_self, div-le_self}
+use Rattle.size_classes.specs.declared.class.TheConstants.{CLASSES}
 use Rattle.size_classes.specs.Sizes.{size_of, blocks_in}
 use Rattle.size_classes.proofs.Table.{size_low}
 use Rattle.pages.specs.FreeList.{free_mark, RunsFree, flags_of, IsFreeList, SameOutside}
@@ -232,7 +233,7 @@ unfolding blocks_in
 blocks_few class = div-le_self 2048 (size_of class)
 
 -- a block has four words or more
-pub blocks_most : (class : ℕ) → class < 38 → blocks_in class ≤ 512
+pub blocks_most : (class : ℕ) → class < CLASSES → blocks_in class ≤ 512
 unfolding blocks_in
 blocks_most class known =
     let all = div-mul-le_self 2048 (size_of class) in

@@ -4,6 +4,7 @@ use Rattle.std.specs.Prelude.{IfSome, slice_get}
 use Rattle.std.proofs.lemmas.Bool.{cases_eq, cases_lt}
 use Rattle.std.proofs.lemmas.List.{length-set, get_or-set_same, get_or-set_other, set-get_or, length-replicate, get_or_past}
 use Rattle.std.proofs.lemmas.Option.{slice_get_within, slice_get-get_or, get_or_from_slice_get, none-some, same_Some}
+use Rattle.size_classes.specs.declared.class.TheConstants.{CLASSES}
 use Rattle.size_classes.proofs.Table.{size_low}
 use Rattle.size_classes.specs.Sizes.{size_of, blocks_in}
 use Rattle.heap_model.specs.Pages.{Page, page_at}
@@ -37,7 +38,7 @@ held_place rows words k p i at h =
         record { row = r; row_is = e; class_is = sym (ap (λ (x : Page). x.class) same); flag = subst (λ (x : Page). slice_get x.held i ≡ Some true) (sym same) h; below = l }
 
 -- only words of a free block are written
-pub keeps_but : (rows : List (Option PageRecord)) (flagged words new : List ℕ) (page : ℕ) (old : PageRecord) (index : ℕ) → ((k : ℕ) → IfSome (row_at rows k) (λ r. r.class < 38)) → row_at rows page ≡ Some old
+pub keeps_but : (rows : List (Option PageRecord)) (flagged words new : List ℕ) (page : ℕ) (old : PageRecord) (index : ℕ) → ((k : ℕ) → IfSome (row_at rows k) (λ r. r.class < CLASSES)) → row_at rows page ≡ Some old
     → slice_get (flags_of flagged (2048 * page) old.class) index ≡ Some false → length new ≡ length words
     → ((n : ℕ) → ((d : ℕ) → d < size_of old.class → n ≢ 2048 * page + index * size_of old.class + d) → get_or new n 0 ≡ get_or words n 0) → KeepsHeld (pages_in rows flagged) words new
 keeps_but rows flagged words new page old index classes there free len same = record {
@@ -46,7 +47,7 @@ keeps_but rows flagged words new page old index classes there free len same = re
 } where
   by_place : (k : ℕ) (p : Page) (i j : ℕ) → HeldPlace rows flagged k p i → j < size_of p.class → get_or new (2048 * k + i * size_of p.class + j) 0 ≡ get_or words (2048 * k + i * size_of p.class + j) 0
   by_place k p i j q l =
-      let known : q.row.class < 38 = subst (λ o. IfSome o (λ r. r.class < 38)) q.row_is (classes k) in
+      let known : q.row.class < CLASSES = subst (λ o. IfSome o (λ r. r.class < CLASSES)) q.row_is (classes k) in
       let w = slice_get_within (flags_of flagged (2048 * k) q.row.class) i true q.flag in
       let f = block_fits q.row.class i (omega (arith, w, length-flags flagged (2048 * k) (size_of q.row.class) (blocks_in q.row.class))) in
       let w' = slice_get_within (flags_of flagged (2048 * page) old.class) index false free in
@@ -67,23 +68,23 @@ keeps_but rows flagged words new page old index classes there free len same = re
       ]))
 
 -- a free block's first word is written
-pub keeps_one : (rows : List (Option PageRecord)) (words new : List ℕ) (page : ℕ) (old : PageRecord) (index v : ℕ) → ((k : ℕ) → IfSome (row_at rows k) (λ r. r.class < 38)) → row_at rows page ≡ Some old
+pub keeps_one : (rows : List (Option PageRecord)) (words new : List ℕ) (page : ℕ) (old : PageRecord) (index v : ℕ) → ((k : ℕ) → IfSome (row_at rows k) (λ r. r.class < CLASSES)) → row_at rows page ≡ Some old
     → slice_get (flags_of words (2048 * page) old.class) index ≡ Some false → new ≡ set words (2048 * page + index * size_of old.class) v → KeepsHeld (pages_in rows words) words new
 keeps_one rows words new page old index v classes there free is =
     let a = 2048 * page + index * size_of old.class in
-    let low : 4 ≤ size_of old.class = size_low old.class (subst (λ o. IfSome o (λ r. r.class < 38)) there (classes page)) in
+    let low : 4 ≤ size_of old.class = size_low old.class (subst (λ o. IfSome o (λ r. r.class < CLASSES)) there (classes page)) in
     keeps_but rows words words new page old index classes there free (ap (λ w. length w) is ∙ length-set words a v)
     (λ n other. ap (λ x. get_or x n 0) is ∙ get_or-set_other words a n v 0 (λ e. other 0 (omega (arith, low)) (omega (arith, e))))
 
 -- a block was taken off the list of a page, by its address
-module _ (rows : List (Option PageRecord)) (words new : List ℕ) (classes : (k : ℕ) → IfSome (row_at rows k) (λ r. r.class < 38)) (page : ℕ) (old : PageRecord) (there : row_at rows page ≡ Some old) (block : ℕ)
+module _ (rows : List (Option PageRecord)) (words new : List ℕ) (classes : (k : ℕ) → IfSome (row_at rows k) (λ r. r.class < CLASSES)) (page : ℕ) (old : PageRecord) (there : row_at rows page ≡ Some old) (block : ℕ)
     (place : block ≡ 2048 * page + index_on old.class page block * size_of old.class) (free : slice_get (flags_of words (2048 * page) old.class) (index_on old.class page block) ≡ Some false) (is : new ≡ set words block block) where
   written : new ≡ set words (2048 * page + index_on old.class page block * size_of old.class) block
   written = is ∙ ap (λ n. set words n block) place
 
   pub popped_outside : SameOutside words new (2048 * page)
   popped_outside =
-      let known : old.class < 38 = subst (λ o. IfSome o (λ r. r.class < 38)) there (classes page) in
+      let known : old.class < CLASSES = subst (λ o. IfSome o (λ r. r.class < CLASSES)) there (classes page) in
       let w = inside_page words page old.class (index_on old.class page block) false known free in
       outside_one words new (2048 * page) _ _ written (omega arith) (omega (arith, w))
 
@@ -94,11 +95,11 @@ pub freed_flag : (flags : List Bool) (i : ℕ) → i < length flags → slice_ge
 freed_flag flags i h = slice_get-get_or (set flags i false) i false (omega (arith, h, length-set flags i false)) ∙ ap Some (get_or-set_same flags i false false h)
 
 -- a block is freed: its first word and its link are written
-pub keeps_freed : (rows : List (Option PageRecord)) (words new : List ℕ) (page : ℕ) (old : PageRecord) (index v link : ℕ) → ((k : ℕ) → IfSome (row_at rows k) (λ r. r.class < 38)) → row_at rows page ≡ Some old
+pub keeps_freed : (rows : List (Option PageRecord)) (words new : List ℕ) (page : ℕ) (old : PageRecord) (index v link : ℕ) → ((k : ℕ) → IfSome (row_at rows k) (λ r. r.class < CLASSES)) → row_at rows page ≡ Some old
     → slice_get (flags_of new (2048 * page) old.class) index ≡ Some false → new ≡ set (set words (2048 * page + index * size_of old.class) v) (2048 * page + index * size_of old.class + 3) link → KeepsHeld (pages_in rows new) words new
 keeps_freed rows words new page old index v link classes there free is =
     let a = 2048 * page + index * size_of old.class in
-    let low : 4 ≤ size_of old.class = size_low old.class (subst (λ o. IfSome o (λ r. r.class < 38)) there (classes page)) in
+    let low : 4 ≤ size_of old.class = size_low old.class (subst (λ o. IfSome o (λ r. r.class < CLASSES)) there (classes page)) in
     keeps_but rows new words new page old index classes there free (ap (λ w. length w) is ∙ length-set (set words a v) (a + 3) link ∙ length-set words a v)
     (λ n other. ap (λ x. get_or x n 0) is ∙ get_or-set_other (set words a v) (a + 3) n link 0 (other 3 (omega (arith, low))) ∙ get_or-set_other words a n v 0 (λ e. other 0 (omega (arith, low)) (omega (arith, e))))
 
@@ -111,8 +112,8 @@ pub record WritesBlock (words new : List ℕ) (block size : ℕ) : Type 0 where
 
 module _ (rows : List (Option PageRecord)) (words new : List ℕ) (t : Together rows words) (page : ℕ) (below : page < length rows) (row : PageRecord) (there : row_at rows page ≡ Some row) (index : ℕ)
     (held : slice_get (flags_of words (2048 * page) row.class) index ≡ Some true) (w : WritesBlock words new (2048 * page + index * size_of row.class) (size_of row.class)) where
-  row_known' : row.class < 38
-  row_known' = subst (λ o. IfSome o (λ r. r.class < 38)) there (t.classes page)
+  row_known' : row.class < CLASSES
+  row_known' = subst (λ o. IfSome o (λ r. r.class < CLASSES)) there (t.classes page)
 
   low' : 4 ≤ size_of row.class
   low' = size_low row.class row_known'
@@ -165,11 +166,11 @@ module _ (rows : List (Option PageRecord)) (words new : List ℕ) (t : Together 
 pub leave_keeps : (rows : List (Option PageRecord)) (words : List ℕ) → Together rows words → (page : ℕ) (row : PageRecord) → page < length rows → row_at rows page ≡ Some row
     → Together (set rows page (Some (record row { leaving = true }))) words
 leave_keeps rows words t page row below there =
-    together_changed rows words words t page (record row { leaving = true }) below (subst (λ o. IfSome o (λ r. r.class < 38)) there (t.classes page)) (subst (λ o. IsRow words (2048 * page) o) there (t.each page))
+    together_changed rows words words t page (record row { leaving = true }) below (subst (λ o. IfSome o (λ r. r.class < CLASSES)) there (t.classes page)) (subst (λ o. IsRow words (2048 * page) o) there (t.each page))
     (record { len = refl; below = λ _ _. refl; above = λ _ _. refl })
 
 -- the words of a free page are written
-pub keeps_outside : (rows : List (Option PageRecord)) (words new : List ℕ) (page : ℕ) → ((k : ℕ) → IfSome (row_at rows k) (λ r. r.class < 38)) → row_at rows page ≡ None → SameOutside words new (2048 * page) → KeepsHeld (pages_in rows words) words new
+pub keeps_outside : (rows : List (Option PageRecord)) (words new : List ℕ) (page : ℕ) → ((k : ℕ) → IfSome (row_at rows k) (λ r. r.class < CLASSES)) → row_at rows page ≡ None → SameOutside words new (2048 * page) → KeepsHeld (pages_in rows words) words new
 keeps_outside rows words new page classes none out = record {
   len = out.len;
   each = λ k p i j at h l. by_place k p i j (held_place rows words k p i at h) l;
@@ -198,6 +199,6 @@ keeps_both rows words mid new page pages p' below none is one two = record {
 pub fresh_together : (n : ℕ) → Together (replicate n None) (replicate (2048 * n) 0)
 fresh_together n = record {
   len = length-replicate (2048 * n) 0 ∙ ap (λ m. 2048 * m) (sym (length-replicate {A = Option PageRecord} n None));
-  classes = λ k. subst (λ o. IfSome o (λ (r : PageRecord). r.class < 38)) (sym (row_none n k)) tt;
+  classes = λ k. subst (λ o. IfSome o (λ (r : PageRecord). r.class < CLASSES)) (sym (row_none n k)) tt;
   each = λ k. subst (IsRow (replicate (2048 * n) 0) (2048 * k)) (sym (row_none n k)) tt;
 }

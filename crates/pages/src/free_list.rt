@@ -1,5 +1,6 @@
 //! One page's list of free blocks: word 0 of a free block says that it is one, and word 3 names the next.
 ghost use Rattle.std.specs.Prelude.{◌≡◌, ℕ, ◌+◌, ◌-◌, ◌<◌, ◌≤◌, ◌*◌, List, Option, length, slice_get, slice_set, slice_index, replicate, true, false, Some, IfSome, IsNone};
+ghost use Rattle.size_classes.specs.declared.class.TheConstants.{CLASSES};
 ghost use Rattle.size_classes.specs.Sizes.{size_of, blocks_in};
 ghost use Rattle.heap_model.specs.Store.{address_of};
 ghost use Rattle.pages.specs.FreeList.{flags_of, index_on, IsFreeList, SameOutside, free_mark};
@@ -81,7 +82,7 @@ pub fn thread(arena: &mut Arena, page: usize, class: Class) -> PageRecord
       receiving = false;
     } }
     ensures words { SameOutside arena.old arena.new (2048 * page) }
-    ensures known { class < 38 }
+    ensures known { class < CLASSES }
 {
     let size = class.size() as usize;
     let mut first = 0;

@@ -4,6 +4,7 @@ use Rattle.std.proofs.Math.Nat.{mul-le-mul_right}
 use Rattle.std.proofs.lemmas.List.{length-replicate}
 use Rattle.graph_heap.specs.Shape.{fits}
 use Rattle.graph_heap.specs.Graph.{opening, object_of}
+use Rattle.size_classes.specs.declared.class.TheConstants.{CLASSES}
 use Rattle.heap_model.specs.Pages.{Page}
 use Rattle.heap_model.specs.Store.{Store}
 use Rattle.heap_model.specs.State.{HeapState}
@@ -19,7 +20,7 @@ no_object_fits id = grind arith
 
 -- What a cycle may spend is small, with at most 4096 pages, to be emptied too, and 16640 roots.
 small_limit : (h : HeapState) → length h.store.pages ≤ 4096 → length h.roots ≤ 16640 → h.defrag_pages ≤ 4096 → cycle_limit h < 2 ^ 31
-small_limit h p r d = let z : (h.defrag_pages + 38) * length h.store.pages ≤ 4134 * length h.store.pages = mul-le-mul_right (length h.store.pages) (omega (arith, d)) in omega (arith, z)
+small_limit h p r d = let z : (h.defrag_pages + CLASSES) * length h.store.pages ≤ (4096 + CLASSES) * length h.store.pages = mul-le-mul_right (length h.store.pages) (omega (arith, d)) in omega (arith, z)
 
 pub opening_heap : (a : RawHeap) → IsOpening (state_of a) → 0 < length a.nodes.pages → length a.nodes.pages ≤ 4096 → length a.roots.cells ≤ 16640 → a.config.defrag_pages ≤ 4096 → length a.grey.buffers ≡ a.roots.limits.mutators → IsRawHeap a
 opening_heap a o some few row most buffers = record {

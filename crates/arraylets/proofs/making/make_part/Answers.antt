@@ -1,4 +1,5 @@
 use Rattle.std.proofs.Common.{◌≡◌, ◌<◌, ◌∙◌, ap, subst, sym, Some}
+use Rattle.size_classes.specs.declared.class.TheConstants.{CLASSES}
 use Rattle.size_classes.specs.Sizes.{class_for}
 use Rattle.size_classes.specs.Parts.{cells_of, parts_in, part_words}
 use Rattle.heap_model.proofs.Rooms.{next_given, next_left}
@@ -15,14 +16,14 @@ pub unwrap-requires : goal.unwrap-requires
 unwrap-requires c =
     let class = c.unwrap-class.result in
     let is : class_for (part_words (cells_of c.args.shape) c.args.part) ≡ Some class = ap (λ n. class_for (part_words n c.args.part)) (sym c.requires.parts) ∙ ap class_for (sym c.words-words.ensures.words) ∙ sym c.class_of.ensures.class ∙ c.unwrap-class.ensures in
-    let small : class < 38 = at_some c.class_of.result (λ k. k < 38) class c.unwrap-class.ensures c.class_of.ensures.within in
+    let small : class < CLASSES = at_some c.class_of.result (λ k. k < CLASSES) class c.unwrap-class.ensures c.class_of.ensures.within in
     gives_by c.make.result _ c.make.ensures.none (next_given c.args.nodes.now.pages (cells_of c.args.shape) c.args.part (parts_in (cells_of c.args.shape)) class c.requires.part small is c.requires.room)
 
 pub returns-clause-room : goal.returns-clause-room
 returns-clause-room c =
     let class = c.unwrap-class.result in
     let is : class_for (part_words (cells_of c.args.shape) c.args.part) ≡ Some class = ap (λ n. class_for (part_words n c.args.part)) (sym c.requires.parts) ∙ ap class_for (sym c.words-words.ensures.words) ∙ sym c.class_of.ensures.class ∙ c.unwrap-class.ensures in
-    let small : class < 38 = at_some c.class_of.result (λ k. k < 38) class c.unwrap-class.ensures c.class_of.ensures.within in
+    let small : class < CLASSES = at_some c.class_of.result (λ k. k < CLASSES) class c.unwrap-class.ensures c.class_of.ensures.within in
     let taken = at_some c.make.result _ c.unwrap.result c.unwrap.ensures c.make.ensures.taken in
     next_left c.args.nodes.now.pages _ (cells_of c.args.shape) c.args.part (parts_in (cells_of c.args.shape)) class _ taken.0 c.requires.part small is c.requires.room taken.1
 

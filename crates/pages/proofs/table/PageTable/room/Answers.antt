@@ -1,6 +1,7 @@
 use Rattle.std.proofs.Common.{◌≡◌, ℕ, ◌<◌, ◌||◌, ltb, slice_index, Option, Some, ap, ◌∙◌, sym, refl, subst, arith}
 use Rattle.std.specs.Prelude.{IfSome}
 use Rattle.std.proofs.lemmas.Bool.{lt-ltb, le-ltb}
+use Rattle.size_classes.specs.declared.class.TheConstants.{CLASSES}
 use Rattle.size_classes.specs.Sizes.{class_for}
 use Rattle.size_classes.specs.Parts.{parts_in, part_words}
 use Rattle.size_classes.specs.Need.{blocks_needed}
@@ -25,7 +26,7 @@ returns-then-free_blocks-gt0 c = λ words t.
     some ∙ sym (ap (λ b. b || ltb 0 (free_pages pages)) some)
     ∙ one_room pages c.args.parts.now class c.free_blocks.result (free_pages pages) (omega (arith, c.count.ensures.count, c.count.ensures.within, c.if-count-gt1.false))
     (class_is c.args.parts.now c.words.result class c.class_of.result c.words.ensures.words c.class_of.ensures.class c.unwrap-class.ensures)
-    (subst (λ o. IfSome o (λ k. k < 38)) c.unwrap-class.ensures c.class_of.ensures.within) (c.free_blocks.ensures.free words t) refl
+    (subst (λ o. IfSome o (λ k. k < CLASSES)) c.unwrap-class.ensures c.class_of.ensures.within) (c.free_blocks.ensures.free words t) refl
 
 pub returns-else-free_blocks-gt0 : goal.returns-else-free_blocks-gt0
 returns-else-free_blocks-gt0 c = λ words t.
@@ -34,4 +35,4 @@ returns-else-free_blocks-gt0 c = λ words t.
     sym (ap (λ b. b || ltb 0 c.free_pages.result) (le-ltb 0 c.free_blocks.result c.if-free_blocks-gt0.false))
     ∙ one_room pages c.args.parts.now class c.free_blocks.result c.free_pages.result (omega (arith, c.count.ensures.count, c.count.ensures.within, c.if-count-gt1.false))
     (class_is c.args.parts.now c.words.result class c.class_of.result c.words.ensures.words c.class_of.ensures.class c.unwrap-class.ensures)
-    (subst (λ o. IfSome o (λ k. k < 38)) c.unwrap-class.ensures c.class_of.ensures.within) (c.free_blocks.ensures.free words t) (c.free_pages.ensures.free words t)
+    (subst (λ o. IfSome o (λ k. k < CLASSES)) c.unwrap-class.ensures c.class_of.ensures.within) (c.free_blocks.ensures.free words t) (c.free_pages.ensures.free words t)

@@ -104,6 +104,38 @@ pub enum Command {
     Leave,
 }
 
+/// Hands a command to the function of `$on` that does it, with the heap, the mutator and the fields of the command.
+/// `make`, which does New, also gets whether there is room, where that is told.
+#[macro_export]
+macro_rules! dispatch {
+    ($on:ident, $heap:expr, $mutator:expr, $command:expr $(, $room:expr)?) => {
+        match $command {
+            $crate::Command::New { dst, shape } => $on::make($heap, $mutator, dst, shape $(, $room)?),
+            $crate::Command::Load { dst, obj, i } => $on::load($heap, $mutator, dst, obj, i),
+            $crate::Command::Store { obj, i, src } => $on::store($heap, $mutator, obj, i, src),
+            $crate::Command::CompareStore { obj, i, expect, new } => {
+                $on::compare_store($heap, $mutator, obj, i, expect, new)
+            }
+            $crate::Command::Get { obj, i } => $on::get($heap, $mutator, obj, i),
+            $crate::Command::Put { obj, i, word } => $on::put($heap, $mutator, obj, i, word),
+            $crate::Command::ComparePut { obj, i, old, new } => {
+                $on::compare_put($heap, $mutator, obj, i, old, new)
+            }
+            $crate::Command::Copy { dst, src } => $on::copy($heap, $mutator, dst, src),
+            $crate::Command::Clear { dst } => $on::clear($heap, $mutator, dst),
+            $crate::Command::LoadStatic { dst, k } => $on::load_static($heap, $mutator, dst, k),
+            $crate::Command::StoreStatic { k, src } => $on::store_static($heap, $mutator, k, src),
+            $crate::Command::CompareStatic { k, expect, new } => {
+                $on::compare_static($heap, $mutator, k, expect, new)
+            }
+            $crate::Command::Same { a, b } => $on::same($heap, $mutator, a, b),
+            $crate::Command::Describe { a } => $on::describe($heap, $mutator, a),
+            $crate::Command::Join => $on::join($heap, $mutator),
+            $crate::Command::Leave => $on::leave($heap, $mutator),
+        }
+    };
+}
+
 impl Command {
     ghost use Rattle.std.specs.Prelude.{◌≡◌};
     ghost use Rattle.graph_heap.specs.Effect as effect;

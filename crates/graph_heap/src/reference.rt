@@ -16,6 +16,7 @@ use crate::admission::{admit, live_row, set_live};
 use crate::command::{
     ARRAY_CELLS, Change, Command, Entry, Limits, PLAIN_CELLS, Refusal, Reply, Shape,
 };
+use crate::dispatch;
 use crate::no_memory::NoMemory;
 use crate::stored::{StoredObject, made_of, object_of, ref_of, set_ref_of, set_word_of, word_of};
 use row::{null_cells, set_cell, slot_of, static_of};
@@ -120,31 +121,7 @@ impl Reference {
     fn deed(&self, room: bool, mutator: u32, command: &Command) -> Result<(Reply, Change), Refusal>
         ensures { result ≡ deed_of room self.now mutator command.now }
     {
-        match *command {
-            Command::New { dst, shape } => self.make(room, mutator, dst, shape),
-            Command::Load { dst, obj, i } => self.load(mutator, dst, obj, i),
-            Command::Store { obj, i, src } => self.store(mutator, obj, i, src),
-            Command::CompareStore {
-                obj,
-                i,
-                expect,
-                new,
-            } => self.compare_store(mutator, obj, i, expect, new),
-            Command::Get { obj, i } => self.get(mutator, obj, i),
-            Command::Put { obj, i, word } => self.put(mutator, obj, i, word),
-            Command::ComparePut { obj, i, old, new } => self.compare_put(mutator, obj, i, old, new),
-            Command::Copy { dst, src } => self.copy(mutator, dst, src),
-            Command::Clear { dst } => self.clear(mutator, dst),
-            Command::LoadStatic { dst, k } => self.load_static(mutator, dst, k),
-            Command::StoreStatic { k, src } => self.store_static(mutator, k, src),
-            Command::CompareStatic { k, expect, new } => self.compare_static(
-                mutator, k, expect, new,
-            ),
-            Command::Same { a, b } => self.same(mutator, a, b),
-            Command::Describe { a } => self.describe(mutator, a),
-            Command::Join => Ok((Reply::Done, Change::Join { mutator })),
-            Command::Leave => Ok((Reply::Done, Change::Leave { mutator })),
-        }
+        dispatch!(Reference, self, mutator, *command, room)
     }
 
     /// The reply, and what changes.
@@ -159,15 +136,13 @@ impl Reference {
         }
     }
 
-    /// What a slot of a mutator holds.
-    fn held(&self, mutator: u32, slot: u32) -> Result<u64, Refusal>
-        ensures { result ≡ held_at self.now mutator slot }
-    {
-        let at = slot_of(&self.limits, mutator, slot)?;
-        Ok(self.roots[at])
-    }
-
-    fn make(&self, room: bool, mutator: u32, dst: u32, shape: Shape) -> Deed
+    fn make(
+        &self,
+        mutator: u32,
+        dst: u32,
+        shape: Shape,
+        room: bool,
+    ) -> Result<(Reply, Change), Refusal>
         ensures { result ≡ deed_of room self.now mutator (Command.New dst shape) }
     {
         let cell = slot_of(&self.limits, mutator, dst)?;
@@ -299,6 +274,18 @@ impl Reference {
         let id = self.held(mutator, a)?;
         let object = object_of(self.objects.as_slice(), id)?;
         Ok((Reply::Described(id, object.shape), Change::Nothing))
+    }
+
+    fn join(&self, mutator: u32) -> Result<(Reply, Change), Refusal>
+        ensures { result ≡ deed_of true self.now mutator Command.Join }
+    {
+        Ok((Reply::Done, Change::Join { mutator }))
+    }
+
+    fn leave(&self, mutator: u32) -> Result<(Reply, Change), Refusal>
+        ensures { result ≡ deed_of true self.now mutator Command.Leave }
+    {
+        Ok((Reply::Done, Change::Leave { mutator }))
     }
 }
 

@@ -94,12 +94,12 @@ impl<N: Naming> Model for Pacer<N> {
 pub struct Locked<N: Naming> {
     pub(crate) recorded: Recorded,
     pub(crate) ready: usize,
-    pub(crate) front: Front<N>,
     pub(crate) calls: Book<Calls<N>>,
     pub(crate) begun: Book<Begun<N>>,
     pub(crate) ended: Book<Ended<N>>,
     pub(crate) quanta: Book<Quanta<N>>,
     pub(crate) units: Book<Units<N>>,
+    pub(crate) front: Front<N>,
 }
 
 impl<N: Naming> Model for Locked<N> {

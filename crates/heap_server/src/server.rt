@@ -64,12 +64,12 @@ impl<N: Naming> Server<N> {
         let locked = Mutex::new(Locked {
             recorded,
             ready: 0,
-            front,
             calls,
             begun,
             ended,
             quanta,
             units,
+            front,
         });
         let pacer = Pacer {
             begun: my_begun,

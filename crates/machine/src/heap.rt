@@ -9,7 +9,7 @@ ghost use Rattle.heap_model.specs.Change.{DoesChange};
 ghost use Rattle.heap_model.specs.Event.{change_by, room_for};
 ghost use Rattle.machine.specs.Plan.{CanSettle, SettlesEach};
 
-use graph_heap::{Command, NoMemory, Reply};
+use graph_heap::{Command, NoMemory, Reply, dispatch};
 use raw_heap::RawHeap;
 use size_classes::Config;
 use std::alloc::Global;
@@ -71,31 +71,7 @@ impl Heap {
         ensures does { (g : Graph) → Agrees self.old g
             → DoesChange self.old g (change_by (room_for self.old command) g mutator command) self.new }
     {
-        match command {
-            Command::New { dst, shape } => self.make(mutator, dst, shape),
-            Command::Load { dst, obj, i } => self.load(mutator, dst, obj, i),
-            Command::Store { obj, i, src } => self.store(mutator, obj, i, src),
-            Command::CompareStore {
-                obj,
-                i,
-                expect,
-                new,
-            } => self.compare_store(mutator, obj, i, expect, new),
-            Command::Get { obj, i } => self.get(mutator, obj, i),
-            Command::Put { obj, i, word } => self.put(mutator, obj, i, word),
-            Command::ComparePut { obj, i, old, new } => self.compare_put(mutator, obj, i, old, new),
-            Command::Copy { dst, src } => self.copy(mutator, dst, src),
-            Command::Clear { dst } => self.clear(mutator, dst),
-            Command::LoadStatic { dst, k } => self.load_static(mutator, dst, k),
-            Command::StoreStatic { k, src } => self.store_static(mutator, k, src),
-            Command::CompareStatic { k, expect, new } => self.compare_static(
-                mutator, k, expect, new,
-            ),
-            Command::Same { a, b } => self.same(mutator, a, b),
-            Command::Describe { a } => self.describe(mutator, a),
-            Command::Join => self.join(mutator),
-            Command::Leave => self.leave(mutator),
-        }
+        dispatch!(Heap, self, mutator, command)
     }
 
     /// Does what was planned for a mutator, and replies.

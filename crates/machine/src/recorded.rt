@@ -35,9 +35,9 @@ impl Drop for Recorded {
     // One call, as of a heap.
     fn drop(self) {
         let Recorded {
-            heap: _,
-            history: _,
-            place: _,
+            heap,
+            history,
+            place,
         } = self;
     }
 }

@@ -1,13 +1,15 @@
 //! What a command would be answered.
-ghost use Rattle.std.specs.Prelude.{◌≡◌};
+ghost use Rattle.std.specs.Prelude.{◌≡◌, ◌<◌};
 ghost use Rattle.graph_heap.specs.Graph.{Graph};
 ghost use Rattle.graph_heap.specs.Effect.{reply_of};
 ghost use Rattle.heap_model.specs.Agreement.{Agrees};
 ghost use Rattle.heap_model.specs.Event.{room_for};
+ghost use Rattle.machine.specs.Plan.{Deeds};
 
-use super::Heap;
+use super::planning::Plan;
+use super::{Heap, planning};
 use crate::plan::reply_to;
-use graph_heap::{Command, Reply};
+use graph_heap::{Command, Reply, dispatch};
 
 impl Heap {
     /// What `step` would reply to a command of a mutator. The heap stays as it is.
@@ -16,8 +18,16 @@ impl Heap {
             → result ≡ reply_of (room_for self.now command.now) g mutator command.now }
     {
         match self.raw.roots.admit(mutator, command.is_join()) {
-            Ok(_) => reply_to(self.plan(mutator, command)),
+            Ok(_) => reply_to(self.plan(mutator, *command)),
             Err(refusal) => Reply::Refused(refusal),
         }
+    }
+
+    /// What a command that is admitted does.
+    fn plan(&self, mutator: u32, command: Command) -> Plan
+        requires { mutator < self.now.limits.mutators }
+        ensures { Deeds self.now mutator command result }
+    {
+        dispatch!(planning, self, mutator, command)
     }
 }

@@ -18,241 +18,215 @@ mod commands;
 /// What a command does, or why it is refused.
 pub(super) type Plan = Result<Planned, Refusal>;
 
+/// A new object is planned.
+#[inline(always)]
+pub(super) fn make(heap: &Heap, mutator: u32, dst: u32, shape: Shape) -> Plan
+    ensures { Deeds heap.now mutator (Command.New dst shape) result }
+{
+    let cell = heap.raw.roots.slot(mutator, dst)?;
+    let parts = parts_of(&shape).ok_or(Refusal::TooLarge)?;
+    if heap.raw.next > heap.raw.roots.limits().identities {
+        return Err(Refusal::IdentitiesSpent);
+    }
+    if !heap.raw.nodes.room(&parts) {
+        return Err(Refusal::NoSpace);
+    }
+    Ok(Planned {
+        reply: Reply::Made(heap.raw.next),
+        write: Write::New { cell, shape },
+    })
+}
+
+/// A reference cell is loaded into a slot.
+#[inline(always)]
+pub(super) fn load(heap: &Heap, mutator: u32, dst: u32, obj: u32, i: u32) -> Plan
+    ensures { Deeds heap.now mutator (Command.Load dst obj i) result }
+{
+    let cell = heap.raw.roots.slot(mutator, dst)?;
+    let root = heap.raw.roots.slot(mutator, obj)?;
+    let at = heap.find(root, Kind::Ref, i)?;
+    let value = heap.held_in(at);
+    Ok(Planned {
+        reply: Reply::Ref(value.identity),
+        write: Write::Root {
+            cell,
+            reference: value.reference,
+        },
+    })
+}
+
+/// A reference cell gets what a slot holds.
+#[inline(always)]
+pub(super) fn store(heap: &Heap, mutator: u32, obj: u32, i: u32, src: u32) -> Plan
+    ensures { Deeds heap.now mutator (Command.Store obj i src) result }
+{
+    let root = heap.raw.roots.slot(mutator, obj)?;
+    let value = heap.held_by(mutator, src)?;
+    let at = heap.find(root, Kind::Ref, i)?;
+    Ok(Planned::done(Write::Ref {
+        at,
+        reference: value.reference,
+    }))
+}
+
+/// A reference cell is compared with a slot, and gets what another holds if they are the same.
+#[inline(always)]
+pub(super) fn compare_store(
+    heap: &Heap,
+    mutator: u32,
+    obj: u32,
+    i: u32,
+    expect: u32,
+    new: u32,
+) -> Plan
+    ensures { Deeds heap.now mutator (Command.CompareStore obj i expect new) result }
+{
+    let root = heap.raw.roots.slot(mutator, obj)?;
+    let expected = heap.held_by(mutator, expect)?;
+    let source = heap.raw.roots.slot(mutator, new)?;
+    let at = heap.find(root, Kind::Ref, i)?;
+    Ok(heap.compared(heap.held_in(at), expected, source, Target::Ref(at)))
+}
+
+/// A word cell is read.
+#[inline(always)]
+pub(super) fn get(heap: &Heap, mutator: u32, obj: u32, i: u32) -> Plan
+    ensures { Deeds heap.now mutator (Command.Get obj i) result }
+{
+    let root = heap.raw.roots.slot(mutator, obj)?;
+    let at = heap.find(root, Kind::Word, i)?;
+    Ok(Planned::reply(Reply::Word(heap.word_in(at))))
+}
+
+/// A word cell is written.
+#[inline(always)]
+pub(super) fn put(heap: &Heap, mutator: u32, obj: u32, i: u32, word: u64) -> Plan
+    ensures { Deeds heap.now mutator (Command.Put obj i word) result }
+{
+    let root = heap.raw.roots.slot(mutator, obj)?;
+    let at = heap.find(root, Kind::Word, i)?;
+    Ok(Planned::done(Write::Word { at, word }))
+}
+
+/// A word cell is compared with a word, and gets another if they are the same.
+#[inline(always)]
+pub(super) fn compare_put(heap: &Heap, mutator: u32, obj: u32, i: u32, old: u64, new: u64) -> Plan
+    ensures { Deeds heap.now mutator (Command.ComparePut obj i old new) result }
+{
+    let root = heap.raw.roots.slot(mutator, obj)?;
+    let at = heap.find(root, Kind::Word, i)?;
+    let word = heap.word_in(at);
+    if word != old {
+        return Ok(Planned::reply(Reply::KeptWord(word)));
+    }
+    Ok(Planned {
+        reply: Reply::Stored,
+        write: Write::Word { at, word: new },
+    })
+}
+
+/// A slot gets what another holds.
+#[inline(always)]
+pub(super) fn copy(heap: &Heap, mutator: u32, dst: u32, src: u32) -> Plan
+    ensures { Deeds heap.now mutator (Command.Copy dst src) result }
+{
+    let cell = heap.raw.roots.slot(mutator, dst)?;
+    let value = heap.held_by(mutator, src)?;
+    Ok(Planned::done(Write::Root {
+        cell,
+        reference: value.reference,
+    }))
+}
+
+/// A slot gets null.
+#[inline(always)]
+pub(super) fn clear(heap: &Heap, mutator: u32, dst: u32) -> Plan
+    ensures { Deeds heap.now mutator (Command.Clear dst) result }
+{
+    let cell = heap.raw.roots.slot(mutator, dst)?;
+    Ok(Planned::done(Write::Root { cell, reference: 0 }))
+}
+
+/// A slot gets what a static holds.
+#[inline(always)]
+pub(super) fn load_static(heap: &Heap, mutator: u32, dst: u32, k: u32) -> Plan
+    ensures { Deeds heap.now mutator (Command.LoadStatic dst k) result }
+{
+    let cell = heap.raw.roots.slot(mutator, dst)?;
+    let source = heap.raw.roots.static_cell(k)?;
+    let held = heap.held(source);
+    Ok(Planned {
+        reply: Reply::Ref(held.identity),
+        write: Write::Root {
+            cell,
+            reference: held.reference,
+        },
+    })
+}
+
+/// A static gets what a slot holds.
+#[inline(always)]
+pub(super) fn store_static(heap: &Heap, mutator: u32, k: u32, src: u32) -> Plan
+    ensures { Deeds heap.now mutator (Command.StoreStatic k src) result }
+{
+    let value = heap.held_by(mutator, src)?;
+    let cell = heap.raw.roots.static_cell(k)?;
+    Ok(Planned::done(Write::Root {
+        cell,
+        reference: value.reference,
+    }))
+}
+
+/// A static is compared with a slot, and gets what another holds if they are the same.
+#[inline(always)]
+pub(super) fn compare_static(heap: &Heap, mutator: u32, k: u32, expect: u32, new: u32) -> Plan
+    ensures { Deeds heap.now mutator (Command.CompareStatic k expect new) result }
+{
+    let expected = heap.held_by(mutator, expect)?;
+    let source = heap.raw.roots.slot(mutator, new)?;
+    let cell = heap.raw.roots.static_cell(k)?;
+    Ok(heap.compared(heap.held(cell), expected, source, Target::Root(cell)))
+}
+
+/// Two slots are compared, by the identities that they hold.
+#[inline(always)]
+pub(super) fn same(heap: &Heap, mutator: u32, a: u32, b: u32) -> Plan
+    ensures { Deeds heap.now mutator (Command.Same a b) result }
+{
+    let first = heap.held_by(mutator, a)?;
+    let second = heap.held_by(mutator, b)?;
+    Ok(Planned::reply(Reply::Is(first.identity == second.identity)))
+}
+
+/// The identity and the shape of an object are told.
+#[inline(always)]
+pub(super) fn describe(heap: &Heap, mutator: u32, a: u32) -> Plan
+    ensures { Deeds heap.now mutator (Command.Describe a) result }
+{
+    let root = heap.raw.roots.slot(mutator, a)?;
+    let found = heap.object(root)?;
+    Ok(Planned::reply(Reply::Described(found.id, found.shape)))
+}
+
+/// A mutator is to be live.
+#[inline(always)]
+pub(super) fn join(heap: &Heap, mutator: u32) -> Plan
+    requires { mutator < heap.now.limits.mutators }
+    ensures { Deeds heap.now mutator Command.Join result }
+{
+    Ok(Planned::done(Write::Join { mutator }))
+}
+
+/// A mutator is to be live no more.
+#[inline(always)]
+pub(super) fn leave(heap: &Heap, mutator: u32) -> Plan
+    requires { mutator < heap.now.limits.mutators }
+    ensures { Deeds heap.now mutator Command.Leave result }
+{
+    Ok(Planned::done(Write::Leave { mutator }))
+}
+
 impl Heap {
-    /// What a command that is admitted does.
-    pub(super) fn plan(&self, mutator: u32, command: &Command) -> Plan
-        requires { mutator < self.now.limits.mutators }
-        ensures { Deeds self.now mutator command.now result }
-    {
-        match *command {
-            Command::New { dst, shape } => self.plan_new(mutator, dst, shape),
-            Command::Load { dst, obj, i } => self.plan_load(mutator, dst, obj, i),
-            Command::Store { obj, i, src } => self.plan_store(mutator, obj, i, src),
-            Command::CompareStore {
-                obj,
-                i,
-                expect,
-                new,
-            } => self.plan_compare_store(mutator, obj, i, expect, new),
-            Command::Get { obj, i } => self.plan_get(mutator, obj, i),
-            Command::Put { obj, i, word } => self.plan_put(mutator, obj, i, word),
-            Command::ComparePut { obj, i, old, new } => {
-                self.plan_compare_put(mutator, obj, i, old, new)
-            }
-            Command::Copy { dst, src } => self.plan_copy(mutator, dst, src),
-            Command::Clear { dst } => self.plan_clear(mutator, dst),
-            Command::LoadStatic { dst, k } => self.plan_load_static(mutator, dst, k),
-            Command::StoreStatic { k, src } => self.plan_store_static(mutator, k, src),
-            Command::CompareStatic { k, expect, new } => {
-                self.plan_compare_static(mutator, k, expect, new)
-            }
-            Command::Same { a, b } => self.plan_same(mutator, a, b),
-            Command::Describe { a } => self.plan_describe(mutator, a),
-            Command::Join => self.plan_join(mutator),
-            Command::Leave => self.plan_leave(mutator),
-        }
-    }
-
-    /// A new object is planned.
-    #[inline(always)]
-    fn plan_new(&self, mutator: u32, dst: u32, shape: Shape) -> Plan
-        ensures { Deeds self.now mutator (Command.New dst shape) result }
-    {
-        let cell = self.raw.roots.slot(mutator, dst)?;
-        let parts = parts_of(&shape).ok_or(Refusal::TooLarge)?;
-        if self.raw.next > self.raw.roots.limits().identities {
-            return Err(Refusal::IdentitiesSpent);
-        }
-        if !self.raw.nodes.room(&parts) {
-            return Err(Refusal::NoSpace);
-        }
-        Ok(Planned {
-            reply: Reply::Made(self.raw.next),
-            write: Write::New { cell, shape },
-        })
-    }
-
-    /// A reference cell is loaded into a slot.
-    #[inline(always)]
-    fn plan_load(&self, mutator: u32, dst: u32, obj: u32, i: u32) -> Plan
-        ensures { Deeds self.now mutator (Command.Load dst obj i) result }
-    {
-        let cell = self.raw.roots.slot(mutator, dst)?;
-        let root = self.raw.roots.slot(mutator, obj)?;
-        let at = self.find(root, Kind::Ref, i)?;
-        let value = self.held_in(at);
-        Ok(Planned {
-            reply: Reply::Ref(value.identity),
-            write: Write::Root {
-                cell,
-                reference: value.reference,
-            },
-        })
-    }
-
-    /// A reference cell gets what a slot holds.
-    #[inline(always)]
-    fn plan_store(&self, mutator: u32, obj: u32, i: u32, src: u32) -> Plan
-        ensures { Deeds self.now mutator (Command.Store obj i src) result }
-    {
-        let root = self.raw.roots.slot(mutator, obj)?;
-        let value = self.held_by(mutator, src)?;
-        let at = self.find(root, Kind::Ref, i)?;
-        Ok(Planned::done(Write::Ref {
-            at,
-            reference: value.reference,
-        }))
-    }
-
-    /// A reference cell is compared with a slot, and gets what another holds if they are the same.
-    #[inline(always)]
-    fn plan_compare_store(&self, mutator: u32, obj: u32, i: u32, expect: u32, new: u32) -> Plan
-        ensures { Deeds self.now mutator (Command.CompareStore obj i expect new) result }
-    {
-        let root = self.raw.roots.slot(mutator, obj)?;
-        let expected = self.held_by(mutator, expect)?;
-        let source = self.raw.roots.slot(mutator, new)?;
-        let at = self.find(root, Kind::Ref, i)?;
-        Ok(self.compared(self.held_in(at), expected, source, Target::Ref(at)))
-    }
-
-    /// A word cell is read.
-    #[inline(always)]
-    fn plan_get(&self, mutator: u32, obj: u32, i: u32) -> Plan
-        ensures { Deeds self.now mutator (Command.Get obj i) result }
-    {
-        let root = self.raw.roots.slot(mutator, obj)?;
-        let at = self.find(root, Kind::Word, i)?;
-        Ok(Planned::reply(Reply::Word(self.word_in(at))))
-    }
-
-    /// A word cell is written.
-    #[inline(always)]
-    fn plan_put(&self, mutator: u32, obj: u32, i: u32, word: u64) -> Plan
-        ensures { Deeds self.now mutator (Command.Put obj i word) result }
-    {
-        let root = self.raw.roots.slot(mutator, obj)?;
-        let at = self.find(root, Kind::Word, i)?;
-        Ok(Planned::done(Write::Word { at, word }))
-    }
-
-    /// A word cell is compared with a word, and gets another if they are the same.
-    #[inline(always)]
-    fn plan_compare_put(&self, mutator: u32, obj: u32, i: u32, old: u64, new: u64) -> Plan
-        ensures { Deeds self.now mutator (Command.ComparePut obj i old new) result }
-    {
-        let root = self.raw.roots.slot(mutator, obj)?;
-        let at = self.find(root, Kind::Word, i)?;
-        let word = self.word_in(at);
-        if word != old {
-            return Ok(Planned::reply(Reply::KeptWord(word)));
-        }
-        Ok(Planned {
-            reply: Reply::Stored,
-            write: Write::Word { at, word: new },
-        })
-    }
-
-    /// A slot gets what another holds.
-    #[inline(always)]
-    fn plan_copy(&self, mutator: u32, dst: u32, src: u32) -> Plan
-        ensures { Deeds self.now mutator (Command.Copy dst src) result }
-    {
-        let cell = self.raw.roots.slot(mutator, dst)?;
-        let value = self.held_by(mutator, src)?;
-        Ok(Planned::done(Write::Root {
-            cell,
-            reference: value.reference,
-        }))
-    }
-
-    /// A slot gets null.
-    #[inline(always)]
-    fn plan_clear(&self, mutator: u32, dst: u32) -> Plan
-        ensures { Deeds self.now mutator (Command.Clear dst) result }
-    {
-        let cell = self.raw.roots.slot(mutator, dst)?;
-        Ok(Planned::done(Write::Root { cell, reference: 0 }))
-    }
-
-    /// A slot gets what a static holds.
-    #[inline(always)]
-    fn plan_load_static(&self, mutator: u32, dst: u32, k: u32) -> Plan
-        ensures { Deeds self.now mutator (Command.LoadStatic dst k) result }
-    {
-        let cell = self.raw.roots.slot(mutator, dst)?;
-        let source = self.raw.roots.static_cell(k)?;
-        let held = self.held(source);
-        Ok(Planned {
-            reply: Reply::Ref(held.identity),
-            write: Write::Root {
-                cell,
-                reference: held.reference,
-            },
-        })
-    }
-
-    /// A static gets what a slot holds.
-    #[inline(always)]
-    fn plan_store_static(&self, mutator: u32, k: u32, src: u32) -> Plan
-        ensures { Deeds self.now mutator (Command.StoreStatic k src) result }
-    {
-        let value = self.held_by(mutator, src)?;
-        let cell = self.raw.roots.static_cell(k)?;
-        Ok(Planned::done(Write::Root {
-            cell,
-            reference: value.reference,
-        }))
-    }
-
-    /// A static is compared with a slot, and gets what another holds if they are the same.
-    #[inline(always)]
-    fn plan_compare_static(&self, mutator: u32, k: u32, expect: u32, new: u32) -> Plan
-        ensures { Deeds self.now mutator (Command.CompareStatic k expect new) result }
-    {
-        let expected = self.held_by(mutator, expect)?;
-        let source = self.raw.roots.slot(mutator, new)?;
-        let cell = self.raw.roots.static_cell(k)?;
-        Ok(self.compared(self.held(cell), expected, source, Target::Root(cell)))
-    }
-
-    /// Two slots are compared, by the identities that they hold.
-    #[inline(always)]
-    fn plan_same(&self, mutator: u32, a: u32, b: u32) -> Plan
-        ensures { Deeds self.now mutator (Command.Same a b) result }
-    {
-        let first = self.held_by(mutator, a)?;
-        let second = self.held_by(mutator, b)?;
-        Ok(Planned::reply(Reply::Is(first.identity == second.identity)))
-    }
-
-    /// Says the identity and the shape of an object.
-    #[inline(always)]
-    fn plan_describe(&self, mutator: u32, a: u32) -> Plan
-        ensures { Deeds self.now mutator (Command.Describe a) result }
-    {
-        let root = self.raw.roots.slot(mutator, a)?;
-        let found = self.object(root)?;
-        Ok(Planned::reply(Reply::Described(found.id, found.shape)))
-    }
-
-    /// A mutator is to be live.
-    #[inline(always)]
-    fn plan_join(&self, mutator: u32) -> Plan
-        requires { mutator < self.now.limits.mutators }
-        ensures { Deeds self.now mutator Command.Join result }
-    {
-        Ok(Planned::done(Write::Join { mutator }))
-    }
-
-    /// A mutator is to be live no more.
-    #[inline(always)]
-    fn plan_leave(&self, mutator: u32) -> Plan
-        requires { mutator < self.now.limits.mutators }
-        ensures { Deeds self.now mutator Command.Leave result }
-    {
-        Ok(Planned::done(Write::Leave { mutator }))
-    }
 
     /// What a slot of a mutator holds.
     #[inline(always)]

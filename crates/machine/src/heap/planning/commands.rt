@@ -1,14 +1,14 @@
 //! Each command as a method of the heap: a mutator that may ask for it gets what was planned.
 ghost use Rattle.machine.specs.Plan.{Steps};
 
-use crate::heap::Heap;
+use crate::heap::{Heap, planning};
 use graph_heap::{Command, Reply, Shape};
 
 /// Does what is planned for a mutator, if that may ask for it. Nothing is planned before it is known that it may.
 macro_rules! settled {
-    ($heap:expr, $mutator:expr, $joins:expr, $plan:expr) => {
+    ($heap:expr, $mutator:expr, $joins:expr, $plan:ident($($field:expr),*)) => {
         match $heap.raw.roots.admit($mutator, $joins) {
-            Ok(_) => $heap.settle($mutator, $plan),
+            Ok(_) => $heap.settle($mutator, planning::$plan($heap, $mutator $(, $field)*)),
             Err(refusal) => Reply::Refused(refusal),
         }
     };
@@ -20,7 +20,7 @@ impl Heap {
     pub fn make(&mut self, mutator: u32, dst: u32, shape: Shape) -> Reply
         ensures { Steps self.old mutator (Command.New dst shape) result self.new }
     {
-        settled!(self, mutator, false, self.plan_new(mutator, dst, shape))
+        settled!(self, mutator, false, make(dst, shape))
     }
 
     /// A reference cell into slot dst.
@@ -28,7 +28,7 @@ impl Heap {
     pub fn load(&mut self, mutator: u32, dst: u32, obj: u32, i: u32) -> Reply
         ensures { Steps self.old mutator (Command.Load dst obj i) result self.new }
     {
-        settled!(self, mutator, false, self.plan_load(mutator, dst, obj, i))
+        settled!(self, mutator, false, load(dst, obj, i))
     }
 
     /// What slot src holds into a reference cell.
@@ -36,7 +36,7 @@ impl Heap {
     pub fn store(&mut self, mutator: u32, obj: u32, i: u32, src: u32) -> Reply
         ensures { Steps self.old mutator (Command.Store obj i src) result self.new }
     {
-        settled!(self, mutator, false, self.plan_store(mutator, obj, i, src))
+        settled!(self, mutator, false, store(obj, i, src))
     }
 
     /// What slot new holds into a reference cell, if that holds what slot expect does.
@@ -44,12 +44,7 @@ impl Heap {
     pub fn compare_store(&mut self, mutator: u32, obj: u32, i: u32, expect: u32, new: u32) -> Reply
         ensures { Steps self.old mutator (Command.CompareStore obj i expect new) result self.new }
     {
-        settled!(
-            self,
-            mutator,
-            false,
-            self.plan_compare_store(mutator, obj, i, expect, new)
-        )
+        settled!(self, mutator, false, compare_store(obj, i, expect, new))
     }
 
     /// Reads a word cell.
@@ -57,7 +52,7 @@ impl Heap {
     pub fn get(&mut self, mutator: u32, obj: u32, i: u32) -> Reply
         ensures { Steps self.old mutator (Command.Get obj i) result self.new }
     {
-        settled!(self, mutator, false, self.plan_get(mutator, obj, i))
+        settled!(self, mutator, false, get(obj, i))
     }
 
     /// Writes a word cell.
@@ -65,7 +60,7 @@ impl Heap {
     pub fn put(&mut self, mutator: u32, obj: u32, i: u32, word: u64) -> Reply
         ensures { Steps self.old mutator (Command.Put obj i word) result self.new }
     {
-        settled!(self, mutator, false, self.plan_put(mutator, obj, i, word))
+        settled!(self, mutator, false, put(obj, i, word))
     }
 
     /// Writes a word cell, if that is old.
@@ -73,12 +68,7 @@ impl Heap {
     pub fn compare_put(&mut self, mutator: u32, obj: u32, i: u32, old: u64, new: u64) -> Reply
         ensures { Steps self.old mutator (Command.ComparePut obj i old new) result self.new }
     {
-        settled!(
-            self,
-            mutator,
-            false,
-            self.plan_compare_put(mutator, obj, i, old, new)
-        )
+        settled!(self, mutator, false, compare_put(obj, i, old, new))
     }
 
     /// What slot src holds into slot dst.
@@ -86,7 +76,7 @@ impl Heap {
     pub fn copy(&mut self, mutator: u32, dst: u32, src: u32) -> Reply
         ensures { Steps self.old mutator (Command.Copy dst src) result self.new }
     {
-        settled!(self, mutator, false, self.plan_copy(mutator, dst, src))
+        settled!(self, mutator, false, copy(dst, src))
     }
 
     /// Null into slot dst.
@@ -94,7 +84,7 @@ impl Heap {
     pub fn clear(&mut self, mutator: u32, dst: u32) -> Reply
         ensures { Steps self.old mutator (Command.Clear dst) result self.new }
     {
-        settled!(self, mutator, false, self.plan_clear(mutator, dst))
+        settled!(self, mutator, false, clear(dst))
     }
 
     /// What static k holds into slot dst.
@@ -102,7 +92,7 @@ impl Heap {
     pub fn load_static(&mut self, mutator: u32, dst: u32, k: u32) -> Reply
         ensures { Steps self.old mutator (Command.LoadStatic dst k) result self.new }
     {
-        settled!(self, mutator, false, self.plan_load_static(mutator, dst, k))
+        settled!(self, mutator, false, load_static(dst, k))
     }
 
     /// What slot src holds into static k.
@@ -110,12 +100,7 @@ impl Heap {
     pub fn store_static(&mut self, mutator: u32, k: u32, src: u32) -> Reply
         ensures { Steps self.old mutator (Command.StoreStatic k src) result self.new }
     {
-        settled!(
-            self,
-            mutator,
-            false,
-            self.plan_store_static(mutator, k, src)
-        )
+        settled!(self, mutator, false, store_static(k, src))
     }
 
     /// What slot new holds into static k, if that holds what slot expect does.
@@ -123,12 +108,7 @@ impl Heap {
     pub fn compare_static(&mut self, mutator: u32, k: u32, expect: u32, new: u32) -> Reply
         ensures { Steps self.old mutator (Command.CompareStatic k expect new) result self.new }
     {
-        settled!(
-            self,
-            mutator,
-            false,
-            self.plan_compare_static(mutator, k, expect, new)
-        )
+        settled!(self, mutator, false, compare_static(k, expect, new))
     }
 
     /// Whether two slots hold the same identity, or both null.
@@ -136,7 +116,7 @@ impl Heap {
     pub fn same(&mut self, mutator: u32, a: u32, b: u32) -> Reply
         ensures { Steps self.old mutator (Command.Same a b) result self.new }
     {
-        settled!(self, mutator, false, self.plan_same(mutator, a, b))
+        settled!(self, mutator, false, same(a, b))
     }
 
     /// The identity and the shape of the object in slot a.
@@ -144,7 +124,7 @@ impl Heap {
     pub fn describe(&mut self, mutator: u32, a: u32) -> Reply
         ensures { Steps self.old mutator (Command.Describe a) result self.new }
     {
-        settled!(self, mutator, false, self.plan_describe(mutator, a))
+        settled!(self, mutator, false, describe(a))
     }
 
     /// The mutator becomes live.
@@ -152,7 +132,7 @@ impl Heap {
     pub fn join(&mut self, mutator: u32) -> Reply
         ensures { Steps self.old mutator Command.Join result self.new }
     {
-        settled!(self, mutator, true, self.plan_join(mutator))
+        settled!(self, mutator, true, join())
     }
 
     /// Null into each slot of the mutator, which is live no more.
@@ -160,6 +140,6 @@ impl Heap {
     pub fn leave(&mut self, mutator: u32) -> Reply
         ensures { Steps self.old mutator Command.Leave result self.new }
     {
-        settled!(self, mutator, false, self.plan_leave(mutator))
+        settled!(self, mutator, false, leave())
     }
 }

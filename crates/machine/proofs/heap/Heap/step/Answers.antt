@@ -3,82 +3,82 @@ use Rattle.graph_heap.specs.declared.command.Command.{Command}
 use Rattle.machine.specs.Plan.{Steps}
 use Rattle.machine.proofs.heap.Heap.step.Goals as goal
 
-pub returns-in-New : goal.returns-in-New
-returns-in-New c =
-    let s = subst (λ (x : Command). Steps c.args.self.now c.args.mutator x c.make.result c.make.new.self) (sym c.in-New.is) c.make.ensures in
+pub returns-in-New-dispatch : goal.returns-in-New-dispatch
+returns-in-New-dispatch c =
+    let s = subst (λ (x : Command). Steps c.args.self.now c.args.mutator x c.dispatch-make.result c.dispatch-make.new.self) (sym c.in-New-dispatch.is) c.dispatch-make.ensures in
     record { reply = s.reply; agrees = s.agrees; does = s.does }
 
-pub returns-in-Load : goal.returns-in-Load
-returns-in-Load c =
-    let s = subst (λ (x : Command). Steps c.args.self.now c.args.mutator x c.load.result c.load.new.self) (sym c.in-Load.is) c.load.ensures in
+pub returns-in-Load-dispatch : goal.returns-in-Load-dispatch
+returns-in-Load-dispatch c =
+    let s = subst (λ (x : Command). Steps c.args.self.now c.args.mutator x c.dispatch-load.result c.dispatch-load.new.self) (sym c.in-Load-dispatch.is) c.dispatch-load.ensures in
     record { reply = s.reply; agrees = s.agrees; does = s.does }
 
-pub returns-in-Store : goal.returns-in-Store
-returns-in-Store c =
-    let s = subst (λ (x : Command). Steps c.args.self.now c.args.mutator x c.store.result c.store.new.self) (sym c.in-Store.is) c.store.ensures in
+pub returns-in-Store-dispatch : goal.returns-in-Store-dispatch
+returns-in-Store-dispatch c =
+    let s = subst (λ (x : Command). Steps c.args.self.now c.args.mutator x c.dispatch-store.result c.dispatch-store.new.self) (sym c.in-Store-dispatch.is) c.dispatch-store.ensures in
     record { reply = s.reply; agrees = s.agrees; does = s.does }
 
-pub returns-in-CompareStore : goal.returns-in-CompareStore
-returns-in-CompareStore c =
-    let s = subst (λ (x : Command). Steps c.args.self.now c.args.mutator x c.compare_store.result c.compare_store.new.self) (sym c.in-CompareStore.is) c.compare_store.ensures in
+pub returns-in-CompareStore-dispatch : goal.returns-in-CompareStore-dispatch
+returns-in-CompareStore-dispatch c =
+    let s = subst (λ (x : Command). Steps c.args.self.now c.args.mutator x c.dispatch-compare_store.result c.dispatch-compare_store.new.self) (sym c.in-CompareStore-dispatch.is) c.dispatch-compare_store.ensures in
     record { reply = s.reply; agrees = s.agrees; does = s.does }
 
-pub returns-in-Get : goal.returns-in-Get
-returns-in-Get c =
-    let s = subst (λ (x : Command). Steps c.args.self.now c.args.mutator x c.get.result c.get.new.self) (sym c.in-Get.is) c.get.ensures in
+pub returns-in-Get-dispatch : goal.returns-in-Get-dispatch
+returns-in-Get-dispatch c =
+    let s = subst (λ (x : Command). Steps c.args.self.now c.args.mutator x c.dispatch-get.result c.dispatch-get.new.self) (sym c.in-Get-dispatch.is) c.dispatch-get.ensures in
     record { reply = s.reply; agrees = s.agrees; does = s.does }
 
-pub returns-in-Put : goal.returns-in-Put
-returns-in-Put c =
-    let s = subst (λ (x : Command). Steps c.args.self.now c.args.mutator x c.put.result c.put.new.self) (sym c.in-Put.is) c.put.ensures in
+pub returns-in-Put-dispatch : goal.returns-in-Put-dispatch
+returns-in-Put-dispatch c =
+    let s = subst (λ (x : Command). Steps c.args.self.now c.args.mutator x c.dispatch-put.result c.dispatch-put.new.self) (sym c.in-Put-dispatch.is) c.dispatch-put.ensures in
     record { reply = s.reply; agrees = s.agrees; does = s.does }
 
-pub returns-in-ComparePut : goal.returns-in-ComparePut
-returns-in-ComparePut c =
-    let s = subst (λ (x : Command). Steps c.args.self.now c.args.mutator x c.compare_put.result c.compare_put.new.self) (sym c.in-ComparePut.is) c.compare_put.ensures in
+pub returns-in-ComparePut-dispatch : goal.returns-in-ComparePut-dispatch
+returns-in-ComparePut-dispatch c =
+    let s = subst (λ (x : Command). Steps c.args.self.now c.args.mutator x c.dispatch-compare_put.result c.dispatch-compare_put.new.self) (sym c.in-ComparePut-dispatch.is) c.dispatch-compare_put.ensures in
     record { reply = s.reply; agrees = s.agrees; does = s.does }
 
-pub returns-in-Copy : goal.returns-in-Copy
-returns-in-Copy c =
-    let s = subst (λ (x : Command). Steps c.args.self.now c.args.mutator x c.copy.result c.copy.new.self) (sym c.in-Copy.is) c.copy.ensures in
+pub returns-in-Copy-dispatch : goal.returns-in-Copy-dispatch
+returns-in-Copy-dispatch c =
+    let s = subst (λ (x : Command). Steps c.args.self.now c.args.mutator x c.dispatch-copy.result c.dispatch-copy.new.self) (sym c.in-Copy-dispatch.is) c.dispatch-copy.ensures in
     record { reply = s.reply; agrees = s.agrees; does = s.does }
 
-pub returns-in-Clear : goal.returns-in-Clear
-returns-in-Clear c =
-    let s = subst (λ (x : Command). Steps c.args.self.now c.args.mutator x c.clear.result c.clear.new.self) (sym c.in-Clear.is) c.clear.ensures in
+pub returns-in-Clear-dispatch : goal.returns-in-Clear-dispatch
+returns-in-Clear-dispatch c =
+    let s = subst (λ (x : Command). Steps c.args.self.now c.args.mutator x c.dispatch-clear.result c.dispatch-clear.new.self) (sym c.in-Clear-dispatch.is) c.dispatch-clear.ensures in
     record { reply = s.reply; agrees = s.agrees; does = s.does }
 
-pub returns-in-LoadStatic : goal.returns-in-LoadStatic
-returns-in-LoadStatic c =
-    let s = subst (λ (x : Command). Steps c.args.self.now c.args.mutator x c.load_static.result c.load_static.new.self) (sym c.in-LoadStatic.is) c.load_static.ensures in
+pub returns-in-LoadStatic-dispatch : goal.returns-in-LoadStatic-dispatch
+returns-in-LoadStatic-dispatch c =
+    let s = subst (λ (x : Command). Steps c.args.self.now c.args.mutator x c.dispatch-load_static.result c.dispatch-load_static.new.self) (sym c.in-LoadStatic-dispatch.is) c.dispatch-load_static.ensures in
     record { reply = s.reply; agrees = s.agrees; does = s.does }
 
-pub returns-in-StoreStatic : goal.returns-in-StoreStatic
-returns-in-StoreStatic c =
-    let s = subst (λ (x : Command). Steps c.args.self.now c.args.mutator x c.store_static.result c.store_static.new.self) (sym c.in-StoreStatic.is) c.store_static.ensures in
+pub returns-in-StoreStatic-dispatch : goal.returns-in-StoreStatic-dispatch
+returns-in-StoreStatic-dispatch c =
+    let s = subst (λ (x : Command). Steps c.args.self.now c.args.mutator x c.dispatch-store_static.result c.dispatch-store_static.new.self) (sym c.in-StoreStatic-dispatch.is) c.dispatch-store_static.ensures in
     record { reply = s.reply; agrees = s.agrees; does = s.does }
 
-pub returns-in-CompareStatic : goal.returns-in-CompareStatic
-returns-in-CompareStatic c =
-    let s = subst (λ (x : Command). Steps c.args.self.now c.args.mutator x c.compare_static.result c.compare_static.new.self) (sym c.in-CompareStatic.is) c.compare_static.ensures in
+pub returns-in-CompareStatic-dispatch : goal.returns-in-CompareStatic-dispatch
+returns-in-CompareStatic-dispatch c =
+    let s = subst (λ (x : Command). Steps c.args.self.now c.args.mutator x c.dispatch-compare_static.result c.dispatch-compare_static.new.self) (sym c.in-CompareStatic-dispatch.is) c.dispatch-compare_static.ensures in
     record { reply = s.reply; agrees = s.agrees; does = s.does }
 
-pub returns-in-Same : goal.returns-in-Same
-returns-in-Same c =
-    let s = subst (λ (x : Command). Steps c.args.self.now c.args.mutator x c.same.result c.same.new.self) (sym c.in-Same.is) c.same.ensures in
+pub returns-in-Same-dispatch : goal.returns-in-Same-dispatch
+returns-in-Same-dispatch c =
+    let s = subst (λ (x : Command). Steps c.args.self.now c.args.mutator x c.dispatch-same.result c.dispatch-same.new.self) (sym c.in-Same-dispatch.is) c.dispatch-same.ensures in
     record { reply = s.reply; agrees = s.agrees; does = s.does }
 
-pub returns-in-Describe : goal.returns-in-Describe
-returns-in-Describe c =
-    let s = subst (λ (x : Command). Steps c.args.self.now c.args.mutator x c.describe.result c.describe.new.self) (sym c.in-Describe.is) c.describe.ensures in
+pub returns-in-Describe-dispatch : goal.returns-in-Describe-dispatch
+returns-in-Describe-dispatch c =
+    let s = subst (λ (x : Command). Steps c.args.self.now c.args.mutator x c.dispatch-describe.result c.dispatch-describe.new.self) (sym c.in-Describe-dispatch.is) c.dispatch-describe.ensures in
     record { reply = s.reply; agrees = s.agrees; does = s.does }
 
-pub returns-in-Join : goal.returns-in-Join
-returns-in-Join c =
-    let s = subst (λ (x : Command). Steps c.args.self.now c.args.mutator x c.join.result c.join.new.self) (sym c.in-Join.is) c.join.ensures in
+pub returns-in-Join-dispatch : goal.returns-in-Join-dispatch
+returns-in-Join-dispatch c =
+    let s = subst (λ (x : Command). Steps c.args.self.now c.args.mutator x c.dispatch-join.result c.dispatch-join.new.self) (sym c.in-Join-dispatch.is) c.dispatch-join.ensures in
     record { reply = s.reply; agrees = s.agrees; does = s.does }
 
-pub returns-in-Leave : goal.returns-in-Leave
-returns-in-Leave c =
-    let s = subst (λ (x : Command). Steps c.args.self.now c.args.mutator x c.leave.result c.leave.new.self) (sym c.in-Leave.is) c.leave.ensures in
+pub returns-in-Leave-dispatch : goal.returns-in-Leave-dispatch
+returns-in-Leave-dispatch c =
+    let s = subst (λ (x : Command). Steps c.args.self.now c.args.mutator x c.dispatch-leave.result c.dispatch-leave.new.self) (sym c.in-Leave-dispatch.is) c.dispatch-leave.ensures in
     record { reply = s.reply; agrees = s.agrees; does = s.does }

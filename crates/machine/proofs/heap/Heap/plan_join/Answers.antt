@@ -1,6 +1,0 @@
-use Rattle.std.proofs.Common.{refl}
-use Rattle.graph_heap.specs.declared.command.Change.TheVariants as changes
-use Rattle.machine.proofs.heap.Heap.plan_join.Goals as goal
-
-pub returns : goal.returns
-returns c g a = rw c.done.ensures (changes.Join c.args.mutator, refl, (refl, c.requires))

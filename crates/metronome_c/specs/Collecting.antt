@@ -1,6 +1,7 @@
 -- What the collector does to what C holds, and what C is told.
 use Rattle.std.specs.Prelude.{◌≡◌, ◌⊎◌, ◌+◌, ◌<◌, ℕ, Result, Ok, Err}
 use Rattle.graph_heap.specs.Graph.{Graph}
+use Rattle.size_classes.specs.declared.config.TheConstants.{LEAST_BUDGET}
 use Rattle.heap_model.specs.declared.phase.Phase.{Phase}
 use Rattle.heap_model.specs.declared.phase.Phase.TheVariants as phases
 use Rattle.heap_model.specs.State.{HeapState}
@@ -47,9 +48,9 @@ abbrev pub spent_of : QuantumSpent → Result Spent Refused → QuantumSpent
 spent_of before (Ok spent) = record { units = spent.units; phase = phase_number spent.phase }
 spent_of before (Err refused) = before
 
--- a quantum that isn't refused ends the cycle, or leaves less than the dearest action costs
+-- a quantum that isn't refused ends the cycle, or leaves less than the dearest action costs: the least budget
 abbrev pub EndsOrSpends : ℕ → Result Spent Refused → Type 0
-EndsOrSpends budget (Ok spent) = (spent.phase ≡ phases.Idle) ⊎ (budget < spent.units + 256)
+EndsOrSpends budget (Ok spent) = (spent.phase ≡ phases.Idle) ⊎ (budget < spent.units + LEAST_BUDGET)
 EndsOrSpends budget (Err refused) = Unit {0}
 
 -- a quantum spends units of its budget in one turn, or the budget is refused

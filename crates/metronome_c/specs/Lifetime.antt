@@ -7,26 +7,9 @@ use Rattle.size_classes.specs.Config.{fault_of, IsOf}
 use Rattle.heap_model.specs.State.{HeapState}
 use Rattle.heap_model.specs.Opening.{IsOpening}
 use Rattle.heap_model.specs.Settings.{settings_of, settings_by}
-use Rattle.metronome_c.specs.declared.settings.MetronomeSettings.{MetronomeSettings}
 use Rattle.metronome_c.specs.declared.status.Status.{Status}
 use Rattle.metronome_c.specs.declared.status.Status.TheVariants.{Done, NoMemory, Open, Closed}
 use Rattle.metronome_c.specs.Status.{status_number, fault_status}
-
--- the settings that C gives, as the checked configuration takes them
-abbrev pub settings_from : MetronomeSettings → Settings
-settings_from s = record {
-  pages = s.pages;
-  mutators = s.mutators;
-  slots = s.slots;
-  statics = s.statics;
-  identities = s.identities;
-  defrag_below = s.defrag_below;
-  defrag_pages = s.defrag_pages;
-  collector_ticks = s.collector_ticks;
-  mutator_ticks = s.mutator_ticks;
-  rate = s.rate;
-  live = s.live;
-}
 
 -- a heap from which histories start, with the numbers of these settings
 abbrev pub IsMadeOf : Settings → HeapState → Type 0

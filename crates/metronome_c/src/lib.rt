@@ -12,6 +12,5 @@ mod limit;
 mod metronome;
 mod page;
 mod phase;
-mod settings;
 mod status;
 mod text;

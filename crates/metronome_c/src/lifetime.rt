@@ -2,25 +2,24 @@
 ghost use Rattle.std.specs.Prelude.{◌≡◌, ◌≢◌};
 ghost use Rattle.metronome_c.specs.declared.status.Status.TheVariants.{OtherVersion};
 ghost use Rattle.metronome_c.specs.Held.{held};
-ghost use Rattle.metronome_c.specs.Lifetime.{settings_from, Creates, Destroys};
+ghost use Rattle.metronome_c.specs.Lifetime.{Creates, Destroys};
 ghost use Rattle.metronome_c.specs.Status.{status_number};
 
 use crate::metronome::Metronome;
-use crate::settings::MetronomeSettings;
 use crate::status::Status;
 use crate::text::VERSION;
 use machine::Heap;
-use size_classes::Config;
+use size_classes::{Config, Settings};
 
 /// Makes a heap of these settings, where the handle is closed and the program was built for this version. Of a program
 /// for another one nothing is read but that version.
 #[unsafe(no_mangle)]
 pub extern "C" fn metronome_create_for(
     heap: &mut Metronome,
-    settings: &MetronomeSettings,
+    settings: &Settings,
     version: u32,
 ) -> u32
-    ensures same { version ≡ 2 → Creates (held heap.old) (settings_from settings.now) (held heap.new) result }
+    ensures same { version ≡ 2 → Creates (held heap.old) settings.now (held heap.new) result }
     ensures other { version ≢ 2 → (held heap.new ≡ held heap.old) × (result ≡ status_number OtherVersion) }
 {
     if version != VERSION {
@@ -30,8 +29,8 @@ pub extern "C" fn metronome_create_for(
 }
 
 /// Makes a heap of these settings, where the handle is closed.
-fn create(heap: &mut Metronome, settings: &MetronomeSettings) -> u32
-    ensures { Creates (held heap.old) (settings_from settings.now) (held heap.new) result }
+fn create(heap: &mut Metronome, settings: &Settings) -> u32
+    ensures { Creates (held heap.old) settings.now (held heap.new) result }
 {
     if heap.is_open() {
         return Status::Open.number();
@@ -39,7 +38,7 @@ fn create(heap: &mut Metronome, settings: &MetronomeSettings) -> u32
     if !heap.is_closed() {
         return Status::BadHandle.number();
     }
-    let config = match Config::check(&settings.settings()) {
+    let config = match Config::check(settings) {
         Ok(config) => config,
         Err(fault) => return Status::of_fault(fault).number(),
     };

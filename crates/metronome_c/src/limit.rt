@@ -1,11 +1,9 @@
 //! What a cycle takes at most.
 ghost use Rattle.std.specs.Prelude.{◌≡◌};
-ghost use Rattle.metronome_c.specs.Lifetime.{settings_from};
 ghost use Rattle.metronome_c.specs.Limit.{limit_of, TellsLimit};
 
-use crate::settings::MetronomeSettings;
 use crate::status::Status;
-use size_classes::{Config, LEAST_BUDGET};
+use size_classes::{Config, LEAST_BUDGET, Settings};
 
 /// The units that a cycle takes at most, and the quanta of the schedule.
 #[repr(C)]
@@ -21,19 +19,20 @@ impl CycleLimit {
         ensures { result ≡ limit_of config.now }
     {
         let spent = config.budget() - (LEAST_BUDGET - 1);
+        let limit = config.cycle_limit();
         CycleLimit {
-            units: config.cycle_limit(),
-            quanta: config.cycle_limit() / u64::from(spent) + 1,
+            units: limit,
+            quanta: limit / u64::from(spent) + 1,
         }
     }
 }
 
 /// Tells what a cycle takes at most in a heap of these settings. It makes none.
 #[unsafe(no_mangle)]
-pub extern "C" fn metronome_cycle_limit(settings: &MetronomeSettings, limit: &mut CycleLimit) -> u32
-    ensures { TellsLimit (settings_from settings.now) limit.old limit.new result }
+pub extern "C" fn metronome_cycle_limit(settings: &Settings, limit: &mut CycleLimit) -> u32
+    ensures { TellsLimit settings.now limit.old limit.new result }
 {
-    match Config::check(&settings.settings()) {
+    match Config::check(settings) {
         Ok(config) => {
             *limit = CycleLimit::of(&config);
             Status::Done.number()

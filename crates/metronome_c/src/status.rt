@@ -15,13 +15,13 @@ pub enum Status {
     NoMemory,
     /// A cycle is running already.
     Busy,
-    /// The budget of a quantum isn't 256 to 1000000.
+    /// The budget of a quantum isn't `LEAST_BUDGET` to `MOST_BUDGET`.
     BudgetOutOfRange,
     /// The handle holds no heap.
     Closed,
     /// The handle holds a heap already.
     Open,
-    /// `collector_ticks` times `rate` isn't 256 to 1000000.
+    /// `collector_ticks` times `rate` isn't `LEAST_BUDGET` to `MOST_BUDGET`.
     ScheduleOutOfRange,
     /// What was given as a handle is none: nothing ever closed it.
     BadHandle,

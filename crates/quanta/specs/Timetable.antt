@@ -2,6 +2,8 @@
 use Rattle.std.specs.Prelude.{◌≡◌, ℕ, ◌+◌, ◌≤◌, max, nat_lt, if◌then◌else◌, List, [], ◌∷◌, ◌++◌, Option, Some, None}
 use Rattle.std.specs.Option.{ForSome}
 use Rattle.std.specs.List.{last_or}
+use Rattle.size_classes.specs.declared.key.Key.TheVariants.{CollectorTicks, MutatorTicks}
+use Rattle.size_classes.specs.Keys.{IsWithin}
 use Rattle.quanta.specs.declared.schedule.TheConstants.{CLOCK_LIMIT}
 use Rattle.quanta.specs.declared.interval.Interval.{Interval}
 use Rattle.quanta.specs.Intervals.{IsSpaced}
@@ -55,7 +57,8 @@ pub record IsPlacedAt (due : ℕ) (old new : Timetable) : Type 0 where
   pub reserved : old.reserved ≤ new.reserved + 1
 
 -- What holds of every timetable: the intervals are spaced, the quantum that is due comes after them,
--- and all numbers are within their limits.
+-- and all numbers are within their limits: ticks in the ranges of their keys, which no number of
+-- mutators changes.
 pub record IsTimetable (t : Timetable) : Type 0 where
   pub spaced : IsSpaced t.collector_ticks t.mutator_ticks t.intervals
   pub clock : t.clock ≤ CLOCK_LIMIT
@@ -63,5 +66,5 @@ pub record IsTimetable (t : Timetable) : Type 0 where
       ≤ CLOCK_LIMIT + t.collector_ticks + t.mutator_ticks
   pub due : ForSome t.due (λ due. (start_after t.mutator_ticks (last_or None t.intervals) ≤ due)
       × (due ≤ CLOCK_LIMIT + t.collector_ticks + t.mutator_ticks))
-  pub collector_ticks : (1 ≤ t.collector_ticks) × (t.collector_ticks ≤ 1000000)
-  pub mutator_ticks : (1 ≤ t.mutator_ticks) × (t.mutator_ticks ≤ 1000000)
+  pub collector_ticks : IsWithin 0 CollectorTicks t.collector_ticks
+  pub mutator_ticks : IsWithin 0 MutatorTicks t.mutator_ticks

@@ -13,10 +13,8 @@ use Rattle.size_classes.specs.declared.settings.Settings.{Settings}
 use Rattle.size_classes.specs.Keys.{name_of, row_of, is_allowed}
 use Rattle.size_classes.specs.Config.{budget_fault, IsOf}
 use Rattle.toml.specs.Data.{Data, as_integer, get_member, Members}
-use Rattle.command_line.specs.declared.fault.ReadFault.{ReadFault}
-use Rattle.command_line.specs.declared.fault.ReadFault.TheVariants.{Refused, NoMemory}
-use Rattle.command_line.specs.declared.toml_table.OpenFault.{OpenFault}
-use Rattle.command_line.specs.declared.toml_table.OpenFault.TheVariants as openings
+use Rattle.command_line.specs.declared.toml_table.ReadFault.{ReadFault}
+use Rattle.command_line.specs.declared.toml_table.ReadFault.TheVariants.{Refused, NoMemory}
 use Rattle.command_line.specs.TomlTable.{document_of, NeedsMemory, any_member, first_some}
 
 -- it is the name of a key
@@ -103,13 +101,7 @@ Configures (Some document) config = IsOf (settings_of document) config
 
 -- the answer to a file of these bytes: a configuration where it has no fault, or its first fault,
 -- or no memory
-abbrev pub IsRead : List ℕ → Result Config ReadFault → Type 0
+abbrev pub IsRead : List ℕ → Result Config (ReadFault ConfigFault) → Type 0
 IsRead bytes (Ok config) = (file_fault bytes ≡ None) × Configures (document_of bytes) config
 IsRead bytes (Err (Refused fault)) = file_fault bytes ≡ Some fault
 IsRead bytes (Err NoMemory) = NeedsMemory bytes
-
--- the fault of a file that opens no document
-abbrev pub read_fault : OpenFault → ReadFault
-read_fault openings.TooLong = Refused faults.TooLong
-read_fault openings.NotToml = Refused faults.NotToml
-read_fault openings.NoMemory = NoMemory

@@ -1,5 +1,5 @@
 -- TOML documents: how one is opened, and what is asked of its members.
-use Rattle.std.specs.Prelude.{◌≡◌, ℕ, ◌<◌, ◌≤◌, Bool, false, ◌||◌, if◌then◌else◌, List, [], ◌∷◌, length, Option, Some, None, Result, Ok, Err, String}
+use Rattle.std.specs.Prelude.{◌≡◌, ℕ, ◌<◌, ◌≤◌, Bool, false, ◌||◌, ◌⊎◌, if◌then◌else◌, List, [], ◌∷◌, length, Option, Some, None, Result, Ok, Err, String}
 use Rattle.std.specs.Str.{IsUtf8, is_utf8}
 use Rattle.std.specs.BTreeMap.{BTreeMap}
 use Rattle.std.specs.declared.alloc.Global.{Global}
@@ -8,8 +8,8 @@ use Rattle.toml.specs.Errors.{IsBlank}
 use Rattle.toml.specs.Parse.{parse_document}
 use Rattle.toml.specs.View.{table_view}
 use Rattle.toml.specs.declared.value.Value.{Value}
-use Rattle.command_line.specs.declared.toml_table.OpenFault.{OpenFault}
-use Rattle.command_line.specs.declared.toml_table.OpenFault.TheVariants.{TooLong, NotToml, NoMemory}
+use Rattle.command_line.specs.declared.toml_table.ReadFault.{ReadFault}
+use Rattle.command_line.specs.declared.toml_table.ReadFault.TheVariants.{Refused, NoMemory}
 
 -- the members of the document in these bytes, if they are UTF-8 and TOML reads a document in them
 abbrev pub document_of : List ℕ → Option Members
@@ -26,11 +26,12 @@ abbrev pub Table : Type 0
 Table = BTreeMap (String Global) Value
 
 -- the answer to these bytes: the document in them, or that they are too many, or no document, or no memory
-abbrev pub IsOpened : List ℕ → Result Table OpenFault → Type 0
-IsOpened bytes (Ok table) = (length bytes ≤ 65536) × (document_of bytes ≡ Some (table_view table))
-IsOpened bytes (Err TooLong) = 65536 < length bytes
-IsOpened bytes (Err NotToml) = (length bytes ≤ 65536) × (document_of bytes ≡ None)
-IsOpened bytes (Err NoMemory) = NeedsMemory bytes
+abbrev pub IsOpened : {F : Type 0} → F → F → List ℕ → Result Table (ReadFault F) → Type 0
+IsOpened too_long not_toml bytes (Ok table) = (length bytes ≤ 65536) × (document_of bytes ≡ Some (table_view table))
+IsOpened too_long not_toml bytes (Err (Refused fault)) =
+    ((65536 < length bytes) × (fault ≡ too_long))
+    ⊎ ((length bytes ≤ 65536) × (document_of bytes ≡ None) × (fault ≡ not_toml))
+IsOpened too_long not_toml bytes (Err NoMemory) = NeedsMemory bytes
 
 -- some member passes a test
 abbrev pub any_member : (List ℕ → Data → Bool) → Members → Bool

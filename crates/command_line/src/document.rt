@@ -7,8 +7,7 @@ ghost use Rattle.toml.specs.View.{table_view};
 ghost use Rattle.command_line.specs.Document.{IsRead, is_known, has_unknown_key, mutators_of, key_fault, number_for, HasRange, settings_of, document_fault, keys_faults};
 ghost use Rattle.command_line.specs.TomlTable.{first_some};
 
-use crate::fault::ReadFault;
-use crate::toml_table::{any_member, open_document};
+use crate::toml_table::{ReadFault, any_member, open_document};
 use size_classes::{Config, ConfigFault, Key, Settings};
 use std::alloc::Global;
 use toml::Table;
@@ -17,10 +16,10 @@ use toml::Table;
 /// long, it isn't TOML, it names a key that isn't known; then for each key in turn it is missing, not
 /// a whole number, or out of its range; last the budget of a quantum is out of range. Where memory is
 /// refused before that is known, it is no memory.
-pub fn read_config(alloc: Global, bytes: &[u8]) -> Result<Config, ReadFault>
+pub fn read_config(alloc: Global, bytes: &[u8]) -> Result<Config, ReadFault<ConfigFault>>
     ensures { IsRead bytes.now result }
 {
-    let document = open_document(alloc, bytes)?;
+    let document = open_document(alloc, bytes, ConfigFault::TooLong, ConfigFault::NotToml)?;
     config_in(&document).map_err(ReadFault::Refused)
 }
 

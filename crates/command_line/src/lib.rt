@@ -9,7 +9,7 @@ mod toml_table;
 mod words;
 
 pub use document::read_config;
-pub use fault::{ReadFault, WordsFault};
+pub use fault::WordsFault;
 pub use job::{Job, Picture, Report, Request, Sizing};
-pub use toml_table::{OpenFault, any_member, open_document};
+pub use toml_table::{ReadFault, any_member, open_document};
 pub use words::read_words;

@@ -7,36 +7,45 @@ ghost use Rattle.toml.specs.declared.value.Value.{Value};
 ghost use Rattle.command_line.specs.TomlTable.{IsOpened, any_member};
 
 use std::alloc::Global;
+use std::fmt;
+use thiserror::Error;
 use toml::{Table, Value};
 
 /// The most bytes that a document may have.
 const GREATEST_LENGTH: usize = 65536;
 
-/// Why bytes open no document.
-#[derive(Clone, Copy, Debug, PartialEq, Eq)]
-pub enum OpenFault {
-    /// There are more than 65536.
-    TooLong,
-    /// They are no TOML document.
-    NotToml,
-    /// Memory was refused before that was known.
+/// Why the bytes of a document give nothing. Its text is what a user reads.
+#[derive(Clone, Copy, Debug, PartialEq, Eq, Error)]
+#[error_bound(F: fmt::Display)]
+pub enum ReadFault<F> {
+    /// The first thing that is wrong with the document.
+    #[error("{0}")]
+    Refused(F),
+    /// Memory was refused while the document was read.
+    #[error("no memory")]
     NoMemory,
 }
 
-/// The document in these bytes.
-pub fn open_document(alloc: Global, bytes: &[u8]) -> Result<Table, OpenFault>
-    ensures { IsOpened bytes.now result }
+/// The document in these bytes. They are refused with these faults where there are more than 65536, and where they are
+/// no TOML document.
+pub fn open_document<F: Copy>(
+    alloc: Global,
+    bytes: &[u8],
+    too_long: F,
+    not_toml: F,
+) -> Result<Table, ReadFault<F>>
+    ensures { IsOpened too_long not_toml bytes.now result }
 {
     if bytes.len() > GREATEST_LENGTH {
-        return Err(OpenFault::TooLong);
+        return Err(ReadFault::Refused(too_long));
     }
     let Ok(text) = std::str::from_utf8(bytes) else {
-        return Err(OpenFault::NotToml);
+        return Err(ReadFault::Refused(not_toml));
     };
     match toml::table_from_str(alloc, text) {
         Ok(table) => Ok(table),
-        Err(error) if error.is_memory() => Err(OpenFault::NoMemory),
-        Err(_) => Err(OpenFault::NotToml),
+        Err(error) if error.is_memory() => Err(ReadFault::NoMemory),
+        Err(_) => Err(ReadFault::Refused(not_toml)),
     }
 }
 

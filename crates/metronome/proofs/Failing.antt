@@ -32,8 +32,9 @@ use Rattle.sizing.specs.Load.{Load}
 use Rattle.sizing.specs.declared.arrivals.keeping.Kept.{Kept}
 use Rattle.sizing.specs.Metering.{NoEvent}
 use Rattle.sizing.specs.Keeping.{LoadChecked}
-use Rattle.command_line.specs.declared.fault.ReadFault.{ReadFault}
-use Rattle.command_line.specs.declared.fault.ReadFault.TheVariants as settings
+use Rattle.size_classes.specs.declared.fault.ConfigFault.{ConfigFault}
+use Rattle.command_line.specs.declared.toml_table.ReadFault.{ReadFault}
+use Rattle.command_line.specs.declared.toml_table.ReadFault.TheVariants as settings
 use Rattle.metronome.specs.declared.fault.RunFault.{RunFault}
 use Rattle.metronome.specs.declared.fault.RunFault.TheVariants.{Text}
 use Rattle.metronome.specs.Faults.{of_settings, IsUnread, failed_reads, failed_writes}
@@ -108,11 +109,11 @@ none_written fault u = refl
 pub unread_unwritten : {A : Type 0} (r : Result A RunFault) (fault : RunFault) → IsErrAnd r (λ e. e ≡ fault) → IsUnread fault → failed_writes r ≡ 0
 unread_unwritten r fault h u = writes_so r fault h ∙ none_written fault u
 
-settings_written : (why : ReadFault) → failed_writes {A = Unit {0}} (Err (of_settings why)) ≡ 0
+settings_written : (why : ReadFault ConfigFault) → failed_writes {A = Unit {0}} (Err (of_settings why)) ≡ 0
 settings_written (settings.Refused why) = refl
 settings_written settings.NoMemory = refl
 
-pub settings_unwritten : {A : Type 0} (r : Result A RunFault) (why : ReadFault) → IsErrAnd r (λ e. e ≡ of_settings why) → failed_writes r ≡ 0
+pub settings_unwritten : {A : Type 0} (r : Result A RunFault) (why : ReadFault ConfigFault) → IsErrAnd r (λ e. e ≡ of_settings why) → failed_writes r ≡ 0
 settings_unwritten r why h = writes_so r (of_settings why) h ∙ settings_written why
 
 -- no line writes, so that no write fails in going through them

@@ -1,14 +1,15 @@
 -- The faults of the crates below, as faults of a run.
 use Rattle.std.specs.Prelude.{ℕ, ◌≡◌, ◌⊎◌, ◌+◌, Result, Err}
-use Rattle.command_line.specs.declared.fault.ReadFault.{ReadFault}
-use Rattle.command_line.specs.declared.fault.ReadFault.TheVariants as settings
+use Rattle.size_classes.specs.declared.fault.ConfigFault.{ConfigFault}
+use Rattle.command_line.specs.declared.toml_table.ReadFault.{ReadFault}
+use Rattle.command_line.specs.declared.toml_table.ReadFault.TheVariants as settings
 use Rattle.trace.specs.declared.fault.TextFault.TheVariants.{Read, NoMemory}
 use Rattle.trace.specs.GoneOver.{reads_failed, writes_failed}
 use Rattle.metronome.specs.declared.fault.RunFault.{RunFault}
 use Rattle.metronome.specs.declared.fault.RunFault.TheVariants.{Config, Load, Text}
 
 -- the fault of a run whose settings can't be read
-abbrev pub of_settings : ReadFault → RunFault
+abbrev pub of_settings : ReadFault ConfigFault → RunFault
 of_settings (settings.Refused why) = Config why
 of_settings settings.NoMemory = Text NoMemory
 

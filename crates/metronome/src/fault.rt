@@ -77,10 +77,10 @@ impl From<NoMemory> for RunFault {
     }
 }
 
-impl From<ReadFault> for RunFault {
+impl From<ReadFault<ConfigFault>> for RunFault {
     ghost from_gives = { λ why fault. fault ≡ of_settings why };
 
-    fn from(fault: ReadFault) -> RunFault {
+    fn from(fault: ReadFault<ConfigFault>) -> RunFault {
         match fault {
             ReadFault::Refused(why) => RunFault::Config(why),
             ReadFault::NoMemory => RunFault::Text(TextFault::NoMemory),

@@ -3,3 +3,4 @@ pub mod New
 pub mod Playing
 pub mod Ticking
 pub mod Closing
+pub mod Alongside

@@ -5,20 +5,19 @@ use Rattle.size_classes.specs.declared.config.Config.{Config}
 use Rattle.trace.specs.declared.line.Line.{Line}
 use Rattle.trace.specs.declared.line.Line.TheVariants as lines
 use Rattle.trace.specs.declared.fault.TextFault.{TextFault}
-use Rattle.trace.specs.declared.fault.TextFault.TheVariants.{Line as At_line, Read, Write, NoMemory as Without_memory}
 use Rattle.trace.specs.declared.line_handler.InputEnd.{InputEnd}
 use Rattle.trace.specs.declared.version.Version.{Version}
 use Rattle.trace.specs.GoneOver.{LinesDone}
 use Rattle.trace.specs.Handling.{LinesHandled}
 use Rattle.trace.specs.Numbered.{LineRead}
-use Rattle.trace.proofs.Handling.{Follows, AllMoved, all_moved, over_all, over_stopped}
 use Rattle.heap_model.specs.Event.{Event}
 use Rattle.trace.specs.Streams.{Given}
 use Rattle.trace.specs.TextLine.{Text}
 use Rattle.player.specs.declared.style.Style.TheVariants.{Nothing}
-use Rattle.player.proofs.Lines.{nothing_written, ends_so}
+use Rattle.player.proofs.Lines.{nothing_written}
+use Rattle.player.proofs.Alongside.{text_stops, GoesAlong, AllPlayed, all_played, played_all, stops_new}
 use Rattle.player.specs.Player.{Skips, entries_in}
-use Rattle.player.specs.Playing.{stage, PlaysLine, StopsText, Played}
+use Rattle.player.specs.Playing.{stage, PlaysLine, Played}
 use Rattle.sizing.specs.declared.run.Run.{Run}
 use Rattle.player.specs.New.{IsNew}
 use Rattle.sizing.specs.Measuring.{IsAt, LineMeasured, EventMeasured, TextMeasured, TraceMeasured}
@@ -34,10 +33,7 @@ pub line_measured : (text : Text) (line : Line) (old new : Run) (r : Result (Uni
 line_measured text line old new (Ok done) read e = λ h es a.
     let d = e h es a in
     (d.0, inr (read.0, (line, read.1, (d.1, sym (nothing_written (entries_in d.0))))), d.2)
-line_measured text line old new (Err (At_line k why)) read e = inr (line, read.1, e)
-line_measured text line old new (Err Read) read e = inr (line, read.1, e)
-line_measured text line old new (Err Write) read e = inr (line, read.1, e)
-line_measured text line old new (Err Without_memory) read e = tt
+line_measured text line old new (Err fault) read e = text_stops text line old.player new.player fault read e
 
 -- a run from a new heap, with nothing measured yet
 module _ (first : Run) (at : IsAt first.player.course.heap [] first) where
@@ -45,8 +41,8 @@ module _ (first : Run) (at : IsAt first.player.course.heap [] first) where
   abbrev Known : (lines : List (List ℕ)) (version : Version) (events : List Event) (now : Run) → LinesDone (PlaysLine Nothing) (stage first.player []) lines version events (stage now.player []) → Type 0
   Known lines version events now done = IsAt first.player.course.heap events now
 
-  follows : Follows TextMeasured (PlaysLine Nothing) (λ run. stage run.player []) first Known
-  follows = record {
+  along : GoesAlong (λ run. run.player) TextMeasured first Known
+  along = record {
     at_first = at;
     then = λ lines version events mid done known line new measured.
         let went = measured first.player.course.heap events known in
@@ -56,15 +52,14 @@ module _ (first : Run) (at : IsAt first.player.course.heap [] first) where
   module _ (given : Given) (new : Run) where
     -- the lines are done, and measured
     abbrev pub Measured_lines : InputEnd → Type 0
-    Measured_lines = AllMoved TextMeasured (PlaysLine Nothing) (λ run. stage run.player []) first Known given new
+    Measured_lines = AllPlayed (λ run. run.player) TextMeasured first Known given new
 
     pub lines_measured : (end : InputEnd) → LinesHandled TextMeasured given first new (Ok end) → Measured_lines end
-    lines_measured end h = all_moved TextMeasured (PlaysLine Nothing) (λ run. stage run.player []) first Known follows given new end h
+    lines_measured end handled = all_played (λ run. run.player) TextMeasured first Known given new along end handled
 
     abbrev pub lines_played : (end : InputEnd) → Measured_lines end → Played Nothing given (stage first.player []) (stage new.player []) (Ok tt)
-    lines_played end a = ends_so (over_all TextMeasured (PlaysLine Nothing) (λ run. stage run.player []) first Known (StopsText Nothing) (Unit {0}) given new tt a)
+    lines_played end all = played_all (λ run. run.player) TextMeasured first Known given new end all
 
     -- the trace ends with a fault
     pub stops_measured : (config : Config) (fault : TextFault) → LinesHandled TextMeasured given first new (Err fault) → IsNew config first.player → TraceMeasured config given (Err fault)
-    stops_measured config Without_memory h is = tt
-    stops_measured config fault h is = (first.player, stage new.player [], ends_so (over_stopped TextMeasured (PlaysLine Nothing) (λ run. stage run.player []) first Known (StopsText Nothing) (Unit {0}) given new fault (λ lines version events mid done known line stops. stops) follows h), is)
+    stops_measured config fault handled is = stops_new (λ run. run.player) TextMeasured first Known given new along (λ text fault mid stops. stops) config is fault handled

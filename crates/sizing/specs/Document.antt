@@ -8,13 +8,11 @@ use Rattle.sizing.specs.declared.arrivals.load.Load.{Load as LoadTable}
 use Rattle.sizing.specs.Fitting.{load_in}
 use Rattle.sizing.specs.Load.{Load}
 use Rattle.toml.specs.Data.{Data, as_integer, as_table, get_member, Members}
-use Rattle.command_line.specs.declared.toml_table.OpenFault.{OpenFault}
-use Rattle.command_line.specs.declared.toml_table.OpenFault.TheVariants as openings
+use Rattle.command_line.specs.declared.toml_table.ReadFault.{ReadFault}
+use Rattle.command_line.specs.declared.toml_table.ReadFault.TheVariants.{Refused, NoMemory}
 use Rattle.command_line.specs.TomlTable.{document_of, NeedsMemory, first_some}
 use Rattle.sizing.specs.declared.load_file.fault.DocumentFault.{DocumentFault}
 use Rattle.sizing.specs.declared.load_file.fault.DocumentFault.TheVariants as faults
-use Rattle.sizing.specs.declared.load_file.fault.LoadFault.{LoadFault}
-use Rattle.sizing.specs.declared.load_file.fault.LoadFault.TheVariants.{Refused, NoMemory}
 use Rattle.sizing.specs.declared.load_file.fault.Place.{Place}
 use Rattle.sizing.specs.declared.load_file.fault.Place.TheVariants as places
 use Rattle.sizing.specs.declared.load_file.field.Field.{Field}
@@ -104,13 +102,7 @@ StatesAny (Some document) load = States document load
 
 -- the answer to these bytes: the load that they state where they have no fault, or their first fault, or no
 -- memory where they are a text for which memory may be needed
-abbrev pub IsRead : List ℕ → Result LoadTable LoadFault → Type 0
+abbrev pub IsRead : List ℕ → Result LoadTable (ReadFault DocumentFault) → Type 0
 IsRead bytes (Ok load) = (bytes_fault bytes ≡ None) × StatesAny (document_of bytes) (load_in load)
 IsRead bytes (Err (Refused fault)) = bytes_fault bytes ≡ Some fault
 IsRead bytes (Err NoMemory) = NeedsMemory bytes
-
--- the fault of bytes that open no document
-abbrev pub load_fault : OpenFault → LoadFault
-load_fault openings.TooLong = Refused faults.TooLong
-load_fault openings.NotToml = Refused faults.NotToml
-load_fault openings.NoMemory = NoMemory

@@ -8,9 +8,9 @@ use Rattle.sizing.specs.Load.{Load}
 -- the load that a table by class states
 abbrev pub load_in : Table → Load
 load_in t = record {
-  live = λ class. slice_index t.live class;
-  rate = λ class. slice_index t.rate class;
-  burst = λ class. slice_index t.burst class;
+  live = slice_index t.live;
+  rate = slice_index t.rate;
+  burst = slice_index t.burst;
   gap = t.gap;
 }
 

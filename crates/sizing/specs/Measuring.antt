@@ -1,24 +1,22 @@
 -- What it is to measure a trace.
-use Rattle.std.specs.Prelude.{◌≡◌, ℕ, ◌+◌, ◌<◌, List, [], ◌++◌, Result, Ok, Err, length}
+use Rattle.std.specs.Prelude.{◌≡◌, ℕ, ◌<◌, List, [], ◌++◌, Result, Ok, Err, length}
 use Rattle.graph_heap.specs.declared.no_memory.NoMemory.{NoMemory}
 use Rattle.size_classes.specs.declared.config.Config.{Config}
 use Rattle.heap_model.specs.State.{HeapState}
 use Rattle.heap_model.specs.Opening.{IsOpening}
 use Rattle.heap_model.specs.Led.{opened}
 use Rattle.heap_model.specs.Event.{Event, Runs}
-use Rattle.quanta.specs.declared.schedule.TheConstants.{CLOCK_LIMIT}
 use Rattle.trace.specs.declared.line.Line.{Line}
 use Rattle.trace.specs.declared.line.Line.TheVariants as lines
 use Rattle.trace.specs.declared.fault.TextFault.{TextFault}
-use Rattle.trace.specs.declared.fault.TextFault.TheVariants.{NoMemory as Without_memory}
 use Rattle.trace.specs.Streams.{Given}
 use Rattle.trace.specs.TextLine.{Text}
 use Rattle.player.specs.declared.player.TickFault.{TickFault}
-use Rattle.player.specs.declared.player.TickFault.TheVariants as faults
 use Rattle.player.specs.declared.style.Style.TheVariants.{Nothing}
 use Rattle.player.specs.New.{IsNew}
 use Rattle.player.specs.Player.{PlayerState, DoesLine}
-use Rattle.player.specs.Playing.{Stage, stage, PlaysLine, Stops, StopsText, Played}
+use Rattle.player.specs.Playing.{Stage, stage, PlaysLine, Played}
+use Rattle.player.specs.Alongside.{TicksStop, LineStops, TextStops, StopsNew}
 use Rattle.sizing.specs.declared.measured.Measured.{Measured}
 use Rattle.sizing.specs.declared.run.Run.{Run}
 use Rattle.sizing.specs.Measured.{IsMeasured}
@@ -38,9 +36,7 @@ pub record RunMeasured (config : Config) (given : Given) (m : Measured) : Type 0
 -- playing them ends; or memory was refused.
 abbrev pub TraceMeasured : Config → Given → Result Measured TextFault → Type 0
 TraceMeasured config given (Ok m) = RunMeasured config given m
-TraceMeasured config given (Err Without_memory) = Unit {0}
-TraceMeasured config given (Err fault) = (old : PlayerState) × (new : Stage)
-    × Played Nothing given (stage old []) new (Err fault) × IsNew config old
+TraceMeasured config given (Err fault) = StopsNew config given fault
 
 -- the player has done these events from a new heap, and the meter holds what they add up to
 pub record IsAt (h : HeapState) (es : List Event) (run : Run) : Type 0 where
@@ -55,19 +51,15 @@ LineMeasured line old new (Ok done) = (h : HeapState) (es : List Event) → IsAt
     × DoesLine old.player line more new.player × IsAt h (es ++ more) new
 LineMeasured line old new (Err refused) = Unit {0}
 
--- the same of ticks, which may pass the clock's limit
+-- the same of ticks, or they don't pass
 abbrev pub TicksMeasured : ℕ → Run → Run → Result (Unit {0}) TickFault → Type 0
 TicksMeasured n old new (Ok done) = LineMeasured (lines.Tick n) old new (Ok tt)
-TicksMeasured n old new (Err faults.ClockSpent) = (CLOCK_LIMIT < old.player.timetable.clock + n)
-    × (new.player ≡ old.player)
-TicksMeasured n old new (Err faults.NoMemory) = Unit {0}
+TicksMeasured n old new (Err fault) = TicksStop fault n old.player new.player
 
 -- the same of a line of this number, which may stop with a fault
 abbrev pub EventMeasured : Line → ℕ → Run → Run → Result (Unit {0}) TextFault → Type 0
 EventMeasured line number old new (Ok done) = LineMeasured line old new (Ok tt)
-EventMeasured line number old new (Err Without_memory) = Unit {0}
-EventMeasured line number old new (Err fault) =
-    Stops Nothing fault line number (stage old.player []) (stage new.player [])
+EventMeasured line number old new (Err fault) = LineStops fault line number old.player new.player
 
 -- the same of a line's text
 abbrev pub TextMeasured : Text → Run → Run → Result (Unit {0}) TextFault → Type 0
@@ -75,5 +67,4 @@ TextMeasured text old new (Ok done) =
     (h : HeapState) (es : List Event) → IsAt h es old → (more : List Event)
     × PlaysLine Nothing text (stage old.player []) more (stage new.player [])
     × IsAt h (es ++ more) new
-TextMeasured text old new (Err Without_memory) = Unit {0}
-TextMeasured text old new (Err fault) = StopsText Nothing fault text (stage old.player []) (stage new.player [])
+TextMeasured text old new (Err fault) = TextStops fault text old.player new.player

@@ -1,6 +1,6 @@
 //! Why a document states no load.
 use crate::load_file::field::Field;
-use command_line::OpenFault;
+use command_line::ReadFault;
 use std::fmt;
 use thiserror::Error;
 
@@ -44,27 +44,4 @@ pub enum DocumentFault {
 }
 
 /// Why bytes give no load. Its text is what a user reads.
-#[derive(Clone, Copy, Debug, PartialEq, Eq, Error)]
-pub enum LoadFault {
-    /// The first thing that is wrong with the document.
-    #[error("{0}")]
-    Refused(DocumentFault),
-    /// Memory was refused while the document was read.
-    #[error("no memory")]
-    NoMemory,
-}
-
-impl From<OpenFault> for LoadFault {
-    ghost use Rattle.std.specs.Prelude.{◌≡◌};
-    ghost use Rattle.sizing.specs.Document.{load_fault};
-
-    ghost from_gives = { λ opened fault. fault ≡ load_fault opened };
-
-    fn from(fault: OpenFault) -> LoadFault {
-        match fault {
-            OpenFault::TooLong => LoadFault::Refused(DocumentFault::TooLong),
-            OpenFault::NotToml => LoadFault::Refused(DocumentFault::NotToml),
-            OpenFault::NoMemory => LoadFault::NoMemory,
-        }
-    }
-}
+pub type LoadFault = ReadFault<DocumentFault>;

@@ -21,7 +21,7 @@ use toml::Table;
 pub fn read_load(alloc: Global, bytes: &[u8]) -> Result<Load, LoadFault>
     ensures { IsRead bytes.now result }
 {
-    let document = open_document(alloc, bytes)?;
+    let document = open_document(alloc, bytes, DocumentFault::TooLong, DocumentFault::NotToml)?;
     load_of(&document).map_err(LoadFault::Refused)
 }
 

@@ -184,13 +184,10 @@ abbrev Below : ℕ → ℕ → Type 0
 Below bits n = n < 2 ^ bits
 
 pub exact_two : (a b : ℕ) → Narrow a → Narrow b → Exact (two_in a b) (λ p. two p.0 p.1) (λ p. (p.0 < 2 ^ a) × (p.1 < 2 ^ b))
-unfolding two_in
 exact_two a b to_a to_b = exact_front a to_a (number_in b) decimal (Below b) (exact_number b to_b)
 
 pub exact_three : (a b c : ℕ) → Narrow a → Narrow b → Narrow c → Exact (three_in a b c) (λ p. three p.0 p.1.0 p.1.1) (λ p. (p.0 < 2 ^ a) × ((p.1.0 < 2 ^ b) × (p.1.1 < 2 ^ c)))
-unfolding three_in
 exact_three a b c to_a to_b to_c = exact_front a to_a (two_in b c) _ _ (exact_two b c to_b to_c)
 
 pub exact_four : (a b c d : ℕ) → Narrow a → Narrow b → Narrow c → Narrow d → Exact (four_in a b c d) (λ p. four p.0 p.1.0 p.1.1.0 p.1.1.1) (λ p. (p.0 < 2 ^ a) × ((p.1.0 < 2 ^ b) × ((p.1.1.0 < 2 ^ c) × (p.1.1.1 < 2 ^ d))))
-unfolding four_in
 exact_four a b c d to_a to_b to_c to_d = exact_front a to_a (three_in b c d) _ _ (exact_three b c d to_b to_c to_d)

@@ -54,7 +54,6 @@ pub exact_shape : Exact shape_in shape_text ShapeFits
 exact_shape = record { found = shape_found; only = shape_only }
 
 exact_slot_and_shape : Exact slot_and_shape_in (λ p. decimal p.0 ++ 32 ∷ shape_text p.1) (λ p. (p.0 < 2 ^ 32) × ShapeFits p.1)
-unfolding slot_and_shape_in
 exact_slot_and_shape = exact_front 32 narrow shape_in shape_text ShapeFits exact_shape
 
 -- the text of a command that a version has

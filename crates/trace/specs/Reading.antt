@@ -48,18 +48,22 @@ field_in bits bytes = do
   n ← number_in bits c.0
   Some (n, c.1)
 
+-- what stands before the first blank, and after it what another reader gives
+abbrev pub lead_then : {A B : Type 0} → (List ℕ → Option (A × List ℕ)) → (List ℕ → Option B) → List ℕ → Option (A × B)
+lead_then lead read bytes = lead bytes >>= λ a. read a.1 >>= λ b. Some (a.0, b)
+
 -- a number of so many bits, a blank, and after it what another reader gives
 abbrev pub number_then : {A : Type 0} → ℕ → (List ℕ → Option A) → List ℕ → Option (ℕ × A)
-number_then bits read bytes = field_in bits bytes >>= λ a. read a.1 >>= λ b. Some (a.0, b)
+number_then bits = lead_then (field_in bits)
 
 -- numbers of so many bits each, parted by blanks
-unfoldable pub two_in : ℕ → ℕ → List ℕ → Option (ℕ × ℕ)
+abbrev pub two_in : ℕ → ℕ → List ℕ → Option (ℕ × ℕ)
 two_in a b = number_then a (number_in b)
 
-unfoldable pub three_in : ℕ → ℕ → ℕ → List ℕ → Option (ℕ × (ℕ × ℕ))
+abbrev pub three_in : ℕ → ℕ → ℕ → List ℕ → Option (ℕ × (ℕ × ℕ))
 three_in a b c = number_then a (two_in b c)
 
-unfoldable pub four_in : ℕ → ℕ → ℕ → ℕ → List ℕ → Option (ℕ × (ℕ × (ℕ × ℕ)))
+abbrev pub four_in : ℕ → ℕ → ℕ → ℕ → List ℕ → Option (ℕ × (ℕ × (ℕ × ℕ)))
 four_in a b c d = number_then a (three_in b c d)
 
 -- what stands after a word at the front
@@ -109,7 +113,7 @@ shape_in bytes =
     (after_or (after_in (codes "words ") bytes) (λ rest. number_in 32 rest >>= (λ n. Some (WordArray n))) None))
 
 -- a slot and a shape
-unfoldable pub slot_and_shape_in : List ℕ → Option (ℕ × Shape)
+abbrev pub slot_and_shape_in : List ℕ → Option (ℕ × Shape)
 slot_and_shape_in = number_then 32 shape_in
 
 -- what stands after the keyword of a command

@@ -3,9 +3,8 @@ ghost use Rattle.std.specs.Prelude.{◌≡◌};
 ghost use Rattle.trace.specs.Spelling.{reply_word_text};
 ghost use Rattle.trace.specs.Reading.{refusal_in, reply_word_in, reply_arguments_in, long_reply_in, reply_in};
 
-use crate::commands::shape;
-use crate::field::{cut, word, word_field};
-use graph_heap::{Refusal, Reply};
+use crate::field::{Spelled, cut};
+use graph_heap::{Refusal, Reply, Shape};
 
 /// The first word of a reply of several words.
 #[derive(Clone, Copy, Debug, PartialEq, Eq)]
@@ -85,18 +84,17 @@ fn reply_arguments(first: ReplyWord, bytes: &[u8]) -> Option<Reply>
     ensures { result ≡ reply_arguments_in first bytes.now }
 {
     match first {
-        ReplyWord::Made => word(bytes).map(|n| Reply::Made(n)),
-        ReplyWord::Ref => word(bytes).map(|n| Reply::Ref(n)),
-        ReplyWord::Word => word(bytes).map(|n| Reply::Word(n)),
-        ReplyWord::Kept => word(bytes).map(|n| Reply::Kept(n)),
-        ReplyWord::KeptWord => word(bytes).map(|n| Reply::KeptWord(n)),
+        ReplyWord::Made => u64::read(bytes).map(|n| Reply::Made(n)),
+        ReplyWord::Ref => u64::read(bytes).map(|n| Reply::Ref(n)),
+        ReplyWord::Word => u64::read(bytes).map(|n| Reply::Word(n)),
+        ReplyWord::Kept => u64::read(bytes).map(|n| Reply::Kept(n)),
+        ReplyWord::KeptWord => u64::read(bytes).map(|n| Reply::KeptWord(n)),
         ReplyWord::Described => {
-            let (id, rest) = word_field(bytes)?;
-            let shape = shape(rest)?;
+            let (id, shape) = <(u64, Shape)>::read(bytes)?;
             Some(Reply::Described(id, shape))
         }
         ReplyWord::Refused => {
-            let n = word(bytes)?;
+            let n = u64::read(bytes)?;
             let r = refusal(n)?;
             Some(Reply::Refused(r))
         }

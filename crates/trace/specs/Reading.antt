@@ -13,11 +13,9 @@ use Rattle.graph_heap.specs.declared.command.Refusal.TheVariants as refusals
 use Rattle.graph_heap.specs.declared.command.Entry.{Entry}
 use Rattle.graph_heap.specs.Refusal.{refusal_number}
 use Rattle.quanta.specs.declared.schedule.TheConstants.{CLOCK_LIMIT}
-use Rattle.trace.specs.Spelling.{is_skipped, keyword_text, reply_word_text}
+use Rattle.trace.specs.Spelling.{is_skipped, keyword_text}
 use Rattle.trace.specs.declared.entry.EntryLine.{EntryLine}
 use Rattle.trace.specs.declared.entry.EntryLine.TheVariants as entry_lines
-use Rattle.trace.specs.declared.replies.ReplyWord.{ReplyWord}
-use Rattle.trace.specs.declared.replies.ReplyWord.TheVariants as words
 use Rattle.trace.specs.declared.commands.Keyword.{Keyword}
 use Rattle.trace.specs.declared.commands.Keyword.TheVariants as keywords
 use Rattle.trace.specs.declared.line.Line.{Line}
@@ -182,34 +180,25 @@ all_refusals = refusals.BadSlot ∷ refusals.NullSlot ∷ refusals.BadIndex ∷ 
 unfoldable pub refusal_in : ℕ → Option Refusal
 refusal_in n = find (λ r. refusal_number r == n) all_refusals
 
--- the words with which replies of several words begin
-abbrev pub all_reply_words : List ReplyWord
-all_reply_words = words.Made ∷ words.Ref ∷ words.Word ∷ words.Kept ∷ words.KeptWord ∷ words.Described ∷ words.Refused
-    ∷ []
-
-unfoldable pub reply_word_in : List ℕ → Option ReplyWord
-reply_word_in word = find (λ w. bytes_eq word (reply_word_text w)) all_reply_words
-
 -- an identity and a shape
-unfoldable pub identity_and_shape_in : List ℕ → Option (ℕ × Shape)
+abbrev pub identity_and_shape_in : List ℕ → Option (ℕ × Shape)
 identity_and_shape_in = number_then 64 shape_in
 
--- what stands after the first word of a reply
-unfoldable pub reply_arguments_in : ReplyWord → List ℕ → Option Reply
-reply_arguments_in words.Made bytes = number_in 64 bytes >>= λ n. Some (replies.Made n)
-reply_arguments_in words.Ref bytes = number_in 64 bytes >>= λ n. Some (replies.Ref n)
-reply_arguments_in words.Word bytes = number_in 64 bytes >>= λ n. Some (replies.Word n)
-reply_arguments_in words.Kept bytes = number_in 64 bytes >>= λ n. Some (replies.Kept n)
-reply_arguments_in words.KeptWord bytes = number_in 64 bytes >>= λ n. Some (replies.KeptWord n)
-reply_arguments_in words.Described bytes = identity_and_shape_in bytes >>= λ n. Some (replies.Described n.0 n.1)
-reply_arguments_in words.Refused bytes = number_in 64 bytes >>= λ n. refusal_in n >>= λ r. Some (replies.Refused r)
+-- a refusal by its number, as a reply
+unfoldable pub refused_in : List ℕ → Option Reply
+refused_in bytes = number_in 64 bytes >>= λ n. refusal_in n >>= λ r. Some (replies.Refused r)
 
--- a reply of several words
+-- a reply of several words, by the first of them
 unfoldable pub long_reply_in : List ℕ → Option Reply
-long_reply_in bytes = do
-  c ← cut_at 32 bytes
-  w ← reply_word_in c.0
-  reply_arguments_in w c.1
+long_reply_in bytes =
+    after_or (after_in (codes "made ") bytes) (λ rest. number_in 64 rest >>= (λ n. Some (replies.Made n)))
+    (after_or (after_in (codes "ref ") bytes) (λ rest. number_in 64 rest >>= (λ n. Some (replies.Ref n)))
+    (after_or (after_in (codes "word ") bytes) (λ rest. number_in 64 rest >>= (λ n. Some (replies.Word n)))
+    (after_or (after_in (codes "kept ") bytes) (λ rest. number_in 64 rest >>= (λ n. Some (replies.Kept n)))
+    (after_or (after_in (codes "keptword ") bytes) (λ rest. number_in 64 rest >>= (λ n. Some (replies.KeptWord n)))
+    (after_or (after_in (codes "described ") bytes)
+    (λ rest. identity_and_shape_in rest >>= (λ n. Some (replies.Described n.0 n.1)))
+    (after_or (after_in (codes "refused ") bytes) refused_in None))))))
 
 -- a reply
 unfoldable pub reply_in : List ℕ → Option Reply

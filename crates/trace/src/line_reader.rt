@@ -2,9 +2,9 @@
 ghost use Rattle.std.specs.Prelude.{true, false, ◌⊎◌, Ok, Err, ◌∷◌, ◌++◌, ◌≡◌, ◌==◌, ◌+◌, ◌-◌, ◌<◌, ◌≤◌, ◌^◌, [], length, take, slice_range, IfOk, IfSome, IsNone, OnOk, OnErr, IsTrue};
 ghost use Rattle.trace.specs.Streams.{failed, Comes, Stays, NoLf, IsLine, FirstLf, GrowsByPart, given_by};
 
-use crate::fault::{LineFault, TextFault};
-use crate::sink::{Sink, WriteFailed};
-use crate::source::{ReadFailed, Source};
+use crate::fault::{LineFault, ReadFailed, TextFault, WriteFailed};
+use crate::sink::Sink;
+use crate::source::Source;
 use crate::text_line::TextLine;
 use crate::version::Version;
 use crate::write_buffer::WriteBuffer;

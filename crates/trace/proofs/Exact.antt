@@ -12,7 +12,7 @@ use Rattle.std.proofs.lemmas.Slice.Eq.{bytes_eq-Decides}
 use Rattle.std.proofs.lemmas.Fmt.{digits_decimal}
 use Rattle.std.proofs.lemmas.Str.Parse.{numerals_by_value, tells_digits, not_in_digits, IsNumeralModel}
 use Rattle.trace.specs.Spelling.{two, three, four}
-use Rattle.trace.specs.Reading.{◌>>=◌, number_in, cut_at, after_in, field_in, two_in, three_in, four_in, number_then}
+use Rattle.trace.specs.Reading.{◌>>=◌, number_in, cut_at, after_in, after_or, field_in, two_in, three_in, four_in, number_then}
 use Rattle.trace.proofs.Numbers.{number_in-spelled, number_in-Some}
 
 -- the parts of what was read in steps
@@ -131,6 +131,19 @@ pub record Exact {A : Type 0} (read : List ℕ → Option A) (text : A → List 
   pub found : (bytes : List ℕ) (x : A) → read bytes ≡ Some x → (bytes ≡ text x) × Fits x
   pub only : (x : A) → Fits x → read (text x) ≡ Some x
 
+-- either a word was at the front and what stands after it was read, or there is another answer
+pub word_or : {A P : Type 0} (o : Option (List ℕ)) (read : List ℕ → Option A) (other : Option A) (x : A) → after_or o read other ≡ Some x
+    → ((rest : List ℕ) → o ≡ Some rest → read rest ≡ Some x → P) → (other ≡ Some x → P) → P
+word_or None read other x e f g = g e
+word_or (Some rest) read other x e f g = f rest refl e
+
+-- what is read after a word at the front, made into something else that has a spelling
+pub made_of : {A B : Type 0} (Is : List ℕ → B → Type 0) (word bytes rest : List ℕ) (read : List ℕ → Option A) (text : A → List ℕ) (Fits : A → Type 0) → Exact read text Fits → (f : A → B) → ((x : A) → Fits x → Is (word ++ text x) (f x))
+    → (y : B) → after_in word bytes ≡ Some rest → (read rest >>= λ x. Some (f x)) ≡ Some y → Is bytes y
+made_of Is word bytes rest read text Fits exact f is y front e = bind_parts (read rest) _ y e (λ x ex e1.
+    let r = exact.found rest x ex in
+    told (Is bytes) (f x) y (subst (λ l. Is l (f x)) (sym (after_in-Some word bytes rest front ∙ ap (λ l. word ++ l) r.0)) (is x r.1)) e1)
+
 -- numbers of this many bits are numbers of 64
 abbrev pub Narrow : ℕ → Type 0
 Narrow bits = (n : ℕ) → n < 2 ^ bits → n < 2 ^ 64
@@ -184,13 +197,10 @@ abbrev Below : ℕ → ℕ → Type 0
 Below bits n = n < 2 ^ bits
 
 pub exact_two : (a b : ℕ) → Narrow a → Narrow b → Exact (two_in a b) (λ p. two p.0 p.1) (λ p. (p.0 < 2 ^ a) × (p.1 < 2 ^ b))
-unfolding two_in
 exact_two a b to_a to_b = exact_front a to_a (number_in b) decimal (Below b) (exact_number b to_b)
 
 pub exact_three : (a b c : ℕ) → Narrow a → Narrow b → Narrow c → Exact (three_in a b c) (λ p. three p.0 p.1.0 p.1.1) (λ p. (p.0 < 2 ^ a) × ((p.1.0 < 2 ^ b) × (p.1.1 < 2 ^ c)))
-unfolding three_in
 exact_three a b c to_a to_b to_c = exact_front a to_a (two_in b c) _ _ (exact_two b c to_b to_c)
 
 pub exact_four : (a b c d : ℕ) → Narrow a → Narrow b → Narrow c → Narrow d → Exact (four_in a b c d) (λ p. four p.0 p.1.0 p.1.1.0 p.1.1.1) (λ p. (p.0 < 2 ^ a) × ((p.1.0 < 2 ^ b) × ((p.1.1.0 < 2 ^ c) × (p.1.1.1 < 2 ^ d))))
-unfolding four_in
 exact_four a b c d to_a to_b to_c to_d = exact_front a to_a (three_in b c d) _ _ (exact_three b c d to_b to_c to_d)

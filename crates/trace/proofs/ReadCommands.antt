@@ -12,36 +12,22 @@ use Rattle.trace.specs.declared.commands.Keyword.TheVariants as keywords
 use Rattle.trace.specs.declared.version.Version.{Version}
 use Rattle.trace.specs.declared.version.Version.TheVariants.{First, Second}
 use Rattle.trace.specs.Spelling.{shape_text, keyword_text, command_text, command_line, ShapeFits, CommandFits, IsOf}
-use Rattle.trace.specs.Reading.{◌>>=◌, after_in, after_or, keywords_by, first_keyword_in, front_keyword_in, shape_in, slot_and_shape_in, arguments_in, bare_in, keyword_or, command_in, mutator_and_command_in}
+use Rattle.trace.specs.Reading.{◌>>=◌, after_in, keywords_by, first_keyword_in, front_keyword_in, shape_in, slot_and_shape_in, arguments_in, bare_in, keyword_or, command_in, mutator_and_command_in}
 use Rattle.trace.proofs.Keywords.{front_keyword_in-spelled, front_keyword_in-Some}
-use Rattle.trace.proofs.Exact.{bind_parts, told, chosen, after_in-Some, Exact, narrow, wide, exact_number, exact_front, exact_two, exact_three, exact_four}
+use Rattle.trace.proofs.Exact.{bind_parts, told, chosen, word_or, made_of, Exact, narrow, wide, exact_number, exact_front, exact_two, exact_three, exact_four}
 
 abbrev SpellsShape : List ℕ → Shape → Type 0
 SpellsShape bytes s = (bytes ≡ shape_text s) × ShapeFits s
-
--- either a word was at the front and what stands after it was read, or there is another answer
-word_or : {A P : Type 0} (o : Option (List ℕ)) (read : List ℕ → Option A) (other : Option A) (x : A) → after_or o read other ≡ Some x
-    → ((rest : List ℕ) → o ≡ Some rest → read rest ≡ Some x → P) → (other ≡ Some x → P) → P
-word_or None read other x e f g = g e
-word_or (Some rest) read other x e f g = f rest refl e
-
--- numbers after a word at the front, made into a shape
-shaped : {A : Type 0} (word bytes rest : List ℕ) (read : List ℕ → Option A) (text : A → List ℕ) (Fits : A → Type 0) → Exact read text Fits → (f : A → Shape) → ((x : A) → Fits x → SpellsShape (word ++ text x) (f x))
-    → (s : Shape) → after_in word bytes ≡ Some rest → (read rest >>= λ x. Some (f x)) ≡ Some s → SpellsShape bytes s
-shaped word bytes rest read text Fits exact f is s front e = bind_parts (read rest) _ s e (λ x ex e1.
-    let r = exact.found rest x ex in
-    let t = is x r.1 in
-    told (SpellsShape bytes) (f x) s (after_in-Some word bytes rest front ∙ ap (λ l. word ++ l) r.0 ∙ t.0, t.1) e1)
 
 shape_found : (bytes : List ℕ) (s : Shape) → shape_in bytes ≡ Some s → SpellsShape bytes s
 unfolding shape_in
 shape_found bytes s e =
     word_or (after_in (codes "plain ") bytes) _ _ s e
-    (λ rest front r. shaped (codes "plain ") bytes rest _ _ _ (exact_two 32 32 narrow narrow) (λ n. Plain n.0 n.1) (λ n f. (refl, f)) s front r)
+    (λ rest front r. made_of SpellsShape (codes "plain ") bytes rest _ _ _ (exact_two 32 32 narrow narrow) (λ n. Plain n.0 n.1) (λ n f. (refl, f)) s front r)
     (λ e1. word_or (after_in (codes "refs ") bytes) _ _ s e1
-    (λ rest front r. shaped (codes "refs ") bytes rest _ _ _ (exact_number 32 narrow) RefArray (λ n f. (refl, f)) s front r)
+    (λ rest front r. made_of SpellsShape (codes "refs ") bytes rest _ _ _ (exact_number 32 narrow) RefArray (λ n f. (refl, f)) s front r)
     (λ e2. word_or (after_in (codes "words ") bytes) _ _ s e2
-    (λ rest front r. shaped (codes "words ") bytes rest _ _ _ (exact_number 32 narrow) WordArray (λ n f. (refl, f)) s front r)
+    (λ rest front r. made_of SpellsShape (codes "words ") bytes rest _ _ _ (exact_number 32 narrow) WordArray (λ n f. (refl, f)) s front r)
     (λ e3. absurd (cc e3))))
 
 shape_only : (s : Shape) → ShapeFits s → shape_in (shape_text s) ≡ Some s
@@ -54,7 +40,6 @@ pub exact_shape : Exact shape_in shape_text ShapeFits
 exact_shape = record { found = shape_found; only = shape_only }
 
 exact_slot_and_shape : Exact slot_and_shape_in (λ p. decimal p.0 ++ 32 ∷ shape_text p.1) (λ p. (p.0 < 2 ^ 32) × ShapeFits p.1)
-unfolding slot_and_shape_in
 exact_slot_and_shape = exact_front 32 narrow shape_in shape_text ShapeFits exact_shape
 
 -- the text of a command that a version has

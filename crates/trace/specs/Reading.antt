@@ -13,11 +13,9 @@ use Rattle.graph_heap.specs.declared.command.Refusal.TheVariants as refusals
 use Rattle.graph_heap.specs.declared.command.Entry.{Entry}
 use Rattle.graph_heap.specs.Refusal.{refusal_number}
 use Rattle.quanta.specs.declared.schedule.TheConstants.{CLOCK_LIMIT}
-use Rattle.trace.specs.Spelling.{is_skipped, keyword_text, reply_word_text}
+use Rattle.trace.specs.Spelling.{is_skipped, keyword_text}
 use Rattle.trace.specs.declared.entry.EntryLine.{EntryLine}
 use Rattle.trace.specs.declared.entry.EntryLine.TheVariants as entry_lines
-use Rattle.trace.specs.declared.replies.ReplyWord.{ReplyWord}
-use Rattle.trace.specs.declared.replies.ReplyWord.TheVariants as words
 use Rattle.trace.specs.declared.commands.Keyword.{Keyword}
 use Rattle.trace.specs.declared.commands.Keyword.TheVariants as keywords
 use Rattle.trace.specs.declared.line.Line.{Line}
@@ -48,18 +46,22 @@ field_in bits bytes = do
   n ← number_in bits c.0
   Some (n, c.1)
 
+-- what stands before the first blank, and after it what another reader gives
+abbrev pub lead_then : {A B : Type 0} → (List ℕ → Option (A × List ℕ)) → (List ℕ → Option B) → List ℕ → Option (A × B)
+lead_then lead read bytes = lead bytes >>= λ a. read a.1 >>= λ b. Some (a.0, b)
+
 -- a number of this many bits, a blank, and after it what another reader gives
 abbrev pub number_then : {A : Type 0} → ℕ → (List ℕ → Option A) → List ℕ → Option (ℕ × A)
-number_then bits read bytes = field_in bits bytes >>= λ a. read a.1 >>= λ b. Some (a.0, b)
+number_then bits = lead_then (field_in bits)
 
 -- numbers of a, b and c bits, separated by blanks
-unfoldable pub two_in : ℕ → ℕ → List ℕ → Option (ℕ × ℕ)
+abbrev pub two_in : ℕ → ℕ → List ℕ → Option (ℕ × ℕ)
 two_in a b = number_then a (number_in b)
 
-unfoldable pub three_in : ℕ → ℕ → ℕ → List ℕ → Option (ℕ × (ℕ × ℕ))
+abbrev pub three_in : ℕ → ℕ → ℕ → List ℕ → Option (ℕ × (ℕ × ℕ))
 three_in a b c = number_then a (two_in b c)
 
-unfoldable pub four_in : ℕ → ℕ → ℕ → ℕ → List ℕ → Option (ℕ × (ℕ × (ℕ × ℕ)))
+abbrev pub four_in : ℕ → ℕ → ℕ → ℕ → List ℕ → Option (ℕ × (ℕ × (ℕ × ℕ)))
 four_in a b c d = number_then a (three_in b c d)
 
 -- what stands after a word at the front
@@ -109,7 +111,7 @@ shape_in bytes =
     (after_or (after_in (codes "words ") bytes) (λ rest. number_in 32 rest >>= (λ n. Some (WordArray n))) None))
 
 -- a slot and a shape
-unfoldable pub slot_and_shape_in : List ℕ → Option (ℕ × Shape)
+abbrev pub slot_and_shape_in : List ℕ → Option (ℕ × Shape)
 slot_and_shape_in = number_then 32 shape_in
 
 -- what stands after the keyword of a command
@@ -178,34 +180,25 @@ all_refusals = refusals.BadSlot ∷ refusals.NullSlot ∷ refusals.BadIndex ∷ 
 unfoldable pub refusal_in : ℕ → Option Refusal
 refusal_in n = find (λ r. refusal_number r == n) all_refusals
 
--- the words with which replies of several words begin
-abbrev pub all_reply_words : List ReplyWord
-all_reply_words = words.Made ∷ words.Ref ∷ words.Word ∷ words.Kept ∷ words.KeptWord ∷ words.Described ∷ words.Refused
-    ∷ []
-
-unfoldable pub reply_word_in : List ℕ → Option ReplyWord
-reply_word_in word = find (λ w. bytes_eq word (reply_word_text w)) all_reply_words
-
 -- an identity and a shape
-unfoldable pub identity_and_shape_in : List ℕ → Option (ℕ × Shape)
+abbrev pub identity_and_shape_in : List ℕ → Option (ℕ × Shape)
 identity_and_shape_in = number_then 64 shape_in
 
--- what stands after the first word of a reply
-unfoldable pub reply_arguments_in : ReplyWord → List ℕ → Option Reply
-reply_arguments_in words.Made bytes = number_in 64 bytes >>= λ n. Some (replies.Made n)
-reply_arguments_in words.Ref bytes = number_in 64 bytes >>= λ n. Some (replies.Ref n)
-reply_arguments_in words.Word bytes = number_in 64 bytes >>= λ n. Some (replies.Word n)
-reply_arguments_in words.Kept bytes = number_in 64 bytes >>= λ n. Some (replies.Kept n)
-reply_arguments_in words.KeptWord bytes = number_in 64 bytes >>= λ n. Some (replies.KeptWord n)
-reply_arguments_in words.Described bytes = identity_and_shape_in bytes >>= λ n. Some (replies.Described n.0 n.1)
-reply_arguments_in words.Refused bytes = number_in 64 bytes >>= λ n. refusal_in n >>= λ r. Some (replies.Refused r)
+-- a refusal by its number, as a reply
+unfoldable pub refused_in : List ℕ → Option Reply
+refused_in bytes = number_in 64 bytes >>= λ n. refusal_in n >>= λ r. Some (replies.Refused r)
 
--- a reply of several words
+-- a reply of several words, by the first of them
 unfoldable pub long_reply_in : List ℕ → Option Reply
-long_reply_in bytes = do
-  c ← cut_at 32 bytes
-  w ← reply_word_in c.0
-  reply_arguments_in w c.1
+long_reply_in bytes =
+    after_or (after_in (codes "made ") bytes) (λ rest. number_in 64 rest >>= (λ n. Some (replies.Made n)))
+    (after_or (after_in (codes "ref ") bytes) (λ rest. number_in 64 rest >>= (λ n. Some (replies.Ref n)))
+    (after_or (after_in (codes "word ") bytes) (λ rest. number_in 64 rest >>= (λ n. Some (replies.Word n)))
+    (after_or (after_in (codes "kept ") bytes) (λ rest. number_in 64 rest >>= (λ n. Some (replies.Kept n)))
+    (after_or (after_in (codes "keptword ") bytes) (λ rest. number_in 64 rest >>= (λ n. Some (replies.KeptWord n)))
+    (after_or (after_in (codes "described ") bytes)
+    (λ rest. identity_and_shape_in rest >>= (λ n. Some (replies.Described n.0 n.1)))
+    (after_or (after_in (codes "refused ") bytes) refused_in None))))))
 
 -- a reply
 unfoldable pub reply_in : List ℕ → Option Reply

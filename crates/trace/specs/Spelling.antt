@@ -14,8 +14,6 @@ use Rattle.trace.specs.declared.entry.EntryLine.{EntryLine}
 use Rattle.trace.specs.declared.entry.EntryLine.TheVariants as entry_lines
 use Rattle.trace.specs.declared.commands.Keyword.{Keyword}
 use Rattle.trace.specs.declared.commands.Keyword.TheVariants as keywords
-use Rattle.trace.specs.declared.replies.ReplyWord.{ReplyWord}
-use Rattle.trace.specs.declared.replies.ReplyWord.TheVariants as words
 use Rattle.trace.specs.declared.line.Line.{Line}
 use Rattle.trace.specs.declared.line.Line.TheVariants as lines
 use Rattle.trace.specs.declared.version.Version.{Version}
@@ -135,29 +133,19 @@ Spells version bytes (lines.Quantum budget) = (bytes ≡ codes "quantum " ++ dec
     × (budget ≤ 1000000)
 Spells version bytes (lines.Tick ticks) = (bytes ≡ codes "tick " ++ decimal ticks) × (1 ≤ ticks) × (ticks ≤ CLOCK_LIMIT)
 
--- the word with which a reply of several words begins
-abbrev pub reply_word_text : ReplyWord → List ℕ
-reply_word_text words.Made = codes "made"
-reply_word_text words.Ref = codes "ref"
-reply_word_text words.Word = codes "word"
-reply_word_text words.Kept = codes "kept"
-reply_word_text words.KeptWord = codes "keptword"
-reply_word_text words.Described = codes "described"
-reply_word_text words.Refused = codes "refused"
-
 -- a reply
 abbrev pub reply_text : Reply → List ℕ
-reply_text (replies.Made id) = reply_word_text words.Made ++ 32 ∷ decimal id
-reply_text (replies.Ref id) = reply_word_text words.Ref ++ 32 ∷ decimal id
-reply_text (replies.Word w) = reply_word_text words.Word ++ 32 ∷ decimal w
+reply_text (replies.Made id) = codes "made " ++ decimal id
+reply_text (replies.Ref id) = codes "ref " ++ decimal id
+reply_text (replies.Word w) = codes "word " ++ decimal w
 reply_text replies.Done = codes "done"
 reply_text replies.Stored = codes "stored"
-reply_text (replies.Kept id) = reply_word_text words.Kept ++ 32 ∷ decimal id
-reply_text (replies.KeptWord w) = reply_word_text words.KeptWord ++ 32 ∷ decimal w
+reply_text (replies.Kept id) = codes "kept " ++ decimal id
+reply_text (replies.KeptWord w) = codes "keptword " ++ decimal w
 reply_text (replies.Is true) = codes "is yes"
 reply_text (replies.Is false) = codes "is no"
-reply_text (replies.Described id shape) = reply_word_text words.Described ++ 32 ∷ decimal id ++ 32 ∷ shape_text shape
-reply_text (replies.Refused refusal) = reply_word_text words.Refused ++ 32 ∷ decimal (refusal_number refusal)
+reply_text (replies.Described id shape) = codes "described " ++ decimal id ++ 32 ∷ shape_text shape
+reply_text (replies.Refused refusal) = codes "refused " ++ decimal (refusal_number refusal)
 
 -- an entry: the command's line, " => " and the reply
 abbrev pub entry_line : Entry → List ℕ

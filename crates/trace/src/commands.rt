@@ -2,13 +2,22 @@
 ghost use Rattle.std.specs.Prelude.{◌≡◌, ◌≤◌, ◌+◌, ◌∷◌, [], ◌++◌, codes, get_or, length, option_map, take};
 ghost use Rattle.trace.specs.Spelling.{keyword_text, command_text};
 ghost use Rattle.trace.specs.Reading.{after_in, comparing, first_keyword_in, front_keyword_in, keywords_by};
-ghost use Rattle.trace.specs.Reading.{shape_in, slot_and_shape_in, arguments_in, bare_in, command_in, mutator_and_command_in};
+ghost use Rattle.trace.specs.Reading.{shape_in, arguments_in, bare_in, command_in, mutator_and_command_in};
 
-use crate::field::{after, field, four, number, numbers_and_word, numbers_and_words, three, two};
+use crate::field::{Leading, Spelled, after};
 use crate::text::{put, put_named};
 use crate::version::Version;
 use crate::write::{put_four, put_one, put_shape, put_three, put_two};
 use graph_heap::{Command, Shape};
+
+/// Two numbers.
+type Two = (u32, u32);
+
+/// Three numbers.
+type Three = (u32, Two);
+
+/// Four numbers.
+type Four = (u32, Three);
 
 /// The kind of a command.
 #[derive(Clone, Copy, Debug, PartialEq, Eq)]
@@ -147,35 +156,20 @@ impl Keyword {
     }
 }
 
-/// A shape.
-#[tactic(auto, unfolding(crate::specs::Reading::shape_in))]
-#[inline(always)]
-pub(crate) fn shape(bytes: &[u8]) -> Option<Shape>
-    ensures { result ≡ shape_in bytes.now }
-{
-    if let Some(rest) = after(b"plain ", bytes) {
-        let (refs, words) = two(rest)?;
-        Some(Shape::Plain { refs, words })
-    } else if let Some(rest) = after(b"refs ", bytes) {
-        let n = number(rest)?;
-        Some(Shape::RefArray(n))
-    } else if let Some(rest) = after(b"words ", bytes) {
-        let n = number(rest)?;
-        Some(Shape::WordArray(n))
-    } else {
-        None
-    }
-}
+impl Spelled for Shape {
+    ghost read_in = { shape_in };
 
-/// A slot and a shape.
-#[tactic(auto, unfolding(crate::specs::Reading::slot_and_shape_in))]
-#[inline(always)]
-fn slot_and_shape(bytes: &[u8]) -> Option<(u32, Shape)>
-    ensures { result ≡ slot_and_shape_in bytes.now }
-{
-    let (a, rest) = field(bytes)?;
-    let b = shape(rest)?;
-    Some((a, b))
+    #[tactic(auto, unfolding(crate::specs::Reading::shape_in))]
+    #[inline(always)]
+    fn read(bytes: &[u8]) -> Option<Shape> {
+        if let Some(rest) = after(b"plain ", bytes) {
+            Two::read(rest).map(|(refs, words)| Shape::Plain { refs, words })
+        } else if let Some(rest) = after(b"refs ", bytes) {
+            u32::read(rest).map(|n| Shape::RefArray(n))
+        } else {
+            u32::read(after(b"words ", bytes)?).map(|n| Shape::WordArray(n))
+        }
+    }
 }
 
 /// What stands after the keyword of a command.
@@ -185,40 +179,38 @@ fn arguments(keyword: Keyword, bytes: &[u8]) -> Option<Command>
     ensures { result ≡ arguments_in keyword bytes.now }
 {
     match keyword {
-        Keyword::New => slot_and_shape(bytes).map(|(dst, shape)| Command::New { dst, shape }),
-        Keyword::Load => three(bytes).map(|(dst, (obj, i))| Command::Load { dst, obj, i }),
-        Keyword::Store => three(bytes).map(|(obj, (i, src))| Command::Store { obj, i, src }),
+        Keyword::New => <(u32, Shape)>::read(bytes).map(|(dst, shape)| Command::New { dst, shape }),
+        Keyword::Load => Three::read(bytes).map(|(dst, (obj, i))| Command::Load { dst, obj, i }),
+        Keyword::Store => Three::read(bytes).map(|(obj, (i, src))| Command::Store { obj, i, src }),
         Keyword::CompareStore => {
-            four(bytes).map(|(obj, (i, (expect, new)))| Command::CompareStore {
+            Four::read(bytes).map(|(obj, (i, (expect, new)))| Command::CompareStore {
                 obj,
                 i,
                 expect,
                 new,
             })
         }
-        Keyword::Get => two(bytes).map(|(obj, i)| Command::Get { obj, i }),
-        Keyword::Put => numbers_and_word(bytes).map(|(obj, (i, word))| Command::Put {
+        Keyword::Get => Two::read(bytes).map(|(obj, i)| Command::Get { obj, i }),
+        Keyword::Put => <(u32, (u32, u64))>::read(bytes).map(|(obj, (i, word))| Command::Put {
             obj,
             i,
             word,
         }),
         Keyword::ComparePut => {
-            numbers_and_words(bytes).map(|(obj, (i, (old, new)))| Command::ComparePut {
+            <(u32, (u32, (u64, u64)))>::read(bytes).map(|(
                 obj,
-                i,
-                old,
-                new,
-            })
+                (i, (old, new)),
+            )| Command::ComparePut { obj, i, old, new })
         }
-        Keyword::Copy => two(bytes).map(|(dst, src)| Command::Copy { dst, src }),
-        Keyword::Clear => number(bytes).map(|dst| Command::Clear { dst }),
-        Keyword::LoadStatic => two(bytes).map(|(dst, k)| Command::LoadStatic { dst, k }),
-        Keyword::StoreStatic => two(bytes).map(|(k, src)| Command::StoreStatic { k, src }),
+        Keyword::Copy => Two::read(bytes).map(|(dst, src)| Command::Copy { dst, src }),
+        Keyword::Clear => u32::read(bytes).map(|dst| Command::Clear { dst }),
+        Keyword::LoadStatic => Two::read(bytes).map(|(dst, k)| Command::LoadStatic { dst, k }),
+        Keyword::StoreStatic => Two::read(bytes).map(|(k, src)| Command::StoreStatic { k, src }),
         Keyword::CompareStatic => {
-            three(bytes).map(|(k, (expect, new))| Command::CompareStatic { k, expect, new })
+            Three::read(bytes).map(|(k, (expect, new))| Command::CompareStatic { k, expect, new })
         }
-        Keyword::Same => two(bytes).map(|(a, b)| Command::Same { a, b }),
-        Keyword::Describe => number(bytes).map(|a| Command::Describe { a }),
+        Keyword::Same => Two::read(bytes).map(|(a, b)| Command::Same { a, b }),
+        Keyword::Describe => u32::read(bytes).map(|a| Command::Describe { a }),
     }
 }
 
@@ -259,7 +251,7 @@ fn command(version: Version, bytes: &[u8]) -> Option<Command>
 pub(crate) fn mutator_and_command(version: Version, bytes: &[u8]) -> Option<(u32, Command)>
     ensures { result ≡ mutator_and_command_in version bytes.now }
 {
-    let (mutator, rest) = field(bytes)?;
+    let (mutator, rest) = u32::lead(bytes)?;
     let command = command(version, rest)?;
     Some((mutator, command))
 }

@@ -2,8 +2,9 @@
 ghost use Rattle.std.specs.Prelude.{◌≡◌, ◌↔◌, ℕ, ◌+◌, ◌-◌, ◌<◌, ◌≤◌, ◌++◌, true, if◌then◌else◌, length, take, IsTrue, IsErr, IfOk, IfSome, OnOk, OnErr, Some};
 ghost use Rattle.trace.specs.Streams.{failed};
 
-use crate::sink::{Sink, WriteFailed};
-use crate::source::{ReadFailed, Source};
+use crate::fault::{ReadFailed, WriteFailed};
+use crate::sink::Sink;
+use crate::source::Source;
 
 /// A source or a sink, one call of which fails. All its other calls are passed on. It is for tests.
 #[derive(Drop)]

@@ -1,7 +1,7 @@
 //! Numbers in decimal, separated by blanks.
-ghost use Rattle.std.specs.Prelude.{◌≡◌, ℕ, ◌<◌, ◌≤◌, ◌^◌, ◌==◌, List, ◌++◌, Some, IfSome, decimal, length, option_map, position};
+ghost use Rattle.std.specs.Prelude.{◌≡◌, ℕ, Option, ◌<◌, ◌≤◌, ◌^◌, ◌==◌, List, ◌++◌, Some, IfSome, decimal, length, option_map, position};
 ghost use Rattle.trace.specs.Numbers.{Row, NoDigitAt, Fronts};
-ghost use Rattle.trace.specs.Reading.{number_in, cut_at, after_in, field_in, two_in, three_in, four_in};
+ghost use Rattle.trace.specs.Reading.{number_in, lead_then, cut_at, after_in, field_in};
 
 /// How many digits a number has, at least, where it may be 2^64 or more.
 const LONG: usize = 19;
@@ -71,25 +71,6 @@ fn front_number(bytes: &[u8]) -> Option<(u64, usize)>
     Some((n, count))
 }
 
-/// The word that the bytes spell.
-#[inline(always)]
-pub(crate) fn word(bytes: &[u8]) -> Option<u64>
-    ensures { result ≡ number_in 64 bytes.now }
-{
-    let (w, count) = front_number(bytes)?;
-    if count == bytes.len() { Some(w) } else { None }
-}
-
-/// The number that the bytes spell.
-#[tactic(auto, unfolding(crate::specs::Reading::number_in))]
-#[inline(always)]
-pub(crate) fn number(bytes: &[u8]) -> Option<u32>
-    ensures { result ≡ number_in 32 bytes.now }
-{
-    let n = word(bytes)?;
-    if n < 4294967296 { Some(n as u32) } else { None }
-}
-
 /// Where a byte stands first.
 fn place_of(byte: u8, bytes: &[u8]) -> Option<usize>
     ensures { result ≡ position (λ b. b == byte) bytes.now }
@@ -116,118 +97,87 @@ pub(crate) fn after<'a, const N: usize>(word: &[u8; N], bytes: &'a [u8]) -> Opti
     if *front == *word { Some(rest) } else { None }
 }
 
-/// The word before the first blank, and what stands after that.
-#[tactic(auto, using(crate::proofs::Cuts::rest_of))]
-#[inline(always)]
-pub(crate) fn word_field(bytes: &[u8]) -> Option<(u64, &[u8])>
-    ensures { option_map (λ c. (c.0, c.1.now)) result ≡ field_in 64 bytes.now }
-{
-    let (w, count) = front_number(bytes)?;
-    if count < bytes.len() && bytes[count] == b' ' {
-        Some((w, &bytes[count + 1..]))
-    } else {
-        None
+/// What bytes can spell.
+pub(crate) trait Spelled: Sized {
+    /// What they spell, if they spell anything.
+    ghost read_in: { List ℕ → Option Self };
+
+    /// What the bytes spell.
+    fn read(bytes: &[u8]) -> Option<Self>
+        ensures { result ≡ read_in bytes.now };
+}
+
+/// What can stand before the first blank of bytes.
+pub(crate) trait Leading: Copy {
+    /// What stands there, and what stands after the blank.
+    ghost lead_in: { List ℕ → Option (Self × List ℕ) };
+
+    /// What stands before the first blank, and what stands after that.
+    fn lead(bytes: &[u8]) -> Option<(Self, &[u8])>
+        ensures { option_map (λ c. (c.0, c.1.now)) result ≡ lead_in bytes.now };
+}
+
+/// A word, which has 64 bits.
+impl Spelled for u64 {
+    ghost read_in = { number_in 64 };
+
+    #[inline(always)]
+    fn read(bytes: &[u8]) -> Option<u64> {
+        let (w, count) = front_number(bytes)?;
+        if count == bytes.len() { Some(w) } else { None }
     }
 }
 
-/// The number before the first blank, and what stands after that.
-#[tactic(auto, unfolding(crate::specs::Reading::field_in))]
-#[inline(always)]
-pub(crate) fn field(bytes: &[u8]) -> Option<(u32, &[u8])>
-    ensures { option_map (λ c. (c.0, c.1.now)) result ≡ field_in 32 bytes.now }
-{
-    let (w, rest) = word_field(bytes)?;
-    if w < 4294967296 {
-        Some((w as u32, rest))
-    } else {
-        None
+impl Leading for u64 {
+    ghost lead_in = { field_in 64 };
+
+    #[tactic(auto, using(crate::proofs::Cuts::rest_of))]
+    #[inline(always)]
+    fn lead(bytes: &[u8]) -> Option<(u64, &[u8])> {
+        let (w, count) = front_number(bytes)?;
+        if count < bytes.len() && bytes[count] == b' ' {
+            Some((w, &bytes[count + 1..]))
+        } else {
+            None
+        }
     }
 }
 
-/// Two numbers.
-#[tactic(auto, unfolding(crate::specs::Reading::two_in))]
-#[inline(always)]
-pub(crate) fn two(bytes: &[u8]) -> Option<(u32, u32)>
-    ensures { result ≡ two_in 32 32 bytes.now }
-{
-    let (a, rest) = field(bytes)?;
-    let b = number(rest)?;
-    Some((a, b))
+/// A number of 32 bits.
+impl Spelled for u32 {
+    ghost read_in = { number_in 32 };
+
+    #[tactic(auto, unfolding(crate::specs::Reading::number_in))]
+    #[inline(always)]
+    fn read(bytes: &[u8]) -> Option<u32> {
+        let n = u64::read(bytes)?;
+        if n < 4294967296 { Some(n as u32) } else { None }
+    }
 }
 
-/// Three numbers.
-#[tactic(auto, unfolding(crate::specs::Reading::three_in))]
-#[inline(always)]
-pub(crate) fn three(bytes: &[u8]) -> Option<(u32, (u32, u32))>
-    ensures { result ≡ three_in 32 32 32 bytes.now }
-{
-    let (a, rest) = field(bytes)?;
-    let b = two(rest)?;
-    Some((a, b))
+impl Leading for u32 {
+    ghost lead_in = { field_in 32 };
+
+    #[tactic(auto, unfolding(crate::specs::Reading::field_in))]
+    #[inline(always)]
+    fn lead(bytes: &[u8]) -> Option<(u32, &[u8])> {
+        let (w, rest) = u64::lead(bytes)?;
+        if w < 4294967296 {
+            Some((w as u32, rest))
+        } else {
+            None
+        }
+    }
 }
 
-/// Four numbers.
-#[tactic(auto, unfolding(crate::specs::Reading::four_in))]
-#[inline(always)]
-pub(crate) fn four(bytes: &[u8]) -> Option<(u32, (u32, (u32, u32)))>
-    ensures { result ≡ four_in 32 32 32 32 bytes.now }
-{
-    let (a, rest) = field(bytes)?;
-    let b = three(rest)?;
-    Some((a, b))
-}
+/// A number, a blank, and what is spelled after it.
+impl<N: Leading, T: Spelled> Spelled for (N, T) {
+    ghost read_in = { lead_then N.lead_in T.read_in };
 
-/// A number and a word.
-#[tactic(auto, unfolding(crate::specs::Reading::two_in))]
-#[inline(always)]
-fn number_and_word(bytes: &[u8]) -> Option<(u32, u64)>
-    ensures { result ≡ two_in 32 64 bytes.now }
-{
-    let (a, rest) = field(bytes)?;
-    let b = word(rest)?;
-    Some((a, b))
-}
-
-/// Two numbers and a word.
-#[tactic(auto, unfolding(crate::specs::Reading::three_in))]
-#[inline(always)]
-pub(crate) fn numbers_and_word(bytes: &[u8]) -> Option<(u32, (u32, u64))>
-    ensures { result ≡ three_in 32 32 64 bytes.now }
-{
-    let (a, rest) = field(bytes)?;
-    let b = number_and_word(rest)?;
-    Some((a, b))
-}
-
-/// Two words.
-#[tactic(auto, unfolding(crate::specs::Reading::two_in))]
-#[inline(always)]
-fn two_words(bytes: &[u8]) -> Option<(u64, u64)>
-    ensures { result ≡ two_in 64 64 bytes.now }
-{
-    let (a, rest) = word_field(bytes)?;
-    let b = word(rest)?;
-    Some((a, b))
-}
-
-/// A number and two words.
-#[tactic(auto, unfolding(crate::specs::Reading::three_in))]
-#[inline(always)]
-fn number_and_words(bytes: &[u8]) -> Option<(u32, (u64, u64))>
-    ensures { result ≡ three_in 32 64 64 bytes.now }
-{
-    let (a, rest) = field(bytes)?;
-    let b = two_words(rest)?;
-    Some((a, b))
-}
-
-/// Two numbers and two words.
-#[tactic(auto, unfolding(crate::specs::Reading::four_in))]
-#[inline(always)]
-pub(crate) fn numbers_and_words(bytes: &[u8]) -> Option<(u32, (u32, (u64, u64)))>
-    ensures { result ≡ four_in 32 32 64 64 bytes.now }
-{
-    let (a, rest) = field(bytes)?;
-    let b = number_and_words(rest)?;
-    Some((a, b))
+    #[inline(always)]
+    fn read(bytes: &[u8]) -> Option<(N, T)> {
+        let (number, rest) = N::lead(bytes)?;
+        let more = T::read(rest)?;
+        Some((number, more))
+    }
 }

@@ -26,14 +26,14 @@ pub mod write_buffer;
 
 pub use entry::{EntryLine, read_entry};
 pub use fail_at::FailAt;
-pub use fault::{LineFault, TextFault};
+pub use fault::{LineFault, ReadFailed, TextFault, WriteFailed};
 pub use laws::{one_cutting, one_more_line};
 pub use line::{Line, is_skipped, read_line, read_numbered};
 pub use line_handler::{InputEnd, LineHandler, each_line};
 pub use line_reader::LineReader;
 pub use memory::{MemorySink, MemorySource};
-pub use sink::{Sink, WriteFailed, write_all};
-pub use source::{ReadFailed, Source};
+pub use sink::{Sink, write_all};
+pub use source::Source;
 pub use standard::{ReadSource, WriteSink};
 pub use text::{end_line, put, put_named};
 pub use text_line::TextLine;

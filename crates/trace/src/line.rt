@@ -8,7 +8,7 @@ ghost use Rattle.trace.specs.TextLine.{text_in};
 
 use crate::commands::mutator_and_command;
 use crate::fault::{LineFault, TextFault};
-use crate::field::{cut, word};
+use crate::field::{Spelled, cut};
 use crate::text_line::TextLine;
 use crate::version::Version;
 use graph_heap::Command;
@@ -38,7 +38,7 @@ fn collector_line(bytes: &[u8]) -> Option<Line>
         return Some(Line::Begin);
     }
     let (name, rest) = cut(b' ', bytes)?;
-    let n = word(rest)?;
+    let n = u64::read(rest)?;
     if name == b"quantum".as_slice() && 256 <= n && n <= 1000000 {
         Some(Line::Quantum(n as u32))
     } else if name == b"tick".as_slice() && 1 <= n && n <= CLOCK_LIMIT {

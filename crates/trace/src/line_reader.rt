@@ -2,9 +2,9 @@
 ghost use Rattle.std.specs.Prelude.{true, false, ◌⊎◌, Ok, Err, ◌∷◌, ◌++◌, ◌≡◌, ◌==◌, ◌+◌, ◌-◌, ◌<◌, ◌≤◌, ◌^◌, [], length, take, slice_range, IfOk, IfSome, IsNone, OnOk, OnErr, IsTrue};
 ghost use Rattle.trace.specs.Streams.{failed, Comes, Stays, NoLf, IsLine, FirstLf, GrowsByPart, given_by};
 
-use crate::fault::{LineFault, TextFault};
-use crate::sink::{Sink, WriteFailed};
-use crate::source::{ReadFailed, Source};
+use crate::fault::{LineFault, ReadFailed, TextFault, WriteFailed};
+use crate::sink::Sink;
+use crate::source::Source;
 use crate::text_line::TextLine;
 use crate::version::Version;
 use crate::write_buffer::WriteBuffer;
@@ -61,7 +61,6 @@ pub struct LineReader {
     start: usize,
     end: usize,
     number: u64,
-    version: Version,
     next: Version,
 }
 
@@ -93,8 +92,19 @@ impl LineReader {
             start: 0,
             end: 0,
             number: 0,
-            version: Version::First,
             next: Version::First,
+        }
+    }
+
+    /// The version of the line that was handed out last. All lines after the first have the same one.
+    #[inline(always)]
+    fn version(&self) -> Version
+        ensures { result ≡ self.now.text.version }
+    {
+        if self.number <= 1 {
+            Version::First
+        } else {
+            self.next
         }
     }
 
@@ -106,7 +116,7 @@ impl LineReader {
         TextLine {
             bytes: &self.buffer[self.line_start..self.line_end],
             number: self.number,
-            version: self.version,
+            version: self.version(),
         }
     }
 
@@ -157,18 +167,6 @@ impl LineReader {
         self.end - self.start
     }
 
-    /// The version of the line after the one that was handed out last. Only the first line can tell one.
-    #[inline(always)]
-    fn version_after(&self) -> Version
-        ensures { IsNextVersion self.now.text result }
-    {
-        if self.number == 1 {
-            self.text().next_version()
-        } else {
-            self.version
-        }
-    }
-
     /// Hands out the line that the bytes kept begin with, if its LF is among their first 257.
     fn cut_line(&mut self) -> bool
         ensures cut { IsTrue result → self.old.kept ≡ self.new.text.bytes ++ 10 ∷ self.new.kept }
@@ -187,8 +185,10 @@ impl LineReader {
         self.line_end = self.start + length;
         self.start = self.line_end + 1;
         self.number += 1;
-        self.version = self.next;
-        self.next = self.version_after();
+        // Only the first line can tell a version.
+        if self.number == 1 {
+            self.next = self.text().next_version();
+        }
         true
     }
 

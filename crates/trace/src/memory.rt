@@ -2,8 +2,9 @@
 ghost use Rattle.std.specs.Prelude.{◌≡◌, ℕ, ◌<◌, ◌≤◌, ◌^◌, ◌++◌, List, [], Some, take, length, nat_le, min};
 ghost use Rattle.trace.specs.Memory.{take_few, take_begins};
 
-use crate::sink::{Sink, WriteFailed};
-use crate::source::{ReadFailed, Source};
+use crate::fault::{ReadFailed, WriteFailed};
+use crate::sink::Sink;
+use crate::source::Source;
 use crate::transcript::Transcript;
 use std::alloc::Global;
 

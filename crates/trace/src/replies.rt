@@ -1,58 +1,9 @@
 //! Reading replies.
 ghost use Rattle.std.specs.Prelude.{◌≡◌};
-ghost use Rattle.trace.specs.Spelling.{reply_word_text};
-ghost use Rattle.trace.specs.Reading.{refusal_in, reply_word_in, reply_arguments_in, long_reply_in, reply_in};
+ghost use Rattle.trace.specs.Reading.{refusal_in, refused_in, long_reply_in, reply_in};
 
-use crate::commands::shape;
-use crate::field::{cut, word, word_field};
-use graph_heap::{Refusal, Reply};
-
-/// The first word of a reply of several words.
-#[derive(Clone, Copy, Debug, PartialEq, Eq)]
-pub(crate) enum ReplyWord {
-    Made,
-    Ref,
-    Word,
-    Kept,
-    KeptWord,
-    Described,
-    Refused,
-}
-
-impl ReplyWord {
-    pub(crate) const ALL: [ReplyWord; 7] = [
-        ReplyWord::Made,
-        ReplyWord::Ref,
-        ReplyWord::Word,
-        ReplyWord::Kept,
-        ReplyWord::KeptWord,
-        ReplyWord::Described,
-        ReplyWord::Refused,
-    ];
-
-    /// The word.
-    pub(crate) fn text(self) -> &'static [u8]
-        ensures { result.now ≡ reply_word_text self }
-    {
-        match self {
-            ReplyWord::Made => b"made",
-            ReplyWord::Ref => b"ref",
-            ReplyWord::Word => b"word",
-            ReplyWord::Kept => b"kept",
-            ReplyWord::KeptWord => b"keptword",
-            ReplyWord::Described => b"described",
-            ReplyWord::Refused => b"refused",
-        }
-    }
-
-    /// The reply word that these bytes are.
-    #[tactic(auto, unfolding(crate::specs::Reading::reply_word_in))]
-    pub(crate) fn of(bytes: &[u8]) -> Option<ReplyWord>
-        ensures { result ≡ reply_word_in bytes.now }
-    {
-        ReplyWord::ALL.iter().copied().find(|w| bytes == w.text())
-    }
-}
+use crate::field::{Spelled, after};
+use graph_heap::{Refusal, Reply, Shape};
 
 /// The refusals in the order of their numbers.
 const REFUSALS: [Refusal; 10] = [
@@ -79,28 +30,14 @@ fn refusal(number: u64) -> Option<Refusal>
         .find(|r| r.number() as u64 == number)
 }
 
-/// What stands after the first word of a reply.
-#[tactic(auto, unfolding(crate::specs::Reading::reply_arguments_in, crate::specs::Reading::identity_and_shape_in))]
-fn reply_arguments(first: ReplyWord, bytes: &[u8]) -> Option<Reply>
-    ensures { result ≡ reply_arguments_in first bytes.now }
+/// A refusal by its number, as a reply.
+#[tactic(auto, unfolding(crate::specs::Reading::refused_in))]
+fn refused(bytes: &[u8]) -> Option<Reply>
+    ensures { result ≡ refused_in bytes.now }
 {
-    match first {
-        ReplyWord::Made => word(bytes).map(|n| Reply::Made(n)),
-        ReplyWord::Ref => word(bytes).map(|n| Reply::Ref(n)),
-        ReplyWord::Word => word(bytes).map(|n| Reply::Word(n)),
-        ReplyWord::Kept => word(bytes).map(|n| Reply::Kept(n)),
-        ReplyWord::KeptWord => word(bytes).map(|n| Reply::KeptWord(n)),
-        ReplyWord::Described => {
-            let (id, rest) = word_field(bytes)?;
-            let shape = shape(rest)?;
-            Some(Reply::Described(id, shape))
-        }
-        ReplyWord::Refused => {
-            let n = word(bytes)?;
-            let r = refusal(n)?;
-            Some(Reply::Refused(r))
-        }
-    }
+    let n = u64::read(bytes)?;
+    let r = refusal(n)?;
+    Some(Reply::Refused(r))
 }
 
 /// A reply of several words.
@@ -108,9 +45,21 @@ fn reply_arguments(first: ReplyWord, bytes: &[u8]) -> Option<Reply>
 fn long_reply(bytes: &[u8]) -> Option<Reply>
     ensures { result ≡ long_reply_in bytes.now }
 {
-    let (first, rest) = cut(b' ', bytes)?;
-    let first = ReplyWord::of(first)?;
-    reply_arguments(first, rest)
+    if let Some(rest) = after(b"made ", bytes) {
+        u64::read(rest).map(|id| Reply::Made(id))
+    } else if let Some(rest) = after(b"ref ", bytes) {
+        u64::read(rest).map(|id| Reply::Ref(id))
+    } else if let Some(rest) = after(b"word ", bytes) {
+        u64::read(rest).map(|w| Reply::Word(w))
+    } else if let Some(rest) = after(b"kept ", bytes) {
+        u64::read(rest).map(|id| Reply::Kept(id))
+    } else if let Some(rest) = after(b"keptword ", bytes) {
+        u64::read(rest).map(|w| Reply::KeptWord(w))
+    } else if let Some(rest) = after(b"described ", bytes) {
+        <(u64, Shape)>::read(rest).map(|(id, shape)| Reply::Described(id, shape))
+    } else {
+        refused(after(b"refused ", bytes)?)
+    }
 }
 
 /// A reply.

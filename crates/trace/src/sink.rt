@@ -2,12 +2,7 @@
 ghost use Rattle.std.specs.Prelude.{◌≡◌, ℕ, ◌+◌, ◌<◌, ◌≤◌, ◌++◌, List, length, take, IfOk, OnOk, OnErr};
 ghost use Rattle.trace.specs.Streams.{failed, GrowsByPart};
 
-use thiserror::Error;
-
-/// A write failed.
-#[derive(Clone, Copy, Debug, PartialEq, Eq, Error)]
-#[error("cannot write")]
-pub struct WriteFailed;
+use crate::fault::WriteFailed;
 
 /// What bytes are written to. Contracts see the bytes that it has taken so far, and how many of its
 /// calls have failed.

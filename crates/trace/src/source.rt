@@ -2,12 +2,7 @@
 ghost use Rattle.std.specs.Prelude.{◌≡◌, ℕ, ◌+◌, ◌<◌, ◌≤◌, ◌^◌, ◌++◌, List, Bool, Option, length, take, IfOk, IfSome, OnOk, OnErr, IsTrue};
 ghost use Rattle.trace.specs.Streams.{failed, Begins, Stays};
 
-use thiserror::Error;
-
-/// A read failed.
-#[derive(Clone, Copy, Debug, PartialEq, Eq, Error)]
-#[error("cannot read")]
-pub struct ReadFailed;
+use crate::fault::ReadFailed;
 
 /// What bytes are read from. Contracts see the bytes that it has given so far, whether its input has
 /// ended, and how many of its calls have failed.

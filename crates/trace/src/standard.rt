@@ -5,8 +5,9 @@ ghost use Rattle.std.specs.Io.KnownBytes.{prepend_known, WriteAppends};
 ghost use Rattle.trace.specs.Standard.{left_begins};
 ghost use Rattle.trace.specs.Streams.{failed};
 
-use crate::sink::{Sink, WriteFailed};
-use crate::source::{ReadFailed, Source};
+use crate::fault::{ReadFailed, WriteFailed};
+use crate::sink::Sink;
+use crate::source::Source;
 use crate::transcript::Transcript;
 use std::io::{Read, Write};
 

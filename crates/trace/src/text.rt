@@ -2,7 +2,8 @@
 ghost use Rattle.std.specs.Prelude.{◌≡◌, ◌≤◌, ◌<◌, ◌+◌, ◌++◌, ◌∷◌, [], length, take, decimal, OnOk, OnErr};
 ghost use Rattle.trace.specs.Streams.{GrowsByPart, failed};
 
-use crate::sink::{Sink, WriteFailed, write_all};
+use crate::fault::WriteFailed;
+use crate::sink::{Sink, write_all};
 use itoa::Buffer;
 
 /// Writes bytes at a place, after which there must be room for them, and answers the place after

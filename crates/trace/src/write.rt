@@ -4,7 +4,6 @@ ghost use Rattle.graph_heap.specs.Refusal.{refusal_number};
 ghost use Rattle.trace.specs.Spelling.{two, three, four, shape_text, command_line, reply_text, entry_line};
 
 use crate::commands::put_command;
-use crate::replies::ReplyWord;
 use crate::text::{put, put_named, put_number};
 use graph_heap::{Command, Entry, Reply, Shape};
 
@@ -90,26 +89,21 @@ fn put_reply(out: &mut [u8], at: usize, reply: &Reply) -> usize
     ensures place { result ≤ at + 78 }
 {
     match *reply {
-        Reply::Made(id) => put_one(out, at, ReplyWord::Made.text(), id),
-        Reply::Ref(id) => put_one(out, at, ReplyWord::Ref.text(), id),
-        Reply::Word(w) => put_one(out, at, ReplyWord::Word.text(), w),
+        Reply::Made(id) => put_named(out, at, b"made ", id),
+        Reply::Ref(id) => put_named(out, at, b"ref ", id),
+        Reply::Word(w) => put_named(out, at, b"word ", w),
         Reply::Done => put(out, at, b"done"),
         Reply::Stored => put(out, at, b"stored"),
-        Reply::Kept(id) => put_one(out, at, ReplyWord::Kept.text(), id),
-        Reply::KeptWord(w) => put_one(out, at, ReplyWord::KeptWord.text(), w),
+        Reply::Kept(id) => put_named(out, at, b"kept ", id),
+        Reply::KeptWord(w) => put_named(out, at, b"keptword ", w),
         Reply::Is(true) => put(out, at, b"is yes"),
         Reply::Is(false) => put(out, at, b"is no"),
         Reply::Described(id, shape) => {
-            let next = put_one(out, at, ReplyWord::Described.text(), id);
+            let next = put_named(out, at, b"described ", id);
             let next = put(out, next, b" ");
             put_shape(out, next, &shape)
         }
-        Reply::Refused(refusal) => put_one(
-            out,
-            at,
-            ReplyWord::Refused.text(),
-            refusal.number() as u64,
-        ),
+        Reply::Refused(refusal) => put_named(out, at, b"refused ", refusal.number() as u64),
     }
 }
 

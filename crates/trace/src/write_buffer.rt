@@ -3,7 +3,8 @@ ghost use Rattle.std.specs.Prelude.{◌≡◌, ℕ, ◌+◌, ◌≤◌, ◌++◌
 ghost use Rattle.trace.specs.Spelling.{reply_text};
 ghost use Rattle.trace.specs.Streams.{GrowsByPart, failed};
 
-use crate::sink::{Sink, WriteFailed, write_all};
+use crate::fault::WriteFailed;
+use crate::sink::{Sink, write_all};
 use crate::text::put;
 use crate::write::write_reply;
 use graph_heap::Reply;

@@ -12,4 +12,5 @@ invariant_of-self-2 g c =
       range = omega arith;
       within = omega (arith, c.in_ok-n.ensures.within);
       few = omega (arith, few, behind, c.in_ok-n.ensures.counted, length-take (a.end - a.start) (drop a.start a.buffer), length-drop a.start a.buffer);
+      untold = c.self.invariant.untold;
     }

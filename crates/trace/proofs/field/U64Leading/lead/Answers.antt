@@ -1,8 +1,8 @@
 use Rattle.std.proofs.Common.{None, ◌+◌, arith}
 use Rattle.trace.proofs.Cuts.{rest_of}
 use Rattle.trace.proofs.Fronts.{Pair, no_pair, pair_count, field_is, field_none, blank_moved}
-use Rattle.trace.proofs.field.word_field.Goals.{else-count-bytes-via-then-count-bytes+else-bytes-count-eq32, else-count-bytes-via-else-count-bytes}
-use Rattle.trace.proofs.field.word_field.Goals as goal
+use Rattle.trace.proofs.field.U64Leading.lead.Goals.{else-count-bytes-via-then-count-bytes+else-bytes-count-eq32, else-count-bytes-via-else-count-bytes}
+use Rattle.trace.proofs.field.U64Leading.lead.Goals as goal
 
 pub returns-in_err-w : goal.returns-in_err-w
 returns-in_err-w c = rw c.from_residual.ensures (field_none c.args.bytes.now None c.in_err-w.ensures.only (λ n count e. absurd (no_pair n count e)))

@@ -109,7 +109,7 @@ impl Reference {
     }
 
     /// What the graph heap does.
-    fn plan(&self, room: bool, mutator: u32, command: &Command) -> Result<(Reply, Change), Refusal>
+    fn plan(&self, room: bool, mutator: u32, command: &Command) -> Deed
         ensures { result ≡ effect_of room self.now mutator command.now }
     {
         let joins = command.is_join();
@@ -118,7 +118,7 @@ impl Reference {
     }
 
     /// What the graph heap does for a mutator that may ask this.
-    fn deed(&self, room: bool, mutator: u32, command: &Command) -> Result<(Reply, Change), Refusal>
+    fn deed(&self, room: bool, mutator: u32, command: &Command) -> Deed
         ensures { result ≡ deed_of room self.now mutator command.now }
     {
         dispatch!(Reference, self, mutator, *command, room)
@@ -136,13 +136,7 @@ impl Reference {
         }
     }
 
-    fn make(
-        &self,
-        mutator: u32,
-        dst: u32,
-        shape: Shape,
-        room: bool,
-    ) -> Result<(Reply, Change), Refusal>
+    fn make(&self, mutator: u32, dst: u32, shape: Shape, room: bool) -> Deed
         ensures { result ≡ deed_of room self.now mutator (Command.New dst shape) }
     {
         let cell = slot_of(&self.limits, mutator, dst)?;
@@ -276,13 +270,13 @@ impl Reference {
         Ok((Reply::Described(id, object.shape), Change::Nothing))
     }
 
-    fn join(&self, mutator: u32) -> Result<(Reply, Change), Refusal>
+    fn join(&self, mutator: u32) -> Deed
         ensures { result ≡ deed_of true self.now mutator Command.Join }
     {
         Ok((Reply::Done, Change::Join { mutator }))
     }
 
-    fn leave(&self, mutator: u32) -> Result<(Reply, Change), Refusal>
+    fn leave(&self, mutator: u32) -> Deed
         ensures { result ≡ deed_of true self.now mutator Command.Leave }
     {
         Ok((Reply::Done, Change::Leave { mutator }))

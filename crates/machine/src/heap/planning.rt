@@ -198,7 +198,7 @@ pub(super) fn same(heap: &Heap, mutator: u32, a: u32, b: u32) -> Plan
     Ok(Planned::reply(Reply::Is(first.identity == second.identity)))
 }
 
-/// The identity and the shape of an object are told.
+/// Says the identity and the shape of an object.
 #[inline(always)]
 pub(super) fn describe(heap: &Heap, mutator: u32, a: u32) -> Plan
     ensures { Deeds heap.now mutator (Command.Describe a) result }
@@ -227,7 +227,6 @@ pub(super) fn leave(heap: &Heap, mutator: u32) -> Plan
 }
 
 impl Heap {
-
     /// What a slot of a mutator holds.
     #[inline(always)]
     fn held_by(&self, mutator: u32, slot: u32) -> Result<Referent, Refusal>

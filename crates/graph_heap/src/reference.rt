@@ -136,6 +136,14 @@ impl Reference {
         }
     }
 
+    /// What a slot of a mutator holds.
+    fn held(&self, mutator: u32, slot: u32) -> Result<u64, Refusal>
+        ensures { result ≡ held_at self.now mutator slot }
+    {
+        let at = slot_of(&self.limits, mutator, slot)?;
+        Ok(self.roots[at])
+    }
+
     fn make(&self, mutator: u32, dst: u32, shape: Shape, room: bool) -> Deed
         ensures { result ≡ deed_of room self.now mutator (Command.New dst shape) }
     {

@@ -9,4 +9,4 @@ pub mod Cycles
 pub mod Log
 pub mod Watching
 pub mod Taking
-pub mod Text
+pub mod CyclesText

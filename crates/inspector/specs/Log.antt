@@ -9,6 +9,7 @@ use Rattle.inspector.specs.declared.cycles.cycle.Cycle.{Cycle}
 use Rattle.inspector.specs.declared.cycles.open.Base.{Base}
 use Rattle.inspector.specs.declared.cycles.open.End.{End}
 use Rattle.inspector.specs.declared.cycles.open.Open.{Open}
+use Rattle.inspector.specs.declared.cycles.open.Start.{Start}
 use Rattle.inspector.specs.declared.cycles.turn.Mark.{Mark}
 use Rattle.inspector.specs.declared.cycles.turn.Turn.{Turn}
 use Rattle.inspector.specs.declared.cycles.log.Log.{Log}
@@ -57,12 +58,16 @@ abbrev pub IsEnd : Step → List Step → Option End → Type 0
 IsEnd first later None = count_by ends_cycle later ≡ 0
 IsEnd first later (Some e) = (count_by ends_cycle later ≢ 0) × (e ≡ end_at (end_of first later))
 
--- A cycle that the first step began, as far as the later ones have taken it.
+-- what was known when the first step began a cycle
+pub record IsStart (earlier : List Step) (first : Step) (start : Start) : Type 0 where
+  pub line : start.line ≡ first.line
+  pub base : IsBase earlier start.base
+  pub place : start.place ≡ length first.before.history
+  pub free : start.free ≡ free_pages first.before.heap.store.pages
+
+-- A cycle that the first step began, as far as the later ones have come.
 pub record IsOpen (earlier : List Step) (first : Step) (later : List Step) (o : Open) : Type 0 where
-  pub line : o.line ≡ first.line
-  pub base : IsBase earlier o.base
-  pub place : o.place ≡ length first.before.history
-  pub free : o.free ≡ free_pages first.before.heap.store.pages
+  pub start : IsStart earlier first o.start
   pub quanta : o.quanta ≡ counted (count_by works later)
   pub longest : o.longest ≡ longest_of later
   pub sweep : SweptBy earlier first later o.sweep

@@ -5,9 +5,7 @@ use Rattle.heap_model.specs.Event.{Course, Event, Command_done, Cycle_begun, Cyc
 use Rattle.space.specs.Tally.{is_tracing}
 use Rattle.space.specs.Pace.{in_cycle}
 use Rattle.trace.specs.declared.line.Line.{Line}
-use Rattle.trace.specs.declared.version.Version.{Version}
-use Rattle.trace.specs.GoneOver.{LinesDone, No_lines, One_line_more}
-use Rattle.trace.specs.TextLine.{Text, text_after}
+use Rattle.trace.specs.TextLine.{Text}
 use Rattle.player.specs.declared.style.Style.TheVariants.{Nothing}
 use Rattle.player.specs.Player.{PlayerState, QuantaDue, None_yet, One_more, DoesLine, Skips, Commands, Begins, Goes_on, Spends, Ticks}
 use Rattle.player.specs.Playing.{Stage, PlaysLine}
@@ -75,10 +73,3 @@ abbrev pub steps_in : (text : Text) (old : Stage) (events : List Event) (new : S
 steps_in text old events new (inl tells) = []
 steps_in text old events new (inr goes) =
     steps_of text.number old.player goes.1.0 events new.player goes.1.2.0
-
--- the steps of lines that were played, one after the other
-abbrev pub steps_along : (old : Stage) (lines : List (List ℕ)) (version : Version) (events : List Event) (new : Stage)
-    → LinesDone (PlaysLine Nothing) old lines version events new → List Step
-steps_along old lines version events new No_lines = []
-steps_along old lines version events new (One_line_more before v next es more line mid after done goes follows) =
-    steps_along old before v es mid done ++ steps_in (text_after before v line) mid more after goes

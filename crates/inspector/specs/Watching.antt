@@ -1,19 +1,17 @@
 -- What lines do to a player and the log of its steps.
-use Rattle.std.specs.Prelude.{◌≡◌, ℕ, ◌+◌, ◌<◌, List, [], ◌++◌, Bool, true, false, Result, Ok, Err, None}
+use Rattle.std.specs.Prelude.{◌≡◌, ℕ, List, [], ◌++◌, Bool, true, false, Result, Ok, Err, None}
 use Rattle.graph_heap.specs.declared.no_memory.NoMemory.{NoMemory}
 use Rattle.heap_model.specs.Event.{Event}
-use Rattle.quanta.specs.declared.schedule.TheConstants.{CLOCK_LIMIT}
 use Rattle.quanta.specs.Timetable.{due_below}
 use Rattle.trace.specs.declared.line.Line.{Line}
 use Rattle.trace.specs.declared.line.Line.TheVariants as lines
 use Rattle.trace.specs.declared.fault.TextFault.{TextFault}
-use Rattle.trace.specs.declared.fault.TextFault.TheVariants.{NoMemory as Without_memory}
 use Rattle.trace.specs.TextLine.{Text}
 use Rattle.player.specs.declared.player.TickFault.{TickFault}
-use Rattle.player.specs.declared.player.TickFault.TheVariants as faults
 use Rattle.player.specs.declared.style.Style.TheVariants.{Nothing}
 use Rattle.player.specs.Player.{QuantaDue, DoesLine}
-use Rattle.player.specs.Playing.{stage, PlaysLine, Stops, StopsText}
+use Rattle.player.specs.Playing.{stage, PlaysLine}
+use Rattle.player.specs.Alongside.{TicksStop, LineStops, TextStops}
 use Rattle.inspector.specs.declared.cycles.watch.Watch.{Watch}
 use Rattle.inspector.specs.Steps.{Step, steps_due, steps_of, steps_in}
 use Rattle.inspector.specs.Log.{IsLog}
@@ -45,16 +43,12 @@ DueLogged until old new (Err refused) = Unit {0}
 -- n ticks pass, or would pass the clock's limit, or memory was refused
 abbrev pub TicksLogged : ℕ → ℕ → Watch → Watch → Result (Unit {0}) TickFault → Type 0
 TicksLogged number n old new (Ok passed) = LineLogged number (lines.Tick n) old new
-TicksLogged number n old new (Err faults.ClockSpent) =
-    (CLOCK_LIMIT < old.player.timetable.clock + n) × (new.player ≡ old.player)
-TicksLogged number n old new (Err faults.NoMemory) = Unit {0}
+TicksLogged number n old new (Err fault) = TicksStop fault n old.player new.player
 
 -- a line of this number is done and logged, or stops with a fault
 abbrev pub EventLogged : Line → ℕ → Watch → Watch → Result (Unit {0}) TextFault → Type 0
 EventLogged line number old new (Ok done) = LineLogged number line old new
-EventLogged line number old new (Err Without_memory) = Unit {0}
-EventLogged line number old new (Err fault) =
-    Stops Nothing fault line number (stage old.player []) (stage new.player [])
+EventLogged line number old new (Err fault) = LineStops fault line number old.player new.player
 
 -- the same of a line's text
 abbrev pub TextLogged : Text → Watch → Watch → Result (Unit {0}) TextFault → Type 0
@@ -62,5 +56,4 @@ TextLogged text old new (Ok done) =
     (es : List Event)
     × (goes : PlaysLine Nothing text (stage old.player []) es (stage new.player []))
     × LogsOn old (steps_in text (stage old.player []) es (stage new.player []) goes) new
-TextLogged text old new (Err Without_memory) = Unit {0}
-TextLogged text old new (Err fault) = StopsText Nothing fault text (stage old.player []) (stage new.player [])
+TextLogged text old new (Err fault) = TextStops fault text old.player new.player

@@ -15,7 +15,7 @@ use Rattle.trace.specs.Histories.{EntriesChecked}
 use Rattle.inspector.specs.declared.cycles.cycle.Cycles.{Cycles}
 use Rattle.inspector.specs.declared.cycles.text.Layout.{Layout}
 use Rattle.inspector.specs.Taking.{CyclesTaken}
-use Rattle.inspector.specs.Text.{cycles_told}
+use Rattle.inspector.specs.CyclesText.{cycles_told}
 use Rattle.inspector.specs.declared.pages_needed.lines.Scope.TheVariants.{Pace as By_pace}
 use Rattle.inspector.specs.NeededReport.{needed_told, IsPaceReport}
 use Rattle.sizing.specs.declared.measured.Measured.{Measured}

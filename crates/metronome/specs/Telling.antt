@@ -9,7 +9,7 @@ use Rattle.quanta.specs.Timetable.{Timetable}
 use Rattle.trace.specs.declared.fault.TextFault.{TextFault}
 use Rattle.trace.specs.Streams.{Taken}
 use Rattle.player.specs.Player.{PlayerState}
-use Rattle.pictures.specs.Text.{PathTold}
+use Rattle.pictures.specs.PathText.{PathTold}
 use Rattle.inspector.specs.Filling.{sizes_told}
 use Rattle.inspector.specs.Report.{report_of}
 use Rattle.command_line.specs.declared.job.Picture.{Picture}

@@ -62,15 +62,11 @@ abbrev pub veil_line : ℕ → ℕ → ℕ → ℕ → Colour → List ℕ
 veil_line x y width height fill =
     box_text x y width height ++ codes "' fill-opacity='0.46' fill='" ++ colour_code fill ++ codes "'/>"
 
--- which part of a text stands at its point, as SVG names it
-abbrev pub anchor_name : Anchor → List ℕ
-anchor_name anchors.Start = codes "start"
-anchor_name anchors.Middle = codes "middle"
-anchor_name anchors.End = codes "end"
-
--- the same as an attribute, the last before the text
+-- which part of a text stands at its point: the last attribute before the text
 abbrev pub anchor_text : Anchor → List ℕ
-anchor_text anchor = codes "' text-anchor='" ++ anchor_name anchor ++ codes "'>"
+anchor_text anchors.Start = codes "' text-anchor='start'>"
+anchor_text anchors.Middle = codes "' text-anchor='middle'>"
+anchor_text anchors.End = codes "' text-anchor='end'>"
 
 -- a point of the base line of a text, and the size of its letters
 abbrev pub point_text : ℕ → ℕ → ℕ → List ℕ

@@ -17,4 +17,4 @@ pub mod Statements
 pub mod Distance
 pub mod Search
 pub mod Route
-pub mod Text
+pub mod PathText

@@ -1,15 +1,16 @@
 -- Samples of a heap along a run.
-use Rattle.std.specs.Prelude.{◌≡◌, ℕ, ◌+◌, ◌*◌, ◌^◌, ◌<◌, ◌≤◌, max, Bool, true, false, if◌then◌else◌, List, [], ◌∷◌, ◌++◌, length, slice_get, option_map, unwrap_or}
+use Rattle.std.specs.Prelude.{◌≡◌, ℕ, ◌+◌, ◌*◌, ◌^◌, ◌<◌, ◌≤◌, max, Bool, true, false, if◌then◌else◌, List, [], ◌∷◌, length, slice_get, option_map, unwrap_or}
 use Rattle.std.specs.List.{fold}
 use Rattle.heap_model.specs.declared.phase.Phase.{Phase}
 use Rattle.heap_model.specs.declared.phase.Phase.TheVariants as phases
 use Rattle.heap_model.specs.Event.{Event}
 use Rattle.heap_model.specs.State.{HeapState}
 use Rattle.trace.specs.declared.version.Version.{Version}
-use Rattle.trace.specs.GoneOver.{LinesDone, No_lines, One_line_more}
-use Rattle.trace.specs.TextLine.{Text, text_after}
+use Rattle.trace.specs.GoneOver.{LinesDone}
+use Rattle.trace.specs.TextLine.{Text}
 use Rattle.player.specs.declared.style.Style.TheVariants.{Nothing}
 use Rattle.player.specs.Playing.{Stage, PlaysLine, is_event}
+use Rattle.player.specs.Alongside.{brought}
 use Rattle.pictures.specs.declared.sample.Sample.{Sample}
 use Rattle.pictures.specs.declared.over_time.TheConstants.{MOST_SAMPLES}
 use Rattle.pictures.specs.OverTime.{sample_of}
@@ -36,13 +37,15 @@ sampled m = sample_of m.heap m.line (is_idle m.heap.phase)
 abbrev pub moment_after : Text → HeapState → List Moment
 moment_after text heap = if is_event text.bytes then moment text.number heap ∷ [] else []
 
+-- the moments of a line that was played
+abbrev pub moments_in : (text : Text) (old : Stage) (events : List Event) (new : Stage)
+    → PlaysLine Nothing text old events new → List Moment
+moments_in text old events new goes = moment_after text new.player.course.heap
+
 -- The moments of lines that were played: the one before them, and the one after each line of an event.
-abbrev pub moments_along : (old : Stage) (lines : List (List ℕ)) (version : Version) (events : List Event) (new : Stage)
+abbrev pub moments_along : {old new : Stage} {lines : List (List ℕ)} {version : Version} {events : List Event}
     → LinesDone (PlaysLine Nothing) old lines version events new → List Moment
-moments_along old lines version events new No_lines = moment 0 old.player.course.heap ∷ []
-moments_along old lines version events new (One_line_more before v next es more line mid after done goes follows) =
-    moments_along old before v es mid done
-    ++ moment_after (text_after before v line) after.player.course.heap
+moments_along {old} done = moment 0 old.player.course.heap ∷ brought moments_in done
 
 -- sample i is of the moment at place i * stride, as far as there are moments
 abbrev pub AreSamples : List Moment → ℕ → List Sample → Type 0

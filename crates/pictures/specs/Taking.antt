@@ -3,13 +3,13 @@ use Rattle.std.specs.Prelude.{◌≡◌, List, [], ◌++◌, length, Result, Ok,
 use Rattle.size_classes.specs.declared.config.Config.{Config}
 use Rattle.heap_model.specs.Event.{Event}
 use Rattle.trace.specs.declared.fault.TextFault.{TextFault}
-use Rattle.trace.specs.declared.fault.TextFault.TheVariants.{NoMemory as Without_memory}
 use Rattle.trace.specs.Streams.{Given}
 use Rattle.trace.specs.TextLine.{Text}
 use Rattle.player.specs.declared.style.Style.TheVariants.{Nothing}
 use Rattle.player.specs.New.{IsNew}
 use Rattle.player.specs.Player.{PlayerState}
-use Rattle.player.specs.Playing.{Stage, stage, PlaysLine, StopsText, Played}
+use Rattle.player.specs.Playing.{Stage, stage, PlaysLine, Played}
+use Rattle.player.specs.Alongside.{TextStops, StopsNew}
 use Rattle.pictures.specs.declared.timeline.samples.Samples.{Samples}
 use Rattle.pictures.specs.Samples.{Moment, moment_after, moments_along, AreSamples, IsStride}
 use Rattle.pictures.specs.Sampler.{IsAlong}
@@ -21,15 +21,13 @@ LineSampled text old new (Ok done) =
     (es : List Event) × PlaysLine Nothing text (stage old.player []) es (stage new.player [])
     × ((moments : List Moment) → IsAlong moments old.sampler
     → IsAlong (moments ++ moment_after text new.player.course.heap) new.sampler)
-LineSampled text old new (Err Without_memory) = Unit {0}
-LineSampled text old new (Err fault) = StopsText Nothing fault text (stage old.player []) (stage new.player [])
+LineSampled text old new (Err fault) = TextStops fault text old.player new.player
 
 -- these are the samples of the run that played an input, with the number of its lines
 abbrev pub AreSamplesOf : (given : Given) (old new : Stage) → Played Nothing given old new (Ok tt) → Samples → Type 0
 AreSamplesOf given old new played s =
-    let lines = played.over.lines in
-    let moments = moments_along old lines played.over.version played.over.events played.over.mid played.over.done in
-    IsStride (length moments) s.stride × AreSamples moments s.stride s.items.items × (s.lines ≡ length lines)
+    let moments = moments_along played.over.done in
+    IsStride (length moments) s.stride × AreSamples moments s.stride s.items.items × (s.lines ≡ length played.over.lines)
 
 -- The lines of an input are played on a new player, and the samples are those of the run; or the fault is that with
 -- which playing them ends; or memory was refused.
@@ -37,6 +35,4 @@ abbrev pub SamplesTaken : Config → Given → Result Samples TextFault → Type
 SamplesTaken config given (Ok samples) =
     (old : PlayerState) × (new : Stage) × (played : Played Nothing given (stage old []) new (Ok tt)) × IsNew config old
     × AreSamplesOf given (stage old []) new played samples
-SamplesTaken config given (Err Without_memory) = Unit {0}
-SamplesTaken config given (Err fault) =
-    (old : PlayerState) × (new : Stage) × Played Nothing given (stage old []) new (Err fault) × IsNew config old
+SamplesTaken config given (Err fault) = StopsNew config given fault

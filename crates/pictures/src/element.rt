@@ -1,7 +1,7 @@
 //! The elements of a picture. All lengths are in units of the picture, with x from the left and y from
 //! the top.
 ghost use Rattle.std.specs.Prelude.{◌≡◌, ◌≤◌, ◌<◌, ◌+◌, ◌++◌, length, take, codes, decimal};
-ghost use Rattle.pictures.specs.Elements.{colour_code, open_line, title_text, box_text, anchor_name, anchor_text, point_text, text_line, element_line};
+ghost use Rattle.pictures.specs.Elements.{colour_code, open_line, title_text, box_text, anchor_text, point_text, text_line, element_line};
 
 use crate::caption::{Caption, Words, put_caption};
 use crate::colour::Colour;
@@ -14,20 +14,6 @@ pub enum Anchor {
     Start,
     Middle,
     End,
-}
-
-impl Anchor {
-    /// The part as SVG names it.
-    fn name(self) -> &'static [u8]
-        ensures name { result.now ≡ anchor_name self }
-        ensures short { length result.now ≤ 6 }
-    {
-        match self {
-            Anchor::Start => b"start",
-            Anchor::Middle => b"middle",
-            Anchor::End => b"end",
-        }
-    }
 }
 
 /// An element of a picture. Each is a line of text.
@@ -137,9 +123,11 @@ fn put_anchor(out: &mut [u8], at: usize, anchor: Anchor) -> usize
     ensures text { take result out.new ≡ take at out.old ++ anchor_text anchor }
     ensures place { result ≤ at + 23 }
 {
-    let end = put(out, at, b"' text-anchor='");
-    let end = put(out, end, anchor.name());
-    put(out, end, b"'>")
+    match anchor {
+        Anchor::Start => put(out, at, b"' text-anchor='start'>"),
+        Anchor::Middle => put(out, at, b"' text-anchor='middle'>"),
+        Anchor::End => put(out, at, b"' text-anchor='end'>"),
+    }
 }
 
 /// Puts text.

@@ -10,7 +10,7 @@ use Rattle.inspector.specs.declared.cycles.open.Open.{Open}
 use Rattle.inspector.specs.declared.cycles.log.Log.{Log}
 use Rattle.inspector.specs.Steps.{Step, is_quantum, begins, works, ends_sweep, ends_cycle}
 use Rattle.inspector.specs.Cycles.{counted, behind_last, copies_at, units_by, end_of, SweptBy, IsCycle, AreCycles, No_cycle, One_cycle_more}
-use Rattle.inspector.specs.Log.{place_at, IsBase, AreCounted, IsEnd, IsOpen, HasOpen, IsOpenIn, IsLog}
+use Rattle.inspector.specs.Log.{place_at, IsBase, AreCounted, IsEnd, IsStart, IsOpen, HasOpen, IsOpenIn, IsLog}
 use Rattle.std.proofs.lemmas.List.Sums.{fold_push}
 use Rattle.inspector.proofs.cycles.Stepping.{count_push, count_other, fewer, idles, ends_none, no_quantum, end_here, last_push, swept_other, end_other, held_more}
 
@@ -65,13 +65,10 @@ module _ (steps : List Step) (s : Step) (old : Base) (base : IsBase steps old) w
 
 module _ (earlier : List Step) (first : Step) (later : List Step) (s : Step) (old : Open) (is : IsOpen earlier first later old) where
   -- the sweep and the end are reported with the step
-  pub open_more : (new : Open) → new.line ≡ old.line → new.base ≡ old.base → new.place ≡ old.place → new.free ≡ old.free → new.quanta ≡ min (old.quanta + cond (works s) 1 0) (2 ^ 64 - 1) → new.longest ≡ max old.longest (units_by s)
+  pub open_more : (new : Open) → new.start ≡ old.start → new.quanta ≡ min (old.quanta + cond (works s) 1 0) (2 ^ 64 - 1) → new.longest ≡ max old.longest (units_by s)
       → SweptBy earlier first (later ++ s ∷ []) new.sweep → IsEnd first (later ++ s ∷ []) new.end → IsOpen earlier first (later ++ s ∷ []) new
-  open_more new line base place free quanta longest sweep end = record {
-    line = line ∙ is.line;
-    base = subst (IsBase earlier) (sym base) is.base;
-    place = place ∙ is.place;
-    free = free ∙ is.free;
+  open_more new start quanta longest sweep end = record {
+    start = subst (IsStart earlier first) (sym start) is.start;
     quanta = quanta ∙ ap (λ n. min (n + cond (works s) 1 0) (2 ^ 64 - 1)) is.quanta ∙ held_more (count_by works later) (works s) ∙ ap counted (sym (count_push works later s));
     longest = longest ∙ ap (λ n. max n (units_by s)) is.longest ∙ sym (fold_push (λ most t. max most (units_by t)) 0 later s);
     sweep = sweep;
@@ -82,7 +79,7 @@ module _ (earlier : List Step) (first : Step) (later : List Step) (s : Step) (ol
   pub open_stays : works s ≡ false → IsOpen earlier first (later ++ s ∷ []) old
   open_stays e =
       let none = ends_none s e in
-      open_more old refl refl refl refl (held (works s) (count_by works later) e is.quanta) (no_units (works s) (s.after.heap.units - s.before.heap.units) e) (swept_other earlier first later s old.sweep none.0 is.sweep) (end_other first later s old.end none.1 is.end)
+      open_more old refl (held (works s) (count_by works later) e is.quanta) (no_units (works s) (s.after.heap.units - s.before.heap.units) e) (swept_other earlier first later s old.sweep none.0 is.sweep) (end_other first later s old.end none.1 is.end)
     where
       held : (b : Bool) (n : ℕ) → b ≡ false → old.quanta ≡ min n (2 ^ 64 - 1) → old.quanta ≡ min (old.quanta + cond b 1 0) (2 ^ 64 - 1)
       held b n e q = let none : cond b 1 0 ≡ 0 = ap {B = ℕ} (λ c. cond c 1 0) e in omega (arith, q, none)

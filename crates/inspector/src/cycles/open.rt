@@ -35,16 +35,22 @@ pub struct End {
     pub moved: usize,
 }
 
+/// What was known when a cycle began.
+#[derive(Clone, Copy, Debug, PartialEq, Eq)]
+pub struct Start {
+    /// The number of the line that began it.
+    pub line: u64,
+    pub base: Base,
+    /// How long the history was.
+    pub place: usize,
+    /// How many pages were free.
+    pub free: usize,
+}
+
 /// A cycle that isn't followed by another yet.
 #[derive(Clone, Copy, Debug, PartialEq, Eq)]
 pub struct Open {
-    pub line: u64,
-    /// What was known when it began.
-    pub base: Base,
-    /// How long the history was when it began.
-    pub place: usize,
-    /// How many pages were free when it began.
-    pub free: usize,
+    pub start: Start,
     pub quanta: u64,
     pub longest: u64,
     pub sweep: Option<Sweep>,
@@ -109,25 +115,8 @@ impl End {
     }
 }
 
-impl Open {
-    /// A cycle that a line begins.
-    pub fn new(line: u64, base: &Base, recorded: &Recorded) -> Open
-        ensures { (earlier : List Step) (s : Step) → IsBase earlier base.now → s.line ≡ line
-            → s.before ≡ recorded.now.course → IsOpen earlier s [] result }
-    {
-        Open {
-            line,
-            base: *base,
-            place: recorded.history().len(),
-            free: recorded.heap().free_pages(),
-            quanta: 0,
-            longest: 0,
-            sweep: None,
-            end: None,
-        }
-    }
-
-    /// What its sweep did, which has just ended and left these copies.
+impl Start {
+    /// What the sweep of the cycle did, which has just ended and left these copies.
     fn swept(&self, recorded: &Recorded, copies: &Copies) -> Sweep
         ensures { (swept ended : Option Course) (first : Course) → IsBaseAt swept ended self.now.base
             → self.now.place ≡ length first.history
@@ -149,6 +138,27 @@ impl Open {
             made,
         }
     }
+}
+
+impl Open {
+    /// A cycle that a line begins.
+    pub fn new(line: u64, base: &Base, recorded: &Recorded) -> Open
+        ensures { (earlier : List Step) (s : Step) → IsBase earlier base.now → s.line ≡ line
+            → s.before ≡ recorded.now.course → IsOpen earlier s [] result }
+    {
+        Open {
+            start: Start {
+                line,
+                base: *base,
+                place: recorded.history().len(),
+                free: recorded.heap().free_pages(),
+            },
+            quanta: 0,
+            longest: 0,
+            sweep: None,
+            end: None,
+        }
+    }
 
     /// The same after one more quantum, if the sweep has ended then.
     fn sweep_after(&self, turn: &Turn, copies: &Copies, recorded: &Recorded) -> Option<Sweep>
@@ -162,7 +172,7 @@ impl Open {
         if !turn.ends_sweep {
             return None;
         }
-        Some(self.swept(recorded, copies))
+        Some(self.start.swept(recorded, copies))
     }
 
     /// How it ended, if it has after one more quantum.
@@ -216,7 +226,7 @@ impl Open {
     {
         let end = self.end(heap);
         Cycle {
-            line: self.line,
+            line: self.start.line,
             quanta: self.quanta,
             units: end.units,
             longest: self.longest,

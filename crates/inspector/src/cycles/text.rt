@@ -1,7 +1,7 @@
 //! The text of a log of cycles.
 ghost use Rattle.std.specs.Prelude.{◌≡◌, ◌++◌, ◌∷◌, [], Some, IfOk, OnOk, string_bytes, decimal};
 ghost use Rattle.std.specs.List.{flat_map};
-ghost use Rattle.inspector.specs.Text.{header, in_column, figure, figures, separator, cycle_line, cycles_told};
+ghost use Rattle.inspector.specs.CyclesText.{header, in_column, figure, figures, separator, cycle_line, cycles_told};
 
 use crate::cycles::cycle::Cycle;
 use std::alloc::{AllocError, Global};

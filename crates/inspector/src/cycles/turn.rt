@@ -7,8 +7,7 @@ ghost use Rattle.inspector.specs.Steps.{Step, is_quantum};
 use heap_model::phase::Phase;
 use machine::Heap;
 use nodes::Copies;
-pub use sizing::in_cycle;
-use sizing::is_tracing;
+use sizing::{in_cycle, is_tracing};
 
 /// Where the collector of a heap is: its phase, and the units of the cycle.
 #[derive(Clone, Copy, Debug, PartialEq, Eq)]

@@ -14,11 +14,12 @@ ghost use Rattle.inspector.specs.Watching.{LineLogged, DueLogged, TicksLogged, E
 
 use crate::cycles::cycle::Cycles;
 use crate::cycles::log::Log;
-use crate::cycles::turn::{Mark, in_cycle};
+use crate::cycles::turn::Mark;
 use graph_heap::{Command, NoMemory};
 use player::{Player, TickFault};
 use quanta::CLOCK_LIMIT;
 use size_classes::Config;
+use sizing::in_cycle;
 use std::alloc::Global;
 use trace::{Line, LineHandler, TextFault, TextLine, read_numbered};
 

@@ -4,7 +4,7 @@ use Rattle.std.proofs.lemmas.Nat.{div-add-mod'}
 use Rattle.graph_heap.specs.declared.command.Limits.{Limits}
 use Rattle.graph_heap.specs.Graph.{root_cells}
 use Rattle.graph_heap.specs.Effect.{slot_at, static_at}
-use Rattle.pictures.specs.Text.{slot_line, static_line, IsRootLine}
+use Rattle.pictures.specs.PathText.{slot_line, static_line, IsRootLine}
 
 -- there are slots where a place is among them
 pub some_slots : (place mutators slots : ℕ) → place < mutators * slots → slots ≢ 0

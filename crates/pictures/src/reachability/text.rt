@@ -2,7 +2,7 @@
 ghost use Rattle.std.specs.Prelude.{◌≡◌, ◌<◌, IfOk, string_bytes};
 ghost use Rattle.std.specs.List.{flat_map};
 ghost use Rattle.graph_heap.specs.Graph.{root_cells};
-ghost use Rattle.pictures.specs.Text.{IsRootLine, step_line, IsPathText, IsRooted, TellsStanding, PathTold};
+ghost use Rattle.pictures.specs.PathText.{IsRootLine, step_line, IsPathText, IsRooted, TellsStanding, PathTold};
 
 use crate::reachability::route::{Route, Standing, Step, shortest_path};
 use graph_heap::{Limits, NoMemory, Reference};

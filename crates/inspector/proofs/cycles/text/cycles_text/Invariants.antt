@@ -1,6 +1,6 @@
 use Rattle.std.proofs.Common.{◌≡◌, ◌++◌, take, string_bytes}
 use Rattle.std.specs.List.{flat_map}
-use Rattle.inspector.specs.Text.{header, cycle_line}
+use Rattle.inspector.specs.CyclesText.{header, cycle_line}
 use Rattle.inspector.proofs.cycles.text.cycles_text.Given as goal
 
 -- the lines of the cycles so far

@@ -1,6 +1,6 @@
 use Rattle.std.proofs.Common.{◌≡◌, ◌++◌, take, Some, string_bytes}
 use Rattle.std.specs.List.{flat_map}
-use Rattle.inspector.specs.Text.{figure, figures, separator}
+use Rattle.inspector.specs.CyclesText.{figure, figures, separator}
 use Rattle.inspector.proofs.cycles.text.line.Given as goal
 
 -- the figures so far

@@ -2,7 +2,7 @@ use Rattle.std.specs.Prelude.{string_bytes}
 use Rattle.std.proofs.Common.{◌<◌, arith}
 use Rattle.std.proofs.lemmas.Result.{IfOk-weaker}
 use Rattle.graph_heap.specs.Graph.{root_cells}
-use Rattle.pictures.specs.Text.{IsRootLine}
+use Rattle.pictures.specs.PathText.{IsRootLine}
 use Rattle.pictures.proofs.reachability.Lines.{static_told}
 use Rattle.pictures.proofs.reachability.text.root_line.Goals as goal
 

@@ -1,6 +1,6 @@
 use Rattle.std.proofs.Common.{◌≡◌, take, string_bytes}
 use Rattle.std.specs.List.{flat_map}
-use Rattle.pictures.specs.Text.{step_line}
+use Rattle.pictures.specs.PathText.{step_line}
 use Rattle.pictures.proofs.reachability.text.step_lines.Given as goal
 
 -- the lines so far

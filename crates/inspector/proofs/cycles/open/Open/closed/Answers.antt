@@ -7,7 +7,7 @@ pub returns : goal.returns
 returns c = λ earlier later first is now.
     let end = c.end-end.ensures later first is.end now in
     record {
-      line = is.line;
+      line = is.start.line;
       quanta = is.quanta;
       units = ap (λ (e : End). e.units) end;
       longest = is.longest;

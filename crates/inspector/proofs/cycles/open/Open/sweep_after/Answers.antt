@@ -18,4 +18,4 @@ returns c = λ earlier later first s is turn counted now.
     let ends = sym turn.sweep ∙ c.if-not-turn.false in
     swept_now earlier first later s c.args.self.now.sweep (sym c.is_some.ensures ∙ c.if-is_some.false) ends is.sweep c.swept.result
     (subst (λ r. IsSweep (behind_last ends_sweep None earlier) (behind_last ends_cycle None earlier) first.before r c.swept.result) (sym now)
-    (c.swept.ensures _ _ first.before is.base is.place is.free (counted.sweep ends ∙ ap (λ (r : Course). copies_in r.heap.store) now)))
+    (c.swept.ensures _ _ first.before is.start.base is.start.place is.start.free (counted.sweep ends ∙ ap (λ (r : Course). copies_in r.heap.store) now)))

@@ -1,5 +1,5 @@
 -- Playing up to the line of the nth event.
-use Rattle.std.proofs.Common.{◌≡◌, ◌≢◌, ℕ, zero, suc, ◌+◌, ◌-◌, ◌<◌, ◌≤◌, Bool, true, false, not, ◌&&◌, cond, List, [], ◌∷◌, ◌++◌, inl, inr, append_assoc, append-nil, ap, ◌∙◌, sym, refl, subst, arith, length, Ok, Err}
+use Rattle.std.proofs.Common.{◌≡◌, ◌≢◌, ℕ, zero, suc, ◌+◌, ◌-◌, ◌<◌, ◌≤◌, Bool, true, false, not, ◌&&◌, cond, List, [], ◌∷◌, ◌++◌, ◌⊎◌, inl, inr, append_assoc, append-nil, ap, ◌∙◌, sym, refl, subst, arith, length, Ok, Err}
 use Rattle.std.specs.Prelude.{Option, None, Some, Result, IsTrue, option_map}
 use Rattle.std.specs.List.{count_by}
 use Rattle.std.specs.Str.{bytes_eq}
@@ -8,6 +8,7 @@ use Rattle.std.proofs.lemmas.List.Sums.{sum_by_push}
 use Rattle.trace.specs.declared.line.Line.{Line}
 use Rattle.trace.specs.declared.line.Line.TheVariants as lines
 use Rattle.trace.specs.LineReader.{Lines}
+use Rattle.trace.specs.GoneOver.{GoneOver, Ends}
 use Rattle.trace.specs.declared.version.Version.{Version}
 use Rattle.graph_heap.specs.declared.command.Command.{Command}
 use Rattle.machine.specs.declared.recorded.Receipt.{Receipt}
@@ -22,8 +23,9 @@ use Rattle.trace.proofs.ReadLines.{unread}
 use Rattle.trace.proofs.GoingOver.{SoFar}
 use Rattle.player.specs.declared.style.Style.{Style}
 use Rattle.player.specs.Player.{PlayerState}
-use Rattle.player.specs.Playing.{Stage, stage, PlaysLine, Played, PlayedFirst, PlayedUpTo, is_event, says_event, EndAtEvent, entry_of, LineDone, LinePlayed, written_of, IsWrittenUpTo}
-use Rattle.player.proofs.Closing.{cut}
+use Rattle.player.specs.Playing.{Stage, stage, PlaysLine, StopsText, Played, PlayedFirst, PlayedUpTo, is_event, says_event, EndAtEvent, entry_of, LineDone, LinePlayed, written_of, IsWrittenUpTo}
+use Rattle.player.proofs.Behind.{behind_fewer}
+use Rattle.player.proofs.Closing.{cut, no_part, grows_longer}
 use Rattle.player.proofs.Lines.{enters_nothing, played}
 
 -- a line that is read as another than a skipped one is neither skipped nor tells the version
@@ -132,6 +134,15 @@ last_left (Some k) false lines line some is e = let none : k ≡ 0 = (let same =
 abbrev pub up_to : {style : Style} {given : Given} {old new : Stage} {result : Result (Unit {0}) TextFault} (most : Option ℕ) (p : Played style given old new result) → ((n : ℕ) → most ≡ Some n → count_by is_event p.over.lines < n) → PlayedUpTo most style given old new result
 up_to None p few = p
 up_to (Some n) p few = inl (p, few n refl)
+
+-- the same where a write of what waits fails at the end: what was kept before the last call waited, or nothing waits
+pub cut_waited : (most : Option ℕ) (style : Style) (given : Given) (old : Stage) (player : PlayerState) (before taken taken' waiting kept : List ℕ) (ended : Result (Unit {0}) TextFault) → length old.taken ≤ length before → length before ≤ length taken → GrowsByPart taken taken' waiting
+    → (over : GoneOver (PlaysLine style) given old (λ reached. Ends (StopsText style) reached given.ended (stage player (taken ++ waiting)) ended)) → IsWrittenUpTo style old over.lines over.events kept before → (kept ≡ over.rest) ⊎ (waiting ≡ [])
+    → ((n : ℕ) → most ≡ Some n → count_by is_event over.lines < n) → PlayedUpTo most style given old (stage player taken') (Err Write)
+cut_waited most style given old player before taken taken' waiting kept ended low more grows over behind (inl same) few =
+    let longer = grows_longer taken taken' waiting grows in
+    up_to most (cut style given old player taken taken' waiting ended (omega (arith, low, more)) grows over (behind_fewer style old over.lines over.events kept over.rest before taken' (omega (arith, more, longer)) (omega (arith, ap length same)) behind)) few
+cut_waited most style given old player before taken taken' waiting kept ended low more grows over behind (inr none) few = absurd (no_part taken taken' waiting none grows)
 
 -- and once none is
 pub none_left : (style : Style) {given : Given} {old new : Stage} {reader : Lines} (so : SoFar (PlaysLine style) given old new reader) (most left : Option ℕ) → AreLeft most (count_by is_event so.lines) left → left ≡ Some 0 → EndAtEvent so.lines

@@ -88,7 +88,7 @@ pub fn is_event(line: Line) -> bool
 
 /// Does a line, and adds what is written of it to what waits, where there must be room for a line.
 /// Answers whether it is that of an event.
-#[inline(never)]
+#[inline(always)]
 pub fn play_line(
     text: TextLine,
     waiting: &mut WriteBuffer,

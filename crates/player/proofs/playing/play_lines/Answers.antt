@@ -8,8 +8,8 @@ use Rattle.trace.proofs.Reading.{reading_at_first, reading_on}
 use Rattle.player.specs.Playing.{stage, PlaysLine, is_event, StopsText}
 use Rattle.player.proofs.Behind.{behind_first, behind_fewer, behind_on, waited_or_written, handed}
 use Rattle.player.proofs.Lines.{ends_so}
-use Rattle.player.proofs.Closing.{either, cut, cut_after, moved, no_part, grows_longer, stops_taken}
-use Rattle.player.proofs.First.{count_more, left_at_first, left_on, fewer, last_left, up_to, none_left, none_cut}
+use Rattle.player.proofs.Closing.{either, cut_after, moved, no_part, grows_longer, stops_taken}
+use Rattle.player.proofs.First.{count_more, left_at_first, left_on, fewer, last_left, up_to, cut_waited, none_left, none_cut}
 use Rattle.player.proofs.playing.play_lines.Goals as goal
 
 pub loop-reader-init : goal.loop-reader-init
@@ -46,19 +46,13 @@ returns-in_err-next_line_once_written-clause-cut g c taken grows =
     let e = c.in_err-next_line_once_written.ensures in
     let i = c.loop-reader.invariant in
     let new = c.next_line_once_written.new in
-    let old = stage c.args.player.now (g.K.Sink.taken c.args.sink.now) in
-    let given = given_by g.S.Source.given g.S.Source.ended c.args.source.now new.source in
     let few = fewer c.args.n c.loop-reader.left (count_by is_event i.done.lines) i.few (c.is_any_left.ensures.some c.loop-reader-test.true) in
-    let more = grows_longer (g.K.Sink.taken new.sink) taken new.waiting grows in
     either c.in_err-next_line_once_written.field-0.0
     (λ none. let so = moved c.args.style _ (g.K.Sink.taken new.sink ++ new.waiting) i.done (e.whole none) in
     let h = e.hands none in
-    elim (waited_or_written g.S.Source.given c.loop-reader.source new.source c.loop-reader.reader.kept new.self.kept new.waiting h.text e.asked) [
-      | inl same ↦ up_to c.args.n (cut c.args.style given old c.loop-reader.player (g.K.Sink.taken new.sink) taken new.waiting (Err c.in_err-next_line_once_written.field-0.0) (omega (arith, i.grows, e.grows)) grows
-          (ends_without so new.self _ _ (Unit {0}) (StopsText c.args.style) _ h)
-          (behind_fewer c.args.style old i.done.lines i.done.events c.loop-reader.reader.kept new.self.kept (g.K.Sink.taken c.loop-reader.sink) taken (omega (arith, e.grows, more)) (omega (arith, ap length same)) i.behind)) few
-      | inr none ↦ absurd (no_part (g.K.Sink.taken new.sink) taken new.waiting none grows)
-    ])
+    cut_waited c.args.n c.args.style _ _ c.loop-reader.player (g.K.Sink.taken c.loop-reader.sink) (g.K.Sink.taken new.sink) taken new.waiting c.loop-reader.reader.kept (Err c.in_err-next_line_once_written.field-0.0) i.grows e.grows grows
+    (ends_without so new.self _ _ (Unit {0}) (StopsText c.args.style) _ h) i.behind
+    (waited_or_written g.S.Source.given c.loop-reader.source new.source c.loop-reader.reader.kept new.self.kept new.waiting h.text e.asked) few)
     (λ is. absurd (no_part (g.K.Sink.taken new.sink) taken new.waiting (e.part (ap Err is)).1 grows))
 
 pub returns-in_err-is_event-clause-played : goal.returns-in_err-is_event-clause-played
@@ -77,19 +71,16 @@ returns-in_err-is_event-clause-cut g c taken grows =
     let e = c.in_ok-next_line_once_written.ensures in
     let i = c.loop-reader.invariant in
     let new = c.next_line_once_written.new in
-    let waiting = c.play_line.new.waiting in
-    let old = stage c.args.player.now (g.K.Sink.taken c.args.sink.now) in
-    let given = given_by g.S.Source.given g.S.Source.ended c.args.source.now new.source in
-    let few = fewer c.args.n c.loop-reader.left (count_by is_event i.done.lines) i.few (c.is_any_left.ensures.some c.loop-reader-test.true) in
-    let more = grows_longer (g.K.Sink.taken new.sink) taken waiting grows in
+    let played = c.in_err-is_event.ensures.played in
     let so = moved c.args.style _ (g.K.Sink.taken new.sink ++ new.waiting) i.done (e.whole refl) in
     let h = handed _ _ _ _ true c.if-branch.true (e.hands refl) in
-    elim (waited_or_written g.S.Source.given c.loop-reader.source new.source c.loop-reader.reader.kept (new.self.text.bytes ++ 10 ∷ new.self.kept) new.waiting h.text e.asked) [
-      | inl same ↦ up_to c.args.n (cut c.args.style given old c.play_line.new.player (g.K.Sink.taken new.sink) taken waiting (Err c.in_err-is_event.field-0.0) (omega (arith, i.grows, e.grows)) grows
-          (ends_at so new.self _ _ _ (e.hands refl) c.if-branch.true _ c.text.ensures (Unit {0}) (StopsText c.args.style) _ _ (c.in_err-is_event.ensures.played (g.K.Sink.taken new.sink)))
-          (behind_fewer c.args.style old i.done.lines i.done.events c.loop-reader.reader.kept (new.self.text.bytes ++ 10 ∷ new.self.kept) (g.K.Sink.taken c.loop-reader.sink) taken (omega (arith, e.grows, more)) (omega (arith, ap length same)) i.behind)) few
-      | inr none ↦ absurd (no_part (g.K.Sink.taken new.sink) taken waiting (stops_taken c.args.style _ _ _ _ (c.in_err-is_event.ensures.played []) ∙ none) grows)
-    ]
+    cut_waited c.args.n c.args.style _ _ c.play_line.new.player (g.K.Sink.taken c.loop-reader.sink) (g.K.Sink.taken new.sink) taken c.play_line.new.waiting c.loop-reader.reader.kept (Err c.in_err-is_event.field-0.0) i.grows e.grows grows
+    (ends_at so new.self _ _ _ (e.hands refl) c.if-branch.true _ c.text.ensures (Unit {0}) (StopsText c.args.style) _ _ (played (g.K.Sink.taken new.sink))) i.behind
+    (elim (waited_or_written g.S.Source.given c.loop-reader.source new.source c.loop-reader.reader.kept (new.self.text.bytes ++ 10 ∷ new.self.kept) new.waiting h.text e.asked) [
+      | inl same ↦ inl same
+      | inr none ↦ inr (stops_taken c.args.style _ _ _ _ (played []) ∙ none)
+    ])
+    (fewer c.args.n c.loop-reader.left (count_by is_event i.done.lines) i.few (c.is_any_left.ensures.some c.loop-reader-test.true))
 
 pub loop-reader-preserved : goal.loop-reader-preserved
 loop-reader-preserved g c =
@@ -127,18 +118,12 @@ returns-else-branch-clause-cut g c taken grows =
     let e = c.in_ok-next_line_once_written.ensures in
     let i = c.loop-reader.invariant in
     let new = c.next_line_once_written.new in
-    let old = stage c.args.player.now (g.K.Sink.taken c.args.sink.now) in
-    let given = given_by g.S.Source.given g.S.Source.ended c.args.source.now new.source in
-    let few = fewer c.args.n c.loop-reader.left (count_by is_event i.done.lines) i.few (c.is_any_left.ensures.some c.loop-reader-test.true) in
-    let more = grows_longer (g.K.Sink.taken new.sink) taken new.waiting grows in
     let so = moved c.args.style _ (g.K.Sink.taken new.sink ++ new.waiting) i.done (e.whole refl) in
     let h = handed _ _ _ _ false c.if-branch.false (e.hands refl) in
-    elim (waited_or_written g.S.Source.given c.loop-reader.source new.source c.loop-reader.reader.kept new.self.kept new.waiting h.text e.asked) [
-      | inl same ↦ up_to c.args.n (cut c.args.style given old c.loop-reader.player (g.K.Sink.taken new.sink) taken new.waiting (Ok tt) (omega (arith, i.grows, e.grows)) grows
-          (ends_over so new.self _ _ _ (e.hands refl) c.if-branch.false _ (λ rest all. (all.0, all.1, refl)))
-          (behind_fewer c.args.style old i.done.lines i.done.events c.loop-reader.reader.kept new.self.kept (g.K.Sink.taken c.loop-reader.sink) taken (omega (arith, e.grows, more)) (omega (arith, ap length same)) i.behind)) few
-      | inr none ↦ absurd (no_part (g.K.Sink.taken new.sink) taken new.waiting none grows)
-    ]
+    cut_waited c.args.n c.args.style _ _ c.loop-reader.player (g.K.Sink.taken c.loop-reader.sink) (g.K.Sink.taken new.sink) taken new.waiting c.loop-reader.reader.kept (Ok tt) i.grows e.grows grows
+    (ends_over so new.self _ _ _ (e.hands refl) c.if-branch.false _ (λ rest all. (all.0, all.1, refl))) i.behind
+    (waited_or_written g.S.Source.given c.loop-reader.source new.source c.loop-reader.reader.kept new.self.kept new.waiting h.text e.asked)
+    (fewer c.args.n c.loop-reader.left (count_by is_event i.done.lines) i.few (c.is_any_left.ensures.some c.loop-reader-test.true))
 
 pub returns-after-loop-reader-clause-played : goal.returns-after-loop-reader-clause-played
 returns-after-loop-reader-clause-played g c =

@@ -65,7 +65,7 @@ pub record IsStart (earlier : List Step) (first : Step) (start : Start) : Type 0
   pub place : start.place ≡ length first.before.history
   pub free : start.free ≡ free_pages first.before.heap.store.pages
 
--- A cycle that the first step began, as far as the later ones have come.
+-- A cycle that the first step began, as far as the later ones have taken it.
 pub record IsOpen (earlier : List Step) (first : Step) (later : List Step) (o : Open) : Type 0 where
   pub start : IsStart earlier first o.start
   pub quanta : o.quanta ≡ counted (count_by works later)

@@ -40,7 +40,7 @@ DueLogged until old new (Ok true) =
 DueLogged until old new (Ok false) = (due_below until old.player.timetable.due ≡ None) × (new ≡ old)
 DueLogged until old new (Err refused) = Unit {0}
 
--- n ticks pass, or would pass the clock's limit, or memory was refused
+-- n ticks pass and are logged, or they don't pass
 abbrev pub TicksLogged : ℕ → ℕ → Watch → Watch → Result (Unit {0}) TickFault → Type 0
 TicksLogged number n old new (Ok passed) = LineLogged number (lines.Tick n) old new
 TicksLogged number n old new (Err fault) = TicksStop fault n old.player new.player

@@ -29,7 +29,7 @@ module _ {X : Type 0}
   brought (One_line_more before version next events more line mid new done goes after) =
       brought done ++ Brings (text_after before version line) mid more new goes
 
--- Why so many ticks don't pass: they would pass the clock's limit; or memory was refused, for them or for what goes along.
+-- Why this many ticks don't pass: they would pass the clock's limit; or memory was refused, for them or for what goes along.
 abbrev pub TicksStop : TickFault → ℕ → PlayerState → PlayerState → Type 0
 TicksStop faults.ClockSpent n old new = (CLOCK_LIMIT < old.timetable.clock + n) × (new ≡ old)
 TicksStop faults.NoMemory n old new = Unit {0}

@@ -186,12 +186,12 @@ tracked_command r new m c reply t d spare w k keeps e = (
 
     asks : (n : ℕ) → n < CLASSES → main_blocks r.heap.store.pages n + asked_for g m c n ≤ blocks_for d n
     asks n l =
-        let held = census r.heap.store w.stands.pages n g.objects k.tidy k.first k.ids k.kept k.only in
+        let counted = census r.heap.store w.stands.pages n g.objects k.tidy k.first k.ids k.kept k.only in
         let a = keeps n l in
         let live = k.within n l in
         let asked : asked_for t.graph m c n ≡ asked_for g m c n = ap (λ z. asked_for z m c n) k.graph in
         let allocated : blocks_of (drop t.base t.graph.objects) n ≡ blocks_of (drop (length k.first) g.objects) n = ap (λ z. blocks_of (drop z t.graph.objects) n) k.base ∙ ap (λ (z : Graph). blocks_of (drop (length k.first) z.objects) n) k.graph in
-        omega (arith, held, a, live, asked, allocated)
+        omega (arith, counted, a, live, asked, allocated)
 
     finds : FindsRoom c (reply_of (room_for r.heap c) g m c) × (change_by (room_for r.heap c) g m c ≡ change_by true g m c)
     finds = command_has_room r.heap g (blocks_for d) spare w.stands.pages (bounded_pages r.heap (blocks_for d) spare k.bounded) k.pages m c asks

@@ -95,11 +95,11 @@ fn tell_text<K: Sink>(
 /// many pages the load needs.
 pub fn load_job<O: Opener, S: Source, K: Sink>(
     alloc: Global,
-    opener: &O,
     config: &Config,
-    name: &str,
     source: &mut S,
     sink: &mut K,
+    opener: &O,
+    name: &str,
 ) -> Result<Ending, RunFault>
     ensures done { LoadTold config.now (given_by S.given S.ended source.old source.new)
         (taken_by K.taken sink.old sink.new) result }

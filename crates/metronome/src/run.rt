@@ -238,6 +238,6 @@ fn work<S: Source, K: Sink, O: Opener, T: Threads + Wait + Sync>(
         Job::Pages {
             by: Sizing::Load(file),
             ..
-        } => load_job(alloc, host.opener, config, file, source, sink),
+        } => load_job(alloc, config, source, sink, host.opener, file),
     }
 }

@@ -12,18 +12,43 @@ use std::alloc::{AllocGlobal, Global};
 use std::marker::Brand;
 use std::sync::Wait;
 
-/// Makes an object, puts it into the static if that is empty, and loads what the static holds.
-const RACE: [Command; 3] = [
-    Command::New {
-        dst: 0,
-        shape: Shape::Plain { refs: 0, words: 0 },
-    },
-    Command::CompareStatic {
-        k: 0,
-        expect: 1,
-        new: 0,
-    },
-    Command::LoadStatic { dst: 1, k: 0 },
+const NEW: Command = Command::New {
+    dst: 0,
+    shape: Shape::Plain { refs: 0, words: 0 },
+};
+
+const FILL: Command = Command::CompareStatic {
+    k: 0,
+    expect: 1,
+    new: 0,
+};
+
+const READ: Command = Command::LoadStatic { dst: 1, k: 0 };
+
+/// Each of two seats makes an object, puts it into the static if that is empty, and loads what the static holds.
+const RACE: [(usize, Command, Reply); 6] = [
+    (0, NEW, Reply::Made(1)),
+    (1, NEW, Reply::Made(2)),
+    (0, FILL, Reply::Stored),
+    (1, FILL, Reply::Kept(1)),
+    (0, READ, Reply::Ref(1)),
+    (1, READ, Reply::Ref(1)),
+];
+
+/// Three calls of one seat, and one of the other.
+const IN_TURN: [(usize, Command, Reply); 4] = [
+    (1, NEW, Reply::Made(1)),
+    (1, Command::Copy { dst: 1, src: 0 }, Reply::Done),
+    (1, Command::Same { a: 0, b: 1 }, Reply::Is(true)),
+    (
+        0,
+        Command::Load {
+            dst: 0,
+            obj: 0,
+            i: 0,
+        },
+        Reply::Refused(Refusal::NullSlot),
+    ),
 ];
 
 /// The reply to a command from a seat, which is entered at this place.
@@ -34,74 +59,60 @@ fn call<N: Naming, R: Wait + Abort>(
     place: usize,
     command: Command,
 ) -> Result<Reply, ServerFault> {
+    let made = seat.made();
     let receipt = server.call(seat, command, rt)?;
     assert!(rt; receipt.place() == place);
     assert!(rt; receipt.entry().mutator == seat.mutator() && receipt.entry().command == command);
+    assert!(rt; seat.made() == made.wrapping_add(1));
     Ok(receipt.entry().reply)
 }
 
-/// Reserves room for six calls, and makes them: a race for the static, from each of two seats.
-fn six_calls<N: Naming, R: Wait + Abort + AllocGlobal>(
+/// Looks whether each seat sees so many calls.
+fn each_sees<N: Naming, R: Abort>(rt: &R, server: &Server<N>, seats: &mut [Seat<N>], calls: usize) {
+    for seat in seats {
+        assert!(rt; server.place_now(seat) == calls as u64);
+    }
+}
+
+/// Reserves room for calls, and makes them, each from the seat of its number. All seats see each of them.
+fn take_turns<N: Naming, R: Wait + Abort + AllocGlobal>(
     rt: &R,
     opening: Opening,
+    turns: &[(usize, Command, Reply)],
 ) -> Result<(), ServerFault>
     requires names { names_of opening ≡ N.names }
 {
     let (server, mut seats, _pacer) = Server::<N>::new(rt.alloc(), opening)?;
-    server.reserve_history(6, rt)?;
-    for number in 0..3usize {
-        for seat in &mut seats {
-            let place = number * 2 + seat.mutator() as usize;
-            let command = RACE[number];
-            assert!(rt; seat.made() == number as u64);
-            assert!(rt; call(rt, &server, seat, place, command).is_ok());
-        }
+    server.reserve_history(turns.len(), rt)?;
+    each_sees(rt, &server, seats.as_mut_slice(), 0);
+    for (place, (number, command, reply)) in turns.iter().enumerate() {
+        let Some(seat) = seats.get_mut(*number) else {
+            panic!(rt; "there are two seats");
+        };
+        assert!(rt; call(rt, &server, seat, place, *command).is_ok_and(|told| told == *reply));
+        each_sees(rt, &server, seats.as_mut_slice(), place + 1);
     }
     Ok(())
 }
 
-#[test]
-fn reserved_calls_are_sure(rt: HostRuntime) -> Result<(), ServerFault> {
-    let config = config_of(&rt, &FOUR_PAGES);
-    six_calls::<Brand, _>(&rt, Opening::new(&config))
+/// Takes turns at a server of its own.
+fn turns_at<R: Wait + Abort + AllocGlobal>(
+    rt: &R,
+    turns: &[(usize, Command, Reply)],
+) -> Result<(), ServerFault> {
+    let config = config_of(rt, &FOUR_PAGES);
+    take_turns::<Brand, _>(rt, Opening::new(&config), turns)
 }
 
-const LOAD: Command = Command::Load {
-    dst: 0,
-    obj: 0,
-    i: 0,
-};
-
-const COPY: Command = Command::Copy { dst: 1, src: 0 };
-
-const SAME: Command = Command::Same { a: 0, b: 1 };
-
-/// Three calls of one seat, which the other sees, and one of the other, which the first sees.
-fn seats_see<N: Naming, R: Wait + Abort + AllocGlobal>(
-    rt: &R,
-    opening: Opening,
-) -> Result<(), ServerFault>
-    requires names { names_of opening ≡ N.names }
-{
-    let (server, mut seats, _pacer) = Server::<N>::new(rt.alloc(), opening)?;
-    let (Some(mut second), Some(mut first)) = (seats.pop(), seats.pop()) else {
-        panic!(rt; "there are two seats");
-    };
-    assert!(rt; server.place_now(&mut first) == 0);
-    assert!(rt; call(rt, &server, &mut second, 0, plain(0, 0, 0))? == Reply::Made(1));
-    assert!(rt; call(rt, &server, &mut second, 1, COPY)? == Reply::Done);
-    assert!(rt; call(rt, &server, &mut second, 2, SAME)? == Reply::Is(true));
-    assert!(rt; server.place_now(&mut first) == 3);
-    assert!(rt; call(rt, &server, &mut first, 3, LOAD)? == Reply::Refused(Refusal::NullSlot));
-    assert!(rt; server.place_now(&mut second) == 4);
-    Ok(())
+#[test]
+fn reserved_calls_are_sure(rt: HostRuntime) -> Result<(), ServerFault> {
+    turns_at(&rt, &RACE)
 }
 
 #[test]
 fn each_seat_sees_the_other(rt: HostRuntime) -> Result<(), ServerFault> {
-    let config = config_of(&rt, &FOUR_PAGES);
     assert!(&rt; ServerFault::NoMemory.number() == 9 && ServerFault::Torn(5).number() == 10);
-    seats_see::<Brand, _>(&rt, Opening::new(&config))
+    turns_at(&rt, &IN_TURN)
 }
 
 /// Blocks are moved where fewer than four pages are free, so after each sweep.

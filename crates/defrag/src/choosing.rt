@@ -5,13 +5,12 @@ ghost use Rattle.heap_model.specs.Action.{looked, fewer, is_chosen};
 ghost use Rattle.heap_model.specs.Action.{Action, AtPass};
 ghost use Rattle.heap_model.specs.declared.phase.Phase.TheVariants as phases;
 ghost use Rattle.heap_model.specs.declared.phase.Moving.TheVariants as moves;
-ghost use Rattle.raw_heap.specs.Acting.{Acts};
-ghost use Rattle.raw_heap.specs.Heap.{state_of, IsRawHeap};
+ghost use Rattle.nodes.specs.Acting.{Acts};
+ghost use Rattle.nodes.specs.RawHeap.{state_of, IsRawHeap};
 ghost use Rattle.defrag.specs.Looking.{looked_on};
 
 use heap_model::phase::{Candidate, Moving, Phase};
-use nodes::Nodes;
-use raw_heap::RawHeap;
+use nodes::{Nodes, RawHeap};
 use size_classes::{CLASSES, Class};
 
 /// Does the next steps of a pass: looks at the class's next pages before the last, as many as are left or as

@@ -16,10 +16,10 @@ use Rattle.heap_model.proofs.Bound.{same_limit}
 use Rattle.heap_model.proofs.Costs.{turn_left}
 use Rattle.heap_model.proofs.Relinked.{relinked_count, stands_relinked}
 use Rattle.heap_model.proofs.Stood.{stands_chain, stands_begun}
-use Rattle.raw_heap.proofs.Keeping.{relinked_twice}
-use Rattle.raw_heap.specs.declared.heap.RawHeap.{RawHeap}
-use Rattle.raw_heap.specs.Grey.{grey_in}
-use Rattle.raw_heap.specs.Heap.{state_of, IsHeap, IsRawHeap}
+use Rattle.nodes.proofs.Keeping.{relinked_twice}
+use Rattle.nodes.specs.declared.raw_heap.RawHeap.{RawHeap}
+use Rattle.nodes.specs.Grey.{grey_in}
+use Rattle.nodes.specs.RawHeap.{state_of, IsHeap, IsRawHeap}
 use Rattle.machine.proofs.Doing.{present_agrees}
 
 -- a cycle begins

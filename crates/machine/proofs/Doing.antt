@@ -17,7 +17,7 @@ use Rattle.heap_model.proofs.Sameness.{each_changed, reach_some, alike_back, ali
 use Rattle.heap_model.proofs.Changes.{put_each, object-append}
 use Rattle.heap_model.proofs.Changed.{stands_changed}
 use Rattle.heap_model.proofs.Left.{change_left}
-use Rattle.raw_heap.specs.Heap.{IsHeap}
+use Rattle.nodes.specs.RawHeap.{IsHeap}
 use Rattle.machine.specs.Plan.{IsPlanned}
 use Rattle.machine.specs.Reading.{IsRefCell, IsWordCell}
 use Rattle.machine.specs.declared.plan.Cell.{Cell}

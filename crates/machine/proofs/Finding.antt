@@ -20,9 +20,9 @@ use Rattle.heap_model.specs.Reading.{IsMainCopy}
 use Rattle.heap_model.proofs.Shown.{leads, copy_main, main_copy, root_reads, shape_shown, ref_shown, word_shown}
 use Rattle.heap_model.proofs.Sameness.{known_root, known_ref, known_reaches}
 use Rattle.heap_model.proofs.Cut.{count_some}
-use Rattle.raw_heap.specs.Heap.{IsHeap}
+use Rattle.nodes.specs.RawHeap.{IsHeap}
 use Rattle.machine.proofs.Doing.{present_agrees}
-use Rattle.raw_heap.proofs.Standing.{follows}
+use Rattle.nodes.proofs.Standing.{follows}
 use Rattle.machine.specs.Reading.{Names, IsFound, IsRefPlace, IsWordPlace}
 use Rattle.machine.specs.declared.plan.Cell.{Cell}
 use Rattle.nodes.specs.declared.nodes.Referent.{Referent}

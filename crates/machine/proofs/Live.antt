@@ -16,9 +16,9 @@ use Rattle.heap_model.specs.Agreement.{Agrees}
 use Rattle.heap_model.specs.Event.{room_for}
 use Rattle.heap_model.specs.Change.{Records, DoesChange, Does_root, Does_join, Does_leave, Clears, Clears_none, Clears_next}
 use Rattle.heap_model.proofs.Recorded.{records_stay}
-use Rattle.raw_heap.specs.Grey.{GreySet, buffer_of, with_buffer}
-use Rattle.raw_heap.specs.Heap.{state_of, IsHeap}
-use Rattle.raw_heap.specs.declared.heap.RawHeap.{RawHeap}
+use Rattle.nodes.specs.Grey.{GreySet, buffer_of, with_buffer}
+use Rattle.nodes.specs.RawHeap.{state_of, IsHeap}
+use Rattle.nodes.specs.declared.raw_heap.RawHeap.{RawHeap}
 use Rattle.satb_barrier.specs.Recording.{with_room, shades, buffers_after}
 use Rattle.machine.specs.Buffers.{AreOwn}
 use Rattle.machine.specs.Plan.{IsPlanned, CanPerform, DoesEach}

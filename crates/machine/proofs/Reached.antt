@@ -11,7 +11,7 @@ use Rattle.heap_model.specs.Reading.{Refers, spine_at, block_of}
 use Rattle.arraylets.specs.declared.place.Place.{Place}
 use Rattle.machine.specs.declared.plan.Found.{Found}
 use Rattle.machine.specs.declared.plan.Kind.{Kind}
-use Rattle.raw_heap.specs.Heap.{IsHeap}
+use Rattle.nodes.specs.RawHeap.{IsHeap}
 use Rattle.machine.specs.Reading.{IsFound, place_of, FindsCell}
 use Rattle.machine.proofs.Doing.{present_agrees, at_present}
 use Rattle.machine.proofs.Cells.{parts_below, spine_refers, part_refers, cell_below, found_cell}

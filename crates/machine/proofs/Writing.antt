@@ -12,7 +12,7 @@ use Rattle.heap_model.specs.State.{HeapState, seen}
 use Rattle.heap_model.specs.Written.{records}
 use Rattle.heap_model.proofs.Left.{change_left}
 use Rattle.heap_model.proofs.Recorded.{records_stay}
-use Rattle.raw_heap.specs.Grey.{GreySet, buffer_of, with_buffer}
+use Rattle.nodes.specs.Grey.{GreySet, buffer_of, with_buffer}
 use Rattle.satb_barrier.specs.Recording.{with_room, shades, buffers_after}
 use Rattle.machine.specs.Buffers.{AreBuffersBy}
 use Rattle.heap_model.specs.Change.{DoesChange, Does_nothing, Does_root, Does_ref, Does_word, Does_new, Does_join, Does_leave, Clears, Clears_none, Clears_next, Records, Records_nothing, Records_main}
@@ -22,15 +22,15 @@ use Rattle.heap_model.specs.Settings.{HeapSettings}
 use Rattle.heap_model.proofs.Settings.{change_settings}
 use Rattle.heap_model.proofs.Sameness.{told}
 use Rattle.nodes.specs.Referent.{CanFollow}
-use Rattle.raw_heap.specs.declared.heap.RawHeap.{RawHeap}
-use Rattle.raw_heap.specs.Heap.{state_of, IsHeap, IsRawHeap}
+use Rattle.nodes.specs.declared.raw_heap.RawHeap.{RawHeap}
+use Rattle.nodes.specs.RawHeap.{state_of, IsHeap, IsRawHeap}
 use Rattle.machine.specs.Plan.{IsPlanned, CanPerform, DoesEach}
 use Rattle.machine.specs.declared.plan.Cell.{Cell}
 use Rattle.machine.specs.declared.plan.Write.{Write}
 use Rattle.machine.specs.declared.plan.Write.TheVariants as writes
 use Rattle.machine.proofs.Doing.{present_agrees, at_present, founded, planned_alike, heap_after, agrees_after}
 use Rattle.machine.proofs.Finding.{reads_root}
-use Rattle.raw_heap.proofs.Standing.{follows}
+use Rattle.nodes.proofs.Standing.{follows}
 
 -- whatever change of a graph heap the write is of, the heap does it, and agrees with the graph heap after it
 abbrev pub Performs : HeapState → Write → HeapState → Type 0

@@ -2,8 +2,8 @@
 use Rattle.std.specs.Prelude.{◌≡◌, ◌≢◌, ℕ, List, length, slice_index}
 use Rattle.arrayvec.specs.ArrayVec.{ArrayVec}
 use Rattle.heap_model.specs.Store.{node_of}
-use Rattle.raw_heap.specs.Grey.{GreySet, buffer_of}
-use Rattle.raw_heap.specs.declared.heap.RawHeap.{RawHeap}
+use Rattle.nodes.specs.Grey.{GreySet, buffer_of}
+use Rattle.nodes.specs.declared.raw_heap.RawHeap.{RawHeap}
 use Rattle.satb_barrier.specs.Recording.{buffers_after}
 use Rattle.machine.specs.declared.plan.Write.{Write}
 use Rattle.machine.specs.declared.plan.Write.TheVariants as writes

@@ -1,9 +1,9 @@
 -- What it takes to do a write, and what doing it is.
 use Rattle.std.specs.Prelude.{◌≡◌, ℕ, ◌<◌}
 use Rattle.heap_model.specs.Change.{Records}
-use Rattle.raw_heap.specs.Held.{AreHeld}
-use Rattle.raw_heap.specs.Heap.{state_of, IsRawHeap}
-use Rattle.raw_heap.specs.declared.heap.RawHeap.{RawHeap}
+use Rattle.nodes.specs.GreyHeld.{AreHeld}
+use Rattle.nodes.specs.RawHeap.{state_of, IsRawHeap}
+use Rattle.nodes.specs.declared.raw_heap.RawHeap.{RawHeap}
 use Rattle.satb_barrier.specs.Recording.{buffers_after}
 use Rattle.machine.specs.Buffers.{AreBuffersBy}
 use Rattle.machine.specs.Plan.{CanPerform, DoesEach}

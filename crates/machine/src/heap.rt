@@ -10,7 +10,7 @@ ghost use Rattle.heap_model.specs.Event.{change_by, room_for};
 ghost use Rattle.machine.specs.Plan.{CanSettle, SettlesEach};
 
 use graph_heap::{Command, NoMemory, Reply, dispatch};
-use raw_heap::RawHeap;
+use nodes::RawHeap;
 use size_classes::Config;
 use std::alloc::Global;
 use std::marker::Model;
@@ -39,7 +39,7 @@ impl Drop for Heap {
 
 impl Model for Heap {
     ghost use Rattle.heap_model.specs.State.{HeapState};
-    ghost use Rattle.raw_heap.specs.Heap.{state_of, IsRawHeap};
+    ghost use Rattle.nodes.specs.RawHeap.{state_of, IsRawHeap};
 
     ghost Value = { HeapState };
 

@@ -7,9 +7,9 @@ use Rattle.heap_model.specs.State.{HeapState, seen, width_at}
 use Rattle.heap_model.specs.Store.{Store, Writes, is_held, node_of}
 use Rattle.heap_model.specs.declared.phase.Phase.TheVariants as phases
 use Rattle.heap_model.proofs.Seen.{node_kept}
-use Rattle.raw_heap.specs.declared.heap.RawHeap.{RawHeap}
-use Rattle.raw_heap.specs.Heap.{state_of}
-use Rattle.raw_heap.proofs.Chains.{steps_on}
+use Rattle.nodes.specs.declared.raw_heap.RawHeap.{RawHeap}
+use Rattle.nodes.specs.RawHeap.{state_of}
+use Rattle.nodes.proofs.Chains.{steps_on}
 
 -- shading leaves how many cells of a held block are references
 pub shades_width : (h k : HeapState) (x b : ℕ) → Shades h x k → is_held h.store b ≡ true → width_at (node_of k.store b) ≡ width_at (node_of h.store b)

@@ -9,9 +9,9 @@ use Rattle.heap_model.proofs.Acting.{wide_within, scanned_held, scanned_cell_hel
 use Rattle.heap_model.proofs.Apart.{lie_apart}
 use Rattle.nodes.specs.declared.nodes.Referent.{Referent}
 use Rattle.nodes.specs.Referent.{CanFollow, referent_of}
-use Rattle.raw_heap.proofs.Standing.{main_held}
-use Rattle.raw_heap.specs.declared.heap.RawHeap.{RawHeap}
-use Rattle.raw_heap.specs.Heap.{state_of, IsRawHeap}
+use Rattle.nodes.proofs.Standing.{main_held}
+use Rattle.nodes.specs.declared.raw_heap.RawHeap.{RawHeap}
+use Rattle.nodes.specs.RawHeap.{state_of, IsRawHeap}
 
 some_more : (x : ℕ) → x ≢ 0 → 0 < x
 some_more x ne = grind arith

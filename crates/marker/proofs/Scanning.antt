@@ -5,10 +5,10 @@ use Rattle.heap_model.specs.Action.{Action, Chain, Nothing_done, Shades, Was_mar
 use Rattle.heap_model.specs.Grey.{AreGrey}
 use Rattle.heap_model.specs.State.{HeapState, seen, width_at}
 use Rattle.heap_model.specs.Store.{node_of}
-use Rattle.raw_heap.specs.declared.heap.RawHeap.{RawHeap}
-use Rattle.raw_heap.specs.Grey.{grey_in}
-use Rattle.raw_heap.specs.Heap.{state_of}
-use Rattle.raw_heap.proofs.Chains.{then_action, then_chain, heap_after_chain}
+use Rattle.nodes.specs.declared.raw_heap.RawHeap.{RawHeap}
+use Rattle.nodes.specs.Grey.{grey_in}
+use Rattle.nodes.specs.RawHeap.{state_of}
+use Rattle.nodes.proofs.Chains.{then_action, then_chain, heap_after_chain}
 use Rattle.marker.specs.Scanning.{scanning, IsScanning}
 use Rattle.marker.proofs.Acting.{some_of}
 use Rattle.marker.proofs.Scanned.{all_scanned, none_left, cell_small}

@@ -2,8 +2,8 @@
 use Rattle.std.specs.Prelude.{ℕ, ◌+◌}
 use Rattle.heap_model.specs.declared.phase.Phase.TheVariants as phases
 use Rattle.heap_model.specs.Action.{Chain}
-use Rattle.raw_heap.specs.declared.heap.RawHeap.{RawHeap}
-use Rattle.raw_heap.specs.Heap.{state_of, IsRawHeap}
+use Rattle.nodes.specs.declared.raw_heap.RawHeap.{RawHeap}
+use Rattle.nodes.specs.RawHeap.{state_of, IsRawHeap}
 use Rattle.marker.specs.declared.scan.Scan.{Scan}
 
 -- the heap when marking is at a cell of a part and this many units are spent

@@ -4,14 +4,13 @@ ghost use Rattle.heap_model.specs.Store.{is_held, node_of};
 ghost use Rattle.heap_model.specs.State.{seen, width_at};
 ghost use Rattle.heap_model.specs.Action.{Action, Chain, goes_to};
 ghost use Rattle.heap_model.specs.declared.phase.Phase.TheVariants as phases;
-ghost use Rattle.raw_heap.specs.Acting.{Acts};
-ghost use Rattle.raw_heap.specs.Grey.{in_buffers};
-ghost use Rattle.raw_heap.specs.Heap.{state_of, IsRawHeap};
+ghost use Rattle.nodes.specs.Acting.{Acts};
+ghost use Rattle.nodes.specs.Grey.{in_buffers};
+ghost use Rattle.nodes.specs.RawHeap.{state_of, IsRawHeap};
 ghost use Rattle.marker.specs.Scanning.{scanning, IsScanning, Scans};
 
 use heap_model::phase::Phase;
-use nodes::Nodes;
-use raw_heap::RawHeap;
+use nodes::{Nodes, RawHeap};
 use satb_barrier::{shade, take};
 
 /// The part in scan, by reference, 0 for none yet; its next cell; and how many of its cells are references.

@@ -1,5 +1,6 @@
 pub mod Blocks
 pub mod Carried
+pub mod Chains
 pub mod Counting
 pub mod Following
 pub mod Freeing
@@ -7,13 +8,18 @@ pub mod Fresh
 pub mod Headers
 pub mod Holding
 pub mod Joining
+pub mod Keeping
 pub mod Leaving
 pub mod Linked
 pub mod Made
 pub mod Making
 pub mod Moved
 pub mod Moving
+pub mod Opening
 pub mod Places
+pub mod Sorting
+pub mod Standing
 pub mod Sweeping
+pub mod Threading
 pub mod Wasting
 pub mod Writing

@@ -7,3 +7,7 @@ pub mod Pages
 pub mod Sweeping
 pub mod Copies
 pub mod Wasted
+pub mod Acting
+pub mod Grey
+pub mod RawHeap
+pub mod GreyHeld

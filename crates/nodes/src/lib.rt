@@ -1,8 +1,13 @@
 //! The blocks of a heap: pages and words together. A part of an object stands in one block, and is
-//! read and written block by block.
+//! read and written block by block. With them the fields of a heap, lent whole to all that acts on it,
+//! and what they stand for.
 #![tactic(auto)]
 
+pub mod grey;
 pub mod nodes;
+pub mod raw_heap;
 
+pub use grey::Grey;
 pub use nodes::counting::Copies;
 pub use nodes::{Nodes, Referent};
+pub use raw_heap::RawHeap;

@@ -10,11 +10,11 @@ use Rattle.heap_model.specs.Block.{Node}
 use Rattle.heap_model.specs.State.{same_colour}
 use Rattle.heap_model.specs.Store.{Store, is_held, node_of}
 use Rattle.heap_model.proofs.Seen.{held_pages}
-use Rattle.raw_heap.specs.declared.heap.RawHeap.{RawHeap}
-use Rattle.raw_heap.specs.Grey.{GreySet, grey_in, in_buffers, inserted, buffer_of, with_buffer}
-use Rattle.raw_heap.specs.Heap.{state_of}
-use Rattle.raw_heap.proofs.Sorting.{inserted_between, contains-inserted, length-inserted, once-inserted}
-use Rattle.raw_heap.proofs.Threading.{taken, same_buffer, buffered}
+use Rattle.nodes.specs.declared.raw_heap.RawHeap.{RawHeap}
+use Rattle.nodes.specs.Grey.{GreySet, grey_in, in_buffers, inserted, buffer_of, with_buffer}
+use Rattle.nodes.specs.RawHeap.{state_of}
+use Rattle.nodes.proofs.Sorting.{inserted_between, contains-inserted, length-inserted, once-inserted}
+use Rattle.nodes.proofs.Threading.{taken, same_buffer, buffered}
 
 here : (x : ℕ) (xs : List ℕ) → contains (inserted x xs) x ≡ true
 here x xs = contains-inserted x xs x ∙ ap (λ b. b || contains xs x) (eq-eqb x x refl)

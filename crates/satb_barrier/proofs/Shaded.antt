@@ -8,13 +8,13 @@ use Rattle.heap_model.specs.State.{seen}
 use Rattle.heap_model.specs.Store.{Store, Writes, is_held, node_of}
 use Rattle.heap_model.proofs.Seen.{held_pages}
 use Rattle.nodes.specs.Links.{KeepsLinks}
-use Rattle.raw_heap.specs.declared.heap.RawHeap.{RawHeap}
-use Rattle.raw_heap.specs.Grey.{GreySet, grey_in, inserted, buffer_of, with_buffer}
-use Rattle.raw_heap.specs.Heap.{state_of}
-use Rattle.raw_heap.specs.Held.{AreHeld}
-use Rattle.raw_heap.proofs.Keeping.{grey_kept, relinked_writes, writes_relinked}
-use Rattle.raw_heap.proofs.Sorting.{inserted_between, contains-inserted}
-use Rattle.raw_heap.proofs.Standing.{still}
+use Rattle.nodes.specs.declared.raw_heap.RawHeap.{RawHeap}
+use Rattle.nodes.specs.Grey.{GreySet, grey_in, inserted, buffer_of, with_buffer}
+use Rattle.nodes.specs.RawHeap.{state_of}
+use Rattle.nodes.specs.GreyHeld.{AreHeld}
+use Rattle.nodes.proofs.Keeping.{grey_kept, relinked_writes, writes_relinked}
+use Rattle.nodes.proofs.Sorting.{inserted_between, contains-inserted}
+use Rattle.nodes.proofs.Standing.{still}
 use Rattle.satb_barrier.proofs.Listing.{are_grey_by, mutator_within, own_record}
 
 -- the heap a, the heap mid whose blocks were threaded anew, and the main copy's colour written in that

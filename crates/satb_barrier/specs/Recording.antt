@@ -3,9 +3,9 @@ use Rattle.std.specs.Prelude.{◌==◌, ℕ, Bool, ◌&&◌, not, if◌then◌el
 use Rattle.arrayvec.specs.ArrayVec.{ArrayVec}
 use Rattle.heap_model.specs.State.{seen}
 use Rattle.heap_model.specs.Written.{records}
-use Rattle.raw_heap.specs.Grey.{buffer_of, with_buffer}
-use Rattle.raw_heap.specs.Heap.{state_of}
-use Rattle.raw_heap.specs.declared.heap.RawHeap.{RawHeap}
+use Rattle.nodes.specs.Grey.{buffer_of, with_buffer}
+use Rattle.nodes.specs.RawHeap.{state_of}
+use Rattle.nodes.specs.declared.raw_heap.RawHeap.{RawHeap}
 
 -- a buffer with room for another record: the 64 of a full one went into the list
 abbrev pub with_room : List ℕ → List ℕ

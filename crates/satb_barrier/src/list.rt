@@ -5,12 +5,12 @@ ghost use Rattle.heap_model.specs.Collector.{contains};
 ghost use Rattle.heap_model.specs.Grey.{AreGrey};
 ghost use Rattle.heap_model.specs.Store.{is_held};
 ghost use Rattle.heap_model.specs.Written as written;
-ghost use Rattle.raw_heap.specs.Grey.{grey_in, in_buffers, buffer_of, inserted, with_buffer};
-ghost use Rattle.raw_heap.specs.Heap.{state_of, IsRawHeap};
+ghost use Rattle.nodes.specs.Grey.{grey_in, in_buffers, buffer_of, inserted, with_buffer};
+ghost use Rattle.nodes.specs.RawHeap.{state_of, IsRawHeap};
 ghost use Rattle.satb_barrier.specs.Recording.{with_room};
 
 use crate::shading::records;
-use raw_heap::RawHeap;
+use nodes::RawHeap;
 
 /// Puts a held part that isn't grey into the list, as its first.
 pub fn thread(heap: &mut RawHeap, part: u64)

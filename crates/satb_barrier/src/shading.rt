@@ -7,13 +7,13 @@ ghost use Rattle.heap_model.specs.State.{seen};
 ghost use Rattle.heap_model.specs.Store.{is_held};
 ghost use Rattle.heap_model.specs.Written as written;
 ghost use Rattle.nodes.specs.Referent.{CanFollow};
-ghost use Rattle.raw_heap.specs.Heap.{state_of, IsRawHeap};
-ghost use Rattle.raw_heap.specs.Held.{AreHeld};
+ghost use Rattle.nodes.specs.RawHeap.{state_of, IsRawHeap};
+ghost use Rattle.nodes.specs.GreyHeld.{AreHeld};
 ghost use Rattle.satb_barrier.specs.Recording.{buffers_after};
 
 use crate::list::{make_room, thread};
 use heap_model::phase::Phase;
-use raw_heap::RawHeap;
+use nodes::RawHeap;
 
 /// Whether a part is marked, by reference: whether its colour is the one that means so. Null always is.
 pub fn is_marked(heap: &RawHeap, reference: u64) -> bool

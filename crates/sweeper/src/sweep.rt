@@ -5,12 +5,11 @@ ghost use Rattle.heap_model.specs.Action.{Chain};
 ghost use Rattle.heap_model.specs.Action as actions;
 ghost use Rattle.heap_model.specs.Pages.{page_at};
 ghost use Rattle.nodes.specs.Pages.{blocks_on};
-ghost use Rattle.raw_heap.specs.Acting.{Acts};
-ghost use Rattle.raw_heap.specs.Heap.{state_of, IsRawHeap};
+ghost use Rattle.nodes.specs.Acting.{Acts};
+ghost use Rattle.nodes.specs.RawHeap.{state_of, IsRawHeap};
 
 use heap_model::phase::{Moving, Phase};
-use nodes::Nodes;
-use raw_heap::RawHeap;
+use nodes::{Nodes, RawHeap};
 
 /// Looks at the next blocks of a page, as many as are left or as there is room for: a block that is held and
 /// whose colour isn't the one that means marked is freed. Where none is left, it closes the page, and the

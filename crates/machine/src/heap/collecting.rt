@@ -6,9 +6,9 @@ ghost use Rattle.heap_model.specs.Agreement.{Agrees};
 ghost use Rattle.heap_model.specs.Spent.{cycle_limit};
 ghost use Rattle.heap_model.specs.Standing.{Stands};
 ghost use Rattle.heap_model.specs.Turn.{SpendsTurn};
-ghost use Rattle.raw_heap.specs.Acting.{ActsIn};
-ghost use Rattle.raw_heap.specs.Grey.{in_buffers};
-ghost use Rattle.raw_heap.specs.Heap.{state_of, IsRawHeap};
+ghost use Rattle.nodes.specs.Acting.{ActsIn};
+ghost use Rattle.nodes.specs.Grey.{in_buffers};
+ghost use Rattle.nodes.specs.RawHeap.{state_of, IsRawHeap};
 ghost use Rattle.machine.specs.Collecting.{Begins, Spends};
 
 use super::Heap;
@@ -16,7 +16,7 @@ use crate::collector::{BudgetOutOfRange, Busy, Spent};
 use defrag::move_next;
 use heap_model::phase::Phase;
 use marker::{scan_parts, scan_root};
-use raw_heap::RawHeap;
+use nodes::RawHeap;
 use satb_barrier::flush_all;
 use sweeper::sweep_next;
 

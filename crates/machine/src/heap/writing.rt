@@ -2,7 +2,7 @@
 //! overwrites.
 ghost use Rattle.std.specs.Prelude.{◌+◌, ◌<◌, ◌≤◌, length, slice_index};
 ghost use Rattle.heap_model.specs.Change.{Clears};
-ghost use Rattle.raw_heap.specs.Heap.{state_of, IsRawHeap};
+ghost use Rattle.nodes.specs.RawHeap.{state_of, IsRawHeap};
 ghost use Rattle.machine.specs.Plan.{CanPerform, DoesEach};
 ghost use Rattle.machine.specs.Buffers.{AreOwn};
 ghost use Rattle.machine.specs.Writing.{CanWrite, IsWritten, IsRecorded};
@@ -10,7 +10,7 @@ ghost use Rattle.machine.specs.Writing.{CanWrite, IsWritten, IsRecorded};
 use crate::plan::{Cell, Write};
 use arraylets::new_object;
 use graph_heap::Shape;
-use raw_heap::RawHeap;
+use nodes::RawHeap;
 use satb_barrier::record;
 
 /// Does a write of a mutator.

@@ -4,10 +4,10 @@ use Rattle.heap_model.specs.declared.phase.Phase.TheVariants as phases
 use Rattle.heap_model.specs.Action.{Action, goes_to, looked, is_chosen}
 use Rattle.heap_model.specs.State.{HeapState}
 use Rattle.heap_model.proofs.Grey.{passing}
-use Rattle.raw_heap.proofs.Keeping.{store_still}
-use Rattle.raw_heap.specs.declared.heap.RawHeap.{RawHeap}
-use Rattle.raw_heap.specs.Heap.{state_of}
-use Rattle.raw_heap.proofs.Standing.{units_small}
+use Rattle.nodes.proofs.Keeping.{store_still}
+use Rattle.nodes.specs.declared.raw_heap.RawHeap.{RawHeap}
+use Rattle.nodes.specs.RawHeap.{state_of}
+use Rattle.nodes.proofs.Standing.{units_small}
 use Rattle.defrag.proofs.Looks.{looks, chooses, chooses_none}
 use Rattle.defrag.proofs.choosing.look_next.Goals as goal
 use Rattle.defrag.proofs.choosing.look_next.Goals.{in_default-via-in-Some+else-is_chosen, in_default-via-in_default}

@@ -3,10 +3,10 @@ use Rattle.heap_model.specs.declared.phase.Phase.TheVariants as phases
 use Rattle.heap_model.specs.declared.phase.Moving.TheVariants as moves
 use Rattle.heap_model.specs.Action.{Action, Chain, goes_to, In_pass, No_class, Ends_moving}
 use Rattle.heap_model.specs.Spent.{IsWithin}
-use Rattle.raw_heap.specs.declared.heap.RawHeap.{RawHeap}
-use Rattle.raw_heap.specs.Heap.{state_of}
-use Rattle.raw_heap.proofs.Chains.{runs_once}
-use Rattle.raw_heap.proofs.Standing.{units_small}
+use Rattle.nodes.specs.declared.raw_heap.RawHeap.{RawHeap}
+use Rattle.nodes.specs.RawHeap.{state_of}
+use Rattle.nodes.proofs.Chains.{runs_once}
+use Rattle.nodes.proofs.Standing.{units_small}
 use Rattle.defrag.specs.Looking.{looked_on}
 use Rattle.defrag.proofs.Looks.{looks_run}
 use Rattle.defrag.proofs.choosing.pass_next.Goals as goal

@@ -6,11 +6,11 @@ use Rattle.heap_model.specs.declared.phase.Moving.TheVariants as moves
 use Rattle.heap_model.specs.Action.{Action, goes_to}
 use Rattle.heap_model.specs.State.{HeapState}
 use Rattle.heap_model.specs.Written.{records}
-use Rattle.raw_heap.proofs.Keeping.{store_still}
-use Rattle.raw_heap.specs.declared.heap.RawHeap.{RawHeap}
-use Rattle.raw_heap.specs.Heap.{state_of}
-use Rattle.raw_heap.proofs.Chains.{runs_once}
-use Rattle.raw_heap.proofs.Standing.{units_small}
+use Rattle.nodes.proofs.Keeping.{store_still}
+use Rattle.nodes.specs.declared.raw_heap.RawHeap.{RawHeap}
+use Rattle.nodes.specs.RawHeap.{state_of}
+use Rattle.nodes.proofs.Chains.{runs_once}
+use Rattle.nodes.proofs.Standing.{units_small}
 use Rattle.defrag.proofs.Moves.{page_in, class_small, chosen_small, costs_one, looks_again, ends, costs_words, can_move, moves_block}
 use Rattle.defrag.proofs.moving.empty_next.Goals as goal
 

@@ -1,9 +1,9 @@
 use Rattle.std.proofs.Common.{inr, refl, sym, subst, arith}
 use Rattle.heap_model.specs.Action.{Action, Ends_moving}
-use Rattle.raw_heap.specs.declared.heap.RawHeap.{RawHeap}
-use Rattle.raw_heap.specs.Heap.{state_of}
-use Rattle.raw_heap.proofs.Chains.{runs_once}
-use Rattle.raw_heap.proofs.Standing.{units_small}
+use Rattle.nodes.specs.declared.raw_heap.RawHeap.{RawHeap}
+use Rattle.nodes.specs.RawHeap.{state_of}
+use Rattle.nodes.proofs.Chains.{runs_once}
+use Rattle.nodes.proofs.Standing.{units_small}
 use Rattle.defrag.proofs.moving.page_done.Goals as goal
 
 pub returns-then-room-eq0-clause-acts : goal.returns-then-room-eq0-clause-acts

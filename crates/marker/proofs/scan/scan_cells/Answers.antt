@@ -1,7 +1,7 @@
 use Rattle.std.proofs.Common.{◌≡◌, ◌+◌, ap, ◌∙◌, subst, refl, arith}
 use Rattle.heap_model.specs.Action.{Chain}
-use Rattle.raw_heap.specs.declared.heap.RawHeap.{RawHeap}
-use Rattle.raw_heap.specs.Heap.{state_of}
+use Rattle.nodes.specs.declared.raw_heap.RawHeap.{RawHeap}
+use Rattle.nodes.specs.RawHeap.{state_of}
 use Rattle.marker.specs.Scanning.{scanning}
 use Rattle.marker.proofs.Scanned.{width_small}
 use Rattle.marker.proofs.Scanning.{none_scanned, run_scanned, still_scanning}

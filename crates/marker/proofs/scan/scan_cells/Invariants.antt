@@ -2,7 +2,7 @@ use Rattle.std.proofs.Common.{◌≡◌, ℕ, ◌+◌, ◌-◌, ◌≤◌}
 use Rattle.heap_model.specs.Action.{Chain}
 use Rattle.heap_model.specs.State.{width_at}
 use Rattle.heap_model.specs.Store.{node_of}
-use Rattle.raw_heap.specs.Heap.{state_of}
+use Rattle.nodes.specs.RawHeap.{state_of}
 use Rattle.marker.specs.Scanning.{scanning}
 use Rattle.marker.proofs.scan.scan_cells.Given as goal
 

@@ -3,10 +3,10 @@ use Rattle.heap_model.specs.Action.{Action, Chain, goes_to}
 use Rattle.heap_model.specs.declared.phase.Phase.TheVariants as phases
 use Rattle.heap_model.specs.State.{seen}
 use Rattle.heap_model.specs.Store.{is_held}
-use Rattle.raw_heap.specs.declared.heap.RawHeap.{RawHeap}
-use Rattle.raw_heap.specs.Heap.{state_of}
-use Rattle.raw_heap.proofs.Chains.{one_action}
-use Rattle.raw_heap.proofs.Standing.{are_grey}
+use Rattle.nodes.specs.declared.raw_heap.RawHeap.{RawHeap}
+use Rattle.nodes.specs.RawHeap.{state_of}
+use Rattle.nodes.proofs.Chains.{one_action}
+use Rattle.nodes.proofs.Standing.{are_grey}
 use Rattle.marker.specs.declared.scan.Scan.{Scan}
 use Rattle.marker.specs.Scanning.{scanning}
 use Rattle.marker.proofs.Scanned.{width_small}

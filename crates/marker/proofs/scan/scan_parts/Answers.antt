@@ -2,11 +2,11 @@ use Rattle.std.proofs.Common.{◌≡◌, ◌+◌, length, ap, ◌∙◌, sym, su
 use Rattle.std.specs.Prelude.{is_some}
 use Rattle.heap_model.specs.Action.{Chain}
 use Rattle.heap_model.specs.State.{seen}
-use Rattle.raw_heap.specs.declared.heap.RawHeap.{RawHeap}
-use Rattle.raw_heap.specs.Grey.{in_buffers}
-use Rattle.raw_heap.specs.Heap.{state_of}
-use Rattle.raw_heap.proofs.Chains.{heap_after_chain}
-use Rattle.raw_heap.proofs.Standing.{units_small}
+use Rattle.nodes.specs.declared.raw_heap.RawHeap.{RawHeap}
+use Rattle.nodes.specs.Grey.{in_buffers}
+use Rattle.nodes.specs.RawHeap.{state_of}
+use Rattle.nodes.proofs.Chains.{heap_after_chain}
+use Rattle.nodes.proofs.Standing.{units_small}
 use Rattle.marker.specs.declared.scan.Scan.{Scan}
 use Rattle.marker.specs.Scanning.{scanning}
 use Rattle.marker.proofs.Scanned.{part_held}

@@ -5,11 +5,11 @@ use Rattle.heap_model.specs.Store.{node_of}
 use Rattle.heap_model.proofs.Seen.{held_pages}
 use Rattle.nodes.specs.declared.nodes.Referent.{Referent}
 use Rattle.nodes.specs.Referent.{CanFollow, referent_of}
-use Rattle.raw_heap.specs.declared.heap.RawHeap.{RawHeap}
-use Rattle.raw_heap.specs.Heap.{state_of}
-use Rattle.raw_heap.proofs.Chains.{one_action}
-use Rattle.raw_heap.proofs.Keeping.{are_held, store_kept}
-use Rattle.raw_heap.proofs.Standing.{are_grey}
+use Rattle.nodes.specs.declared.raw_heap.RawHeap.{RawHeap}
+use Rattle.nodes.specs.RawHeap.{state_of}
+use Rattle.nodes.proofs.Chains.{one_action}
+use Rattle.nodes.proofs.Keeping.{are_held, store_kept}
+use Rattle.nodes.proofs.Standing.{are_grey}
 use Rattle.marker.specs.Scanning.{scanning}
 use Rattle.marker.proofs.Acting.{cell_scanned, corrected_grey}
 use Rattle.marker.proofs.Chains.{nulls_scanned, shades_width, writes_width}

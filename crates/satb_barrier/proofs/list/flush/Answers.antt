@@ -1,7 +1,7 @@
 use Rattle.std.proofs.Common.{◌*◌, ◌<◌, length, ap, ◌∙◌, sym, subst}
 use Rattle.heap_model.specs.Collector.{contains}
-use Rattle.raw_heap.specs.Grey.{GreySet, grey_in, inserted, buffer_of}
-use Rattle.raw_heap.proofs.Keeping.{relinked_twice}
+use Rattle.nodes.specs.Grey.{GreySet, grey_in, inserted, buffer_of}
+use Rattle.nodes.proofs.Keeping.{relinked_twice}
 use Rattle.satb_barrier.proofs.Listing.{some, part_held, fresh, room, back_in, flushed, mutator_within}
 use Rattle.satb_barrier.proofs.list.flush.Goals as goal
 

@@ -1,6 +1,6 @@
 use Rattle.std.proofs.Common.{◌≡◌, length}
 use Rattle.heap_model.specs.Action.{Relinks}
-use Rattle.raw_heap.specs.Grey.{grey_in, buffer_of, with_buffer}
+use Rattle.nodes.specs.Grey.{grey_in, buffer_of, with_buffer}
 use Rattle.satb_barrier.proofs.list.flush.Given as goal
 
 -- the same parts are grey, in the list or still in the mutator's buffer

@@ -1,8 +1,8 @@
 use Rattle.std.proofs.Common.{◌≡◌, true, false, ap, ◌∙◌, sym, arith}
 use Rattle.graph_heap.specs.declared.command.Limits.{Limits}
-use Rattle.raw_heap.specs.declared.heap.RawHeap.{RawHeap}
-use Rattle.raw_heap.proofs.Standing.{are_grey}
-use Rattle.raw_heap.proofs.Threading.{buffers_none}
+use Rattle.nodes.specs.declared.raw_heap.RawHeap.{RawHeap}
+use Rattle.nodes.proofs.Standing.{are_grey}
+use Rattle.nodes.proofs.Threading.{buffers_none}
 use Rattle.satb_barrier.proofs.Listing.{are_grey_by, all_empty}
 use Rattle.satb_barrier.proofs.list.flush_all.Goals as goal
 

@@ -1,6 +1,6 @@
 use Rattle.std.proofs.Common.{◌≡◌, ◌<◌, [], ℕ, length}
 use Rattle.heap_model.specs.Action.{Relinks}
-use Rattle.raw_heap.specs.Grey.{grey_in, buffer_of}
+use Rattle.nodes.specs.Grey.{grey_in, buffer_of}
 use Rattle.satb_barrier.proofs.list.flush_all.Given as goal
 
 -- the same parts are grey, and the buffers before this one are empty

@@ -1,7 +1,7 @@
 use Rattle.std.proofs.Common.{◌≡◌, ◌+◌, ◌-◌, ◌∷◌, ◌++◌, get_or, ◌∙◌, ap, sym, subst, refl, true}
 use Rattle.heap_model.specs.Store.{is_held}
-use Rattle.raw_heap.specs.Grey.{grey_in}
-use Rattle.raw_heap.proofs.Threading.{grey_none}
+use Rattle.nodes.specs.Grey.{grey_in}
+use Rattle.nodes.proofs.Threading.{grey_none}
 use Rattle.satb_barrier.proofs.Listing.{first_held, first_taken}
 use Rattle.satb_barrier.proofs.list.take.Goals as goal
 

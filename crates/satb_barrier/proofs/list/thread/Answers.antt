@@ -1,7 +1,7 @@
 use Rattle.std.proofs.Common.{◌≡◌, ◌+◌, ◌-◌, set, List, ℕ, ap, ◌∙◌, sym}
 use Rattle.heap_model.specs.Store.{Store}
-use Rattle.raw_heap.specs.Grey.{grey_in}
-use Rattle.raw_heap.proofs.Threading.{threaded}
+use Rattle.nodes.specs.Grey.{grey_in}
+use Rattle.nodes.proofs.Threading.{threaded}
 use Rattle.satb_barrier.proofs.list.thread.Goals as goal
 
 pub returns-clause-grey : goal.returns-clause-grey

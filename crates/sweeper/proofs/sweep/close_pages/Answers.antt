@@ -3,9 +3,9 @@ use Rattle.heap_model.specs.Action.{Chain, Closes_page, goes_to}
 use Rattle.heap_model.specs.declared.phase.Phase.TheVariants as phases
 use Rattle.heap_model.specs.State.{HeapState}
 use Rattle.heap_model.specs.Written.{records}
-use Rattle.raw_heap.proofs.Keeping.{store_still}
-use Rattle.raw_heap.specs.declared.heap.RawHeap.{RawHeap}
-use Rattle.raw_heap.specs.Heap.{state_of}
+use Rattle.nodes.proofs.Keeping.{store_still}
+use Rattle.nodes.specs.declared.raw_heap.RawHeap.{RawHeap}
+use Rattle.nodes.specs.RawHeap.{state_of}
 use Rattle.sweeper.proofs.Acting.{looked, closes_run}
 use Rattle.sweeper.proofs.sweep.close_pages.Goals as goal
 

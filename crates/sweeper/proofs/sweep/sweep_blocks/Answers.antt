@@ -4,9 +4,9 @@ use Rattle.heap_model.specs.Pages.{page_at}
 use Rattle.heap_model.specs.declared.phase.Phase.TheVariants as phases
 use Rattle.heap_model.specs.State.{HeapState}
 use Rattle.heap_model.specs.Written.{records}
-use Rattle.raw_heap.proofs.Keeping.{store_still}
-use Rattle.raw_heap.specs.declared.heap.RawHeap.{RawHeap}
-use Rattle.raw_heap.specs.Heap.{state_of}
+use Rattle.nodes.proofs.Keeping.{store_still}
+use Rattle.nodes.specs.declared.raw_heap.RawHeap.{RawHeap}
+use Rattle.nodes.specs.RawHeap.{state_of}
 use Rattle.sweeper.proofs.Acting.{blocks_few, in_use}
 use Rattle.sweeper.proofs.sweep.sweep_blocks.Goals as goal
 

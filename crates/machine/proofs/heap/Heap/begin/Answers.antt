@@ -4,8 +4,8 @@ use Rattle.heap_model.specs.State.{HeapState}
 use Rattle.heap_model.specs.Agreement.{Agrees}
 use Rattle.heap_model.specs.Action.{begun}
 use Rattle.heap_model.specs.Written.{records}
-use Rattle.raw_heap.specs.Grey.{grey_in}
-use Rattle.raw_heap.specs.Heap.{state_of, IsHeap}
+use Rattle.nodes.specs.Grey.{grey_in}
+use Rattle.nodes.specs.RawHeap.{state_of, IsHeap}
 use Rattle.machine.proofs.Collecting.{begun_heap, begun_agrees}
 use Rattle.machine.proofs.heap.Heap.begin.Goals.{in-Idle, in_default}
 use Rattle.machine.proofs.heap.Heap.begin.Goals as goal

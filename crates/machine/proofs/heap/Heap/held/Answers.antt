@@ -1,6 +1,6 @@
 use Rattle.std.proofs.Common.{◌<◌, length, subst, sym}
 use Rattle.heap_model.specs.State.{HeapState}
-use Rattle.raw_heap.specs.Heap.{state_of}
+use Rattle.nodes.specs.RawHeap.{state_of}
 use Rattle.machine.proofs.Writing.{root_follows}
 use Rattle.machine.proofs.Finding.{root_names}
 use Rattle.machine.proofs.heap.Heap.held.Goals as goal

@@ -1,5 +1,5 @@
 use Rattle.std.proofs.Common.{false, refl}
-use Rattle.raw_heap.specs.Heap.{state_of}
+use Rattle.nodes.specs.RawHeap.{state_of}
 use Rattle.machine.proofs.Replying.{admitted_steps, refused_steps}
 use Rattle.machine.proofs.heap.Heap.make.Goals as goal
 

@@ -2,7 +2,7 @@ use Rattle.std.proofs.Common.{◌≡◌, ◌-◌, ◌<◌, true, length, slice_i
 use Rattle.heap_model.specs.Store.{is_held}
 use Rattle.heap_model.specs.State.{HeapState}
 use Rattle.heap_model.specs.Agreement.{Agrees}
-use Rattle.raw_heap.specs.Heap.{state_of}
+use Rattle.nodes.specs.RawHeap.{state_of}
 use Rattle.machine.specs.Reading.{Names, IsFound}
 use Rattle.nodes.specs.Referent.{referent_of}
 use Rattle.machine.proofs.Doing.{at_present}

@@ -3,7 +3,7 @@ use Rattle.heap_model.specs.State.{HeapState}
 use Rattle.heap_model.specs.Agreement.{Agrees}
 use Rattle.heap_model.specs.Turn.{SpendsTurn}
 use Rattle.heap_model.proofs.Costs.{turn_left}
-use Rattle.raw_heap.specs.Heap.{state_of}
+use Rattle.nodes.specs.RawHeap.{state_of}
 use Rattle.machine.proofs.Collecting.{chain_agrees, flushed_heap, flushed_turn}
 use Rattle.machine.proofs.heap.Heap.quantum.Goals as goal
 

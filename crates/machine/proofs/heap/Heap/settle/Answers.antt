@@ -4,7 +4,7 @@ use Rattle.graph_heap.specs.declared.command.Reply.TheVariants as replies
 use Rattle.heap_model.specs.State.{HeapState}
 use Rattle.machine.specs.declared.plan.Planned.{Planned}
 use Rattle.machine.specs.Plan.{CanPerform, CanSettle, SettlesEach}
-use Rattle.raw_heap.specs.Heap.{state_of}
+use Rattle.nodes.specs.RawHeap.{state_of}
 use Rattle.machine.proofs.Writing.{written_heap, performs, count_by}
 use Rattle.machine.proofs.Replying.{can_write, settles_ok, settles_err}
 use Rattle.machine.proofs.heap.Heap.settle.Goals as goal

@@ -1,5 +1,5 @@
 use Rattle.std.proofs.Common.{inr, refl, arith}
-use Rattle.raw_heap.proofs.Chains.{runs_once}
+use Rattle.nodes.proofs.Chains.{runs_once}
 use Rattle.machine.proofs.Collecting.{costs_one}
 use Rattle.machine.proofs.heap.collecting.act.Goals as goal
 

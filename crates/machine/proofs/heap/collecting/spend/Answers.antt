@@ -1,7 +1,7 @@
 use Rattle.std.proofs.Common.{◌+◌, ◌-◌, ◌<◌, length, refl, ap, ◌∙◌, arith}
 use Rattle.heap_model.specs.Action.{Nothing_done}
-use Rattle.raw_heap.specs.Heap.{state_of}
-use Rattle.raw_heap.proofs.Chains.{then_chain, heap_after_chain}
+use Rattle.nodes.specs.RawHeap.{state_of}
+use Rattle.nodes.proofs.Chains.{then_chain, heap_after_chain}
 use Rattle.machine.proofs.heap.collecting.spend.Goals as goal
 
 pub loop-cost-init : goal.loop-cost-init

@@ -1,6 +1,6 @@
 use Rattle.std.proofs.Common.{◌≡◌, ◌-◌, ◌≤◌}
 use Rattle.heap_model.specs.Action.{Chain}
-use Rattle.raw_heap.specs.Heap.{state_of, IsRawHeap}
+use Rattle.nodes.specs.RawHeap.{state_of, IsRawHeap}
 use Rattle.machine.proofs.heap.collecting.spend.Given as goal
 
 abbrev pub invariant-loop-cost : goal.invariant-loop-cost

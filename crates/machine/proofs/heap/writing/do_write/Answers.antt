@@ -5,12 +5,12 @@ use Rattle.machine.specs.Plan.{CanPerform, DoesEach}
 use Rattle.machine.specs.Writing.{CanWrite, IsWritten}
 use Rattle.machine.specs.declared.plan.Write.{Write}
 use Rattle.machine.specs.declared.plan.Write.TheVariants as writes
-use Rattle.raw_heap.specs.Heap.{state_of}
+use Rattle.nodes.specs.RawHeap.{state_of}
 use Rattle.machine.proofs.Doing.{present_agrees}
 use Rattle.machine.proofs.Finding.{word_held}
 use Rattle.machine.proofs.Live.{join_does}
 use Rattle.machine.proofs.Writing.{word_does}
-use Rattle.raw_heap.proofs.Keeping.{are_held, store_kept}
+use Rattle.nodes.proofs.Keeping.{are_held, store_kept}
 use Rattle.machine.proofs.heap.writing.do_write.Goals as goal
 
 pub returns-in-Nothing : goal.returns-in-Nothing

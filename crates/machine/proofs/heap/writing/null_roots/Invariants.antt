@@ -1,5 +1,5 @@
 use Rattle.heap_model.specs.Change.{Clears}
-use Rattle.raw_heap.specs.Heap.{state_of, IsRawHeap}
+use Rattle.nodes.specs.RawHeap.{state_of, IsRawHeap}
 use Rattle.machine.specs.Buffers.{AreOwn}
 use Rattle.machine.proofs.heap.writing.null_roots.Given as goal
 

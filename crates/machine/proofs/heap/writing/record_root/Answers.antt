@@ -1,5 +1,5 @@
 use Rattle.std.proofs.Common.{subst}
-use Rattle.raw_heap.specs.Heap.{state_of}
+use Rattle.nodes.specs.RawHeap.{state_of}
 use Rattle.machine.specs.Writing.{IsRecorded}
 use Rattle.machine.proofs.Writing.{root_follows}
 use Rattle.machine.proofs.heap.writing.record_root.Goals as goal

@@ -2,8 +2,8 @@ use Rattle.std.proofs.Common.{◌≡◌, ◌+◌, ◌<◌, ◌^◌, length, set,
 use Rattle.size_classes.specs.Need.{needed}
 use Rattle.heap_model.specs.Pages as page_list
 use Rattle.heap_model.proofs.Recorded.{records_stay}
-use Rattle.raw_heap.specs.declared.heap.RawHeap.{RawHeap}
-use Rattle.raw_heap.specs.Heap.{state_of}
+use Rattle.nodes.specs.declared.raw_heap.RawHeap.{RawHeap}
+use Rattle.nodes.specs.RawHeap.{state_of}
 use Rattle.machine.proofs.Doing.{present_agrees}
 use Rattle.machine.proofs.Writing.{new_does}
 use Rattle.heap_model.specs.State.{HeapState}
@@ -11,7 +11,7 @@ use Rattle.heap_model.proofs.Taken.{takes_count}
 use Rattle.size_classes.specs.Parts.{cells_of, parts_in}
 use Rattle.machine.specs.Plan.{DoesEach}
 use Rattle.machine.specs.declared.plan.Write.TheVariants as writes
-use Rattle.raw_heap.proofs.Keeping.{store_kept}
+use Rattle.nodes.proofs.Keeping.{store_kept}
 use Rattle.machine.proofs.heap.writing.write_new.Goals as goal
 
 pub record_root-requires-clause-root : goal.record_root-requires-clause-root

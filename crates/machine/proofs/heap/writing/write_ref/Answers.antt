@@ -1,12 +1,12 @@
 use Rattle.std.proofs.Common.{◌<◌, length, ap, ◌∙◌, sym, subst}
 use Rattle.heap_model.proofs.Recorded.{records_cells, records_held}
-use Rattle.raw_heap.specs.Heap.{state_of}
+use Rattle.nodes.specs.RawHeap.{state_of}
 use Rattle.machine.proofs.Doing.{present_agrees}
 use Rattle.machine.proofs.Finding.{ref_held, ref_follows}
 use Rattle.machine.proofs.Writing.{ref_does}
 use Rattle.machine.specs.Plan.{DoesEach}
 use Rattle.machine.specs.declared.plan.Write.TheVariants as writes
-use Rattle.raw_heap.proofs.Keeping.{store_kept}
+use Rattle.nodes.proofs.Keeping.{store_kept}
 use Rattle.satb_barrier.specs.Recording.{buffers_after}
 use Rattle.machine.proofs.heap.writing.write_ref.Goals as goal
 

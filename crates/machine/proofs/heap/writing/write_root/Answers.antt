@@ -1,8 +1,8 @@
 use Rattle.std.proofs.Common.{◌<◌, length, sym, subst, refl}
 use Rattle.machine.proofs.Doing.{present_agrees}
 use Rattle.machine.proofs.Writing.{root_does}
-use Rattle.raw_heap.specs.declared.heap.RawHeap.{RawHeap}
-use Rattle.raw_heap.specs.Heap.{state_of}
+use Rattle.nodes.specs.declared.raw_heap.RawHeap.{RawHeap}
+use Rattle.nodes.specs.RawHeap.{state_of}
 use Rattle.machine.proofs.heap.writing.write_root.Goals as goal
 
 pub record_root-requires-clause-root : goal.record_root-requires-clause-root

@@ -6,12 +6,12 @@ use Rattle.heap_model.specs.Store.{Store, Writes, is_held}
 use Rattle.heap_model.specs.Written.{records}
 use Rattle.heap_model.proofs.Seen.{held_pages}
 use Rattle.nodes.specs.Links.{KeepsLinks}
-use Rattle.raw_heap.specs.declared.heap.RawHeap.{RawHeap}
-use Rattle.raw_heap.specs.Grey.{grey_in}
-use Rattle.raw_heap.specs.Heap.{state_of, IsRawHeap}
-use Rattle.raw_heap.specs.Held.{AreHeld}
-use Rattle.raw_heap.proofs.Standing.{are_grey}
-use Rattle.raw_heap.proofs.Threading.{grey_same, first_none, buffers_none, grey_none}
+use Rattle.nodes.specs.declared.raw_heap.RawHeap.{RawHeap}
+use Rattle.nodes.specs.Grey.{grey_in}
+use Rattle.nodes.specs.RawHeap.{state_of, IsRawHeap}
+use Rattle.nodes.specs.GreyHeld.{AreHeld}
+use Rattle.nodes.proofs.Standing.{are_grey}
+use Rattle.nodes.proofs.Threading.{grey_same, first_none, buffers_none, grey_none}
 
 pub are_held : (a : RawHeap) → IsRawHeap a → AreHeld a
 are_held a w x some c = (are_grey a w).held x c

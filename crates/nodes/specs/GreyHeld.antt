@@ -2,8 +2,8 @@
 use Rattle.std.specs.Prelude.{◌≡◌, ◌≢◌, ℕ, ◌-◌, true}
 use Rattle.heap_model.specs.Collector.{contains}
 use Rattle.heap_model.specs.Store.{is_held}
-use Rattle.raw_heap.specs.Grey.{grey_in}
-use Rattle.raw_heap.specs.declared.heap.RawHeap.{RawHeap}
+use Rattle.nodes.specs.Grey.{grey_in}
+use Rattle.nodes.specs.declared.raw_heap.RawHeap.{RawHeap}
 
 -- each grey part is a block that is held
 abbrev pub AreHeld : RawHeap → Type 0

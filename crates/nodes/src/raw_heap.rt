@@ -4,9 +4,9 @@ ghost use Rattle.heap_model.specs.Opening.{IsOpening};
 ghost use Rattle.heap_model.specs.Settings.{settings_of, settings_by};
 
 use crate::grey::Grey;
+use crate::nodes::Nodes;
 use graph_heap::NoMemory;
 use heap_model::phase::Phase;
-use nodes::Nodes;
 use roots::Roots;
 use size_classes::Config;
 use std::alloc::Global;
@@ -29,7 +29,7 @@ pub struct RawHeap {
 }
 
 impl RawHeap {
-    ghost use Rattle.raw_heap.specs.Heap.{state_of, IsRawHeap};
+    ghost use Rattle.nodes.specs.RawHeap.{state_of, IsRawHeap};
 
     /// A heap of free pages, with null roots and no object, and memory for all that it will ever hold.
     /// Refused only for lack of memory.

@@ -2,7 +2,7 @@
 use Rattle.std.proofs.Common.{◌≡◌, ℕ, suc, ◌<◌, ◌≤◌, Bool, true, false, ◌==◌, ◌||◌, if◌then◌else◌, List, [], ◌∷◌, ◌++◌, length, refl, ap, sym, ◌∙◌, arith}
 use Rattle.std.specs.Prelude.{nat_le}
 use Rattle.heap_model.specs.Collector.{contains, Once}
-use Rattle.raw_heap.specs.Grey.{inserted, sorted}
+use Rattle.nodes.specs.Grey.{inserted, sorted}
 
 -- a number is put somewhere among the others
 pub inserted_between : (x : ℕ) (xs : List ℕ) → (front : List ℕ) × (back : List ℕ) × (xs ≡ front ++ back) × (inserted x xs ≡ front ++ x ∷ back)

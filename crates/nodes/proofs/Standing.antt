@@ -14,8 +14,8 @@ use Rattle.heap_model.proofs.Shown.{leads, root_reads}
 use Rattle.nodes.specs.declared.nodes.Referent.{Referent}
 use Rattle.nodes.specs.Referent.{CanFollow, referent_of}
 use Rattle.heap_model.proofs.Stood.{stands_limit}
-use Rattle.raw_heap.specs.declared.heap.RawHeap.{RawHeap}
-use Rattle.raw_heap.specs.Heap.{state_of, IsRawHeap}
+use Rattle.nodes.specs.declared.raw_heap.RawHeap.{RawHeap}
+use Rattle.nodes.specs.RawHeap.{state_of, IsRawHeap}
 
 -- units are counted on
 pub units_small : (a : RawHeap) → IsRawHeap a → a.units < 2 ^ 31

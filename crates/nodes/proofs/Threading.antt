@@ -5,8 +5,8 @@ use Rattle.std.proofs.lemmas.List.{get_or-set_other, append_assoc, length-append
 use Rattle.arrayvec.specs.ArrayVec.{ArrayVec}
 use Rattle.heap_model.specs.Collector.{contains}
 use Rattle.heap_model.specs.Store.{Store}
-use Rattle.raw_heap.specs.Grey.{GreySet, linked_from, in_buffers, inserted, sorted, grey_in, buffer_of, with_buffer}
-use Rattle.raw_heap.proofs.Sorting.{sorted_middle, length-sorted, contains-sorted}
+use Rattle.nodes.specs.Grey.{GreySet, linked_from, in_buffers, inserted, sorted, grey_in, buffer_of, with_buffer}
+use Rattle.nodes.proofs.Sorting.{sorted_middle, length-sorted, contains-sorted}
 
 -- what a list and another have
 contains-append : (xs ys : List ℕ) (k : ℕ) → contains (xs ++ ys) k ≡ (contains xs k || contains ys k)

@@ -11,8 +11,8 @@ use Rattle.heap_model.specs.State.{HeapState}
 use Rattle.heap_model.specs.Opening.{IsOpening}
 use Rattle.heap_model.specs.Spent.{cycle_limit}
 use Rattle.heap_model.proofs.Stood.{stands_opening}
-use Rattle.raw_heap.specs.declared.heap.RawHeap.{RawHeap}
-use Rattle.raw_heap.specs.Heap.{state_of, IsRawHeap}
+use Rattle.nodes.specs.declared.raw_heap.RawHeap.{RawHeap}
+use Rattle.nodes.specs.RawHeap.{state_of, IsRawHeap}
 
 no_object_fits : (id : ℕ) → fits (object_of [] id).shape ≡ true
 unfolding object_of

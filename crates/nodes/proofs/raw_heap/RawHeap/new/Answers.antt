@@ -3,10 +3,10 @@ use Rattle.std.proofs.lemmas.List.{length-replicate}
 use Rattle.arrayvec.specs.ArrayVec.{ArrayVec}
 use Rattle.graph_heap.specs.declared.command.Limits.{Limits}
 use Rattle.roots.specs.Row.{Row}
-use Rattle.raw_heap.specs.Grey.{GreySet}
-use Rattle.raw_heap.proofs.Opening.{opening_heap, all_free, new_count}
-use Rattle.raw_heap.proofs.Threading.{no_grey}
-use Rattle.raw_heap.proofs.heap.RawHeap.new.Goals as goal
+use Rattle.nodes.specs.Grey.{GreySet}
+use Rattle.nodes.proofs.Opening.{opening_heap, all_free, new_count}
+use Rattle.nodes.proofs.Threading.{no_grey}
+use Rattle.nodes.proofs.raw_heap.RawHeap.new.Goals as goal
 
 pub returns-clause-opening : goal.returns-clause-opening
 returns-clause-opening c = record { pages = all_free _ _ _ c.in_ok-nodes.ensures; roots = search rules; live = search rules; next = refl; phase = refl; units = refl; grey = no_grey _ _ _ c.in_ok-grey.ensures }

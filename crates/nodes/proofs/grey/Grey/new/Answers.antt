@@ -1,6 +1,6 @@
 use Rattle.std.proofs.Common.{[], ◌∷◌, ◌++◌, replicate, ap, ◌∙◌, arith}
 use Rattle.std.proofs.lemmas.List.{replicate-append-replicate}
-use Rattle.raw_heap.proofs.grey.Grey.new.Goals as goal
+use Rattle.nodes.proofs.grey.Grey.new.Goals as goal
 
 pub loop-preserved : goal.loop-preserved
 loop-preserved c =

@@ -1,5 +1,5 @@
 use Rattle.std.proofs.Common.{◌≡◌, [], replicate}
-use Rattle.raw_heap.proofs.grey.Grey.new.Given as goal
+use Rattle.nodes.proofs.grey.Grey.new.Given as goal
 
 abbrev pub invariant-loop : goal.invariant-loop
 invariant-loop l = l.buffers.items ≡ replicate l.counter (record { items = [] })

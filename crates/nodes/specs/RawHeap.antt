@@ -6,8 +6,8 @@ use Rattle.heap_model.specs.State.{HeapState}
 use Rattle.heap_model.specs.Spent.{cycle_limit}
 use Rattle.heap_model.specs.Standing.{Stands}
 use Rattle.heap_model.specs.Written.{records}
-use Rattle.raw_heap.specs.declared.heap.RawHeap.{RawHeap}
-use Rattle.raw_heap.specs.Grey.{grey_in}
+use Rattle.nodes.specs.declared.raw_heap.RawHeap.{RawHeap}
+use Rattle.nodes.specs.Grey.{grey_in}
 
 -- the fields of a heap, as the heap in words
 abbrev pub state_of : RawHeap → HeapState

@@ -10,10 +10,10 @@ use Rattle.heap_model.proofs.Grey.{rests_empty}
 use Rattle.heap_model.proofs.Settings.{chain_settings}
 use Rattle.heap_model.proofs.Stood.{stands_chain}
 use Rattle.heap_model.proofs.Turns.{action_cost}
-use Rattle.raw_heap.specs.Acting.{Acts}
-use Rattle.raw_heap.specs.declared.heap.RawHeap.{RawHeap}
-use Rattle.raw_heap.specs.Heap.{state_of, IsRawHeap}
-use Rattle.raw_heap.proofs.Standing.{still}
+use Rattle.nodes.specs.Acting.{Acts}
+use Rattle.nodes.specs.declared.raw_heap.RawHeap.{RawHeap}
+use Rattle.nodes.specs.RawHeap.{state_of, IsRawHeap}
+use Rattle.nodes.proofs.Standing.{still}
 
 -- one action
 pub one_action : (h after : HeapState) (cost : ℕ) → Action h cost after → Chain h cost after

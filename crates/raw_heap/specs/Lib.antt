@@ -1,4 +1,0 @@
-pub mod Acting
-pub mod Grey
-pub mod Heap
-pub mod Held

@@ -5,7 +5,7 @@ use Rattle.graph_heap.specs.declared.command.Shape.TheVariants.{Plain, RefArray,
 use Rattle.graph_heap.specs.declared.command.Refusal.TheVariants.{BadIndex, WrongKind}
 use Rattle.size_classes.specs.Parts.{part_in, column_in}
 use Rattle.heap_model.specs.Cut.{width_in}
-use Rattle.arraylets.specs.Place.{ref_place, word_place}
+use Rattle.arraylets.specs.CellPosition.{ref_place, word_place}
 
 -- cell i of an array of n references, and of n words, stands in this part, as this cell of it
 abbrev Stands : ℕ → ℕ → ℕ → ℕ → Type 0

@@ -8,15 +8,15 @@ use Rattle.graph_heap.specs.declared.command.Shape.TheVariants.{Plain, RefArray,
 use Rattle.graph_heap.specs.Shape.{fits}
 use Rattle.size_classes.specs.Parts.{cells_of, pieces_of, spines_of, parts_in, part_cells, part_words, holder_of, seat_of}
 use Rattle.size_classes.specs.Sizes.{class_for}
-use Rattle.size_classes.proofs.Cutting.{Pieces, Spines, pieces_are, spines_are, held_by, count_most}
-use Rattle.heap_model.specs.Block.{Node, with_cell, new_node}
-use Rattle.heap_model.specs.Store.{Store, is_held, node_of, Writes, Adds}
+use Rattle.size_classes.proofs.Cutting.{Pieces, Spines, pieces_are, spines_are, referrers_are, count_most}
+use Rattle.heap_model.specs.Block.{BlockRecord, with_cell, new_record}
+use Rattle.heap_model.specs.Store.{Store, is_allocated, record_of, Writes, Adds}
 use Rattle.heap_model.specs.Pages.{Page, TakesBlock}
 use Rattle.heap_model.specs.Taking.{Takes, Nothing_taken, Part_taken}
 use Rattle.heap_model.specs.Header.{ShapeFits}
 use Rattle.heap_model.specs.Making.{made, part_of, Making, MakesObject, Nothing_made, Part_made}
 use Rattle.heap_model.specs.Making.{Made as OneObject}
-use Rattle.heap_model.proofs.Seen.{held_pages}
+use Rattle.heap_model.proofs.Seen.{allocated_pages}
 use Rattle.nodes.specs.Links.{KeepsLinks}
 use Rattle.arraylets.specs.Made.{LinksPart}
 
@@ -24,12 +24,12 @@ use Rattle.arraylets.specs.Made.{LinksPart}
 pub links_same : (s : Store) → KeepsLinks s s
 links_same s = record { len = refl; each = λ b h. refl }
 
-pub links_then : (s t u : Store) → ((b : ℕ) → is_held s b ≡ true → is_held t b ≡ true) → KeepsLinks s t → KeepsLinks t u → KeepsLinks s u
+pub links_then : (s t u : Store) → ((b : ℕ) → is_allocated s b ≡ true → is_allocated t b ≡ true) → KeepsLinks s t → KeepsLinks t u → KeepsLinks s u
 links_then s t u still x y = record { len = y.len ∙ x.len; each = λ b h. y.each b (still b h) ∙ x.each b h }
 
--- a block stays held where another is added
-pub added_held : (s t : Store) (a : ℕ) (node : Node) → Adds s t a node → (b : ℕ) → is_held s b ≡ true → is_held t b ≡ true
-added_held s t a node added b h = added.same b (λ e. clash (ap (is_held s) (sym e) ∙ h) added.free) ∙ h
+-- a block stays allocated where another is added
+pub added_allocated : (s t : Store) (a : ℕ) (node : BlockRecord) → Adds s t a node → (b : ℕ) → is_allocated s b ≡ true → is_allocated t b ≡ true
+added_allocated s t a node added b h = added.same b (λ e. clash (ap (is_allocated s) (sym e) ∙ h) added.free) ∙ h
   where
     clash : {b : Bool} → b ≡ true → b ≡ false → ⊥
     clash p q = cc
@@ -75,7 +75,7 @@ spines_most n k s a b l = grind arith
 
 pub spine_in : (n part : ℕ) → n ≤ 4000000 → 0 < part → part < parts_in n → (holder_of n part < part) × (holder_of n part < 64) × (seat_of n part < part_cells n (holder_of n part))
 spine_in n part few some below =
-    let q = held_by n (pieces_of n) (spines_of n) (pieces_are n) (spines_are n) part some below in
+    let q = referrers_are n (pieces_of n) (spines_of n) (pieces_are n) (spines_are n) part some below in
     let most = spines_most n (pieces_of n) (spines_of n) (pieces_are n) (spines_are n) few in
     (q.1, omega (arith, q.0, most), q.2)
 
@@ -85,19 +85,19 @@ spine_before shape part f some below = spine_in (cells_of shape) part (cells_few
 
 -- a part is written into its spine
 module _ (n : ℕ) (s t : Store) (spines : List ℕ) (part spine cell address : ℕ) (es : spine ≡ holder_of n part) (ec : cell ≡ seat_of n part) where
-  pub spine_held : is_held s (get_or spines (holder_of n part) 0) ≡ true → is_held s (get_or spines spine 0) ≡ true
-  spine_held h = subst (λ k. is_held s (get_or spines k 0) ≡ true) (sym es) h
+  pub spine_allocated : is_allocated s (get_or spines (holder_of n part) 0) ≡ true → is_allocated s (get_or spines spine 0) ≡ true
+  spine_allocated h = subst (λ k. is_allocated s (get_or spines k 0) ≡ true) (sym es) h
 
-  pub cell_within : n ≤ 4000000 → 0 < part → part < parts_in n → length (node_of s (get_or spines (holder_of n part) 0)).cells ≡ part_cells n (holder_of n part) → cell < length (node_of s (get_or spines spine 0)).cells
+  pub cell_within : n ≤ 4000000 → 0 < part → part < parts_in n → length (record_of s (get_or spines (holder_of n part) 0)).cells ≡ part_cells n (holder_of n part) → cell < length (record_of s (get_or spines spine 0)).cells
   cell_within few some below cells =
-      subst (λ k. cell < length (node_of s (get_or spines k 0)).cells) (sym es)
-      (subst (λ c. c < length (node_of s (get_or spines (holder_of n part) 0)).cells) (sym ec) (subst (λ l. seat_of n part < l) (sym cells) (spine_in n part few some below).2))
+      subst (λ k. cell < length (record_of s (get_or spines k 0)).cells) (sym es)
+      (subst (λ c. c < length (record_of s (get_or spines (holder_of n part) 0)).cells) (sym ec) (subst (λ l. seat_of n part < l) (sym cells) (spine_in n part few some below).2))
 
-  pub linked_by : 0 < part → Writes s t (get_or spines spine 0) (with_cell (node_of s (get_or spines spine 0)) cell (address + 1)) → LinksPart n s (get_or spines (holder_of n part) 0) part address t
+  pub linked_by : 0 < part → Writes s t (get_or spines spine 0) (with_cell (record_of s (get_or spines spine 0)) cell (address + 1)) → LinksPart n s (get_or spines (holder_of n part) 0) part address t
   linked_by some w = record {
     root = λ e. absurd (omega (arith, some, e));
-    written = λ l. subst (λ k. Writes s t (get_or spines k 0) (with_cell (node_of s (get_or spines k 0)) (seat_of n part) (address + 1))) es
-        (subst (λ i. Writes s t (get_or spines spine 0) (with_cell (node_of s (get_or spines spine 0)) i (address + 1))) ec w);
+    written = λ l. subst (λ k. Writes s t (get_or spines k 0) (with_cell (record_of s (get_or spines k 0)) (seat_of n part) (address + 1))) es
+        (subst (λ i. Writes s t (get_or spines spine 0) (with_cell (record_of s (get_or spines spine 0)) i (address + 1))) ec w);
   }
 
 -- which takes no block
@@ -114,31 +114,31 @@ pub record MakesPart (old : Store) (object : OneObject) (spines : ℕ → ℕ) (
 -- one part is made
 module _ (old new : Store) (shape : Shape) (colour : Bool) (id : ℕ) (spines : ℕ → ℕ) (part address : ℕ) (w : MakesPart old (made shape colour id) spines part address new) where
   abbrev Stands : Store → ℕ → ℕ → Type 0
-  Stands s b k = (is_held s b ≡ true) × (length (node_of s b).cells ≡ part_cells (cells_of shape) k)
+  Stands s b k = (is_allocated s b ≡ true) × (length (record_of s b).cells ≡ part_cells (cells_of shape) k)
 
   then_written : (P : Store → Type 0) → P w.between → (0 < part → P w.between → P new) → P new
   then_written P p q = elim (eq-zero-or-pos part) [ inl e ↦ subst P (sym (w.linked.root e)) p | inr l ↦ q l p ]
 
-  pub part_held : (b : ℕ) → is_held old b ≡ true → is_held new b ≡ true
-  part_held b h = then_written (λ s. is_held s b ≡ true) (added_held old w.between address _ w.added b h) (λ l k. held_pages w.between new b (w.linked.written l).pages ∙ k)
+  pub part_allocated : (b : ℕ) → is_allocated old b ≡ true → is_allocated new b ≡ true
+  part_allocated b h = then_written (λ s. is_allocated s b ≡ true) (added_allocated old w.between address _ w.added b h) (λ l k. allocated_pages w.between new b (w.linked.written l).pages ∙ k)
 
-  written_stands : (b k : ℕ) → 0 < part → (length (node_of w.between b).cells ≡ part_cells (cells_of shape) k) → is_held w.between b ≡ true → length (node_of new b).cells ≡ part_cells (cells_of shape) k
+  written_stands : (b k : ℕ) → 0 < part → (length (record_of w.between b).cells ≡ part_cells (cells_of shape) k) → is_allocated w.between b ≡ true → length (record_of new b).cells ≡ part_cells (cells_of shape) k
   written_stands b k l e h = elim (same_or b (spines (holder_of (cells_of shape) part))) [
     | inl same ↦
-        ap (λ z. length (node_of new z).cells) same ∙ ap (λ (x : Node). length x.cells) (w.linked.written l).here ∙ length-set (node_of w.between (spines (holder_of (cells_of shape) part))).cells (seat_of (cells_of shape) part) (address + 1)
-        ∙ ap (λ z. length (node_of w.between z).cells) (sym same) ∙ e
-    | inr apart ↦ ap (λ (x : Node). length x.cells) ((w.linked.written l).others b h apart) ∙ e
+        ap (λ z. length (record_of new z).cells) same ∙ ap (λ (x : BlockRecord). length x.cells) (w.linked.written l).here ∙ length-set (record_of w.between (spines (holder_of (cells_of shape) part))).cells (seat_of (cells_of shape) part) (address + 1)
+        ∙ ap (λ z. length (record_of w.between z).cells) (sym same) ∙ e
+    | inr apart ↦ ap (λ (x : BlockRecord). length x.cells) ((w.linked.written l).others b h apart) ∙ e
   ]
 
   pub new_stands : Stands new address part
   new_stands = then_written (λ s. Stands s address part)
-      (w.added.held, ap (λ (x : Node). length x.cells) w.added.here ∙ length-replicate {A = ℕ} (part_cells (cells_of shape) part) 0)
-      (λ l q. (held_pages w.between new address (w.linked.written l).pages ∙ q.0, written_stands address part l q.1 q.0))
+      (w.added.allocated, ap (λ (x : BlockRecord). length x.cells) w.added.here ∙ length-replicate {A = ℕ} (part_cells (cells_of shape) part) 0)
+      (λ l q. (allocated_pages w.between new address (w.linked.written l).pages ∙ q.0, written_stands address part l q.1 q.0))
 
   pub old_stands : (b k : ℕ) → Stands old b k → Stands new b k
   old_stands b k i = then_written (λ s. Stands s b k)
-      (added_held old w.between address _ w.added b i.0, ap (λ (x : Node). length x.cells) (w.added.others b i.0) ∙ i.1)
-      (λ l q. (held_pages w.between new b (w.linked.written l).pages ∙ q.0, written_stands b k l q.1 q.0))
+      (added_allocated old w.between address _ w.added b i.0, ap (λ (x : BlockRecord). length x.cells) (w.added.others b i.0) ∙ i.1)
+      (λ l q. (allocated_pages w.between new b (w.linked.written l).pages ∙ q.0, written_stands b k l q.1 q.0))
 
 -- the addresses of parts that aren't made yet may be any
 module _ (old : Store) (shape : Shape) (colour : Bool) (id : ℕ) (at at' : ℕ → ℕ) (f : fits shape ≡ true) where
@@ -149,11 +149,11 @@ module _ (old : Store) (shape : Shape) (colour : Bool) (id : ℕ) (at at' : ℕ 
   making_at parts new few same Nothing_made = Nothing_made
   making_at parts new few same (Part_made k s t u m a none some) =
       Part_made k s t u (making_at k s (omega arith) (λ p l. same p (omega arith)) m)
-      (subst (λ b. Adds s t b (new_node b (record { shape = shape; part = k; colour = colour }) id)) (same k (omega arith)) a)
+      (subst (λ b. Adds s t b (new_record b (record { shape = shape; part = k; colour = colour }) id)) (same k (omega arith)) a)
       none
       (λ l. let q = spine_before shape k f l (omega arith) in
-      subst (λ b. Writes t u b (with_cell (node_of t b) (seat_of (cells_of shape) k) (at' k + 1))) (same (spine_of k) (let x = q.0 in omega arith))
-      (subst (λ z. Writes t u (at (spine_of k)) (with_cell (node_of t (at (spine_of k))) (seat_of (cells_of shape) k) (z + 1))) (same k (omega arith)) (some l)))
+      subst (λ b. Writes t u b (with_cell (record_of t b) (seat_of (cells_of shape) k) (at' k + 1))) (same (spine_of k) (let x = q.0 in omega arith))
+      (subst (λ z. Writes t u (at (spine_of k)) (with_cell (record_of t (at (spine_of k))) (seat_of (cells_of shape) k) (z + 1))) (same k (omega arith)) (some l)))
 
 pub taking_at : (cells : ℕ) (at at' : ℕ → ℕ) (old : List (Option Page)) (parts : ℕ) (new : List (Option Page)) → ((p : ℕ) → p < parts → at p ≡ at' p) → Takes cells at old parts new → Takes cells at' old parts new
 taking_at cells at at' old parts new same Nothing_taken = Nothing_taken
@@ -166,8 +166,8 @@ pub record Made (old : Store) (shape : Shape) (colour : Bool) (id : ℕ) (spines
   pub known : (p : ℕ) → p < parts → p < 64 → get_or spines p 0 ≡ at p
   pub making : Making old (made shape colour id) at parts new
   pub takes : Takes (cells_of shape) at old.pages parts new.pages
-  pub stands : (p : ℕ) → p < parts → (is_held new (at p) ≡ true) × (length (node_of new (at p)).cells ≡ part_cells (cells_of shape) p)
-  pub held : (b : ℕ) → is_held old b ≡ true → is_held new b ≡ true
+  pub stands : (p : ℕ) → p < parts → (is_allocated new (at p) ≡ true) × (length (record_of new (at p)).cells ≡ part_cells (cells_of shape) p)
+  pub allocated : (b : ℕ) → is_allocated old b ≡ true → is_allocated new b ≡ true
 
 pub none_made : (old : Store) (shape : Shape) (colour : Bool) (id : ℕ) (spines : List ℕ) → Made old shape colour id spines 0 old
 none_made old shape colour id spines = record {
@@ -176,23 +176,23 @@ none_made old shape colour id spines = record {
   making = Nothing_made;
   takes = Nothing_taken;
   stands = λ p l. absurd (omega arith);
-  held = λ b h. h;
+  allocated = λ b h. h;
 }
 
 -- one part more
 module _ (old s t : Store) (shape : Shape) (colour : Bool) (id : ℕ) (spines spines' : List ℕ) (part address : ℕ) (f : fits shape ≡ true) (below : part < parts_in (cells_of shape)) (m : Made old shape colour id spines part s) where
   -- the spine that refers to the part stands
-  pub spine_stands : 0 < part → (is_held s (get_or spines (holder_of (cells_of shape) part) 0) ≡ true)
-      × (length (node_of s (get_or spines (holder_of (cells_of shape) part) 0)).cells ≡ part_cells (cells_of shape) (holder_of (cells_of shape) part))
+  pub spine_stands : 0 < part → (is_allocated s (get_or spines (holder_of (cells_of shape) part) 0) ≡ true)
+      × (length (record_of s (get_or spines (holder_of (cells_of shape) part) 0)).cells ≡ part_cells (cells_of shape) (holder_of (cells_of shape) part))
   spine_stands l =
       let q = spine_before shape part f l below in
       let e = m.known (holder_of (cells_of shape) part) q.0 q.1 in
-      subst (λ b. (is_held s b ≡ true) × (length (node_of s b).cells ≡ part_cells (cells_of shape) (holder_of (cells_of shape) part))) (sym e) (m.stands (holder_of (cells_of shape) part) q.0)
+      subst (λ b. (is_allocated s b ≡ true) × (length (record_of s b).cells ≡ part_cells (cells_of shape) (holder_of (cells_of shape) part))) (sym e) (m.stands (holder_of (cells_of shape) part) q.0)
 
   -- also when the part was added
-  pub spine_later : (u : Store) (node : Node) → Adds s u address node → 0 < part → (is_held u (get_or spines (holder_of (cells_of shape) part) 0) ≡ true)
-      × (length (node_of u (get_or spines (holder_of (cells_of shape) part) 0)).cells ≡ part_cells (cells_of shape) (holder_of (cells_of shape) part))
-  spine_later u node added l = let q = spine_stands l in (added_held s u address node added _ q.0, ap (λ (x : Node). length x.cells) (added.others _ q.0) ∙ q.1)
+  pub spine_later : (u : Store) (node : BlockRecord) → Adds s u address node → 0 < part → (is_allocated u (get_or spines (holder_of (cells_of shape) part) 0) ≡ true)
+      × (length (record_of u (get_or spines (holder_of (cells_of shape) part) 0)).cells ≡ part_cells (cells_of shape) (holder_of (cells_of shape) part))
+  spine_later u node added l = let q = spine_stands l in (added_allocated s u address node added _ q.0, ap (λ (x : BlockRecord). length x.cells) (added.others _ q.0) ∙ q.1)
 
   module _ (w : MakesPart s (made shape colour id) (λ p. get_or spines p 0) part address t)
       (taken : (class : ℕ) × (index : ℕ) × (class_for (part_words (cells_of shape) part) ≡ Some class) × TakesBlock s.pages class (address / 2048) index t.pages)
@@ -209,12 +209,12 @@ module _ (old s t : Store) (shape : Shape) (colour : Bool) (id : ℕ) (spines sp
     before : (p : ℕ) → p < part → m.at p ≡ at' p
     before p l = at_other p (λ e. absurd (omega arith))
 
-    links : 0 < part → Writes w.between t (at' (holder_of (cells_of shape) part)) (with_cell (node_of w.between (at' (holder_of (cells_of shape) part))) (seat_of (cells_of shape) part) (at' part + 1))
+    links : 0 < part → Writes w.between t (at' (holder_of (cells_of shape) part)) (with_cell (record_of w.between (at' (holder_of (cells_of shape) part))) (seat_of (cells_of shape) part) (at' part + 1))
     links l =
         let q = spine_before shape part f l below in
         let e : get_or spines (holder_of (cells_of shape) part) 0 ≡ at' (holder_of (cells_of shape) part) = m.known (holder_of (cells_of shape) part) q.0 q.1 ∙ before (holder_of (cells_of shape) part) q.0 in
-        subst (λ b. Writes w.between t b (with_cell (node_of w.between b) (seat_of (cells_of shape) part) (at' part + 1))) e
-        (subst (λ z. Writes w.between t (get_or spines (holder_of (cells_of shape) part) 0) (with_cell (node_of w.between (get_or spines (holder_of (cells_of shape) part) 0)) (seat_of (cells_of shape) part) (z + 1))) (sym at_here) (w.linked.written l))
+        subst (λ b. Writes w.between t b (with_cell (record_of w.between b) (seat_of (cells_of shape) part) (at' part + 1))) e
+        (subst (λ z. Writes w.between t (get_or spines (holder_of (cells_of shape) part) 0) (with_cell (record_of w.between (get_or spines (holder_of (cells_of shape) part) 0)) (seat_of (cells_of shape) part) (z + 1))) (sym at_here) (w.linked.written l))
 
     pub one_more : Made old shape colour id spines' (part + 1) t
     one_more = record {
@@ -224,16 +224,16 @@ module _ (old s t : Store) (shape : Shape) (colour : Bool) (id : ℕ) (spines sp
         | inr d ↦ others p d ∙ m.known p (omega arith) few ∙ at_other p d
       ];
       making = Part_made part s w.between t (making_at old shape colour id m.at at' f part s (omega arith) before m.making)
-          (subst (λ b. Adds s w.between b (new_node b (record { shape = shape; part = part; colour = colour }) id)) (sym at_here) w.added)
+          (subst (λ b. Adds s w.between b (new_record b (record { shape = shape; part = part; colour = colour }) id)) (sym at_here) w.added)
           w.linked.root links;
       takes = Part_taken part taken.0 taken.1 s.pages t.pages (taking_at (cells_of shape) m.at at' old.pages part s.pages before m.takes) taken.2
           (subst (λ z. TakesBlock s.pages taken.0 (z / 2048) taken.1 t.pages) (sym at_here) taken.3);
       stands = λ p l. elim (same_or p part) [
-        | inl e ↦ subst (λ k. (is_held t (at' k) ≡ true) × (length (node_of t (at' k)).cells ≡ part_cells (cells_of shape) k)) (sym e)
-            (subst (λ b. (is_held t b ≡ true) × (length (node_of t b).cells ≡ part_cells (cells_of shape) part)) (sym at_here) (new_stands s t shape colour id _ part address w))
-        | inr d ↦ subst (λ b. (is_held t b ≡ true) × (length (node_of t b).cells ≡ part_cells (cells_of shape) p)) (at_other p d) (old_stands s t shape colour id _ part address w (m.at p) p (m.stands p (omega arith)))
+        | inl e ↦ subst (λ k. (is_allocated t (at' k) ≡ true) × (length (record_of t (at' k)).cells ≡ part_cells (cells_of shape) k)) (sym e)
+            (subst (λ b. (is_allocated t b ≡ true) × (length (record_of t b).cells ≡ part_cells (cells_of shape) part)) (sym at_here) (new_stands s t shape colour id _ part address w))
+        | inr d ↦ subst (λ b. (is_allocated t b ≡ true) × (length (record_of t b).cells ≡ part_cells (cells_of shape) p)) (at_other p d) (old_stands s t shape colour id _ part address w (m.at p) p (m.stands p (omega arith)))
       ];
-      held = λ b h. part_held s t shape colour id _ part address w b (m.held b h);
+      allocated = λ b h. part_allocated s t shape colour id _ part address w b (m.allocated b h);
     }
 
 pub first_within : (spines spines' : List ℕ) (part address : ℕ) → (part < 64 → get_or spines' part 0 ≡ address) → ((p : ℕ) → p ≢ part → get_or spines' p 0 ≡ get_or spines p 0)
@@ -255,7 +255,7 @@ all_made old new shape colour id spines parts m e some = (
 
 -- an object of one part is made by making that part
 pub one_made : (s t : Store) (address : ℕ) (shape : Shape) (colour : Bool) (id : ℕ) → parts_in (cells_of shape) ≡ 1
-    → Adds s t address (new_node address (record { shape = shape; part = 0; colour = colour }) id)
+    → Adds s t address (new_record address (record { shape = shape; part = 0; colour = colour }) id)
     → (class : ℕ) × (index : ℕ) × (class_for (part_words (cells_of shape) 0) ≡ Some class) × TakesBlock s.pages class (address / 2048) index t.pages
     → (at : ℕ → ℕ) × (at 0 ≡ address) × MakesObject s shape colour id at t × Takes (cells_of shape) at s.pages (parts_in (cells_of shape)) t.pages
 one_made s t address shape colour id one added taken = (

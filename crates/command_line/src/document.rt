@@ -32,7 +32,7 @@ fn config_in(document: &Table) -> Result<Config, ConfigFault>
         return Err(ConfigFault::UnknownKey);
     }
     let settings = settings_in(document)?;
-    Config::check_budget(&settings)
+    Config::from_checked(&settings)
 }
 
 /// Whether a document has a key that isn't known.

@@ -1,30 +1,30 @@
 //! One look of a pass.
 ghost use Rattle.std.specs.Prelude.{◌≡◌, ◌-◌, ◌<◌, ◌≤◌, ◌^◌, length, Some};
 ghost use Rattle.size_classes.specs.declared.class.TheConstants.{CLASSES};
-ghost use Rattle.heap_model.specs.Action.{looked, fewer, is_chosen};
+ghost use Rattle.heap_model.specs.Action.{candidate_after, emptier, is_chosen};
 ghost use Rattle.heap_model.specs.Action.{Action, AtPass};
 ghost use Rattle.heap_model.specs.declared.phase.Phase.TheVariants as phases;
 ghost use Rattle.heap_model.specs.declared.phase.Moving.TheVariants as moves;
 ghost use Rattle.nodes.specs.Acting.{Acts};
-ghost use Rattle.nodes.specs.RawHeap.{state_of, IsRawHeap};
+ghost use Rattle.nodes.specs.HeapFields.{state_of, AreHeapFields};
 ghost use Rattle.defrag.specs.Looking.{looked_on};
 
 use heap_model::phase::{Candidate, Moving, Phase};
-use nodes::{Nodes, RawHeap};
+use nodes::{BlockStore, HeapFields};
 use size_classes::{CLASSES, Class};
 
 /// Does the next steps of a pass: looks at the class's next pages before the last, as many as are left or as
 /// there is room for; where none is left, the look at the last one; after the last class the end of moving.
 /// Each costs one unit. Answers the units.
 pub fn pass_next(
-    heap: &mut RawHeap,
+    heap: &mut HeapFields,
     class: u32,
     page: u32,
     candidate: Option<Candidate>,
     chosen: u32,
     room: u32,
 ) -> u32
-    requires heap { IsRawHeap heap.old }
+    requires heap { AreHeapFields heap.old }
     requires phase { heap.old.phase ≡ phases.Moving (moves.Pass class page candidate chosen) }
     requires room { 0 < room }
     ensures acts { Acts heap.old room heap.new result }
@@ -54,13 +54,13 @@ pub fn pass_next(
 /// Looks at a page in a pass of a class, with the best page so far. After a look at the last page the best
 /// one is chosen, if its blocks find a place on the class's other pages. It costs one unit.
 pub fn look_next(
-    heap: &mut RawHeap,
+    heap: &mut HeapFields,
     class: u32,
     page: u32,
     candidate: Option<Candidate>,
     chosen: u32,
 )
-    requires heap { IsRawHeap heap.old }
+    requires heap { AreHeapFields heap.old }
     requires pass { AtPass (state_of heap.old) class page candidate chosen }
     requires class { class < CLASSES }
     requires page { page < length heap.old.nodes.pages }
@@ -69,7 +69,7 @@ pub fn look_next(
     ensures grey { heap.new.grey ≡ heap.old.grey }
 {
     let number = Class::new(class as u8);
-    let candidate = look(&heap.nodes, number, page, candidate);
+    let candidate = consider(&heap.nodes, number, page, candidate);
     if (page as usize) + 1 < heap.nodes.pages() {
         return heap.go_to(
             1,
@@ -83,7 +83,7 @@ pub fn look_next(
     }
     match candidate {
         Some(found) if is_chosen(&heap.nodes, number, found) => {
-            heap.nodes.leave(found.page as usize);
+            heap.nodes.mark_evacuating(found.page as usize);
             heap.go_to(
                 1,
                 Phase::Moving(Moving::Emptying {
@@ -108,7 +108,7 @@ pub fn look_next(
 
 /// The candidate after looks at the pages from one up to another.
 fn look_on(
-    nodes: &Nodes,
+    nodes: &BlockStore,
     class: Class,
     from: u32,
     end: u32,
@@ -120,35 +120,40 @@ fn look_on(
 {
     let mut candidate = best;
     for page in from..end {
-        candidate = look(nodes, class, page, candidate);
+        candidate = consider(nodes, class, page, candidate);
     }
     candidate
 }
 
 /// The candidate after a look at a page.
-fn look(nodes: &Nodes, class: Class, page: u32, best: Option<Candidate>) -> Option<Candidate>
+fn consider(
+    nodes: &BlockStore,
+    class: Class,
+    page: u32,
+    best: Option<Candidate>,
+) -> Option<Candidate>
     requires { page < length nodes.now.pages }
-    ensures { result ≡ looked nodes.now.pages class page best }
+    ensures { result ≡ candidate_after nodes.now.pages class page best }
 {
     if !nodes.is_choosable(class, page as usize) {
         return best;
     }
-    let held = nodes.held(page as usize) as u32;
-    Some(fewer(best, Candidate { page, held }))
+    let allocated = nodes.allocated(page as usize) as u32;
+    Some(emptier(best, Candidate { page, allocated }))
 }
 
-/// The one with fewer held blocks, the first on a tie.
-fn fewer(best: Option<Candidate>, candidate: Candidate) -> Candidate
-    ensures { Some result ≡ fewer best candidate }
+/// The one with fewer allocated blocks, the first on a tie.
+fn emptier(best: Option<Candidate>, candidate: Candidate) -> Candidate
+    ensures { Some result ≡ emptier best candidate }
 {
     match best {
-        Some(other) if other.held <= candidate.held => other,
+        Some(other) if other.allocated <= candidate.allocated => other,
         _ => candidate,
     }
 }
 
 /// Whether the blocks of a candidate find a place on the class's other pages.
-fn is_chosen(nodes: &Nodes, class: Class, candidate: Candidate) -> bool
+fn is_chosen(nodes: &BlockStore, class: Class, candidate: Candidate) -> bool
     ensures { result ≡ is_chosen nodes.now.pages class (Some candidate) }
 {
     let page = candidate.page as usize;
@@ -158,5 +163,5 @@ fn is_chosen(nodes: &Nodes, class: Class, candidate: Candidate) -> bool
     let elsewhere = nodes
         .free_blocks(class)
         .saturating_sub(nodes.free_on(class, page));
-    nodes.held(page) <= elsewhere
+    nodes.allocated(page) <= elsewhere
 }

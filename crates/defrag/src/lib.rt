@@ -1,4 +1,4 @@
-//! Moving: a page with few held blocks is chosen, and they are moved to the other pages of its class, one
+//! Moving: a page with few allocated blocks is chosen, and they are moved to the other pages of its class, one
 //! at a time.
 #![tactic(auto)]
 

@@ -15,22 +15,22 @@ use Rattle.heap_model.specs.State.{HeapState}
 use Rattle.heap_model.specs.Marks.{HasNoMark, AreClosed}
 use Rattle.heap_model.specs.Placed.{IsPlaced}
 use Rattle.heap_model.specs.Settings.{HeapSettings, settings_of}
-use Rattle.heap_model.specs.Standing.{Stands, is_sweeping}
+use Rattle.heap_model.specs.Standing.{Represents, is_sweeping}
 use Rattle.heap_model.specs.Change.{DoesChange, Does_nothing, Does_root, Does_ref, Does_word, Does_new, Does_join, Does_leave}
 use Rattle.heap_model.specs.Action.{Relinks, Action, Chain, Nothing_done, Then, Scans_root, Ends_roots, Scans_header, Scans_cell, Ends_marking, Frees_block, Passes_block, Closes_page, Ends_sweep, Looks_at_page, Chooses_page, Chooses_none, Moves_block, Ends_moving, MovingDone, No_class, No_page, goes_to, after_sweep, is_sparse, is_choosable}
 use Rattle.heap_model.proofs.Marks.{no_mark}
-use Rattle.heap_model.proofs.Recorded.{records_stay}
+use Rattle.heap_model.proofs.Recording.{records_stay}
 use Rattle.heap_model.proofs.Relinked.{stands_relinked, relinked_settings}
 use Rattle.heap_model.proofs.Settings.{action_settings}
 use Rattle.heap_model.proofs.Stood.{stands_action}
 use Rattle.space.specs.Demand.{asked_by}
-use Rattle.space.specs.Tally.{is_tracing}
+use Rattle.space.specs.Tally.{awaits_sweep_end}
 use Rattle.space.specs.Counts.{main_blocks, used_pages}
 use Rattle.space.specs.Placement.{IsTidy}
 use Rattle.space.proofs.Counts.{used, both_true}
 use Rattle.space.proofs.Tidying.{shrinks_then, shrinks_writes, shrinks_shades, shrinks_frees, shrinks_keeps, tidy_same, tidy_action}
 use Rattle.space.proofs.Changing.{shrinks_records}
-use Rattle.space.proofs.Spacing.{none_leaving}
+use Rattle.space.proofs.Spacing.{none_evacuating}
 use Rattle.fragmentation.specs.Gathering.{AreUsed, ReceivesFirst, AreTight, HasLooked, IsGathering}
 use Rattle.fragmentation.specs.Suffice.{gathered_pages, GathersAll}
 use Rattle.fragmentation.proofs.IsFew.{IsFew}
@@ -40,15 +40,15 @@ use Rattle.fragmentation.proofs.Few.{few_starts, few_action, at_pass_moving, don
 use Rattle.fragmentation.proofs.Passing.{in_pass}
 use Rattle.fragmentation.proofs.Gathering.{gather_action, gather_same, clears_pages, tight_action}
 use Rattle.fragmentation.proofs.Leftover.{leftover_same, settled_freed, settled_closed, settled_used, none_leaves, at_look}
-use Rattle.fragmentation.proofs.Leaving.{chosen_left, block_left, never_cut, moved_settled}
+use Rattle.fragmentation.proofs.Evacuating.{chosen_left, block_left, never_cut, moved_settled}
 use Rattle.fragmentation.proofs.Growing.{few_made, takes_few}
 
 -- what is left, through each action but the change out of a sweep
 at_phase : (s : Store) (p q : Phase) (need : ℕ → ℕ) → p ≡ q → IsLeftover s p need → IsLeftover s q need
 at_phase s p q need e w = subst (λ z. IsLeftover s z need) e w
 
-pub left_action : (h after : HeapState) (cost : ℕ) (present snapshot : Graph) (need : ℕ → ℕ) → Stands h present snapshot → IsGathering h.store.pages (length h.store.pages) h.phase → GathersAll h → (is_tracing h.phase ≡ false → (class : ℕ) → class < CLASSES → main_blocks h.store.pages class ≤ need class)
-    → is_tracing after.phase ≡ is_tracing h.phase → Action h cost after → IsLeftover h.store h.phase need → IsLeftover after.store after.phase need
+pub left_action : (h after : HeapState) (cost : ℕ) (present snapshot : Graph) (need : ℕ → ℕ) → Represents h present snapshot → IsGathering h.store.pages (length h.store.pages) h.phase → GathersAll h → (awaits_sweep_end h.phase ≡ false → (class : ℕ) → class < CLASSES → main_blocks h.store.pages class ≤ need class)
+    → awaits_sweep_end after.phase ≡ awaits_sweep_end h.phase → Action h cost after → IsLeftover h.store h.phase need → IsLeftover after.store after.phase need
 left_action h after cost g s need st ga all census same (Scans_root next k e l sh) w = let f = shrinks_shades _ k _ sh in leftover_same h.store k.store (phases.Roots (next + 1)) need f.0 f.1 (at_phase h.store h.phase (phases.Roots next) need e w)
 left_action h after cost g s need st ga all census same (Ends_roots next e l) w = at_phase h.store h.phase (phases.Roots next) need e w
 left_action h after cost g s need st ga all census same (Scans_header part cell x front back e f n) w = at_phase h.store h.phase (phases.Marking part cell) need e w
@@ -63,7 +63,7 @@ left_action h after cost g s need st ga all census same (Passes_block page block
 left_action h after cost g s need st ga all census same (Closes_page page block new e l f w0 pages) w =
     let q : (class : ℕ) → class < CLASSES → IsSettled h.store class (need class) = at_phase h.store h.phase (phases.Sweeping page block) need e w in
     λ class small. settled_closed h g s page block class (need class) new small st e l f w0 pages (q class small)
-left_action h after cost g s need st ga all census same (Ends_sweep page block e l) w = absurd (not_both _ (same ∙ ap is_tracing e) (sweep_ended (is_sparse h)))
+left_action h after cost g s need st ga all census same (Ends_sweep page block e l) w = absurd (not_both _ (same ∙ ap awaits_sweep_end e) (sweep_ended (is_sparse h)))
 left_action h after cost g s need st ga all census same (Looks_at_page class page best chosen at few more) w = at_look h class page best chosen need st.pages (census (sym same)) w at
 left_action h after cost g s need st ga all census same (Chooses_page class page best chosen k p new at few last is good there w0 pages) w =
     let q = at_look h class page best chosen need st.pages (census (sym same)) w at in
@@ -72,10 +72,10 @@ left_action h after cost g s need st ga all census same (Chooses_page class page
     chosen_left h.store new class k.page chosen p need st.pages i.used there ok (chosen_free h.store.pages class k st.pages good) few w0 pages
     (λ c t. tight_action h _ 1 c st.pages (moving_not h class page best chosen at) (Chooses_page class page best chosen k p new at few last is good there w0 pages) t) q
 left_action h after cost g s need st ga all census same (Chooses_none class page best chosen at few last is) w = at_look h class page best chosen need st.pages (census (sym same)) w at
-left_action h after cost g s need st ga all census same (Moves_block class page block chosen i to j p q new e at leaving next place there empty w0 pages) w =
+left_action h after cost g s need st ga all census same (Moves_block class page block chosen i to j p q new e at evacuating next place there empty w0 pages) w =
     let usable : is_usable p.class (Some q) ≡ true = ap (is_usable p.class) (sym there) ∙ (position-Some (is_usable p.class) h.store.pages to None place).1 in
-    block_left h.store new page block chosen i to j p q need st.pages at leaving next usable there empty w0 pages
-    (λ c t. tight_action h _ _ c st.pages (ap is_sweeping e) (Moves_block class page block chosen i to j p q new e at leaving next place there empty w0 pages) t)
+    block_left h.store new page block chosen i to j p q need st.pages at evacuating next usable there empty w0 pages
+    (λ c t. tight_action h _ _ c st.pages (ap is_sweeping e) (Moves_block class page block chosen i to j p q new e at evacuating next place there empty w0 pages) t)
     (at_phase h.store h.phase (phases.Moving (moves.Emptying class page block chosen)) need e w)
 left_action h after cost g s need st ga all census same (Ends_moving done) w = ended done
   where
@@ -95,7 +95,7 @@ left_action h after cost g s need st ga all census same (Ends_moving done) w = e
 
 -- a heap that goes on
 pub record IsGoing (h : HeapState) (present snapshot : Graph) : Type 0 where
-  pub stands : Stands h present snapshot
+  pub stands : Represents h present snapshot
   pub tidy : IsTidy h.store present.objects
   pub gathering : IsGathering h.store.pages (length h.store.pages) h.phase
   pub all : GathersAll h
@@ -130,7 +130,7 @@ record LeavesSweep (h after : HeapState) : Type 0 where
   all : length h.store.pages ≤ page
   after_is : after ≡ goes_to h 1 (after_sweep h)
 
-leaves_sweep : (h after : HeapState) (cost : ℕ) → Action h cost after → is_tracing h.phase ≡ true → is_tracing after.phase ≡ false → LeavesSweep h after
+leaves_sweep : (h after : HeapState) (cost : ℕ) → Action h cost after → awaits_sweep_end h.phase ≡ true → awaits_sweep_end after.phase ≡ false → LeavesSweep h after
 leaves_sweep h after cost (Scans_root next k e l sh) x y = absurd (cc)
 leaves_sweep h after cost (Ends_roots next e l) x y = absurd (cc)
 leaves_sweep h after cost (Scans_header part cell z front back e f n) x y = absurd (cc)
@@ -140,11 +140,11 @@ leaves_sweep h after cost (Frees_block page block p new e f was unmarked w0 page
 leaves_sweep h after cost (Passes_block page block p e f l marked) x y = absurd (cc)
 leaves_sweep h after cost (Closes_page page block new e l f w0 pages) x y = absurd (cc)
 leaves_sweep h after cost (Ends_sweep page block e l) x y = record { page = page; block = block; phase = e; all = l; after_is = refl }
-leaves_sweep h after cost (Looks_at_page class page best chosen at few more) x y = absurd (not_both _ x (ap is_tracing (at_pass_moving h class page best chosen at).1))
-leaves_sweep h after cost (Chooses_page class page best chosen k p new at few last is good there w0 pages) x y = absurd (not_both _ x (ap is_tracing (at_pass_moving h class page best chosen at).1))
-leaves_sweep h after cost (Chooses_none class page best chosen at few last is) x y = absurd (not_both _ x (ap is_tracing (at_pass_moving h class page best chosen at).1))
-leaves_sweep h after cost (Moves_block class page block chosen i to j p q new e at leaving next place there empty w0 pages) x y = absurd (not_both _ x (ap is_tracing e))
-leaves_sweep h after cost (Ends_moving done) x y = absurd (not_both _ x (ap is_tracing (done_moving h done).1))
+leaves_sweep h after cost (Looks_at_page class page best chosen at few more) x y = absurd (not_both _ x (ap awaits_sweep_end (at_pass_moving h class page best chosen at).1))
+leaves_sweep h after cost (Chooses_page class page best chosen k p new at few last is good there w0 pages) x y = absurd (not_both _ x (ap awaits_sweep_end (at_pass_moving h class page best chosen at).1))
+leaves_sweep h after cost (Chooses_none class page best chosen at few last is) x y = absurd (not_both _ x (ap awaits_sweep_end (at_pass_moving h class page best chosen at).1))
+leaves_sweep h after cost (Moves_block class page block chosen i to j p q new e at evacuating next place there empty w0 pages) x y = absurd (not_both _ x (ap awaits_sweep_end e))
+leaves_sweep h after cost (Ends_moving done) x y = absurd (not_both _ x (ap awaits_sweep_end (done_moving h done).1))
 
 -- with always enough to move, and all of it
 sparse_always : (h : HeapState) → 0 < length h.store.pages → GathersAll h → is_sparse h ≡ true
@@ -157,8 +157,8 @@ sparse_always h some all = both _ _ (lt 0 h.defrag_pages (let a = all.all in ome
     lt a b l = grind arith
 
 -- how far a heap has got in a quantum: whether its cycle's sweep has still to end, how few pages there are, and what is left
-pub record Stage (on : Bool) (h : HeapState) (first made need : ℕ → ℕ) : Type 0 where
-  pub tracing : is_tracing h.phase ≡ on
+pub record Advances (on : Bool) (h : HeapState) (first made need : ℕ → ℕ) : Type 0 where
+  pub tracing : awaits_sweep_end h.phase ≡ on
   pub few : IsFew h.store.pages h.phase first made
   pub left : IsLeftover h.store h.phase need
 
@@ -166,15 +166,15 @@ pub record Stage (on : Bool) (h : HeapState) (first made need : ℕ → ℕ) : T
 pub record Behind (h : HeapState) (old new : ℕ → ℕ) : Type 0 where
   pub first : ℕ → ℕ
   pub most : (class : ℕ) → class < CLASSES → first class ≤ gathered_pages class (old class)
-  pub stage : Stage false h first (λ class. 0) new
+  pub stage : Advances false h first (λ class. 0) new
 
-stage_action : (on : Bool) (h after : HeapState) (cost : ℕ) (present snapshot : Graph) (first made need : ℕ → ℕ) → IsGoing h present snapshot → (is_tracing h.phase ≡ false → (class : ℕ) → class < CLASSES → main_blocks h.store.pages class ≤ need class)
-    → Action h cost after → is_tracing after.phase ≡ on → Stage on h first made need → Stage on after first made need
+stage_action : (on : Bool) (h after : HeapState) (cost : ℕ) (present snapshot : Graph) (first made need : ℕ → ℕ) → IsGoing h present snapshot → (awaits_sweep_end h.phase ≡ false → (class : ℕ) → class < CLASSES → main_blocks h.store.pages class ≤ need class)
+    → Action h cost after → awaits_sweep_end after.phase ≡ on → Advances on h first made need → Advances on after first made need
 stage_action on h after cost present snapshot first made need g census a e w =
-    let same : is_tracing after.phase ≡ is_tracing h.phase = e ∙ sym w.tracing in
+    let same : awaits_sweep_end after.phase ≡ awaits_sweep_end h.phase = e ∙ sym w.tracing in
     record { tracing = e; few = few_action h after cost first made g.stands.pages same a w.few; left = left_action h after cost present snapshot need g.stands g.gathering g.all census same a w.left }
 
-stage_relinked : (on : Bool) (h : HeapState) (linked : Store) (first made need : ℕ → ℕ) → Relinks h.store linked → Stage on h first made need → Stage on (record h { store = linked }) first made need
+stage_relinked : (on : Bool) (h : HeapState) (linked : Store) (first made need : ℕ → ℕ) → Relinks h.store linked → Advances on h first made need → Advances on (record h { store = linked }) first made need
 stage_relinked on h linked first made need links w = record {
   tracing = w.tracing;
   few = subst (λ z. IsFew z h.phase first made) (sym links.pages) w.few;
@@ -182,34 +182,34 @@ stage_relinked on h linked first made need links w = record {
 }
 
 -- no page is swept while blocks are moved, and no cycle begins by an action
-stays_out : (h after : HeapState) (cost : ℕ) → Action h cost after → is_tracing h.phase ≡ false → is_tracing after.phase ≡ false
-stays_out h after cost (Scans_root next k e l sh) x = absurd (not_both _ (ap is_tracing e) x)
-stays_out h after cost (Ends_roots next e l) x = absurd (not_both _ (ap is_tracing e) x)
-stays_out h after cost (Scans_header part cell z front back e f n) x = absurd (not_both _ (ap is_tracing e) x)
-stays_out h after cost (Scans_cell part cell new k e l w0 sh) x = absurd (not_both _ (ap is_tracing e) x)
-stays_out h after cost (Ends_marking part cell e f n) x = absurd (not_both _ (ap is_tracing e) x)
-stays_out h after cost (Frees_block page block p new e f was unmarked w0 pages) x = absurd (not_both _ (ap is_tracing e) x)
-stays_out h after cost (Passes_block page block p e f l marked) x = absurd (not_both _ (ap is_tracing e) x)
-stays_out h after cost (Closes_page page block new e l f w0 pages) x = absurd (not_both _ (ap is_tracing e) x)
-stays_out h after cost (Ends_sweep page block e l) x = absurd (not_both _ (ap is_tracing e) x)
+stays_out : (h after : HeapState) (cost : ℕ) → Action h cost after → awaits_sweep_end h.phase ≡ false → awaits_sweep_end after.phase ≡ false
+stays_out h after cost (Scans_root next k e l sh) x = absurd (not_both _ (ap awaits_sweep_end e) x)
+stays_out h after cost (Ends_roots next e l) x = absurd (not_both _ (ap awaits_sweep_end e) x)
+stays_out h after cost (Scans_header part cell z front back e f n) x = absurd (not_both _ (ap awaits_sweep_end e) x)
+stays_out h after cost (Scans_cell part cell new k e l w0 sh) x = absurd (not_both _ (ap awaits_sweep_end e) x)
+stays_out h after cost (Ends_marking part cell e f n) x = absurd (not_both _ (ap awaits_sweep_end e) x)
+stays_out h after cost (Frees_block page block p new e f was unmarked w0 pages) x = absurd (not_both _ (ap awaits_sweep_end e) x)
+stays_out h after cost (Passes_block page block p e f l marked) x = absurd (not_both _ (ap awaits_sweep_end e) x)
+stays_out h after cost (Closes_page page block new e l f w0 pages) x = absurd (not_both _ (ap awaits_sweep_end e) x)
+stays_out h after cost (Ends_sweep page block e l) x = absurd (not_both _ (ap awaits_sweep_end e) x)
 stays_out h after cost (Looks_at_page class page best chosen at few more) x = refl
 stays_out h after cost (Chooses_page class page best chosen k p new at few last is good there w0 pages) x = refl
 stays_out h after cost (Chooses_none class page best chosen at few last is) x = refl
-stays_out h after cost (Moves_block class page block chosen i to j p q new e at leaving next place there empty w0 pages) x = refl
+stays_out h after cost (Moves_block class page block chosen i to j p q new e at evacuating next place there empty w0 pages) x = refl
 stays_out h after cost (Ends_moving done) x = refl
 
-pub chain_out : (h after : HeapState) (spent : ℕ) → Chain h spent after → is_tracing h.phase ≡ false → is_tracing after.phase ≡ false
+pub chain_out : (h after : HeapState) (spent : ℕ) → Chain h spent after → awaits_sweep_end h.phase ≡ false → awaits_sweep_end after.phase ≡ false
 chain_out h after spent Nothing_done x = x
 chain_out h after spent (Then u cost j k linked chain links action) x = stays_out (record j { store = linked }) k cost action (chain_out h j u chain x)
 
-module _ (present snapshot : Graph) (first made old new : ℕ → ℕ) (census : (k : HeapState) → IsGoing k present snapshot → is_tracing k.phase ≡ false → (class : ℕ) → class < CLASSES → main_blocks k.store.pages class ≤ new class) where
-  step_behind : (h after : HeapState) (cost : ℕ) (from made : ℕ → ℕ) → IsGoing h present snapshot → Action h cost after → Stage false h from made new → Stage false after from made new
+module _ (present snapshot : Graph) (first made old new : ℕ → ℕ) (census : (k : HeapState) → IsGoing k present snapshot → awaits_sweep_end k.phase ≡ false → (class : ℕ) → class < CLASSES → main_blocks k.store.pages class ≤ new class) where
+  step_behind : (h after : HeapState) (cost : ℕ) (from made : ℕ → ℕ) → IsGoing h present snapshot → Action h cost after → Advances false h from made new → Advances false after from made new
   step_behind h after cost from made g a w = stage_action false h after cost present snapshot from made new g (census h g) a (stays_out h after cost a w.tracing) w
 
-  sweep_ends : (h after : HeapState) → IsGoing h present snapshot → LeavesSweep h after → Stage true h first made old → Behind after old new
+  sweep_ends : (h after : HeapState) → IsGoing h present snapshot → LeavesSweep h after → Advances true h first made old → Behind after old new
   sweep_ends h after g l w = subst (λ z. Behind z old new) (sym l.after_is) (subst (λ z. Behind (goes_to h 1 z) old new) (sym moving) (record {
     first = used_pages h.store.pages;
-    most = λ class small. (let u = used class h.store.pages in let n = none_leaving h.store.pages none in let f = settled_used h.store class (old class) (settled class small) in omega (arith, u.0, u.1, n, f));
+    most = λ class small. (let u = used class h.store.pages in let n = none_evacuating h.store.pages none in let f = settled_used h.store class (old class) (settled class small) in omega (arith, u.0, u.1, n, f));
     stage = record { tracing = refl; few = few_starts h.store.pages _ (λ class. refl); left = record { moved = λ class small. inl (none_leaves h.store class none); count = omega arith } };
   }))
     where
@@ -222,20 +222,20 @@ module _ (present snapshot : Graph) (first made old new : ℕ → ℕ) (census :
       settled : (class : ℕ) → class < CLASSES → IsSettled h.store class (old class)
       settled = at_phase h.store h.phase (phases.Sweeping l.page l.block) old l.phase w.left
 
-  came_action : (h after : HeapState) (cost : ℕ) → IsGoing h present snapshot → Action h cost after → (Stage true h first made old ⊎ Behind h old new) → (Stage true after first made old ⊎ Behind after old new)
+  came_action : (h after : HeapState) (cost : ℕ) → IsGoing h present snapshot → Action h cost after → (Advances true h first made old ⊎ Behind h old new) → (Advances true after first made old ⊎ Behind after old new)
   came_action h after cost g a (inr w) = inr (record { first = w.first; most = w.most; stage = step_behind h after cost w.first _ g a w.stage })
-  came_action h after cost g a (inl w) = by_tracing (is_tracing after.phase) refl
+  came_action h after cost g a (inl w) = by_tracing (awaits_sweep_end after.phase) refl
     where
-      by_tracing : (b : Bool) → is_tracing after.phase ≡ b → (Stage true after first made old ⊎ Behind after old new)
+      by_tracing : (b : Bool) → awaits_sweep_end after.phase ≡ b → (Advances true after first made old ⊎ Behind after old new)
       by_tracing true e = inl (stage_action true h after cost present snapshot first made old g (λ x. absurd (not_both _ w.tracing x)) a e w)
       by_tracing false e = inr (sweep_ends h after g (leaves_sweep h after cost a w.tracing e) w)
 
-  came_relinked : (h : HeapState) (linked : Store) → Relinks h.store linked → (Stage true h first made old ⊎ Behind h old new) → (Stage true (record h { store = linked }) first made old ⊎ Behind (record h { store = linked }) old new)
+  came_relinked : (h : HeapState) (linked : Store) → Relinks h.store linked → (Advances true h first made old ⊎ Behind h old new) → (Advances true (record h { store = linked }) first made old ⊎ Behind (record h { store = linked }) old new)
   came_relinked h linked links (inl w) = inl (stage_relinked true h linked first made old links w)
   came_relinked h linked links (inr w) = inr (record { first = w.first; most = w.most; stage = stage_relinked false h linked w.first _ new links w.stage })
 
   -- a chain of actions
-  pub came_chain : (h after : HeapState) (spent : ℕ) → IsGoing h present snapshot → Chain h spent after → (Stage true h first made old ⊎ Behind h old new) → IsGoing after present snapshot × (Stage true after first made old ⊎ Behind after old new)
+  pub came_chain : (h after : HeapState) (spent : ℕ) → IsGoing h present snapshot → Chain h spent after → (Advances true h first made old ⊎ Behind h old new) → IsGoing after present snapshot × (Advances true after first made old ⊎ Behind after old new)
   came_chain h after spent g Nothing_done w = (g, w)
   came_chain h after spent g (Then u cost j k linked chain links action) w =
       let r = came_chain h j u g chain w in
@@ -243,7 +243,7 @@ module _ (present snapshot : Graph) (first made old new : ℕ → ℕ) (census :
       (going_action (record j { store = linked }) k cost present snapshot i action, came_action (record j { store = linked }) k cost i action (came_relinked j linked links r.1))
 
   -- in a quantum whose cycle's sweep had ended before
-  pub out_chain : (h after : HeapState) (spent : ℕ) → IsGoing h present snapshot → Chain h spent after → Stage false h first made new → IsGoing after present snapshot × Stage false after first made new
+  pub out_chain : (h after : HeapState) (spent : ℕ) → IsGoing h present snapshot → Chain h spent after → Advances false h first made new → IsGoing after present snapshot × Advances false after first made new
   out_chain h after spent g Nothing_done w = (g, w)
   out_chain h after spent g (Then u cost j k linked chain links action) w =
       let r = out_chain h j u g chain w in

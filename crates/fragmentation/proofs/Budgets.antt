@@ -11,11 +11,11 @@ use Rattle.heap_model.specs.declared.phase.Phase.{Phase}
 use Rattle.heap_model.specs.Pages.{whole_pages}
 use Rattle.heap_model.specs.State.{HeapState}
 use Rattle.heap_model.specs.Opening.{IsOpening}
-use Rattle.heap_model.specs.Led.{opened}
+use Rattle.heap_model.specs.ReachedFrom.{opened}
 use Rattle.heap_model.specs.Event.{Course, Event, Command_done, Cycle_begun, Cycle_on, Quantum_done, Quantum_refused, Enters, Does, Runs, IsCourse, present_of}
 use Rattle.heap_model.proofs.Course.{opening_course}
 use Rattle.space.specs.Demand.{blocks_of, asked_for}
-use Rattle.space.specs.Tally.{is_tracing, NewFindsRoom, EveryNewFindsRoom}
+use Rattle.space.specs.Tally.{awaits_sweep_end, NewFindsRoom, EveryNewFindsRoom}
 use Rattle.space.specs.Space.{class_sum}
 use Rattle.space.proofs.Counts.{class_sum_le, class_sum_both}
 use Rattle.space.proofs.Pacing.{command_less}
@@ -92,7 +92,7 @@ module _ (live : Lives) (b : Budget) (lives : (n : ℕ) → pages_of (live n) �
           omega (arith, a, d, f)
 
   budget_quantum : (r new : Course) (budget units : ℕ) (phase : Phase) (s : Season) → IsBudgeted r s → IsMoving live (budget_pages b) new (season_after live s (Quantum_done budget units phase)) → IsBudgeted new (season_after live s (Quantum_done budget units phase))
-  budget_quantum r new budget units phase s k moving = by_phase (is_tracing phase) moving
+  budget_quantum r new budget units phase s k moving = by_phase (awaits_sweep_end phase) moving
     where
       same : IsMoving live (budget_pages b) new s → IsBudgeted new s
       same m = record { moving = m; since = k.since; before = k.before; last = k.last; base = k.base; swept = k.swept }

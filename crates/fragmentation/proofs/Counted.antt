@@ -15,14 +15,14 @@ use Rattle.graph_heap.specs.History.{after}
 use Rattle.size_classes.specs.Need.{needed}
 use Rattle.heap_model.specs.declared.phase.Phase.{Phase}
 use Rattle.heap_model.specs.Pages.{Page, ArePages, page_at, has_room}
-use Rattle.heap_model.specs.Store.{Store, is_held}
+use Rattle.heap_model.specs.Store.{Store, is_allocated}
 use Rattle.heap_model.specs.State.{HeapState}
 use Rattle.heap_model.specs.Opening.{IsOpening}
-use Rattle.heap_model.specs.Standing.{Stands}
+use Rattle.heap_model.specs.Standing.{Represents}
 use Rattle.heap_model.specs.Action.{Chain, Nothing_done, Then}
 use Rattle.heap_model.specs.Event.{Course, Event, Command_done, Cycle_begun, Cycle_on, Quantum_done, Quantum_refused, Enters, Begins, Collects, Does, Runs, IsCourse, present_of, snapshot_of, room_for, change_by}
-use Rattle.heap_model.specs.Led.{opened}
-use Rattle.heap_model.proofs.Held.{held_block}
+use Rattle.heap_model.specs.ReachedFrom.{opened}
+use Rattle.heap_model.proofs.Allocated.{allocated_block}
 use Rattle.heap_model.proofs.Stood.{stands_chain}
 use Rattle.heap_model.proofs.Relinked.{stands_relinked}
 use Rattle.heap_model.proofs.Opening.{page_none}
@@ -30,7 +30,7 @@ use Rattle.heap_model.proofs.Agreements.{consistent_agrees}
 use Rattle.heap_model.proofs.Left.{change_left}
 use Rattle.heap_model.proofs.Course.{enters_graph, enters_present, enters_snapshot, begins_present, collects_limits, collects_present, does_course, opening_course}
 use Rattle.space.specs.Demand.{LiveWithin, blocks_of, asked_for, asked_by}
-use Rattle.space.specs.Tally.{is_tracing, FindsRoom, NewFindsRoom, EveryNewFindsRoom}
+use Rattle.space.specs.Tally.{awaits_sweep_end, FindsRoom, NewFindsRoom, EveryNewFindsRoom}
 use Rattle.space.specs.Counts.{stays, main_blocks}
 use Rattle.space.specs.Placement.{IsTidy, KeepsOnly, KeepsShapes}
 use Rattle.space.proofs.Counts.{one_if}
@@ -42,7 +42,7 @@ use Rattle.space.proofs.Roomless.{admitted_other, slot_other, fitting_other, nex
 use Rattle.space.proofs.Running.{rest_only, chain_only, new_has_room, shapes_same, shapes_into}
 use Rattle.fragmentation.specs.Season.{Season, Lives, opening_season, made_since, needed_since, season_swept, season_after, Keeps, AllKeep}
 use Rattle.fragmentation.specs.Tight.{staying_pages}
-use Rattle.fragmentation.proofs.IsLeftover.{leaves, IsSettled}
+use Rattle.fragmentation.proofs.IsLeftover.{evacuates, IsSettled}
 use Rattle.fragmentation.proofs.Acting.{chain_out}
 
 -- What there was when a cycle began: it is at the front of what is present, and what was live of it needs at most this many blocks.
@@ -61,7 +61,7 @@ pub record HasOnly (r : Course) (count : ℕ) (most : ℕ → ℕ) : Type 0 wher
 -- than live ones did.
 pub record IsCounted (r : Course) (s : Season) (live : Lives) : Type 0 where
   pub graph : s.graph ≡ present_of r
-  pub tracing : s.tracing ≡ is_tracing r.heap.phase
+  pub tracing : s.tracing ≡ awaits_sweep_end r.heap.phase
   pub last : s.last ≡ length (snapshot_of r).objects
   pub begun : WasLive r (snapshot_of r) (live s.cycles)
   pub based : HasOnly r s.base (live s.number)
@@ -70,17 +70,17 @@ pub record IsCounted (r : Course) (s : Season) (live : Lives) : Type 0 where
   pub tidy : IsTidy r.heap.store (present_of r).objects
 
 -- the main copies are no more than what was live, and what was made since
-pub held_since : (s : Store) (objects : List Object) (origin : Graph) (most : ℕ → ℕ) (live : LiveWithin origin most) → ArePages s.pages → IsTidy s objects → KeepsShapes origin.objects objects → KeepsOnly s (length origin.objects) live.ids
+pub allocated_since : (s : Store) (objects : List Object) (origin : Graph) (most : ℕ → ℕ) (live : LiveWithin origin most) → ArePages s.pages → IsTidy s objects → KeepsShapes origin.objects objects → KeepsOnly s (length origin.objects) live.ids
     → (class : ℕ) → class < CLASSES → main_blocks s.pages class ≤ most class + blocks_of (drop (length origin.objects) objects) class
-held_since s objects origin most live a tidy kept only class l =
+allocated_since s objects origin most live a tidy kept only class l =
     let x = census s a class objects tidy origin.objects live.ids kept only in
     let y = live.blocks class l in
     omega (arith, x, y)
 
-pub counted_held : (r : Course) (s : Season) (live : Lives) → IsCourse r → IsCounted r s live → (class : ℕ) → class < CLASSES → main_blocks r.heap.store.pages class ≤ needed_since live s class
-counted_held r s live w k class l =
+pub counted_allocated : (r : Course) (s : Season) (live : Lives) → IsCourse r → IsCounted r s live → (class : ℕ) → class < CLASSES → main_blocks r.heap.store.pages class ≤ needed_since live s class
+counted_allocated r s live w k class l =
     let o = k.based in
-    let x = held_since r.heap.store (present_of r).objects o.origin (live s.number) o.was.live w.stands.pages k.tidy o.was.kept o.only class l in
+    let x = allocated_since r.heap.store (present_of r).objects o.origin (live s.number) o.was.live w.stands.pages k.tidy o.was.kept o.only class l in
     let d : made_since s.base s class ≡ blocks_of (drop (length o.origin.objects) (present_of r).objects) class = ap (λ z. made_since z s class) o.base ∙ ap (λ (z : Graph). blocks_of (drop (length o.origin.objects) z.objects) class) k.graph in
     omega (arith, x, d)
 
@@ -117,7 +117,7 @@ module _ (r new : Course) (m : ℕ) (c : Command) (reply : Reply) (s : Season) (
   pub counted_command : IsCounted new (season_after live s (Command_done m c reply)) live
   counted_command = record {
     graph = enters_graph r new m c reply w e s.graph k.graph;
-    tracing = k.tracing ∙ ap is_tracing (sym (change_left r.heap new.heap (present_of r) change e.change).phase);
+    tracing = k.tracing ∙ ap awaits_sweep_end (sym (change_left r.heap new.heap (present_of r) change e.change).phase);
     last = k.last ∙ ap (λ (z : Graph). length z.objects) (sym (enters_snapshot r new m c reply w e));
     begun = subst (λ z. WasLive new z (live s.cycles)) (sym (enters_snapshot r new m c reply w e)) (was_live r new shapes _ _ k.begun);
     based = has_only r new shapes _ _ (λ n ids l o. only_change r.heap new.heap (present_of r) change n ids next_identity_is l e.change o) k.based;
@@ -143,7 +143,7 @@ module _ (r new : Course) (m : ℕ) (c : Command) (reply : Reply) (s : Season) (
 counted_begins : (r new : Course) (s : Season) (live : Lives) → IsCourse r → IsCounted r s live → LiveWithin s.graph (live (s.cycles + 1)) → Begins r new → IsCounted new (season_after live s Cycle_begun) live
 counted_begins r new s live w k lives b = record {
   graph = k.graph ∙ sym present;
-  tracing = ap (λ (z : HeapState). is_tracing z.phase) (sym b.heap);
+  tracing = ap (λ (z : HeapState). awaits_sweep_end z.phase) (sym b.heap);
   last = ap (λ (z : Graph). length z.objects) (k.graph ∙ sym snapshot);
   begun = subst (λ z. WasLive new z (live (s.cycles + 1))) (sym snapshot) (record { live = subst (λ z. LiveWithin z (live (s.cycles + 1))) k.graph lives; kept = shapes });
   based = has_only r new shapes _ _ (λ n ids l o. subst (λ (z : HeapState). KeepsOnly z.store n ids) (sym b.heap) o) k.based;
@@ -162,14 +162,14 @@ counted_begins r new s live w k lives b = record {
     snapshot = ap (after (opening new.heap.limits)) (ap (λ z. take z new.history) (b.place ∙ ap length (sym b.history)) ∙ take-length new.history) ∙ present
 
 -- a quantum
-chain_tidy : (h after : HeapState) (spent : ℕ) (present snapshot : Graph) → Stands h present snapshot → Chain h spent after → IsTidy h.store present.objects → IsTidy after.store present.objects
+chain_tidy : (h after : HeapState) (spent : ℕ) (present snapshot : Graph) → Represents h present snapshot → Chain h spent after → IsTidy h.store present.objects → IsTidy after.store present.objects
 chain_tidy h after spent g s st Nothing_done w = w
 chain_tidy h after spent g s st (Then u cost j k linked chain links action) w =
     tidy_action (record j { store = linked }) k cost g s g.objects (stands_relinked j linked links g s (stands_chain h j u g s st chain)) action
     (tidy_same j.store linked g.objects (shrinks_keeps j.store linked links.blocks) links.pages (chain_tidy h j u g s st chain w))
 
 counted_quantum : (r new : Course) (budget units : ℕ) (phase : Phase) (s : Season) (live : Lives) → IsCourse r → IsCounted r s live → Collects r budget units phase new → IsCounted new (season_after live s (Quantum_done budget units phase)) live
-counted_quantum r new budget units phase s live w k q = by_phase (is_tracing phase) refl
+counted_quantum r new budget units phase s live w k q = by_phase (awaits_sweep_end phase) refl
   where
     present : present_of new ≡ present_of r
     present = collects_present r new budget units phase w q
@@ -180,11 +180,11 @@ counted_quantum r new budget units phase s live w k q = by_phase (is_tracing pha
     shapes : KeepsShapes (present_of r).objects (present_of new).objects
     shapes = shapes_same _ _ (ap (λ (z : Graph). z.objects) present)
 
-    out_phase : is_tracing new.heap.phase ≡ is_tracing phase
-    out_phase = ap is_tracing q.ends
+    out_phase : awaits_sweep_end new.heap.phase ≡ awaits_sweep_end phase
+    out_phase = ap awaits_sweep_end q.ends
 
     -- in a season that has come as far, and counts from such a base
-    counted : (z : Season) → z.graph ≡ s.graph → z.tracing ≡ is_tracing phase → z.last ≡ s.last → z.cycles ≡ s.cycles → z.swept ≤ length (present_of r).objects → (z.tracing ≡ false → (z.base ≡ z.last) × (z.number ≡ z.cycles)) → HasOnly new z.base (live z.number) → IsCounted new z live
+    counted : (z : Season) → z.graph ≡ s.graph → z.tracing ≡ awaits_sweep_end phase → z.last ≡ s.last → z.cycles ≡ s.cycles → z.swept ≤ length (present_of r).objects → (z.tracing ≡ false → (z.base ≡ z.last) × (z.number ≡ z.cycles)) → HasOnly new z.base (live z.number) → IsCounted new z live
     counted z graph t l c swept rested based = record {
       graph = graph ∙ k.graph ∙ sym present;
       tracing = t ∙ sym out_phase;
@@ -196,11 +196,11 @@ counted_quantum r new budget units phase s live w k q = by_phase (is_tracing pha
       tidy = subst (λ (y : Graph). IsTidy new.heap.store y.objects) (sym present) (chain_tidy r.heap new.heap units (present_of r) (snapshot_of r) w.stands q.turn.chain k.tidy);
     }
 
-    on : is_tracing phase ≡ true → s.tracing ≡ true → IsCounted new s live
+    on : awaits_sweep_end phase ≡ true → s.tracing ≡ true → IsCounted new s live
     on e t = counted s refl (t ∙ sym e) refl refl k.swept k.rested (has_only r new shapes _ _ (λ n ids l o. chain_only r.heap new.heap units n ids q.turn.chain (out_phase ∙ e) o) k.based)
 
     -- in idle and in moving
-    off : (z : Season) → z.graph ≡ s.graph → z.tracing ≡ false → z.last ≡ s.last → z.cycles ≡ s.cycles → z.base ≡ s.last → z.number ≡ s.cycles → z.swept ≤ length (present_of r).objects → is_tracing phase ≡ false → IsCounted new z live
+    off : (z : Season) → z.graph ≡ s.graph → z.tracing ≡ false → z.last ≡ s.last → z.cycles ≡ s.cycles → z.base ≡ s.last → z.number ≡ s.cycles → z.swept ≤ length (present_of r).objects → awaits_sweep_end phase ≡ false → IsCounted new z live
     off z graph t l c b n swept e = counted z graph (t ∙ sym e) l c swept (λ y. (b ∙ sym l, n ∙ sym c)) (subst (λ y. HasOnly new z.base (live y)) (sym n) (record {
       origin = snapshot_of r;
       base = b ∙ k.last;
@@ -208,18 +208,18 @@ counted_quantum r new budget units phase s live w k q = by_phase (is_tracing pha
       only = rest_only new.heap (present_of r) (snapshot_of r) k.begun.live.ids (stands_chain r.heap new.heap units (present_of r) (snapshot_of r) w.stands q.turn.chain) (out_phase ∙ e) k.begun.live.reached;
     }))
 
-    traced : is_tracing phase ≡ true → s.tracing ≡ true
+    traced : awaits_sweep_end phase ≡ true → s.tracing ≡ true
     traced e = by_start s.tracing refl
       where
         by_start : (b : Bool) → s.tracing ≡ b → s.tracing ≡ true
         by_start true t = t
         by_start false t = absurd (let z = chain_out r.heap new.heap units q.turn.chain (sym k.tracing ∙ t) in let y : false ≡ true = sym z ∙ out_phase ∙ e in cc)
 
-    by_tracing : (b : Bool) → s.tracing ≡ b → is_tracing phase ≡ false → IsCounted new (if b then season_swept live s else s) live
+    by_tracing : (b : Bool) → s.tracing ≡ b → awaits_sweep_end phase ≡ false → IsCounted new (if b then season_swept live s else s) live
     by_tracing true t e = off (season_swept live s) refl refl refl refl refl refl (let x : length s.graph.objects ≡ length (present_of r).objects = ap (λ (z : Graph). length z.objects) k.graph in omega (arith, x)) e
     by_tracing false t e = let z = k.rested t in off s refl t refl refl z.0 z.1 k.swept e
 
-    by_phase : (b : Bool) → is_tracing phase ≡ b → IsCounted new (if b then s else (if s.tracing then season_swept live s else s)) live
+    by_phase : (b : Bool) → awaits_sweep_end phase ≡ b → IsCounted new (if b then s else (if s.tracing then season_swept live s else s)) live
     by_phase true e = on e (traced e)
     by_phase false e = by_tracing s.tracing refl e
 
@@ -250,8 +250,8 @@ command_room h g m _ room = (tt, refl)
 
 -- from an opening heap
 module _ (h : HeapState) (o : IsOpening h) (some : 0 < length h.store.pages) where
-  pub none_held : (b : ℕ) → is_held h.store b ≡ true → ⊥
-  none_held b l = let q = held_block h.store b l in let z : None ≡ Some q.0 = sym (ap (λ y. page_at y (b / 2048)) o.pages ∙ page_none (length h.store.pages) (b / 2048)) ∙ q.2.page in cc
+  pub none_allocated : (b : ℕ) → is_allocated h.store b ≡ true → ⊥
+  none_allocated b l = let q = allocated_block h.store b l in let z : None ≡ Some q.0 = sym (ap (λ y. page_at y (b / 2048)) o.pages ∙ page_none (length h.store.pages) (b / 2048)) ∙ q.2.page in cc
 
   pub count_none : (p : Option Page → Bool) → p None ≡ false → count_by p h.store.pages ≡ 0
   count_none p e = ap (count_by p) o.pages ∙ sum_by-replicate (λ z. one_if (p z)) (length h.store.pages) None ∙ ap (λ z. length h.store.pages * one_if z) e ∙ mul-zero (length h.store.pages)
@@ -266,23 +266,23 @@ module _ (h : HeapState) (o : IsOpening h) (some : 0 < length h.store.pages) whe
   pub opening_counted : (live : Lives) → IsCounted (opened h) (opening_season h.limits) live
   opening_counted live = record {
     graph = refl;
-    tracing = ap is_tracing (sym o.phase);
+    tracing = ap awaits_sweep_end (sym o.phase);
     last = refl;
     begun = live_none (live 0);
-    based = record { origin = opening h.limits; base = refl; was = live_none (live 0); only = λ b l. absurd (none_held b l) };
+    based = record { origin = opening h.limits; base = refl; was = live_none (live 0); only = λ b l. absurd (none_allocated b l) };
     rested = λ e. (refl, refl);
     swept = omega arith;
-    tidy = search (rules, none_held);
+    tidy = search (rules, none_allocated);
   }
 
-  leave_none : (class : ℕ) → leaves class (page_at h.store.pages (length h.store.pages)) ≡ true → ⊥
-  leave_none class on = let z : page_at h.store.pages (length h.store.pages) ≡ None = ap (λ y. page_at y (length h.store.pages)) o.pages ∙ page_none (length h.store.pages) (length h.store.pages) in let y : false ≡ true = sym (ap (leaves class) z) ∙ on in cc
+  leave_none : (class : ℕ) → evacuates class (page_at h.store.pages (length h.store.pages)) ≡ true → ⊥
+  leave_none class on = let z : page_at h.store.pages (length h.store.pages) ≡ None = ap (λ y. page_at y (length h.store.pages)) o.pages ∙ page_none (length h.store.pages) (length h.store.pages) in let y : false ≡ true = sym (ap (evacuates class) z) ∙ on in cc
 
   pub opening_settled : (class need : ℕ) → IsSettled h.store class need
   opening_settled class need = record {
     page = length h.store.pages;
-    left = record { only = λ b x. absurd (none_held b x.held); some = λ on. absurd (leave_none class on) };
-    few = (let s : staying_pages h.store.pages class ≡ 0 = count_none (stays class) refl in let z = one_none (leaves class (page_at h.store.pages (length h.store.pages))) (leave_none class) in omega (arith, s, z));
+    left = record { only = λ b x. absurd (none_allocated b x.allocated); some = λ on. absurd (leave_none class on) };
+    few = (let s : staying_pages h.store.pages class ≡ 0 = count_none (stays class) refl in let z = one_none (evacuates class (page_at h.store.pages (length h.store.pages))) (leave_none class) in omega (arith, s, z));
   }
     where
       number : Bool → ℕ

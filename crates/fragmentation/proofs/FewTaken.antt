@@ -9,30 +9,30 @@ use Rattle.size_classes.proofs.Table.{blocks_some}
 use Rattle.heap_model.specs.declared.phase.Phase.{Phase}
 use Rattle.heap_model.specs.declared.phase.Phase.TheVariants as phases
 use Rattle.heap_model.specs.declared.phase.Moving.TheVariants as moves
-use Rattle.heap_model.specs.Pages.{Page, ArePages, is_usable, fresh_page, with_held, TakesBlock, page_at, free_on, free_blocks, free_pages, whole_pages, pages_needed, has_room}
+use Rattle.heap_model.specs.Pages.{Page, ArePages, is_usable, fresh_page, with_allocated, TakesBlock, page_at, free_on, free_blocks, free_pages, whole_pages, pages_needed, has_room}
 use Rattle.heap_model.specs.Placed.{IsPlaced}
 use Rattle.heap_model.specs.Standing.{is_sweeping}
-use Rattle.heap_model.proofs.Held.{set_page}
+use Rattle.heap_model.proofs.Allocated.{set_page}
 use Rattle.heap_model.proofs.Placed.{page_for_within}
 use Rattle.heap_model.proofs.Rooms.{no_blocks}
 use Rattle.heap_model.proofs.Moved.{same_number, usable_fits}
 use Rattle.space.specs.Counts.{used_pages}
 use Rattle.space.proofs.Counts.{one_if, used_set, all_pages, whole_within, zero_or}
 use Rattle.fragmentation.specs.Tight.{IsTight}
-use Rattle.fragmentation.proofs.IsFew.{held_from, to_move, IsFew, few_pages}
+use Rattle.fragmentation.proofs.IsFew.{allocated_from, to_move, IsFew, few_pages}
 use Rattle.fragmentation.proofs.Free.{free_change}
 use Rattle.fragmentation.proofs.Taken.{FromUsed, FromFree, took, fresh_few, fresh_other, opened_tight, block_tight}
 use Rattle.fragmentation.proofs.Paging.{whole_more, whole_none, needed_sums}
 use Rattle.fragmentation.proofs.Few.{one_less, none_less}
 
 -- the phase looks at the same blocks of the page that is emptied, while others are taken
-emptied_same : (old new : List (Option Page)) (p : Phase) (class : ℕ) → IsPlaced old p → ((k : ℕ) (q : Page) → page_at old k ≡ Some q → q.leaving ≡ true → page_at new k ≡ Some q) → to_move new class p ≡ to_move old class p
+emptied_same : (old new : List (Option Page)) (p : Phase) (class : ℕ) → IsPlaced old p → ((k : ℕ) (q : Page) → page_at old k ≡ Some q → q.evacuating ≡ true → page_at new k ≡ Some q) → to_move new class p ≡ to_move old class p
 emptied_same old new phases.Idle class w s = refl
 emptied_same old new (phases.Roots next) class w s = refl
 emptied_same old new (phases.Marking part cell) class w s = refl
 emptied_same old new (phases.Sweeping page block) class w s = refl
 emptied_same old new (phases.Moving (moves.Pass k page best chosen)) class w s = refl
-emptied_same old new (phases.Moving (moves.Emptying k page block chosen)) class w s = ap (held_from class block) (s page w.0 w.1 w.2) ∙ sym (ap (held_from class block) w.1)
+emptied_same old new (phases.Moving (moves.Emptying k page block chosen)) class w s = ap (allocated_from class block) (s page w.0 w.1 w.2) ∙ sym (ap (allocated_from class block) w.1)
 
 -- pages for what is asked for, beside those that there are
 class_few : (pages : List (Option Page)) (p : Phase) (first made need : ℕ → ℕ) → IsFew pages p first made → (class : ℕ) → class < CLASSES → whole_pages class (need class - free_blocks pages class) + used_pages pages class ≤ first class + whole_pages class (made class + need class)
@@ -79,9 +79,9 @@ block_few old new class page index p first made small placed t w = elim (took ol
     within : page < length old
     within = page_for_within old class page t.page_is
 
-    -- a leaving page gives no block
-    leaving_same : (v : Option Page) → new ≡ set old page v → ((q : Page) → page_at old page ≡ Some q → q.leaving ≡ true → ⊥) → (k : ℕ) (q : Page) → page_at old k ≡ Some q → q.leaving ≡ true → page_at new k ≡ Some q
-    leaving_same v is none k q at on = by_place (k == page) refl (ap (λ z. page_at z k) is ∙ set_page old page k v within)
+    -- an evacuating page gives no block
+    evacuating_same : (v : Option Page) → new ≡ set old page v → ((q : Page) → page_at old page ≡ Some q → q.evacuating ≡ true → ⊥) → (k : ℕ) (q : Page) → page_at old k ≡ Some q → q.evacuating ≡ true → page_at new k ≡ Some q
+    evacuating_same v is none k q at on = by_place (k == page) refl (ap (λ z. page_at z k) is ∙ set_page old page k v within)
       where
         by_place : (s : Bool) → (k == page) ≡ s → page_at new k ≡ (if s then v else page_at old k) → page_at new k ≡ Some q
         by_place true s e = absurd (none q (ap (page_at old) (sym (same_number k page s)) ∙ at) on)
@@ -94,24 +94,24 @@ block_few old new class page index p first made small placed t w = elim (took ol
       still = λ e k l. elim (w.still e k l) [ inl x ↦ inl (block_tight old new class page index k t x) | inr x ↦ inr (let s = used k in omega (arith, s, x)) ];
     }
       where
-        fit : (u.source.class ≡ class) × (u.source.leaving ≡ false)
+        fit : (u.source.class ≡ class) × (u.source.evacuating ≡ false)
         fit = usable_fits class u.source u.usable
 
         used : (k : ℕ) → used_pages new k ≡ used_pages old k
-        used k = let s = used_set old new page (Some u.source) (Some (with_held u.source index true)) within u.at u.is k in omega (arith, s)
+        used k = let s = used_set old new page (Some u.source) (Some (with_allocated u.source index true)) within u.at u.is k in omega (arith, s)
 
         rest : (k : ℕ) → to_move new k p ≡ to_move old k p
-        rest k = emptied_same old new p k placed (leaving_same _ u.is (λ q at on. (let z : u.source ≡ q = same_Some u.source q (sym u.at ∙ at) in let y : false ≡ true = sym fit.1 ∙ ap (λ (z : Page). z.leaving) z ∙ on in cc)))
+        rest k = emptied_same old new p k placed (evacuating_same _ u.is (λ q at on. (let z : u.source ≡ q = same_Some u.source q (sym u.at ∙ at) in let y : false ≡ true = sym fit.1 ∙ ap (λ (z : Page). z.evacuating) z ∙ on in cc)))
 
         by_class : (k : ℕ) → k < CLASSES → (b : Bool) → (class == k) ≡ b → blocks_in k * used_pages new k + to_move new k p ≤ blocks_in k * first k + (made k + one_if b) + free_blocks new k
         by_class k l true e =
             let mu : blocks_in k * used_pages new k ≡ blocks_in k * used_pages old k = ap (λ z. blocks_in k * z) (used k) in
-            let f = free_change old new page (Some u.source) (Some (with_held u.source index true)) within u.at u.is k in
-            let one : free_on k (Some (with_held u.source index true)) + 1 ≡ free_on k (Some u.source) = one_less u.source k index (subst (λ z. is_usable z (Some u.source) ≡ true) (same_number class k e) u.usable) u.opened in
+            let f = free_change old new page (Some u.source) (Some (with_allocated u.source index true)) within u.at u.is k in
+            let one : free_on k (Some (with_allocated u.source index true)) + 1 ≡ free_on k (Some u.source) = one_less u.source k index (subst (λ z. is_usable z (Some u.source) ≡ true) (same_number class k e) u.usable) u.opened in
             let r = rest k in let a = w.fair k l in omega (arith, mu, f, one, r, a)
         by_class k l false e =
             let mu : blocks_in k * used_pages new k ≡ blocks_in k * used_pages old k = ap (λ z. blocks_in k * z) (used k) in
-            let f = free_change old new page (Some u.source) (Some (with_held u.source index true)) within u.at u.is k in
+            let f = free_change old new page (Some u.source) (Some (with_allocated u.source index true)) within u.at u.is k in
             let none = none_less u.source class k index fit.0 e in
             let r = rest k in let a = w.fair k l in omega (arith, mu, f, none.0, none.1, r, a)
 
@@ -119,13 +119,13 @@ block_few old new class page index p first made small placed t w = elim (took ol
     from_free f = record { few = λ k l. few_by k l (class == k) refl; fair = λ k l. fair_by k l (class == k) refl; still = λ e k l. still_by e k l (class == k) refl }
       where
         v : Page
-        v = with_held (fresh_page class) index true
+        v = with_allocated (fresh_page class) index true
 
         used : (k : ℕ) → used_pages new k ≡ used_pages old k + one_if (class == k)
         used k = let s = used_set old new page None (Some v) within f.at f.is k in omega (arith, s)
 
         rest : (k : ℕ) → to_move new k p ≡ to_move old k p
-        rest k = emptied_same old new p k placed (leaving_same _ f.is (λ q at on. (let z : None ≡ Some q = sym f.at ∙ at in cc)))
+        rest k = emptied_same old new p k placed (evacuating_same _ f.is (λ q at on. (let z : None ≡ Some q = sym f.at ∙ at in cc)))
 
         none : free_blocks old class ≡ 0
         none = no_blocks old class f.none

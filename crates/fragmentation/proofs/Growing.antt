@@ -14,9 +14,9 @@ use Rattle.size_classes.specs.Parts.{cells_of, parts_in, part_words}
 use Rattle.size_classes.specs.Need.{blocks_needed, needed}
 use Rattle.size_classes.proofs.Table.{blocks_some}
 use Rattle.heap_model.specs.declared.phase.Phase.{Phase}
-use Rattle.heap_model.specs.Pages.{Page, ArePages, with_held, fresh_page, TakesBlock, page_at, free_blocks, whole_pages}
+use Rattle.heap_model.specs.Pages.{Page, ArePages, with_allocated, fresh_page, TakesBlock, page_at, free_blocks, whole_pages}
 use Rattle.heap_model.specs.Store.{Store}
-use Rattle.heap_model.specs.State.{HeapState, is_leaving}
+use Rattle.heap_model.specs.State.{HeapState, is_evacuating}
 use Rattle.heap_model.specs.Placed.{KeepsPages, IsPlaced}
 use Rattle.heap_model.specs.Taking.{Takes, Nothing_taken, Part_taken}
 use Rattle.heap_model.specs.Making.{MakesObject}
@@ -28,29 +28,29 @@ use Rattle.heap_model.proofs.Left.{change_left}
 use Rattle.heap_model.proofs.Marks.{taken_placed}
 use Rattle.heap_model.proofs.Taken.{class_low, takes_pages, takes_keep}
 use Rattle.space.specs.Demand.{asked_by}
-use Rattle.space.specs.Counts.{is_of, main_blocks, leaving_pages, used_pages, IsBounded}
+use Rattle.space.specs.Counts.{is_of, main_blocks, evacuating_pages, used_pages, IsBounded}
 use Rattle.space.proofs.Counts.{one_if, own, both_true, takes_bounded}
 use Rattle.space.proofs.Tidying.{Shrinks, shrinks_none, shrinks_then, shrinks_writes}
 use Rattle.space.proofs.Changing.{made_blocks, shrinks_records}
 use Rattle.fragmentation.specs.Tight.{staying_pages}
 use Rattle.fragmentation.proofs.IsFew.{IsFew}
 use Rattle.fragmentation.specs.Suffice.{gathered_pages}
-use Rattle.fragmentation.proofs.IsLeftover.{leaves, IsStranded, one_leaving, kept_pages, IsLeftover}
+use Rattle.fragmentation.proofs.IsLeftover.{evacuates, IsStranded, one_evacuating, kept_pages, IsLeftover}
 use Rattle.fragmentation.proofs.Taken.{FromFree, took}
 use Rattle.fragmentation.proofs.Paging.{gathered_more, gathered_least, gathered_enough}
 use Rattle.fragmentation.proofs.FewTaken.{block_few}
 use Rattle.fragmentation.proofs.Leftover.{staying_set, Goes, goes_same, goes_then, leftover_goes}
 use Rattle.fragmentation.proofs.Gathering.{takes_tight, clears_pages}
 
--- blocks that are taken are held, and no page becomes leaving: space counts them within any bound, so within one that is great enough
-takes_counts : (cells : ℕ) (at : ℕ → ℕ) (old : List (Option Page)) (parts : ℕ) (new : List (Option Page)) → ArePages old → Takes cells at old parts new → (leaving_pages new ≡ leaving_pages old) × ((k : ℕ) → main_blocks new k ≡ main_blocks old k + blocks_needed cells parts k)
-takes_counts cells at old parts new a takes = let t = takes_bounded cells at old parts new blocks (length old) a bounded (λ k l. omega arith) takes in (t.leaving, t.main)
+-- blocks that are taken are allocated, and no page becomes evacuating: space counts them within any bound, so within one that is great enough
+takes_counts : (cells : ℕ) (at : ℕ → ℕ) (old : List (Option Page)) (parts : ℕ) (new : List (Option Page)) → ArePages old → Takes cells at old parts new → (evacuating_pages new ≡ evacuating_pages old) × ((k : ℕ) → main_blocks new k ≡ main_blocks old k + blocks_needed cells parts k)
+takes_counts cells at old parts new a takes = let t = takes_bounded cells at old parts new blocks (length old) a bounded (λ k l. omega arith) takes in (t.evacuating, t.main)
   where
     blocks : ℕ → ℕ
     blocks k = main_blocks old k + blocks_needed cells parts k + 1
 
     bounded : IsBounded old blocks (length old)
-    bounded = record { used = λ k l. by_none k (blocks k == 0) refl; leaving = count_by-le-length is_leaving old }
+    bounded = record { used = λ k l. by_none k (blocks k == 0) refl; evacuating = count_by-le-length is_evacuating old }
       where
         by_none : (k : ℕ) (b : Bool) → (blocks k == 0) ≡ b → used_pages old k ≤ (if b then 0 else whole_pages k (blocks k) + length old)
         by_none k true e = absurd (let z = eqb-true (blocks k) 0 e in omega (arith, z))
@@ -59,7 +59,7 @@ takes_counts cells at old parts new a takes = let t = takes_bounded cells at old
 -- a block that is taken opens a page only where none of the class's blocks was free
 block_stays : (old new : List (Option Page)) (class page index k : ℕ) → TakesBlock old class page index new → (staying_pages new k ≡ staying_pages old k) ⊎ ((class ≡ k) × (staying_pages new k ≡ staying_pages old k + 1) × (free_blocks old k ≡ 0))
 block_stays old new class page index k t = elim (took old new class page index t) [
-  | inl u ↦ inl (let s = staying_set old new page (Some u.source) (Some (with_held u.source index true)) within u.at u.is k in omega (arith, s))
+  | inl u ↦ inl (let s = staying_set old new page (Some u.source) (Some (with_allocated u.source index true)) within u.at u.is k in omega (arith, s))
   | inr f ↦ from_free f
 ]
   where
@@ -70,14 +70,14 @@ block_stays old new class page index k t = elim (took old new class page index t
     from_free f = by_class (class == k) refl
       where
         set_stay : staying_pages new k ≡ staying_pages old k + one_if ((class == k) && true)
-        set_stay = let s = staying_set old new page None (Some (with_held (fresh_page class) index true)) within f.at f.is k in omega (arith, s)
+        set_stay = let s = staying_set old new page None (Some (with_allocated (fresh_page class) index true)) within f.at f.is k in omega (arith, s)
 
         by_class : (b : Bool) → (class == k) ≡ b → (staying_pages new k ≡ staying_pages old k) ⊎ ((class ≡ k) × (staying_pages new k ≡ staying_pages old k + 1) × (free_blocks old k ≡ 0))
         by_class true e = let same = same_number class k e in inr (same, set_stay ∙ ap (λ b. staying_pages old k + one_if (b && true)) e, subst (λ z. free_blocks old z ≡ 0) same (no_blocks old class f.none))
         by_class false e = inl (let o : one_if ((class == k) && true) ≡ 0 = ap (λ b. one_if (b && true)) e in omega (arith, set_stay, o))
 
 -- and the blocks of an object: no class has fewer pages than before, nor more, unless these are no more than `need` blocks take, where what
--- is held and what they need are no more
+-- is allocated and what they need are no more
 record Grew (old new : List (Option Page)) (need : ℕ → ℕ) : Type 0 where
   more : (k : ℕ) → staying_pages old k ≤ staying_pages new k
   staying : (k : ℕ) → k < CLASSES → (staying_pages new k ≡ staying_pages old k) ⊎ (staying_pages new k ≤ whole_pages k (need k))
@@ -115,14 +115,14 @@ takes_grew cells at old parts new need a fits Nothing_taken = record { more = λ
 takes_grew cells at old parts new need a fits (Part_taken part class index s t takes f b) =
     grew_then cells at old part s t class (at part / 2048) index need a fits f takes b (takes_grew cells at old part s need a (λ k l. (let n = more_needed cells part class k f in let x = fits k l in omega (arith, n, x))) takes)
 
--- a leaving page stays as it is, and no other becomes leaving
-pub leaves_kept : (old new : List (Option Page)) (class k : ℕ) → KeepsPages old new → leaves class (page_at new k) ≡ leaves class (page_at old k)
+-- an evacuating page stays as it is, and no other becomes evacuating
+pub leaves_kept : (old new : List (Option Page)) (class k : ℕ) → KeepsPages old new → evacuates class (page_at new k) ≡ evacuates class (page_at old k)
 leaves_kept old new class k w = by_page (page_at old k) refl (page_at new k) refl
   where
-    by_page : (o : Option Page) → page_at old k ≡ o → (n : Option Page) → page_at new k ≡ n → leaves class (page_at new k) ≡ leaves class (page_at old k)
-    by_page (Some p) e n f = let r = w.used k p e in ap (leaves class) r.1 ∙ (let a = r.2.class in let b = r.2.leaving in cc) ∙ sym (ap (leaves class) e)
-    by_page None e None f = ap (leaves class) f ∙ sym (ap (leaves class) e)
-    by_page None e (Some q) f = let r = w.free k q e f in let z : ((q.class == class) && q.leaving) ≡ false = ap (λ b. (q.class == class) && b) r.0 ∙ and-false (q.class == class) in ap (leaves class) f ∙ z ∙ sym (ap (leaves class) e)
+    by_page : (o : Option Page) → page_at old k ≡ o → (n : Option Page) → page_at new k ≡ n → evacuates class (page_at new k) ≡ evacuates class (page_at old k)
+    by_page (Some p) e n f = let r = w.used k p e in ap (evacuates class) r.1 ∙ (let a = r.2.class in let b = r.2.evacuating in cc) ∙ sym (ap (evacuates class) e)
+    by_page None e None f = ap (evacuates class) f ∙ sym (ap (evacuates class) e)
+    by_page None e (Some q) f = let r = w.free k q e f in let z : ((q.class == class) && q.evacuating) ≡ false = ap (λ b. (q.class == class) && b) r.0 ∙ and-false (q.class == class) in ap (evacuates class) f ∙ z ∙ sym (ap (evacuates class) e)
 
 -- a need that is greater, with the same store
 pub leftover_more : (s : Store) (p : Phase) (need more : ℕ → ℕ) → ((k : ℕ) → k < CLASSES → need k ≤ more k) → IsLeftover s p need → IsLeftover s p more
@@ -138,52 +138,52 @@ module _ (s new : Store) (shape : Shape) (colour : Bool) (id : ℕ) (at : ℕ �
   grew = takes_grew (cells_of shape) at s.pages (parts_in (cells_of shape)) new.pages more a fits takes
 
   -- a part of the new object stands on a page that stays
-  made_stays : (class p : ℕ) → p < parts_in (cells_of shape) → leaves class (page_at new.pages (at p / 2048)) ≡ true → ⊥
+  made_stays : (class p : ℕ) → p < parts_in (cells_of shape) → evacuates class (page_at new.pages (at p / 2048)) ≡ true → ⊥
   made_stays class p low on = takes_stay (cells_of shape) s.pages (parts_in (cells_of shape)) new.pages takes p low on
     where
-      block_stay : (old t : List (Option Page)) (taken page index : ℕ) → TakesBlock old taken page index t → leaves class (page_at t page) ≡ true → ⊥
+      block_stay : (old t : List (Option Page)) (taken page index : ℕ) → TakesBlock old taken page index t → evacuates class (page_at t page) ≡ true → ⊥
       block_stay old t taken page index b on =
           let same = leaves_kept old t class page (takes_keeps old t taken page index b) in
-          let x : leaves class (page_at old page) ≡ true = sym same ∙ on in
+          let x : evacuates class (page_at old page) ≡ true = sym same ∙ on in
           elim (took old t taken page index b) [
-            | inl u ↦ (let y = (both_true (u.source.class == class) u.source.leaving (sym (ap (leaves class) u.at) ∙ x)).1 in let z : false ≡ true = sym (usable_fits taken u.source u.usable).1 ∙ y in cc)
-            | inr f ↦ (let z : false ≡ true = sym (ap (leaves class) f.at) ∙ x in cc)
+            | inl u ↦ (let y = (both_true (u.source.class == class) u.source.evacuating (sym (ap (evacuates class) u.at) ∙ x)).1 in let z : false ≡ true = sym (usable_fits taken u.source u.usable).1 ∙ y in cc)
+            | inr f ↦ (let z : false ≡ true = sym (ap (evacuates class) f.at) ∙ x in cc)
           ]
 
-      takes_stay : (cells : ℕ) (old : List (Option Page)) (parts : ℕ) (t : List (Option Page)) → Takes cells at old parts t → (p : ℕ) → p < parts → leaves class (page_at t (at p / 2048)) ≡ true → ⊥
+      takes_stay : (cells : ℕ) (old : List (Option Page)) (parts : ℕ) (t : List (Option Page)) → Takes cells at old parts t → (p : ℕ) → p < parts → evacuates class (page_at t (at p / 2048)) ≡ true → ⊥
       takes_stay cells old parts t Nothing_taken p low on = absurd (omega (arith, low))
       takes_stay cells old parts t (Part_taken part taken index u v takes f b) p low on = elim (eqb_tells p part) [
-        | inl e ↦ block_stay u v taken (at part / 2048) index b (ap (λ z. leaves class (page_at v (at z / 2048))) (sym e.1) ∙ on)
+        | inl e ↦ block_stay u v taken (at part / 2048) index b (ap (λ z. evacuates class (page_at v (at z / 2048))) (sym e.1) ∙ on)
         | inr d ↦ takes_stay cells old part u takes p (let n = d.1 in omega (arith, n, low)) (sym (leaves_kept u v class (at p / 2048) (takes_keeps u v taken (at part / 2048) index b)) ∙ on)
       ]
 
   stranded_before : (class b : ℕ) → IsStranded new class b → IsStranded s class b
-  stranded_before class b x = elim (made_blocks s shape colour id at (parts_in (cells_of shape)) new makes b x.held) [
-    | inl q ↦ record { held = q.0; main = sym q.1.forward ∙ x.main; on = sym (leaves_kept s.pages new.pages class (b / 2048) keeps) ∙ x.on }
-    | inr q ↦ absurd (made_stays class q.0 q.1 (ap (λ z. leaves class (page_at new.pages (z / 2048))) (sym q.2) ∙ x.on))
+  stranded_before class b x = elim (made_blocks s shape colour id at (parts_in (cells_of shape)) new makes b x.allocated) [
+    | inl q ↦ record { allocated = q.0; main = sym q.1.forward ∙ x.main; on = sym (leaves_kept s.pages new.pages class (b / 2048) keeps) ∙ x.on }
+    | inr q ↦ absurd (made_stays class q.0 q.1 (ap (λ z. evacuates class (page_at new.pages (z / 2048))) (sym q.2) ∙ x.on))
   ]
 
-  kept_new : (k page : ℕ) → k < CLASSES → kept_pages s.pages k page ≤ gathered_pages k (need k) → (leaves k (page_at s.pages page) ≡ true → blocks_in k ≤ need k) → kept_pages new.pages k page ≤ gathered_pages k (more k)
+  kept_new : (k page : ℕ) → k < CLASSES → kept_pages s.pages k page ≤ gathered_pages k (need k) → (evacuates k (page_at s.pages page) ≡ true → blocks_in k ≤ need k) → kept_pages new.pages k page ≤ gathered_pages k (more k)
   kept_new k page small f some = elim (grew.staying k small) [
     | inl e ↦ (let g = gathered_more k (need k) (more k) small (l k small) in omega (arith, e, one, f, g))
-    | inr e ↦ by_leaves e (leaves k (page_at s.pages page)) refl
+    | inr e ↦ by_leaves e (evacuates k (page_at s.pages page)) refl
   ]
     where
-      same : leaves k (page_at new.pages page) ≡ leaves k (page_at s.pages page)
+      same : evacuates k (page_at new.pages page) ≡ evacuates k (page_at s.pages page)
       same = leaves_kept s.pages new.pages k page keeps
 
-      one : one_leaving k (page_at new.pages page) ≡ one_leaving k (page_at s.pages page)
+      one : one_evacuating k (page_at new.pages page) ≡ one_evacuating k (page_at s.pages page)
       one = ap (λ b. if b then 1 else 0) same
 
-      by_leaves : staying_pages new.pages k ≤ whole_pages k (more k) → (b : Bool) → leaves k (page_at s.pages page) ≡ b → kept_pages new.pages k page ≤ gathered_pages k (more k)
+      by_leaves : staying_pages new.pages k ≤ whole_pages k (more k) → (b : Bool) → evacuates k (page_at s.pages page) ≡ b → kept_pages new.pages k page ≤ gathered_pages k (more k)
       by_leaves e true on =
           let x = some on in let m = l k small in
           let g = gathered_enough k (more k) (omega (arith, x, m)) in
-          let o : one_leaving k (page_at s.pages page) ≡ 1 = ap (λ b. if b then 1 else 0) on in
+          let o : one_evacuating k (page_at s.pages page) ≡ 1 = ap (λ b. if b then 1 else 0) on in
           omega (arith, e, g, one, o)
       by_leaves e false on =
           let g = gathered_least k (more k) in
-          let o : one_leaving k (page_at s.pages page) ≡ 0 = ap (λ b. if b then 1 else 0) on in
+          let o : one_evacuating k (page_at s.pages page) ≡ 0 = ap (λ b. if b then 1 else 0) on in
           omega (arith, e, g, one, o)
 
   pub goes_new : Goes s new need more
@@ -193,7 +193,7 @@ module _ (s new : Store) (shape : Shape) (colour : Bool) (id : ℕ) (at : ℕ �
     kept = kept_new;
     tight = λ k w. takes_tight (cells_of shape) at s.pages (parts_in (cells_of shape)) new.pages k takes w;
     staying = grew.more;
-    leaving = (let e = (takes_counts (cells_of shape) at s.pages (parts_in (cells_of shape)) new.pages a takes).0 in omega (arith, e));
+    evacuating = (let e = (takes_counts (cells_of shape) at s.pages (parts_in (cells_of shape)) new.pages a takes).0 in omega (arith, e));
     less = l;
   }
 
@@ -213,7 +213,7 @@ change_goes h after g c need more a l fits (Does_word id i word address new at w
 change_goes h after g c need more a l fits (Does_new cell id shape k new at r makes takes) =
     let f = shrinks_records h k _ r in
     goes_then h.store k.store new need need more (goes_same h.store k.store need need f.0 f.1 (λ n b. omega arith))
-    (goes_new k.store new shape k.sense k.next at need more (subst ArePages (sym f.1) a) makes takes l (λ n b. (let q = fits n b in let e : main_blocks k.store.pages n ≡ main_blocks h.store.pages n = ap (λ z. main_blocks z n) f.1 in omega (arith, q, e))))
+    (goes_new k.store new shape k.mark_parity k.next at need more (subst ArePages (sym f.1) a) makes takes l (λ n b. (let q = fits n b in let e : main_blocks k.store.pages n ≡ main_blocks h.store.pages n = ap (λ z. main_blocks z n) f.1 in omega (arith, q, e))))
 change_goes h after g c need more a l fits (Does_join m) = goes_same h.store h.store need more (shrinks_none h.store) refl l
 change_goes h after g c need more a l fits (Does_leave m k clears) = goes_same h.store k.store need more (clears_shrink h (first_slot g.limits m) g.limits.slots k clears) (clears_pages h (first_slot g.limits m) g.limits.slots k clears).0 l
 

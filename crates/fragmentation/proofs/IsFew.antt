@@ -11,10 +11,10 @@ use Rattle.space.specs.Space.{class_sum}
 use Rattle.space.specs.Counts.{used_pages}
 use Rattle.fragmentation.specs.Tight.{IsTight}
 
--- the held blocks of a page of a class, from one on
-abbrev pub held_from : ℕ → ℕ → Option Page → ℕ
-held_from class block None = 0
-held_from class block (Some p) = if p.class == class then count_by (λ b. b) (drop block p.held) else 0
+-- the allocated blocks of a page of a class, from one on
+abbrev pub allocated_from : ℕ → ℕ → Option Page → ℕ
+allocated_from class block None = 0
+allocated_from class block (Some p) = if p.class == class then count_by (λ b. b) (drop block p.allocated) else 0
 
 -- the blocks of a class that are still to be moved off the page that is emptied
 abbrev pub to_move : List (Option Page) → ℕ → Phase → ℕ
@@ -23,7 +23,7 @@ to_move pages class (phases.Roots next) = 0
 to_move pages class (phases.Marking part cell) = 0
 to_move pages class (phases.Sweeping page block) = 0
 to_move pages class (phases.Moving (moves.Pass k page best chosen)) = 0
-to_move pages class (phases.Moving (moves.Emptying k page block chosen)) = held_from class block (page_at pages page)
+to_move pages class (phases.Moving (moves.Emptying k page block chosen)) = allocated_from class block (page_at pages page)
 
 -- Since a sweep ended, when a class had at most `first` pages, `made` of its blocks were made: only these open pages; and moving takes no
 -- more free blocks than those of whole pages that there were.

@@ -1,4 +1,4 @@
--- However many pages a cycle may empty: of each class one page more than its blocks take at most, and the pages that are leaving once.
+-- However many pages a cycle may empty: of each class one page more than its blocks take at most, and the pages that are evacuating once.
 use Rattle.std.specs.Prelude.{ℕ, ◌<◌, ◌≤◌}
 use Rattle.size_classes.specs.declared.class.TheConstants.{CLASSES}
 use Rattle.size_classes.specs.Sizes.{blocks_in}

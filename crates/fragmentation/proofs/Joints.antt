@@ -8,19 +8,19 @@ use Rattle.graph_heap.specs.declared.command.Reply.{Reply}
 use Rattle.graph_heap.specs.declared.command.Change.{Change}
 use Rattle.heap_model.specs.declared.phase.Phase.{Phase}
 use Rattle.heap_model.specs.Pages.{ArePages, has_room}
-use Rattle.heap_model.specs.State.{HeapState, is_leaving}
-use Rattle.heap_model.specs.Standing.{Stands}
+use Rattle.heap_model.specs.State.{HeapState, is_evacuating}
+use Rattle.heap_model.specs.Standing.{Represents}
 use Rattle.heap_model.specs.Action.{Chain}
 use Rattle.heap_model.specs.Change.{DoesChange}
 use Rattle.heap_model.specs.Opening.{IsOpening}
 use Rattle.heap_model.specs.Event.{Course, Event, Command_done, Cycle_begun, Cycle_on, Quantum_done, Quantum_refused, Enters, Begins, Collects, Does, Runs, IsCourse, present_of, snapshot_of, room_for, change_by}
-use Rattle.heap_model.specs.Led.{opened}
+use Rattle.heap_model.specs.ReachedFrom.{opened}
 use Rattle.heap_model.proofs.Course.{opening_course}
 use Rattle.space.specs.Demand.{asked_for, asked_by}
 use Rattle.space.specs.Tally.{FindsRoom, NewFindsRoom, EveryNewFindsRoom}
-use Rattle.space.specs.Counts.{is_of, main_blocks, leaving_pages}
+use Rattle.space.specs.Counts.{is_of, main_blocks, evacuating_pages}
 use Rattle.space.specs.Space.{pages_for, spare_of, below_of}
-use Rattle.space.specs.Placement.{MayLeave, MaySpare, HasBoundedPages}
+use Rattle.space.specs.Placement.{MayEvacuate, MaySpare, HasBoundedPages}
 use Rattle.space.proofs.Counts.{bounded_room}
 use Rattle.space.proofs.Spacing.{bounded_pages, bounded_same}
 use Rattle.space.proofs.Changing.{bounded_change}
@@ -28,24 +28,24 @@ use Rattle.space.proofs.Running.{Went, chain_went, change_count}
 use Rattle.space.proofs.Unmoved.{may_none}
 use Rattle.fragmentation.specs.Season.{Season, Lives, opening_season, season_after, Keeps, AllKeep}
 use Rattle.fragmentation.specs.Suffice.{WithinBlocks}
-use Rattle.fragmentation.proofs.Counted.{IsCounted, counted_held, all_find_room, command_room, count_none, opening_counted}
+use Rattle.fragmentation.proofs.Counted.{IsCounted, counted_allocated, all_find_room, command_room, count_none, opening_counted}
 
 -- what a command asks for, with the main copies, is within this many blocks
 pub within_blocks : (r : Course) (s : Season) (live : Lives) (blocks : ℕ → ℕ) (m : ℕ) (c : Command) → IsCourse r → IsCounted r s live → WithinBlocks blocks live s (asked_for s.graph m c) → (class : ℕ) → class < CLASSES → main_blocks r.heap.store.pages class + asked_for (present_of r) m c class ≤ blocks class
 within_blocks r s live blocks m c w k keeps class l =
-    let x = counted_held r s live w k class l in
+    let x = counted_allocated r s live w k class l in
     let a = keeps class l in
     let asked : asked_for s.graph m c class ≡ asked_for (present_of r) m c class = ap (λ z. asked_for z m c class) k.graph in
     omega (arith, x, a, asked)
 
 -- the pages stay within their bound
 pub bounded_begins : (r new : Course) (blocks : ℕ → ℕ) (spare : ℕ) → Begins r new → HasBoundedPages r.heap blocks spare → HasBoundedPages new.heap blocks spare
-bounded_begins r new blocks spare b k = subst (λ z. HasBoundedPages z blocks spare) (sym b.heap) (bounded_same r.heap _ blocks spare k (record { most = refl; below = refl }) refl (let q = bounded_pages r.heap blocks spare k in q.leaving))
+bounded_begins r new blocks spare b k = subst (λ z. HasBoundedPages z blocks spare) (sym b.heap) (bounded_same r.heap _ blocks spare k (record { most = refl; below = refl }) refl (let q = bounded_pages r.heap blocks spare k in q.evacuating))
 
 pub bounded_opening : (h : HeapState) (blocks : ℕ → ℕ) (spare : ℕ) → IsOpening h → 0 < length h.store.pages → MaySpare h blocks spare → HasBoundedPages h blocks spare
 bounded_opening h blocks spare o some may = record {
   used = λ class l. (let z = count_none h o some (is_of class) refl in omega (arith, z));
-  leaving = subst (MayLeave spare h.defrag_pages (leaving_pages h.store.pages)) (sym o.phase) (let z = count_none h o some is_leaving refl in omega (arith, z));
+  evacuating = subst (MayEvacuate spare h.defrag_pages (evacuating_pages h.store.pages)) (sym o.phase) (let z = count_none h o some is_evacuating refl in omega (arith, z));
   same = may;
 }
 
@@ -55,7 +55,7 @@ pub record KeepsRoom (blocks : ℕ → ℕ) (spare enough : ℕ) (Kept : HeapSta
       → (need : ℕ → ℕ) → ((k : ℕ) → k < CLASSES → main_blocks h.store.pages k + need k ≤ blocks k) → has_room h.store.pages need ≡ true
   pub change : (h after : HeapState) (g : Graph) (c : Change) → ArePages h.store.pages → ((k : ℕ) → k < CLASSES → main_blocks h.store.pages k + asked_by c k ≤ blocks k) → DoesChange h g c after → Kept h → Kept after
   pub begins : (r new : Course) → Begins r new → Kept r.heap → Kept new.heap
-  pub chain : (h after : HeapState) (spent : ℕ) (present snapshot : Graph) → Stands h present snapshot → Chain h spent after → Kept h → Kept after
+  pub chain : (h after : HeapState) (spent : ℕ) (present snapshot : Graph) → Represents h present snapshot → Chain h spent after → Kept h → Kept after
 
 module _ (live : Lives) (blocks : ℕ → ℕ) (spare enough : ℕ) (Kept : HeapState → Type 0) (keeping : KeepsRoom blocks spare enough Kept) where
   record IsJoint (r : Course) (s : Season) : Type 0 where

@@ -9,7 +9,7 @@ pub mod FewTaken
 pub mod IsLeftover
 pub mod Leftover
 pub mod Emptied
-pub mod Leaving
+pub mod Evacuating
 pub mod Growing
 pub mod Acting
 pub mod Counted

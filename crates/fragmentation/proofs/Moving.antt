@@ -15,11 +15,11 @@ use Rattle.heap_model.specs.State.{HeapState}
 use Rattle.heap_model.specs.Opening.{IsOpening}
 use Rattle.heap_model.specs.Settings.{HeapSettings, settings_of}
 use Rattle.heap_model.specs.Event.{Course, Event, Command_done, Cycle_begun, Cycle_on, Quantum_done, Quantum_refused, Enters, Begins, Collects, Does, Runs, IsCourse, present_of, snapshot_of, room_for, change_by}
-use Rattle.heap_model.specs.Led.{opened}
+use Rattle.heap_model.specs.ReachedFrom.{opened}
 use Rattle.heap_model.proofs.Settings.{does_settings, change_settings}
 use Rattle.heap_model.proofs.Course.{begins_present, collects_present, opening_course}
 use Rattle.space.specs.Demand.{blocks_of, asked_for, asked_by}
-use Rattle.space.specs.Tally.{is_tracing, FindsRoom, NewFindsRoom, EveryNewFindsRoom}
+use Rattle.space.specs.Tally.{awaits_sweep_end, FindsRoom, NewFindsRoom, EveryNewFindsRoom}
 use Rattle.space.specs.Counts.{is_of, main_blocks, used_pages}
 use Rattle.space.proofs.Counts.{class_sum_le}
 use Rattle.space.proofs.Pacing.{more_since}
@@ -35,8 +35,8 @@ use Rattle.fragmentation.proofs.FewTaken.{few_room}
 use Rattle.fragmentation.proofs.Gathering.{gather_change}
 use Rattle.fragmentation.proofs.Growing.{leftover_change, leftover_more, few_made}
 use Rattle.fragmentation.proofs.Few.{not_both}
-use Rattle.fragmentation.proofs.Acting.{IsGoing, gathers_settings, Stage, Behind, came_chain, out_chain, few_change}
-use Rattle.fragmentation.proofs.Counted.{IsCounted, held_since, counted_held, objects_then, needed_more, all_find_room, command_room, count_none, opening_counted, opening_settled}
+use Rattle.fragmentation.proofs.Acting.{IsGoing, gathers_settings, Advances, Behind, came_chain, out_chain, few_change}
+use Rattle.fragmentation.proofs.Counted.{IsCounted, allocated_since, counted_allocated, objects_then, needed_more, all_find_room, command_room, count_none, opening_counted, opening_settled}
 
 -- room for a command
 module _ (h : HeapState) (g : Graph) (s : Season) (first made : ℕ → ℕ) (a : ArePages h.store.pages) (w : IsFew h.store.pages h.phase first made) (same : s.graph ≡ g)
@@ -79,7 +79,7 @@ module _ (live : Lives) (pages : ℕ) where
       first = k.first;
       most = k.most;
       few = few_made new.heap.store.pages new.heap.phase k.first _ _ more_made (few_change r.heap new.heap g made k.first _ w.stands.placed e.change k.few);
-      left = leftover_change r.heap new.heap g made (needed_since live s) (needed_since live (season_after live s (Command_done m c reply))) w.stands.pages (λ n l. (let x = more n in omega (arith, x))) (λ n l. (let x = more n in let y = counted_held r s live w i n l in omega (arith, x, y))) e.change k.left;
+      left = leftover_change r.heap new.heap g made (needed_since live s) (needed_since live (season_after live s (Command_done m c reply))) w.stands.pages (λ n l. (let x = more n in omega (arith, x))) (λ n l. (let x = more n in let y = counted_allocated r s live w i n l in omega (arith, x, y))) e.change k.left;
     },
     subst (FindsRoom c) (sym e.replies) (season_room r.heap g s k.first (λ n. blocks_of (drop s.swept g.objects) n) w.stands.pages k.few i.graph k.most (λ n. ap (λ (z : Graph). blocks_of (drop s.swept z.objects) n) (sym i.graph)) m c (let x = k.room in omega (arith, x, fits))).0,
   )
@@ -135,12 +135,12 @@ module _ (live : Lives) (pages : ℕ) (r new : Course) (budget units : ℕ) (pha
   abbrev resting : ℕ → ℕ
   resting class = live s.cycles class + blocks_of (drop (length (snapshot_of r).objects) g.objects) class
 
-  counted : (j : HeapState) → IsGoing j g (snapshot_of r) → is_tracing j.phase ≡ false → (class : ℕ) → class < CLASSES → main_blocks j.store.pages class ≤ resting class
+  counted : (j : HeapState) → IsGoing j g (snapshot_of r) → awaits_sweep_end j.phase ≡ false → (class : ℕ) → class < CLASSES → main_blocks j.store.pages class ≤ resting class
   counted j y off class l =
-      held_since j.store g.objects (snapshot_of r) (live s.cycles) i.begun.live y.stands.pages y.tidy i.begun.kept (rest_only j g (snapshot_of r) i.begun.live.ids y.stands off i.begun.live.reached) class l
+      allocated_since j.store g.objects (snapshot_of r) (live s.cycles) i.begun.live y.stands.pages y.tidy i.begun.kept (rest_only j g (snapshot_of r) i.begun.live.ids y.stands off i.begun.live.reached) class l
 
-  out_phase : is_tracing new.heap.phase ≡ is_tracing phase
-  out_phase = ap is_tracing q.ends
+  out_phase : awaits_sweep_end new.heap.phase ≡ awaits_sweep_end phase
+  out_phase = ap awaits_sweep_end q.ends
 
   abbrev made : ℕ → ℕ
   made class = blocks_of (drop s.swept g.objects) class
@@ -159,12 +159,12 @@ module _ (live : Lives) (pages : ℕ) (r new : Course) (budget units : ℕ) (pha
   -- the sweep of a running cycle hasn't ended before
   module _ (on : s.tracing ≡ true) where
     abbrev Came : Type 0
-    Came = IsGoing new.heap g (snapshot_of r) × (Stage true new.heap k.first made (needed_since live s) ⊎ Behind new.heap (needed_since live s) resting)
+    Came = IsGoing new.heap g (snapshot_of r) × (Advances true new.heap k.first made (needed_since live s) ⊎ Behind new.heap (needed_since live s) resting)
 
     came : Came
     came = came_chain g (snapshot_of r) k.first made (needed_since live s) resting counted r.heap new.heap units going q.turn.chain (inl (record { tracing = sym i.tracing ∙ on; few = k.few; left = k.left }))
 
-    goes_on : IsGoing new.heap g (snapshot_of r) → Stage true new.heap k.first made (needed_since live s) → IsMoving live pages new s
+    goes_on : IsGoing new.heap g (snapshot_of r) → Advances true new.heap k.first made (needed_since live s) → IsMoving live pages new s
     goes_on y b = kept y s k.first k.most (few_made new.heap.store.pages new.heap.phase k.first made _ made_now b.few) b.left
 
     ends : IsGoing new.heap g (snapshot_of r) → Behind new.heap (needed_since live s) resting → IsMoving live pages new (season_swept live s)
@@ -173,7 +173,7 @@ module _ (live : Lives) (pages : ℕ) (r new : Course) (budget units : ℕ) (pha
         (few_made new.heap.store.pages new.heap.phase b.first _ _ (λ class. sym (ap (λ z. blocks_of (drop z (present_of new).objects) class) (ap (λ (z : Graph). length z.objects) (i.graph ∙ sym present)) ∙ none_since (present_of new).objects class)) b.stage.few)
         (leftover_more new.heap.store new.heap.phase resting (needed_since live (season_swept live s)) (λ class l. (let x : made_since s.last s class ≡ blocks_of (drop (length (snapshot_of r).objects) g.objects) class = ap (λ z. made_since z s class) i.last ∙ ap (λ (z : Graph). blocks_of (drop (length (snapshot_of r).objects) z.objects) class) i.graph in omega (arith, x))) b.stage.left)
 
-    by_end : Came → (t : Bool) → is_tracing phase ≡ t → IsMoving live pages new (if t then s else (if s.tracing then season_swept live s else s))
+    by_end : Came → (t : Bool) → awaits_sweep_end phase ≡ t → IsMoving live pages new (if t then s else (if s.tracing then season_swept live s else s))
     by_end (y, inl b) true e = goes_on y b
     by_end (y, inl b) false e = absurd (not_both _ b.tracing (out_phase ∙ e))
     by_end (y, inr b) true e = absurd (not_both _ (out_phase ∙ e) b.stage.tracing)
@@ -188,19 +188,19 @@ module _ (live : Lives) (pages : ℕ) (r new : Course) (budget units : ℕ) (pha
         let b : made_since s.base s class ≡ blocks_of (drop (length (snapshot_of r).objects) g.objects) class = ap (λ n. made_since n s class) (z.0 ∙ i.last) ∙ ap (λ (z : Graph). blocks_of (drop (length (snapshot_of r).objects) z.objects) class) i.graph in
         omega (arith, a, b)
 
-    out : IsGoing new.heap g (snapshot_of r) × Stage false new.heap k.first made resting
+    out : IsGoing new.heap g (snapshot_of r) × Advances false new.heap k.first made resting
     out = out_chain g (snapshot_of r) k.first made (needed_since live s) resting counted r.heap new.heap units going q.turn.chain (record { tracing = sym i.tracing ∙ off; few = k.few; left = left_same r (needed_since live s) resting rest_same k.left })
 
     rests : IsMoving live pages new s
     rests = kept out.0 s k.first k.most (few_made new.heap.store.pages new.heap.phase k.first made _ made_now out.1.few) (left_same new resting (needed_since live s) (λ class. sym (rest_same class)) out.1.left)
 
-    by_out : (t : Bool) → is_tracing phase ≡ t → IsMoving live pages new (if t then s else (if s.tracing then season_swept live s else s))
+    by_out : (t : Bool) → awaits_sweep_end phase ≡ t → IsMoving live pages new (if t then s else (if s.tracing then season_swept live s else s))
     by_out true e = absurd (not_both _ (out_phase ∙ e) out.1.tracing)
     by_out false e = subst (λ z. IsMoving live pages new (if z then season_swept live s else s)) (sym off) rests
 
   by_start : (b : Bool) → s.tracing ≡ b → IsMoving live pages new (season_after live s (Quantum_done budget units phase))
-  by_start true on = by_end on (came on) (is_tracing phase) refl
-  by_start false off = by_out off (is_tracing phase) refl
+  by_start true on = by_end on (came on) (awaits_sweep_end phase) refl
+  by_start false off = by_out off (awaits_sweep_end phase) refl
 
   moving_quantum : IsMoving live pages new (season_after live s (Quantum_done budget units phase))
   moving_quantum = by_start s.tracing refl

@@ -11,11 +11,11 @@ use Rattle.heap_model.specs.declared.phase.Phase.{Phase}
 use Rattle.heap_model.specs.declared.phase.Phase.TheVariants as phases
 use Rattle.heap_model.specs.declared.phase.Moving.TheVariants as moves
 use Rattle.heap_model.specs.declared.phase.Candidate.{Candidate}
-use Rattle.heap_model.specs.Pages.{Page, ArePages, is_usable, with_held, page_at, free_blocks, whole_pages}
+use Rattle.heap_model.specs.Pages.{Page, ArePages, is_usable, with_allocated, page_at, free_blocks, whole_pages}
 use Rattle.heap_model.specs.Store.{Store, address_of}
 use Rattle.heap_model.specs.State.{HeapState}
 use Rattle.heap_model.specs.Marks.{HasNoMark, AreClosed}
-use Rattle.heap_model.specs.Standing.{Stands, is_sweeping}
+use Rattle.heap_model.specs.Standing.{Represents, is_sweeping}
 use Rattle.heap_model.specs.Action.{KeepsBlocks, MovesBlock, IsNext, IsDone, Action, Scans_root, Ends_roots, Scans_header, Scans_cell, Ends_marking, Frees_block, Passes_block, Closes_page, Ends_sweep, Looks_at_page, Chooses_page, Chooses_none, Moves_block, Ends_moving, AtPass, In_pass, After_page, MovingDone, No_class, No_page, is_sparse, is_choosable}
 use Rattle.heap_model.proofs.Marks.{no_mark}
 use Rattle.space.proofs.Counts.{both_true}
@@ -23,7 +23,7 @@ use Rattle.space.proofs.Tidying.{Shrinks, shrinks_then, shrinks_writes, shrinks_
 use Rattle.fragmentation.specs.Tight.{IsTight, staying_pages}
 use Rattle.fragmentation.specs.Gathering.{AreUsed, IsGathering}
 use Rattle.fragmentation.specs.Suffice.{gathered_pages}
-use Rattle.fragmentation.proofs.IsLeftover.{one_leaving, IsSettled, IsEmptied, AreSettled}
+use Rattle.fragmentation.proofs.IsLeftover.{one_evacuating, IsSettled, IsEmptied, AreSettled}
 use Rattle.fragmentation.proofs.IsSparse.{IsPassed, ArePassed, Empties, IsSparse}
 use Rattle.fragmentation.proofs.Emptied.{chosen_staying, chosen_two, chosen_emptied, moved_store, moved_emptied}
 use Rattle.fragmentation.proofs.Free.{chosen_free}
@@ -31,7 +31,7 @@ use Rattle.fragmentation.proofs.Few.{moving_not}
 use Rattle.fragmentation.proofs.Passing.{in_pass}
 use Rattle.fragmentation.proofs.Gathering.{tight_action}
 use Rattle.fragmentation.proofs.Leftover.{Strands, settled_less, moved_less, by_phase, Goes, settled_goes, moved_goes, emptied_goes, goes_same, settled_freed, settled_closed, settled_used, none_leaves, done_left, emptied_all}
-use Rattle.fragmentation.proofs.Leaving.{none_left}
+use Rattle.fragmentation.proofs.Evacuating.{none_left}
 
 passed_less : (s t : Store) (class need : ℕ) → Strands s t class → staying_pages t.pages class ≤ staying_pages s.pages class → (IsTight s.pages class → IsTight t.pages class) → IsPassed s class need → IsPassed t class need
 passed_less s t class need f l tight w = record { settled = settled_less s t class need f l w.settled; moved = moved_less s t class need need f tight (omega arith) w.moved }
@@ -105,11 +105,11 @@ two_pages class need n small two l = by_test (nat_lt need (blocks_in class)) ref
 
 -- a page that is chosen
 chosen_sparse : (s t : Store) (class page : ℕ) (p : Page) (need : ℕ → ℕ) → ArePages s.pages → AreUsed s.pages (length s.pages) → page_at s.pages page ≡ Some p → is_choosable class (Some p) ≡ true → blocks_in class ≤ free_blocks s.pages class → class < CLASSES
-    → KeepsBlocks s t → t.pages ≡ set s.pages page (Some (record p { leaving = true })) → ((k : ℕ) → IsTight s.pages k → IsTight t.pages k) → ArePassed s need → Empties t page 0 need
+    → KeepsBlocks s t → t.pages ≡ set s.pages page (Some (record p { evacuating = true })) → ((k : ℕ) → IsTight s.pages k → IsTight t.pages k) → ArePassed s need → Empties t page 0 need
 chosen_sparse s t class page p need a used at good free small keeps is tight w = record {
   class = class;
   emptied = emptied;
-  few = (let x = chosen_staying s t class page p at good keeps is in let y : one_leaving class (page_at t.pages page) ≡ 1 = ap (λ b. if b then 1 else 0) emptied.on in let m = few in omega (arith, x, y, m));
+  few = (let x = chosen_staying s t class page p at good keeps is in let y : one_evacuating class (page_at t.pages page) ≡ 1 = ap (λ b. if b then 1 else 0) emptied.on in let m = few in omega (arith, x, y, m));
   enough = two_pages class (need class) (staying_pages s.pages class) small (chosen_two s t class page p at good keeps is a used free) few;
 }
   where
@@ -120,21 +120,21 @@ chosen_sparse s t class page p need a used at good free small keeps is tight w =
     few = settled_used s class (need class) (w class small).settled
 
 -- a block that is moved
-moved_sparse : (s t : Store) (page block i to j : ℕ) (p q : Page) (need : ℕ → ℕ) → ArePages s.pages → page_at s.pages page ≡ Some p → p.leaving ≡ true → IsNext p block i → is_usable p.class (Some q) ≡ true → page_at s.pages to ≡ Some q → slice_get q.held j ≡ Some false
-    → MovesBlock s t (address_of p.class page i) (address_of p.class to j) → t.pages ≡ set s.pages to (Some (record (with_held q j true) { receiving = true })) → ((k : ℕ) → IsTight s.pages k → IsTight t.pages k)
+moved_sparse : (s t : Store) (page block i to j : ℕ) (p q : Page) (need : ℕ → ℕ) → ArePages s.pages → page_at s.pages page ≡ Some p → p.evacuating ≡ true → IsNext p block i → is_usable p.class (Some q) ≡ true → page_at s.pages to ≡ Some q → slice_get q.allocated j ≡ Some false
+    → MovesBlock s t (address_of p.class page i) (address_of p.class to j) → t.pages ≡ set s.pages to (Some (record (with_allocated q j true) { is_target = true })) → ((k : ℕ) → IsTight s.pages k → IsTight t.pages k)
     → Empties s page block need → Empties t page (i + 1) need
-moved_sparse s t page block i to j p q need a at leaving next usable there empty m is tight w = record {
+moved_sparse s t page block i to j p q need a at evacuating next usable there empty m is tight w = record {
   class = w.class;
-  emptied = moved_emptied s t page block i to j p q a at leaving next usable there empty m is w.class _ _ (passed_goes s t need need g) w.emptied;
+  emptied = moved_emptied s t page block i to j p q a at evacuating next usable there empty m is w.class _ _ (passed_goes s t need need g) w.emptied;
   few = g.kept w.class page w.emptied.small w.few (λ on. w.enough);
   enough = w.enough;
 }
   where
     g : Goes s t need need
-    g = moved_store s t page block i to j p q a at leaving next usable there empty m is need tight
+    g = moved_store s t page block i to j p q a at evacuating next usable there empty m is need tight
 
 -- each action
-pub sparse_action : (h after : HeapState) (cost : ℕ) (present snapshot : Graph) (need : ℕ → ℕ) → Stands h present snapshot → IsGathering h.store.pages (length h.store.pages) h.phase → Action h cost after → IsSparse h.store h.phase need → IsSparse after.store after.phase need
+pub sparse_action : (h after : HeapState) (cost : ℕ) (present snapshot : Graph) (need : ℕ → ℕ) → Represents h present snapshot → IsGathering h.store.pages (length h.store.pages) h.phase → Action h cost after → IsSparse h.store h.phase need → IsSparse after.store after.phase need
 sparse_action h after cost g s need st ga (Scans_root next k e l sh) w = let f = shrinks_shades _ k _ sh in sparse_same h.store k.store (phases.Roots (next + 1)) need f.0 f.1 (sparse_phase h.store h.phase (phases.Roots next) need e w)
 sparse_action h after cost g s need st ga (Ends_roots next e l) w = sparse_phase h.store h.phase (phases.Roots next) need e w
 sparse_action h after cost g s need st ga (Scans_header part cell x front back e f n) w = sparse_phase h.store h.phase (phases.Marking part cell) need e w
@@ -167,10 +167,10 @@ sparse_action h after cost g s need st ga (Chooses_page class page best chosen k
     chosen_sparse h.store new class k.page p need st.pages i.used there ok (chosen_free h.store.pages class k st.pages good) few w0 pages
     (λ c t. tight_action h _ 1 c st.pages (moving_not h class page best chosen at) (Chooses_page class page best chosen k p new at few last is good there w0 pages) t) (pass_sparse h class page best chosen need st.pages w at)
 sparse_action h after cost g s need st ga (Chooses_none class page best chosen at few last is) w = pass_sparse h class page best chosen need st.pages w at
-sparse_action h after cost g s need st ga (Moves_block class page block chosen i to j p q new e at leaving next place there empty w0 pages) w =
+sparse_action h after cost g s need st ga (Moves_block class page block chosen i to j p q new e at evacuating next place there empty w0 pages) w =
     let usable : is_usable p.class (Some q) ≡ true = ap (is_usable p.class) (sym there) ∙ (position-Some (is_usable p.class) h.store.pages to None place).1 in
-    moved_sparse h.store new page block i to j p q need st.pages at leaving next usable there empty w0 pages
-    (λ c t. tight_action h _ _ c st.pages (ap is_sweeping e) (Moves_block class page block chosen i to j p q new e at leaving next place there empty w0 pages) t)
+    moved_sparse h.store new page block i to j p q need st.pages at evacuating next usable there empty w0 pages
+    (λ c t. tight_action h _ _ c st.pages (ap is_sweeping e) (Moves_block class page block chosen i to j p q new e at evacuating next place there empty w0 pages) t)
     (sparse_phase h.store h.phase (phases.Moving (moves.Emptying class page block chosen)) need e w)
 sparse_action h after cost g s need st ga (Ends_moving done) w = ended done
   where

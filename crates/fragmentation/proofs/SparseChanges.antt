@@ -6,7 +6,7 @@ use Rattle.graph_heap.specs.Graph.{Graph}
 use Rattle.graph_heap.specs.History.{after}
 use Rattle.heap_model.specs.Pages.{ArePages}
 use Rattle.heap_model.specs.State.{HeapState}
-use Rattle.heap_model.specs.Standing.{Stands}
+use Rattle.heap_model.specs.Standing.{Represents}
 use Rattle.heap_model.specs.Action.{Chain, Nothing_done, Then}
 use Rattle.heap_model.specs.Change.{DoesChange}
 use Rattle.heap_model.proofs.Left.{change_left}
@@ -25,7 +25,7 @@ pub sparse_change : (h after : HeapState) (g : Graph) (c : Change) (need : ℕ �
 sparse_change h after g c need a fits does w = sparse_phase after.store h.phase after.phase need (sym (change_left h after g c does).phase) (sparse_goes h.store after.store need need (change_goes h after g c need need a (λ k l. omega arith) fits does) h.phase w)
 
 -- through a chain of actions
-pub chain_sparse : (h after : HeapState) (spent : ℕ) (present snapshot : Graph) (need : ℕ → ℕ) → Stands h present snapshot → Chain h spent after → IsGathering h.store.pages (length h.store.pages) h.phase × IsSparse h.store h.phase need → IsGathering after.store.pages (length after.store.pages) after.phase × IsSparse after.store after.phase need
+pub chain_sparse : (h after : HeapState) (spent : ℕ) (present snapshot : Graph) (need : ℕ → ℕ) → Represents h present snapshot → Chain h spent after → IsGathering h.store.pages (length h.store.pages) h.phase × IsSparse h.store h.phase need → IsGathering after.store.pages (length after.store.pages) after.phase × IsSparse after.store after.phase need
 chain_sparse h after spent g s need st Nothing_done w = w
 chain_sparse h after spent g s need st (Then u cost j k linked chain links action) w =
     let r = chain_sparse h j u g s need st chain w in

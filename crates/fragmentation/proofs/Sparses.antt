@@ -1,4 +1,4 @@
--- No new object is refused in a run that keeps to a demand, with one page more for each class and the leaving pages once.
+-- No new object is refused in a run that keeps to a demand, with one page more for each class and the evacuating pages once.
 use Rattle.std.proofs.Common.{◌≡◌, ℕ, zero, suc, ◌+◌, ◌-◌, ◌<◌, ◌≤◌, ◌⊎◌, inl, inr, Bool, true, false, ◌&&◌, ◌==◌, List, [], ◌∷◌, Option, Some, None, length, ap, ◌∙◌, sym, subst, arith, refl}
 use Rattle.std.specs.Prelude.{sum_by}
 use Rattle.std.proofs.lemmas.Bool.{le-leb, ne_eqb}
@@ -9,15 +9,15 @@ use Rattle.size_classes.specs.Sizes.{blocks_in}
 use Rattle.size_classes.proofs.Table.{blocks_some}
 use Rattle.heap_model.specs.declared.phase.Phase.TheVariants as phases
 use Rattle.heap_model.specs.Pages.{Page, ArePages, has_room, pages_needed, whole_pages, free_blocks, free_pages}
-use Rattle.heap_model.specs.State.{HeapState, is_leaving}
+use Rattle.heap_model.specs.State.{HeapState, is_evacuating}
 use Rattle.heap_model.specs.Opening.{IsOpening}
 use Rattle.heap_model.specs.Event.{Course, Event, Runs}
-use Rattle.heap_model.specs.Led.{opened}
+use Rattle.heap_model.specs.ReachedFrom.{opened}
 use Rattle.space.specs.Tally.{EveryNewFindsRoom}
 use Rattle.space.specs.Space.{spare_of}
-use Rattle.space.specs.Counts.{main_blocks, used_pages, leaving_pages}
+use Rattle.space.specs.Counts.{main_blocks, used_pages, evacuating_pages}
 use Rattle.space.specs.Space.{class_sum}
-use Rattle.space.proofs.Counts.{one_if, leave_on, own, used, zero_or, whole_within, class_sum_both, class_sum_same, class_sum_one, zeros, all_pages}
+use Rattle.space.proofs.Counts.{one_if, evacuating_on, own, used, zero_or, whole_within, class_sum_both, class_sum_same, class_sum_one, zeros, all_pages}
 use Rattle.space.proofs.Spacing.{bounded_pages}
 use Rattle.fragmentation.specs.Tight.{staying_pages}
 use Rattle.fragmentation.specs.Gathering.{IsGathering}
@@ -49,27 +49,27 @@ most_one c (suc n) = elim (order c (suc n)) [
     order : (a b : ℕ) → (a < b) ⊎ (b ≤ a)
     order a b = grind arith
 
--- a leaving page leaves of one class at most
-one_leaves : (o : Option Page) → class_sum (λ k. leave_on k o) CLASSES ≤ one_if (is_leaving o)
+-- an evacuating page leaves of one class at most
+one_leaves : (o : Option Page) → class_sum (λ k. evacuating_on k o) CLASSES ≤ one_if (is_evacuating o)
 one_leaves None = let z = zeros CLASSES in omega (arith, z)
-one_leaves (Some p) = by_leaving p.leaving
+one_leaves (Some p) = by_evacuating p.evacuating
   where
-    by_leaving : (l : Bool) → class_sum (λ k. one_if ((p.class == k) && l)) CLASSES ≤ one_if l
-    by_leaving true = let e = class_sum_same (λ k. one_if ((p.class == k) && true)) (λ k. one_if (p.class == k)) CLASSES (λ k. ap one_if (and-true (p.class == k))) in let m = most_one p.class CLASSES in omega (arith, e, m)
-    by_leaving false = let e = class_sum_same (λ k. one_if ((p.class == k) && false)) (λ k. 0) CLASSES (λ k. ap one_if (and-false (p.class == k))) in let z = zeros CLASSES in omega (arith, e, z)
+    by_evacuating : (l : Bool) → class_sum (λ k. one_if ((p.class == k) && l)) CLASSES ≤ one_if l
+    by_evacuating true = let e = class_sum_same (λ k. one_if ((p.class == k) && true)) (λ k. one_if (p.class == k)) CLASSES (λ k. ap one_if (and-true (p.class == k))) in let m = most_one p.class CLASSES in omega (arith, e, m)
+    by_evacuating false = let e = class_sum_same (λ k. one_if ((p.class == k) && false)) (λ k. 0) CLASSES (λ k. ap one_if (and-false (p.class == k))) in let z = zeros CLASSES in omega (arith, e, z)
 
--- each page stays in its class, is leaving or is free
-all_kinds : (pages : List (Option Page)) → ArePages pages → length pages ≤ class_sum (staying_pages pages) CLASSES + leaving_pages pages + free_pages pages
+-- each page stays in its class, is evacuating or is free
+all_kinds : (pages : List (Option Page)) → ArePages pages → length pages ≤ class_sum (staying_pages pages) CLASSES + evacuating_pages pages + free_pages pages
 all_kinds pages w =
     let a = all_pages pages w in
-    let u = class_sum_same (used_pages pages) (λ k. staying_pages pages k + sum_by (leave_on k) pages) CLASSES (λ k. (used k pages).0) in
-    let b = class_sum_both (staying_pages pages) (λ k. sum_by (leave_on k) pages) CLASSES in
-    let s = class_sums leave_on pages CLASSES in
-    let l = sum_by-le-sum_by (λ o. class_sum (λ k. leave_on k o) CLASSES) (λ o. one_if (is_leaving o)) pages one_leaves in
+    let u = class_sum_same (used_pages pages) (λ k. staying_pages pages k + sum_by (evacuating_on k) pages) CLASSES (λ k. (used k pages).0) in
+    let b = class_sum_both (staying_pages pages) (λ k. sum_by (evacuating_on k) pages) CLASSES in
+    let s = class_sums evacuating_on pages CLASSES in
+    let l = sum_by-le-sum_by (λ o. class_sum (λ k. evacuating_on k o) CLASSES) (λ o. one_if (is_evacuating o)) pages one_leaves in
     omega (arith, a, u, b, s, l)
 
 -- room for what is asked for
-module _ (h : HeapState) (blocks : ℕ → ℕ) (spare : ℕ) (a : ArePages h.store.pages) (w : IsSparse h.store h.phase blocks) (leave : leaving_pages h.store.pages ≤ spare) (fits : sparse_pages blocks + spare ≤ length h.store.pages) where
+module _ (h : HeapState) (blocks : ℕ → ℕ) (spare : ℕ) (a : ArePages h.store.pages) (w : IsSparse h.store h.phase blocks) (leave : evacuating_pages h.store.pages ≤ spare) (fits : sparse_pages blocks + spare ≤ length h.store.pages) where
   class_sparse : (need : ℕ → ℕ) → ((k : ℕ) → k < CLASSES → main_blocks h.store.pages k + need k ≤ blocks k) → (class : ℕ) → class < CLASSES → whole_pages class (need class - free_blocks h.store.pages class) + staying_pages h.store.pages class ≤ gathered_pages class (blocks class)
   class_sparse need asks class small = by_missing (zero_or (need class - free_blocks h.store.pages class))
     where
@@ -92,7 +92,7 @@ module _ (h : HeapState) (blocks : ℕ → ℕ) (spare : ℕ) (a : ArePages h.st
 -- what is kept
 sparse_keeps : (blocks : ℕ → ℕ) (spare : ℕ) → KeepsRoom blocks spare (sparse_pages blocks + spare) (λ h. IsGathering h.store.pages (length h.store.pages) h.phase × IsSparse h.store h.phase blocks)
 sparse_keeps blocks spare = record {
-  room = λ h a b kept fits need asks. sparse_has_room h blocks spare a kept.1 (let q = bounded_pages h blocks spare b in q.leaving) fits need asks;
+  room = λ h a b kept fits need asks. sparse_has_room h blocks spare a kept.1 (let q = bounded_pages h blocks spare b in q.evacuating) fits need asks;
   change = λ h after g c a fits does kept. (gather_change h after g c kept.0 does, sparse_change h after g c blocks a fits does kept.1);
   begins = λ r new b kept. subst (λ (z : HeapState). IsGathering z.store.pages (length z.store.pages) z.phase × IsSparse z.store z.phase blocks) (sym b.heap) (tt, sparse_phase r.heap.store r.heap.phase phases.Idle blocks b.idle kept.1);
   chain = λ h after spent present snapshot w chain kept. chain_sparse h after spent present snapshot blocks w chain kept;

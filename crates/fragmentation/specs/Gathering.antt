@@ -8,13 +8,13 @@ use Rattle.heap_model.specs.Pages.{Page, page_at, is_usable}
 use Rattle.heap_model.specs.Action.{is_choosable}
 use Rattle.fragmentation.specs.Tight.{IsTight}
 
--- each page in use below a place has a held block
+-- each page in use below a place has an allocated block
 abbrev pub AreUsed : List (Option Page) → ℕ → Type 0
-AreUsed pages place = (k : ℕ) (p : Page) → k < place → page_at pages k ≡ Some p → 0 < count_by (λ b. b) p.held
+AreUsed pages place = (k : ℕ) (p : Page) → k < place → page_at pages k ≡ Some p → 0 < count_by (λ b. b) p.allocated
 
--- a receiving page that has a free block is the first of its class that has one
+-- a target page that has a free block is the first of its class that has one
 abbrev pub ReceivesFirst : List (Option Page) → Type 0
-ReceivesFirst pages = (k j : ℕ) (p q : Page) → page_at pages k ≡ Some p → p.receiving ≡ true
+ReceivesFirst pages = (k j : ℕ) (p q : Page) → page_at pages k ≡ Some p → p.is_target ≡ true
     → is_usable p.class (Some p) ≡ true → page_at pages j ≡ Some q → is_usable p.class (Some q) ≡ true → k ≤ j
 
 -- in a pass: the best page so far may be chosen; and where there is none, no page so far may be, or the class is tight

@@ -5,7 +5,7 @@ use Rattle.graph_heap.specs.Graph.{Graph, opening}
 use Rattle.graph_heap.specs.History.{after_entry}
 use Rattle.heap_model.specs.Event.{Event, Command_done, Cycle_begun, Cycle_on, Quantum_done, Quantum_refused}
 use Rattle.space.specs.Demand.{LiveWithin, blocks_of, asked_for}
-use Rattle.space.specs.Tally.{is_tracing}
+use Rattle.space.specs.Tally.{awaits_sweep_end}
 
 -- The graph heap to which the events lead; how many cycles began; whether one runs whose sweep hasn't ended; how many
 -- objects there were when the last cycle began, when that one began whose sweep ended last, and at that sweep's end;
@@ -62,7 +62,7 @@ season_after live s (Command_done m c reply) =
 season_after live s Cycle_begun = record s { cycles = s.cycles + 1; tracing = true; last = length s.graph.objects }
 season_after live s Cycle_on = s
 season_after live s (Quantum_done budget units phase) =
-    if is_tracing phase then s else (if s.tracing then season_swept live s else s)
+    if awaits_sweep_end phase then s else (if s.tracing then season_swept live s else s)
 season_after live s (Quantum_refused budget) = s
 
 -- An event keeps to a bound. At a command the bound holds of the season and of the blocks that are asked for; and where

@@ -19,7 +19,7 @@ ghost use Rattle.heap_model.specs.Standing.{is_sweeping};
 ghost use Rattle.heap_model.specs.Settings.{settings_of, settings_by};
 ghost use Rattle.heap_model.specs.Opening.{IsOpening};
 ghost use Rattle.heap_model.specs.Event.{Course, Event, Runs};
-ghost use Rattle.heap_model.specs.Led.{opened};
+ghost use Rattle.heap_model.specs.ReachedFrom.{opened};
 ghost use Rattle.space.specs.Counts.{main_blocks};
 ghost use Rattle.space.specs.Tally.{EveryNewFindsRoom};
 ghost use Rattle.space.specs.Room.{AllHaveRoom};
@@ -30,7 +30,7 @@ ghost use Rattle.fragmentation.specs.Configured.{MovesAll, FitsTogether};
 ghost use Rattle.fragmentation.specs.Season.{Lives, opening_season, AllKeep};
 ghost use Rattle.fragmentation.specs.Suffice.{GathersAll, WithinPages, WithinBlocks, sparse_pages, pages_of, Budget, budget_pages, WithinBudget};
 
-/// A tight class has as few pages that aren't leaving as its held blocks on them need.
+/// A tight class has as few pages that aren't evacuating as its allocated blocks on them need.
 pub fn tight_pages_are_fewest()
     ensures { (pages : List (Option Page)) (class : ℕ) → class < CLASSES → ArePages pages → IsTight pages class
         → staying_pages pages class ≡ whole_pages class (main_blocks pages class) }

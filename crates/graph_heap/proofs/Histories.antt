@@ -10,7 +10,7 @@ use Rattle.graph_heap.specs.declared.command.Change.TheVariants as changes
 use Rattle.graph_heap.specs.declared.command.Command.{Command}
 use Rattle.graph_heap.specs.declared.command.Command.TheVariants as commands
 use Rattle.graph_heap.specs.Graph.{Graph, changed}
-use Rattle.graph_heap.specs.Effect.{reply_of, next_of, slot_at, fitting, next_identity, with_room, settled, deed_of, admitted, effect_of, ◌>>=◌}
+use Rattle.graph_heap.specs.Effect.{reply_of, next_of, slot_at, fitting, next_identity, with_room, settled, admitted_effect, admitted, effect_of, ◌>>=◌}
 use Rattle.graph_heap.specs.History.{after, after_entry, IsLegal, IsEntryOf, had_room}
 
 pub after-push : (g : Graph) (h : List Entry) (e : Entry) → after g (h ++ e ∷ []) ≡ after_entry (after g h) e
@@ -32,15 +32,15 @@ made_told shape (Ok d) (Ok s) (Ok id) true = refl
 made_told shape (Ok d) (Ok s) (Ok id) false = refl
 
 -- a reply tells the room that it was given with, as far as it matters
-deed_told : (room : Bool) (g : Graph) (m : ℕ) (c : Command) → settled (deed_of (had_room (settled (deed_of room g m c)).0) g m c) ≡ settled (deed_of room g m c)
-deed_told room g m (commands.New dst shape) = made_told shape (slot_at g.limits m dst) (fitting shape) (next_identity g) room
-deed_told room g m _ = refl
+admitted_told : (room : Bool) (g : Graph) (m : ℕ) (c : Command) → settled (admitted_effect (had_room (settled (admitted_effect room g m c)).0) g m c) ≡ settled (admitted_effect room g m c)
+admitted_told room g m (commands.New dst shape) = made_told shape (slot_at g.limits m dst) (fitting shape) (next_identity g) room
+admitted_told room g m _ = refl
 
 abbrev let_in : Result Bool Refusal → Graph → ℕ → Command → Bool → Reply × Change
-let_in a g m c room = settled (a >>= λ ok. deed_of room g m c)
+let_in a g m c room = settled (a >>= λ ok. admitted_effect room g m c)
 
 let_in_told : (a : Result Bool Refusal) (room : Bool) (g : Graph) (m : ℕ) (c : Command) → let_in a g m c (had_room (let_in a g m c room).0) ≡ let_in a g m c room
-let_in_told (Ok x) room g m c = deed_told room g m c
+let_in_told (Ok x) room g m c = admitted_told room g m c
 let_in_told (Err n) room g m c = refl
 
 told : (room : Bool) (g : Graph) (m : ℕ) (c : Command) → settled (effect_of (had_room (settled (effect_of room g m c)).0) g m c) ≡ settled (effect_of room g m c)

@@ -71,74 +71,74 @@ with_room room = if room then Ok true else Err refusals.NoSpace
 
 -- What a command of mutator m does once it is admitted: its reply, and what changes. The tests stand in
 -- the order in which refusals are looked for. `room` says whether there is room for what New asks for.
-abbrev pub deed_of : Bool → Graph → ℕ → Command → Result (Reply × Change) Refusal
-deed_of room g m (commands.New dst shape) = do
+abbrev pub admitted_effect : Bool → Graph → ℕ → Command → Result (Reply × Change) Refusal
+admitted_effect room g m (commands.New dst shape) = do
   d ← slot_at g.limits m dst
   ok ← fitting shape
   id ← next_identity g
   has ← with_room room
   Ok (replies.Made id, changes.New d id shape)
-deed_of room g m (commands.Load dst obj i) = do
+admitted_effect room g m (commands.Load dst obj i) = do
   d ← slot_at g.limits m dst
   a ← slot_at g.limits m obj
   v ← ref_at g.objects (slice_index g.roots a) i
   Ok (replies.Ref v, changes.Root d v)
-deed_of room g m (commands.Store obj i src) = do
+admitted_effect room g m (commands.Store obj i src) = do
   a ← slot_at g.limits m obj
   s ← slot_at g.limits m src
   v ← ref_at g.objects (slice_index g.roots a) i
   Ok (replies.Done, changes.Ref (slice_index g.roots a) i (slice_index g.roots s))
-deed_of room g m (commands.CompareStore obj i expect new) = do
+admitted_effect room g m (commands.CompareStore obj i expect new) = do
   a ← slot_at g.limits m obj
   e ← slot_at g.limits m expect
   n ← slot_at g.limits m new
   v ← ref_at g.objects (slice_index g.roots a) i
   if v == slice_index g.roots e then Ok (replies.Stored, changes.Ref (slice_index g.roots a) i (slice_index g.roots n))
       else Ok (replies.Kept v, changes.Nothing)
-deed_of room g m (commands.Get obj i) = do
+admitted_effect room g m (commands.Get obj i) = do
   a ← slot_at g.limits m obj
   v ← word_at g.objects (slice_index g.roots a) i
   Ok (replies.Word v, changes.Nothing)
-deed_of room g m (commands.Put obj i word) = do
+admitted_effect room g m (commands.Put obj i word) = do
   a ← slot_at g.limits m obj
   v ← word_at g.objects (slice_index g.roots a) i
   Ok (replies.Done, changes.Word (slice_index g.roots a) i word)
-deed_of room g m (commands.ComparePut obj i old new) = do
+admitted_effect room g m (commands.ComparePut obj i old new) = do
   a ← slot_at g.limits m obj
   v ← word_at g.objects (slice_index g.roots a) i
   if v == old then Ok (replies.Stored, changes.Word (slice_index g.roots a) i new)
       else Ok (replies.KeptWord v, changes.Nothing)
-deed_of room g m (commands.Copy dst src) = do
+admitted_effect room g m (commands.Copy dst src) = do
   d ← slot_at g.limits m dst
   s ← slot_at g.limits m src
   Ok (replies.Done, changes.Root d (slice_index g.roots s))
-deed_of room g m (commands.Clear dst) = do
+admitted_effect room g m (commands.Clear dst) = do
   d ← slot_at g.limits m dst
   Ok (replies.Done, changes.Root d 0)
-deed_of room g m (commands.LoadStatic dst k) = do
+admitted_effect room g m (commands.LoadStatic dst k) = do
   d ← slot_at g.limits m dst
   s ← static_at g.limits k
   Ok (replies.Ref (slice_index g.roots s), changes.Root d (slice_index g.roots s))
-deed_of room g m (commands.StoreStatic k src) = do
+admitted_effect room g m (commands.StoreStatic k src) = do
   s ← slot_at g.limits m src
   d ← static_at g.limits k
   Ok (replies.Done, changes.Root d (slice_index g.roots s))
-deed_of room g m (commands.CompareStatic k expect new) = do
+admitted_effect room g m (commands.CompareStatic k expect new) = do
   e ← slot_at g.limits m expect
   n ← slot_at g.limits m new
   d ← static_at g.limits k
   if slice_index g.roots d == slice_index g.roots e then Ok (replies.Stored, changes.Root d (slice_index g.roots n))
       else Ok (replies.Kept (slice_index g.roots d), changes.Nothing)
-deed_of room g m (commands.Same a b) = do
+admitted_effect room g m (commands.Same a b) = do
   x ← slot_at g.limits m a
   y ← slot_at g.limits m b
   Ok (replies.Is (slice_index g.roots x == slice_index g.roots y), changes.Nothing)
-deed_of room g m (commands.Describe a) = do
+admitted_effect room g m (commands.Describe a) = do
   x ← slot_at g.limits m a
   o ← object_at g.objects (slice_index g.roots x)
   Ok (replies.Described (slice_index g.roots x) o.shape, changes.Nothing)
-deed_of room g m commands.Join = Ok (replies.Done, changes.Join m)
-deed_of room g m commands.Leave = Ok (replies.Done, changes.Leave m)
+admitted_effect room g m commands.Join = Ok (replies.Done, changes.Join m)
+admitted_effect room g m commands.Leave = Ok (replies.Done, changes.Leave m)
 
 -- whether the command is for a mutator that isn't live
 abbrev pub is_join : Command → Bool
@@ -163,7 +163,7 @@ admitted g m c = admitted_to g.limits g.live m (is_join c)
 
 -- what a command of mutator m does: its admission stands before all else
 abbrev pub effect_of : Bool → Graph → ℕ → Command → Result (Reply × Change) Refusal
-effect_of room g m c = admitted g m c >>= λ ok. deed_of room g m c
+effect_of room g m c = admitted g m c >>= λ ok. admitted_effect room g m c
 
 -- a refusal is the reply, and changes nothing
 abbrev pub settled : Result (Reply × Change) Refusal → Reply × Change

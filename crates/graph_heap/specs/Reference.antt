@@ -21,5 +21,5 @@ pub record IsRow (a : Inside) : Type 0 where
   pub live : a.limits.mutators ≤ length a.live.items
 
 -- what a slot of a mutator holds
-abbrev pub held_at : Graph → ℕ → ℕ → Result ℕ Refusal
-held_at g m slot = slot_at g.limits m slot >>= λ at. Ok (slice_index g.roots at)
+abbrev pub referent_at : Graph → ℕ → ℕ → Result ℕ Refusal
+referent_at g m slot = slot_at g.limits m slot >>= λ at. Ok (slice_index g.roots at)

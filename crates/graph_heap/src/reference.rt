@@ -3,8 +3,8 @@ ghost use Rattle.std.specs.Prelude.{true, ◌≡◌, ◌↔◌, IfOk, IsOkAnd, O
 ghost use Rattle.graph_heap.specs.Shape as shapes;
 ghost use Rattle.graph_heap.specs.Graph.{changed, opening};
 ghost use Rattle.graph_heap.specs.Effect as effect;
-ghost use Rattle.graph_heap.specs.Effect.{deed_of, effect_of, fitting, reply_of, next_of};
-ghost use Rattle.graph_heap.specs.Reference.{held_at};
+ghost use Rattle.graph_heap.specs.Effect.{admitted_effect, effect_of, fitting, reply_of, next_of};
+ghost use Rattle.graph_heap.specs.Reference.{referent_at};
 ghost use Rattle.graph_heap.specs.History as history;
 ghost use Rattle.graph_heap.specs.History.{IsEntryOf, after_entry};
 
@@ -24,7 +24,7 @@ use std::alloc::Global;
 use std::marker::Model;
 
 /// What a command does: its reply and what changes, or why it is refused.
-type Deed = Result<(Reply, Change), Refusal>;
+type CommandEffect = Result<(Reply, Change), Refusal>;
 
 /// The slow heap: objects in a vector by their identity, which never move or go, and the row of
 /// roots. Contracts see it as the graph heap.
@@ -109,24 +109,24 @@ impl Reference {
     }
 
     /// What the graph heap does.
-    fn plan(&self, room: bool, mutator: u32, command: &Command) -> Deed
+    fn plan(&self, room: bool, mutator: u32, command: &Command) -> CommandEffect
         ensures { result ≡ effect_of room self.now mutator command.now }
     {
         let joins = command.is_join();
         admit(&self.limits, self.live.as_slice(), mutator, joins)?;
-        self.deed(room, mutator, command)
+        self.admitted_effect(room, mutator, command)
     }
 
     /// What the graph heap does for a mutator that may ask this.
-    fn deed(&self, room: bool, mutator: u32, command: &Command) -> Deed
-        ensures { result ≡ deed_of room self.now mutator command.now }
+    fn admitted_effect(&self, room: bool, mutator: u32, command: &Command) -> CommandEffect
+        ensures { result ≡ admitted_effect room self.now mutator command.now }
     {
         dispatch!(Reference, self, mutator, *command, room)
     }
 
     /// The reply, and what changes.
     #[tactic(auto, unfolding(crate::specs::Effect::reply_of, crate::specs::Effect::next_of))]
-    fn settle(&self, room: bool, mutator: u32, command: &Command) -> (Reply, Change)
+    fn reply_and_change(&self, room: bool, mutator: u32, command: &Command) -> (Reply, Change)
         ensures reply { result.0 ≡ reply_of room self.now mutator command.now }
         ensures change { changed self.now result.1 ≡ next_of room self.now mutator command.now }
     {
@@ -137,15 +137,15 @@ impl Reference {
     }
 
     /// What a slot of a mutator holds.
-    fn held(&self, mutator: u32, slot: u32) -> Result<u64, Refusal>
-        ensures { result ≡ held_at self.now mutator slot }
+    fn referent(&self, mutator: u32, slot: u32) -> Result<u64, Refusal>
+        ensures { result ≡ referent_at self.now mutator slot }
     {
         let at = slot_of(&self.limits, mutator, slot)?;
         Ok(self.roots[at])
     }
 
-    fn make(&self, mutator: u32, dst: u32, shape: Shape, room: bool) -> Deed
-        ensures { result ≡ deed_of room self.now mutator (Command.New dst shape) }
+    fn make(&self, mutator: u32, dst: u32, shape: Shape, room: bool) -> CommandEffect
+        ensures { result ≡ admitted_effect room self.now mutator (Command.New dst shape) }
     {
         let cell = slot_of(&self.limits, mutator, dst)?;
         fitting_of(shape)?;
@@ -156,58 +156,58 @@ impl Reference {
         Ok((Reply::Made(id), Change::New { cell, id, shape }))
     }
 
-    fn load(&self, mutator: u32, dst: u32, obj: u32, i: u32) -> Deed
-        ensures { result ≡ deed_of true self.now mutator (Command.Load dst obj i) }
+    fn load(&self, mutator: u32, dst: u32, obj: u32, i: u32) -> CommandEffect
+        ensures { result ≡ admitted_effect true self.now mutator (Command.Load dst obj i) }
     {
         let cell = slot_of(&self.limits, mutator, dst)?;
-        let object = self.held(mutator, obj)?;
+        let object = self.referent(mutator, obj)?;
         let id = ref_of(self.objects.as_slice(), object, i)?;
         Ok((Reply::Ref(id), Change::Root { cell, id }))
     }
 
-    fn store(&self, mutator: u32, obj: u32, i: u32, src: u32) -> Deed
-        ensures { result ≡ deed_of true self.now mutator (Command.Store obj i src) }
+    fn store(&self, mutator: u32, obj: u32, i: u32, src: u32) -> CommandEffect
+        ensures { result ≡ admitted_effect true self.now mutator (Command.Store obj i src) }
     {
-        let id = self.held(mutator, obj)?;
-        let value = self.held(mutator, src)?;
+        let id = self.referent(mutator, obj)?;
+        let value = self.referent(mutator, src)?;
         ref_of(self.objects.as_slice(), id, i)?;
         Ok((Reply::Done, Change::Ref { id, i, value }))
     }
 
-    fn compare_store(&self, mutator: u32, obj: u32, i: u32, expect: u32, new: u32) -> Deed
-        ensures { result ≡ deed_of true self.now mutator (Command.CompareStore obj i expect new) }
+    fn compare_store(&self, mutator: u32, obj: u32, i: u32, expect: u32, new: u32) -> CommandEffect
+        ensures { result ≡ admitted_effect true self.now mutator (Command.CompareStore obj i expect new) }
     {
-        let id = self.held(mutator, obj)?;
-        let expected = self.held(mutator, expect)?;
-        let value = self.held(mutator, new)?;
-        let held = ref_of(self.objects.as_slice(), id, i)?;
-        if held == expected {
+        let id = self.referent(mutator, obj)?;
+        let expected = self.referent(mutator, expect)?;
+        let value = self.referent(mutator, new)?;
+        let referent = ref_of(self.objects.as_slice(), id, i)?;
+        if referent == expected {
             Ok((Reply::Stored, Change::Ref { id, i, value }))
         } else {
-            Ok((Reply::Kept(held), Change::Nothing))
+            Ok((Reply::Kept(referent), Change::Nothing))
         }
     }
 
-    fn get(&self, mutator: u32, obj: u32, i: u32) -> Deed
-        ensures { result ≡ deed_of true self.now mutator (Command.Get obj i) }
+    fn get(&self, mutator: u32, obj: u32, i: u32) -> CommandEffect
+        ensures { result ≡ admitted_effect true self.now mutator (Command.Get obj i) }
     {
-        let id = self.held(mutator, obj)?;
+        let id = self.referent(mutator, obj)?;
         let value = word_of(self.objects.as_slice(), id, i)?;
         Ok((Reply::Word(value), Change::Nothing))
     }
 
-    fn put(&self, mutator: u32, obj: u32, i: u32, word: u64) -> Deed
-        ensures { result ≡ deed_of true self.now mutator (Command.Put obj i word) }
+    fn put(&self, mutator: u32, obj: u32, i: u32, word: u64) -> CommandEffect
+        ensures { result ≡ admitted_effect true self.now mutator (Command.Put obj i word) }
     {
-        let id = self.held(mutator, obj)?;
+        let id = self.referent(mutator, obj)?;
         word_of(self.objects.as_slice(), id, i)?;
         Ok((Reply::Done, Change::Word { id, i, value: word }))
     }
 
-    fn compare_put(&self, mutator: u32, obj: u32, i: u32, old: u64, new: u64) -> Deed
-        ensures { result ≡ deed_of true self.now mutator (Command.ComparePut obj i old new) }
+    fn compare_put(&self, mutator: u32, obj: u32, i: u32, old: u64, new: u64) -> CommandEffect
+        ensures { result ≡ admitted_effect true self.now mutator (Command.ComparePut obj i old new) }
     {
-        let id = self.held(mutator, obj)?;
+        let id = self.referent(mutator, obj)?;
         let found = word_of(self.objects.as_slice(), id, i)?;
         if found == old {
             Ok((Reply::Stored, Change::Word { id, i, value: new }))
@@ -216,23 +216,23 @@ impl Reference {
         }
     }
 
-    fn copy(&self, mutator: u32, dst: u32, src: u32) -> Deed
-        ensures { result ≡ deed_of true self.now mutator (Command.Copy dst src) }
+    fn copy(&self, mutator: u32, dst: u32, src: u32) -> CommandEffect
+        ensures { result ≡ admitted_effect true self.now mutator (Command.Copy dst src) }
     {
         let cell = slot_of(&self.limits, mutator, dst)?;
-        let id = self.held(mutator, src)?;
+        let id = self.referent(mutator, src)?;
         Ok((Reply::Done, Change::Root { cell, id }))
     }
 
-    fn clear(&self, mutator: u32, dst: u32) -> Deed
-        ensures { result ≡ deed_of true self.now mutator (Command.Clear dst) }
+    fn clear(&self, mutator: u32, dst: u32) -> CommandEffect
+        ensures { result ≡ admitted_effect true self.now mutator (Command.Clear dst) }
     {
         let cell = slot_of(&self.limits, mutator, dst)?;
         Ok((Reply::Done, Change::Root { cell, id: 0 }))
     }
 
-    fn load_static(&self, mutator: u32, dst: u32, k: u32) -> Deed
-        ensures { result ≡ deed_of true self.now mutator (Command.LoadStatic dst k) }
+    fn load_static(&self, mutator: u32, dst: u32, k: u32) -> CommandEffect
+        ensures { result ≡ admitted_effect true self.now mutator (Command.LoadStatic dst k) }
     {
         let cell = slot_of(&self.limits, mutator, dst)?;
         let from = static_of(&self.limits, k)?;
@@ -240,52 +240,52 @@ impl Reference {
         Ok((Reply::Ref(id), Change::Root { cell, id }))
     }
 
-    fn store_static(&self, mutator: u32, k: u32, src: u32) -> Deed
-        ensures { result ≡ deed_of true self.now mutator (Command.StoreStatic k src) }
+    fn store_static(&self, mutator: u32, k: u32, src: u32) -> CommandEffect
+        ensures { result ≡ admitted_effect true self.now mutator (Command.StoreStatic k src) }
     {
-        let id = self.held(mutator, src)?;
+        let id = self.referent(mutator, src)?;
         let cell = static_of(&self.limits, k)?;
         Ok((Reply::Done, Change::Root { cell, id }))
     }
 
-    fn compare_static(&self, mutator: u32, k: u32, expect: u32, new: u32) -> Deed
-        ensures { result ≡ deed_of true self.now mutator (Command.CompareStatic k expect new) }
+    fn compare_static(&self, mutator: u32, k: u32, expect: u32, new: u32) -> CommandEffect
+        ensures { result ≡ admitted_effect true self.now mutator (Command.CompareStatic k expect new) }
     {
-        let expected = self.held(mutator, expect)?;
-        let id = self.held(mutator, new)?;
+        let expected = self.referent(mutator, expect)?;
+        let id = self.referent(mutator, new)?;
         let cell = static_of(&self.limits, k)?;
-        let held = self.roots[cell];
-        if held == expected {
+        let referent = self.roots[cell];
+        if referent == expected {
             Ok((Reply::Stored, Change::Root { cell, id }))
         } else {
-            Ok((Reply::Kept(held), Change::Nothing))
+            Ok((Reply::Kept(referent), Change::Nothing))
         }
     }
 
-    fn same(&self, mutator: u32, a: u32, b: u32) -> Deed
-        ensures { result ≡ deed_of true self.now mutator (Command.Same a b) }
+    fn same(&self, mutator: u32, a: u32, b: u32) -> CommandEffect
+        ensures { result ≡ admitted_effect true self.now mutator (Command.Same a b) }
     {
-        let first = self.held(mutator, a)?;
-        let second = self.held(mutator, b)?;
+        let first = self.referent(mutator, a)?;
+        let second = self.referent(mutator, b)?;
         Ok((Reply::Is(first == second), Change::Nothing))
     }
 
-    fn describe(&self, mutator: u32, a: u32) -> Deed
-        ensures { result ≡ deed_of true self.now mutator (Command.Describe a) }
+    fn describe(&self, mutator: u32, a: u32) -> CommandEffect
+        ensures { result ≡ admitted_effect true self.now mutator (Command.Describe a) }
     {
-        let id = self.held(mutator, a)?;
+        let id = self.referent(mutator, a)?;
         let object = object_of(self.objects.as_slice(), id)?;
         Ok((Reply::Described(id, object.shape), Change::Nothing))
     }
 
-    fn join(&self, mutator: u32) -> Deed
-        ensures { result ≡ deed_of true self.now mutator Command.Join }
+    fn join(&self, mutator: u32) -> CommandEffect
+        ensures { result ≡ admitted_effect true self.now mutator Command.Join }
     {
         Ok((Reply::Done, Change::Join { mutator }))
     }
 
-    fn leave(&self, mutator: u32) -> Deed
-        ensures { result ≡ deed_of true self.now mutator Command.Leave }
+    fn leave(&self, mutator: u32) -> CommandEffect
+        ensures { result ≡ admitted_effect true self.now mutator Command.Leave }
     {
         Ok((Reply::Done, Change::Leave { mutator }))
     }
@@ -324,7 +324,7 @@ impl Reference {
         ensures ok { OnOk result (self.new ≡ next_of true self.old mutator command.now) }
         ensures err { OnErr result (self.new ≡ self.old) }
     {
-        let (reply, change) = self.settle(true, mutator, command);
+        let (reply, change) = self.reply_and_change(true, mutator, command);
         self.apply(&change)?;
         Ok(reply)
     }
@@ -337,7 +337,7 @@ impl Reference {
         ensures err { OnErr result (self.new ≡ self.old) }
     {
         let room = had_room_of(&entry.reply);
-        let (reply, change) = self.settle(room, entry.mutator, &entry.command);
+        let (reply, change) = self.reply_and_change(room, entry.mutator, &entry.command);
         if reply == entry.reply {
             self.apply(&change)?;
             Ok(true)

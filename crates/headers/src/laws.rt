@@ -1,7 +1,7 @@
 //! Laws of the words of blocks. Each function does nothing: its contract is the law.
 ghost use Rattle.std.specs.Prelude.{◌≡◌, ℕ, ◌+◌, ◌<◌, ◌≤◌, ◌⊎◌, Bool, List, length, slice_index, slice_set};
 ghost use Rattle.heap_model.specs.Header.{Header, header_in, header_word, recoloured, HeaderFits};
-ghost use Rattle.heap_model.specs.Block.{node_at, cell_count, with_forward, with_colour, with_cell, new_node, new_words, spliced, words_at};
+ghost use Rattle.heap_model.specs.Block.{record_at, cell_count, with_forward, with_colour, with_cell, new_record, new_words, spliced, words_at};
 
 /// What was packed into word 1 is read from it again.
 pub fn header_packed()
@@ -11,51 +11,53 @@ pub fn header_packed()
 /// A write outside a block leaves its record.
 pub fn other_blocks()
     ensures { (words : List ℕ) (at v address size : ℕ) → (at < address) ⊎ (address + size ≤ at)
-        → node_at (slice_set words at v) address size ≡ node_at words address size }
+        → record_at (slice_set words at v) address size ≡ record_at words address size }
 {}
 
 /// A write of word 0 changes the forwarding address of the block's record, and nothing else of it.
 pub fn forward_written()
     ensures { (words : List ℕ) (v address size : ℕ) → 4 ≤ size → address + size ≤ length words
-        → node_at (slice_set words address v) address size ≡ with_forward (node_at words address size) v }
+        → record_at (slice_set words address v) address size ≡ with_forward (record_at words address size) v }
 {}
 
 /// So does a write of word 1 with another colour,
 pub fn colour_written()
     ensures { (words : List ℕ) (colour : Bool) (address size : ℕ) → 4 ≤ size → address + size ≤ length words
-        → node_at (slice_set words (address + 1) (recoloured (slice_index words (address + 1)) colour)) address size
-        ≡ with_colour (node_at words address size) colour }
+        → record_at (slice_set words (address + 1) (recoloured (slice_index words (address + 1)) colour)) address size
+        ≡ with_colour (record_at words address size) colour }
 {}
 
 /// of word 3,
 pub fn link_written()
     ensures { (words : List ℕ) (v address size : ℕ) → 4 ≤ size → address + size ≤ length words
-        → node_at (slice_set words (address + 3) v) address size ≡ node_at words address size }
+        → record_at (slice_set words (address + 3) v) address size ≡ record_at words address size }
 {}
 
 /// and of a cell of the part.
 pub fn cell_written()
-    ensures { (words : List ℕ) (i v address size : ℕ) → i < length (node_at words address size).cells
+    ensures { (words : List ℕ) (i v address size : ℕ) → i < length (record_at words address size).cells
         → address + size ≤ length words
-        → node_at (slice_set words (address + (4 + i)) v) address size ≡ with_cell (node_at words address size) i v }
+        → record_at (slice_set words (address + (4 + i)) v) address size
+        ≡ with_cell (record_at words address size) i v }
 {}
 
 /// A new block has the record of a new part, and each other block keeps its own.
 pub fn new_block()
     ensures here { (words : List ℕ) (address size identity : ℕ) (h : Header) → HeaderFits h → cell_count h + 4 ≤ size
         → address + size ≤ length words
-        → node_at (spliced words address (new_words address h identity)) address size ≡ new_node address h identity }
+        → record_at (spliced words address (new_words address h identity)) address size
+        ≡ new_record address h identity }
     ensures others { (words : List ℕ) (address size identity b t : ℕ) (h : Header) → cell_count h + 4 ≤ size
         → address + size ≤ length words
         → (b + t ≤ address) ⊎ (address + size ≤ b)
-        → node_at (spliced words address (new_words address h identity)) b t ≡ node_at words b t }
+        → record_at (spliced words address (new_words address h identity)) b t ≡ record_at words b t }
 {}
 
 /// A copied block has the record of the one that it was copied from, and each other block keeps its own.
 pub fn copied_block()
     ensures here { (words : List ℕ) (from to size : ℕ) → from + size ≤ length words → to + size ≤ length words
-        → node_at (spliced words to (words_at words from size)) to size ≡ node_at words from size }
+        → record_at (spliced words to (words_at words from size)) to size ≡ record_at words from size }
     ensures others { (words : List ℕ) (from to size b t : ℕ) → from + size ≤ length words → to + size ≤ length words
         → (b + t ≤ to) ⊎ (to + size ≤ b)
-        → node_at (spliced words to (words_at words from size)) b t ≡ node_at words b t }
+        → record_at (spliced words to (words_at words from size)) b t ≡ record_at words b t }
 {}

@@ -2,7 +2,7 @@
 use Rattle.std.proofs.Common.{◌≡◌, ℕ, ◌+◌, ◌-◌, Bool, true, false, not, refl, arith, ◌==◌, if◌then◌else◌}
 use Rattle.graph_heap.specs.Graph.{Graph}
 use Rattle.heap_model.specs.declared.phase.Phase.TheVariants as phases
-use Rattle.heap_model.specs.Store.{node_of}
+use Rattle.heap_model.specs.Store.{record_of}
 use Rattle.heap_model.specs.Core.{Heap}
 use Rattle.heap_model.specs.Cut.{view}
 use Rattle.heap_model.specs.Pages.{ArePages}
@@ -30,25 +30,25 @@ action_kept h after cost p s w c (Ends_sweep page block e l) = sweep_end_act h p
 action_kept h after cost p s w c (Looks_at_page class page best chosen at few more) = pass_on_act h p s class page best chosen class (page + 1) _ c at
 action_kept h after cost p s w c (Chooses_page class page best chosen b q new at few last is good there w0 pages) = choose_act h p s class page best chosen b q new c at good there w0 pages
 action_kept h after cost p s w c (Chooses_none class page best chosen at few last is) = pass_on_act h p s class page best chosen (class + 1) 0 _ c at
-action_kept h after cost p s w c (Moves_block class page block chosen i to j q r new e at leaving next place there empty w0 pages) = move_act h p s class page block chosen i to j q r new w c e at leaving next place there empty w0 pages _
+action_kept h after cost p s w c (Moves_block class page block chosen i to j q r new e at evacuating next place there empty w0 pages) = move_act h p s class page block chosen i to j q r new w c e at evacuating next place there empty w0 pages _
 action_kept h after cost p s w c (Ends_moving done) = moving_end_act h p s c done
 
 -- a cycle begins
-turned : (sense c : Bool) → same_colour sense c ≡ true → same_colour (not sense) c ≡ false
+turned : (mark_parity c : Bool) → same_colour mark_parity c ≡ true → same_colour (not mark_parity) c ≡ false
 turned true true e = refl
 turned true false e = absurd (cc)
 turned false true e = absurd (cc)
 turned false false e = refl
 
-other_marks : (h : Heap) (marked marked' : ℕ → Bool) → ((x : ℕ) → h.held x ≡ true → marked' x ≡ marked x) → SameBlocks (record h { marked = marked }) (record h { marked = marked' })
+other_marks : (h : Heap) (marked marked' : ℕ → Bool) → ((x : ℕ) → h.allocated x ≡ true → marked' x ≡ marked x) → SameBlocks (record h { marked = marked }) (record h { marked = marked' })
 other_marks h marked marked' e = grind arith
 
-flip_seen : (h : HeapState) → ((x : ℕ) → (seen h).held x ≡ true → (seen h).marked x ≡ true) → SameBlocks (flip (seen h)) (seen (begun h))
+flip_seen : (h : HeapState) → ((x : ℕ) → (seen h).allocated x ≡ true → (seen h).marked x ≡ true) → SameBlocks (flip (seen h)) (seen (begun h))
 flip_seen h all = other_marks (seen h) _ _ (λ z m. by_null z (z == 0) refl (all z m))
   where
-    by_null : (z : ℕ) (t : Bool) → (z == 0) ≡ t → (if t then true else same_colour h.sense (node_of h.store (z - 1)).colour) ≡ true → (if t then true else same_colour (not h.sense) (node_of h.store (z - 1)).colour) ≡ t
+    by_null : (z : ℕ) (t : Bool) → (z == 0) ≡ t → (if t then true else same_colour h.mark_parity (record_of h.store (z - 1)).colour) ≡ true → (if t then true else same_colour (not h.mark_parity) (record_of h.store (z - 1)).colour) ≡ t
     by_null z true e m = refl
-    by_null z false e m = turned h.sense (node_of h.store (z - 1)).colour m
+    by_null z false e m = turned h.mark_parity (record_of h.store (z - 1)).colour m
 
 pub begun_kept : (h : HeapState) (present snapshot : Graph) → Consistent h present snapshot → h.phase ≡ phases.Idle → Consistent (begun h) present present
 begun_kept h present snapshot c e =
@@ -56,4 +56,4 @@ begun_kept h present snapshot c e =
     let c0 = at_phase h phases.Idle (view present) (view snapshot) e c.parts in
     let c1 = begins m (view present) (view snapshot) c0 in
     let c2 = same_stands (collector.begun m) (seen (begun h)) (view present) (view present) (flip_seen h c0.stage.marked) c1 in
-    stepped h (begun h) present snapshot present present c refl refl refl refl refl refl c.present_row c.cells c.whole (record { at = c2.at; base = c2.base; stage = (c2.stage.0, (let w = c2.stage.1 in record { held = w.held; marked = w.marked; scanning_held = w.scanning_held; scanning_marked = w.scanning_marked; scanning_apart = w.scanning_apart; column = w.column; once = w.once })) })
+    stepped h (begun h) present snapshot present present c refl refl refl refl refl refl c.present_row c.cells c.whole (record { at = c2.at; base = c2.base; stage = (c2.stage.0, (let w = c2.stage.1 in record { allocated = w.allocated; marked = w.marked; scanning_allocated = w.scanning_allocated; scanning_marked = w.scanning_marked; scanning_apart = w.scanning_apart; column = w.column; once = w.once })) })

@@ -27,13 +27,13 @@ pub data Acts (m : Collector) : Collector → Type 0 where
       → Acts m (record m { grey = front ++ back; scanning = x; column = 0 })
   Scans_cell : m.phase ≡ In_marking → m.column < m.heap.width m.scanning → Acts m (cell_scanned m)
   Ends_marking : m.phase ≡ In_marking → m.column ≡ m.heap.width m.scanning → m.grey ≡ [] → Acts m (record m { phase = In_sweep 0 })
-  Keeps : (place more : ℕ) → m.phase ≡ In_sweep place → ((z : ℕ) → m.heap.held z ≡ true → place ≤ z → z < more → m.heap.marked z ≡ true) → Acts m (record m { phase = In_sweep more })
+  Keeps : (place more : ℕ) → m.phase ≡ In_sweep place → ((z : ℕ) → m.heap.allocated z ≡ true → place ≤ z → z < more → m.heap.marked z ≡ true) → Acts m (record m { phase = In_sweep more })
   Frees : (place x : ℕ) → m.phase ≡ In_sweep place → m.heap.marked x ≡ false → Acts m (record m { heap = free m.heap x })
-  Ends_sweep : (place : ℕ) → m.phase ≡ In_sweep place → ((z : ℕ) → m.heap.held z ≡ true → z < place) → Acts m (record m { phase = In_idle })
-  Ends_sweep_to_move : (place : ℕ) (receiving left : ℕ → Bool) → m.phase ≡ In_sweep place → ((z : ℕ) → m.heap.held z ≡ true → z < place) → Acts m (record m { phase = In_moves; receiving = receiving; left = left })
-  Moves_block : (x y : ℕ) (receiving left : ℕ → Bool) → m.phase ≡ In_moves → m.heap.held x ≡ true → m.left x ≡ false → x ≢ 0 → m.receiving x ≡ false → m.heap.held y ≡ false
-      → receiving y ≡ true → ((z : ℕ) → m.receiving z ≡ true → receiving z ≡ true) → left x ≡ true → ((z : ℕ) → m.left z ≡ true → left z ≡ true)
-      → Acts m (record m { heap = move m.heap x y; receiving = receiving; left = left })
+  Ends_sweep : (place : ℕ) → m.phase ≡ In_sweep place → ((z : ℕ) → m.heap.allocated z ≡ true → z < place) → Acts m (record m { phase = In_idle })
+  Ends_sweep_to_move : (place : ℕ) (is_target left : ℕ → Bool) → m.phase ≡ In_sweep place → ((z : ℕ) → m.heap.allocated z ≡ true → z < place) → Acts m (record m { phase = In_moves; is_target = is_target; left = left })
+  Moves_block : (x y : ℕ) (is_target left : ℕ → Bool) → m.phase ≡ In_moves → m.heap.allocated x ≡ true → m.left x ≡ false → x ≢ 0 → m.is_target x ≡ false → m.heap.allocated y ≡ false
+      → is_target y ≡ true → ((z : ℕ) → m.is_target z ≡ true → is_target z ≡ true) → left x ≡ true → ((z : ℕ) → m.left z ≡ true → left z ≡ true)
+      → Acts m (record m { heap = move m.heap x y; is_target = is_target; left = left })
   Goes_past : (left : ℕ → Bool) → m.phase ≡ In_moves → ((z : ℕ) → m.left z ≡ true → left z ≡ true) → Acts m (record m { left = left })
   Ends_moves : m.phase ≡ In_moves → Acts m (record m { phase = In_idle })
 

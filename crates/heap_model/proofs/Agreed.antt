@@ -18,22 +18,22 @@ pub record Alike (roots : ℕ) (f g : PartGraph) : Type 0 where
   pub shape : (n : Name) → Reach roots f n → f.shape n ≡ g.shape n
   pub target : (n : Name) (i : ℕ) → Reach roots f n → i < f.width n → f.target n i ≡ g.target n i
 
-base_reads : (h : Heap) (g s : PartGraph) (at : Name → ℕ) → Base h g s at → (x : ℕ) (n : Name) → h.held x ≡ true → h.forward x ≡ at n → Kept h.roots s g n → Reads h x n
+base_reads : (h : Heap) (g s : PartGraph) (at : Name → ℕ) → Base h g s at → (x : ℕ) (n : Name) → h.allocated x ≡ true → h.forward x ≡ at n → Kept h.roots s g n → Reads h x n
 base_reads h g s at b x n e f k = grind arith
 
 -- the invariant implies the plain statement
 pub agreed : (h : Heap) (g s : PartGraph) (at : Name → ℕ) → Base h g s at → AgreesByParts h g
 agreed h g s at b = record {
   next = b.next;
-  root = λ j l. base_reads h g s at b _ _ (b.root_held j l) (b.root j l) (b.grows.kept_root j l);
+  root = λ j l. base_reads h g s at b _ _ (b.root_allocated j l) (b.root j l) (b.grows.kept_root j l);
   shows = λ n r. let k = reach_kept h.roots s g b.grows n r in record {
     place = at n;
-    main = record { held = b.held n k; forward = b.main n k; name = b.name n k };
-    only = λ x m. let e = m.name in let kx : Kept h.roots s g (h.name x) = subst (λ z. Kept h.roots s g z) (sym e) k in b.only x m.held m.forward kx ∙ ap at e;
+    main = record { allocated = b.allocated n k; forward = b.main n k; name = b.name n k };
+    only = λ x m. let e = m.name in let kx : Kept h.roots s g (h.name x) = subst (λ z. Kept h.roots s g z) (sym e) k in b.only x m.allocated m.forward kx ∙ ap at e;
     width = b.width n k;
     words = b.words n k;
     shape = b.shape n k;
-    cells = λ i l. base_reads h g s at b _ _ (b.cell_held n i k l) (b.cell n i k l) (b.grows.kept_target n i k l);
+    cells = λ i l. base_reads h g s at b _ _ (b.cell_allocated n i k l) (b.cell n i k l) (b.grows.kept_target n i k l);
   };
 }
 

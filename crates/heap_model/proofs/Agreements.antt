@@ -44,7 +44,7 @@ known_kept h present snapshot c id k = elim k [
 pub kept_given : (h : HeapState) (present snapshot : Graph) (c : Consistent h present snapshot) (n : Name) → Kept (length h.roots) (view snapshot) (view present) n → n.identity ≤ length present.objects
 kept_given h present snapshot c n k =
     let b = c.parts.base in
-    let e = b.below (c.parts.at n) (b.held n k) in
+    let e = b.below (c.parts.at n) (b.allocated n k) in
     let f : ((seen h).name (c.parts.at n)).identity ≡ n.identity = ap (λ (z : Name). z.identity) (b.name n k) in
     let g = b.next in
     omega arith
@@ -60,7 +60,7 @@ consistent_agrees h present snapshot c =
       roots = c.present_row;
       root = a.root;
       null = λ x i. let k : Kept (length h.roots) (view snapshot) (view present) ((seen h).name x) = subst (λ z. Kept (length h.roots) (view snapshot) (view present) z) (sym i.name) (kept_null (length h.roots) (view snapshot) (view present)) in
-          b.only x i.held i.forward k ∙ ap c.parts.at i.name ∙ b.null_at;
+          b.only x i.allocated i.forward k ∙ ap c.parts.at i.name ∙ b.null_at;
       given = λ id r. record { below = kept_given h present snapshot c (name_of id) (part_kept h present snapshot c id 0 r (count_some _)); cells = c.cells id };
       shows = λ id part r l. a.shows (record { identity = id; part = part }) (subst (λ z. Reach z (view present) (record { identity = id; part = part })) (sym c.present_row) (reaches_reach present (record { identity = id; part = part }) r l));
     }
@@ -78,7 +78,7 @@ shows_null : (h : HeapState) (g : Graph) → Agrees h g → Shows (seen h) (view
 unfolding object_of
 shows_null h g a = record {
   place = 0;
-  main = record { held = refl; forward = refl; name = refl };
+  main = record { allocated = refl; forward = refl; name = refl };
   only = a.null;
   width = sym no_width;
   words = sym no_words;

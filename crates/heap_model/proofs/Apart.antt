@@ -1,4 +1,4 @@
--- Held blocks lie apart in the arena.
+-- Allocated blocks lie apart in the arena.
 use Rattle.std.proofs.Common.{◌≡◌, ℕ, ◌+◌, ◌-◌, ◌*◌, ◌/◌, ◌<◌, ◌≤◌, Bool, true, false, List, length, take, drop, refl, ap, sym, ◌∙◌, arith, ◌==◌, nat_lt, length-drop}
 use Rattle.std.specs.Prelude.{slice_index}
 use Rattle.std.proofs.lemmas.Option.{slice_get_within, same_Some}
@@ -9,15 +9,15 @@ use Rattle.size_classes.specs.Sizes.{size_of}
 use Rattle.size_classes.specs.Parts.{part_cells, cells_of}
 use Rattle.size_classes.proofs.Table.{size_low}
 use Rattle.heap_model.specs.Header.{header_in}
-use Rattle.heap_model.specs.Block.{node_in}
+use Rattle.heap_model.specs.Block.{record_in}
 use Rattle.heap_model.specs.Pages.{ArePages, Page, page_at}
-use Rattle.heap_model.specs.Store.{Store, size_in, size_at, node_of}
+use Rattle.heap_model.specs.Store.{Store, size_in, size_at, record_of}
 use Rattle.heap_model.specs.State.{HeapState, seen, width_at}
 use Rattle.heap_model.specs.Agreement.{IsWhole}
 use Rattle.heap_model.proofs.Units.{LieApart}
 use Rattle.heap_model.proofs.Written.{width_le}
-use Rattle.heap_model.proofs.Held.{IsBlockOf, held_block, is_page, block_within, page_within}
-use Rattle.heap_model.proofs.Acting.{held_behind}
+use Rattle.heap_model.proofs.Allocated.{IsBlockOf, allocated_block, is_page, block_within, page_within}
+use Rattle.heap_model.proofs.Acting.{allocated_behind}
 
 -- the size of a block, by its reference
 abbrev pub size_behind : HeapState → ℕ → ℕ
@@ -29,8 +29,8 @@ unfolding size_at
 size_is s b p i w = ap size_in w.page
 
 -- a block has room for what is read of it
-cells_short : (s : Store) (b : ℕ) → length (node_of s b).cells ≤ size_at s b - 4
-unfolding node_of node_in
+cells_short : (s : Store) (b : ℕ) → length (record_of s b).cells ≤ size_at s b - 4
+unfolding record_of record_in
 cells_short s b =
     let block = take (size_at s b) (drop b s.words) in
     let a = length-take (size_at s b) (drop b s.words) in
@@ -66,36 +66,36 @@ two_apart a b i j size page page' size' e f l lt up same = by_page (nat_lt page 
 pub lie_apart : (h : HeapState) → ArePages h.store.pages → IsWhole h.store → LieApart (seen h) (size_behind h) (2048 * length h.store.pages)
 lie_apart h w whole = record {
   fits = λ x l p.
-      let held = held_behind h x p l in
-      let q = held_block h.store (x - 1) held in
+      let allocated = allocated_behind h x p l in
+      let q = allocated_block h.store (x - 1) allocated in
       let is = is_page h.store ((x - 1) / 2048) q.0 w q.2.page in
       let size = size_is h.store (x - 1) q.0 q.1 q.2 in
       let low = size_low q.0.class is.class in
-      let n = node_of h.store (x - 1) in
-      let cells = whole (x - 1) held in
+      let n = record_of h.store (x - 1) in
+      let cells = whole (x - 1) allocated in
       let short = cells_short h.store (x - 1) in
       let wide = width_le (ref_cells n.shape) (word_cells n.shape) n.part in
       let e : (x == 0) ≡ false = grind arith in
       let width : (seen h).width x ≡ width_at n = rw e refl in
       omega arith;
   inside = λ x l p.
-      let held = held_behind h x p l in
-      let q = held_block h.store (x - 1) held in
+      let allocated = allocated_behind h x p l in
+      let q = allocated_block h.store (x - 1) allocated in
       let is = is_page h.store ((x - 1) / 2048) q.0 w q.2.page in
       let size = size_is h.store (x - 1) q.0 q.1 q.2 in
-      let within = block_within q.0 q.1 is (slice_get_within q.0.held q.1 true q.2.held) in
+      let within = block_within q.0 q.1 is (slice_get_within q.0.allocated q.1 true q.2.allocated) in
       let page = page_within h.store.pages ((x - 1) / 2048) q.0 q.2.page in
       let address = q.2.address in
       let sum : (q.1 + 1) * size_of q.0.class ≡ q.1 * size_of q.0.class + size_of q.0.class = grind arith in
       omega arith;
   apart = λ x y l k p lt.
-      let held = held_behind h x p l in
-      let held' = held_behind h y (omega arith) k in
-      let q = held_block h.store (x - 1) held in
-      let r = held_block h.store (y - 1) held' in
+      let allocated = allocated_behind h x p l in
+      let allocated' = allocated_behind h y (omega arith) k in
+      let q = allocated_block h.store (x - 1) allocated in
+      let r = allocated_block h.store (y - 1) allocated' in
       let is = is_page h.store ((x - 1) / 2048) q.0 w q.2.page in
       let size = size_is h.store (x - 1) q.0 q.1 q.2 in
-      let within = block_within q.0 q.1 is (slice_get_within q.0.held q.1 true q.2.held) in
+      let within = block_within q.0 q.1 is (slice_get_within q.0.allocated q.1 true q.2.allocated) in
       let same : (x - 1) / 2048 ≡ (y - 1) / 2048 → size_of q.0.class ≡ size_of r.0.class = λ e. ap (λ (z : Page). size_of z.class) (same_Some q.0 r.0 (sym q.2.page ∙ ap (page_at h.store.pages) e ∙ r.2.page)) in
       let a = two_apart (x - 1) (y - 1) q.1 r.1 (size_of q.0.class) ((x - 1) / 2048) ((y - 1) / 2048) (size_of r.0.class) q.2.address r.2.address within (omega arith) (omega arith) same in
       omega arith;

@@ -2,7 +2,7 @@
 use Rattle.std.proofs.Common.{◌≡◌, ℕ, ◌<◌, Bool, true, false, arith, refl, ap, subst, sym, ◌∙◌}
 use Rattle.heap_model.specs.Core.{Name, PartGraph, Heap, Reach, Kept, Base, Tracing}
 use Rattle.heap_model.specs.Agree.{IsMain}
-use Rattle.heap_model.specs.Collector.{Progress, In_idle, In_roots, In_marking, In_sweep, In_moves, Collector, done_by, done_of, Greys, Stage, Coherent}
+use Rattle.heap_model.specs.Collector.{Progress, In_idle, In_roots, In_marking, In_sweep, In_moves, Collector, done_by, done_of, Greys, PhaseInvariant, Coherent}
 use Rattle.heap_model.proofs.Parts.{Parts, AreParts, made, Makes, made_at}
 use Rattle.heap_model.proofs.Edits.{set_root, set_cell, write_root, write_target}
 use Rattle.heap_model.proofs.Acts.{shaded}
@@ -20,20 +20,20 @@ is_tracing (In_sweep place) = false
 is_tracing In_moves = false
 
 -- in a phase p whose stage holds
-pub staged : (m : Collector) (at : Name → ℕ) (g s : PartGraph) (p : Progress) → m.phase ≡ p → Base m.heap g s at → Stage m g s at p → Coherent m g s
-staged m at g s p e b st = record { at = at; base = b; stage = subst (λ z. Stage m g s at z) (sym e) st }
+pub staged : (m : Collector) (at : Name → ℕ) (g s : PartGraph) (p : Progress) → m.phase ≡ p → Base m.heap g s at → PhaseInvariant m g s at p → Coherent m g s
+staged m at g s p e b st = record { at = at; base = b; stage = subst (λ z. PhaseInvariant m g s at z) (sym e) st }
 
 -- the main copy of what is kept is where the ghost says
 pub main_at : (m : Collector) (g s : PartGraph) (c : Coherent m g s) (x : ℕ) (n : Name) → Kept m.heap.roots s g n → IsMain m.heap x n → x ≡ c.at n
-main_at m g s c x n k i = let kx : Kept m.heap.roots s g (m.heap.name x) = subst (λ z. Kept m.heap.roots s g z) (sym i.name) k in c.base.only x i.held i.forward kx ∙ ap c.at i.name
+main_at m g s c x n k i = let kx : Kept m.heap.roots s g (m.heap.name x) = subst (λ z. Kept m.heap.roots s g z) (sym i.name) k in c.base.only x i.allocated i.forward kx ∙ ap c.at i.name
 
 -- the main copy of what is kept is shaded
 shade_stage : (m : Collector) (g s : PartGraph) (at : Name → ℕ) (place x : ℕ) (n : Name) → Base m.heap g s at → Tracing m.heap g s at (done_of m) place → Greys m → Kept m.heap.roots s g n → x ≡ at n
     → Tracing (shaded m x).heap g s at (done_of (shaded m x)) place × Greys (shaded m x)
 shade_stage m g s at place x n b t w k e =
     let t1 : Tracing (shaded m x).heap g s at (done_of m) place = rw e (shade_tracing m.heap g s at (done_of m) place n b t k) in
-    let held : m.heap.held x ≡ true = ap m.heap.held e ∙ b.held n k in
-    (tracing_same (shaded m x).heap g s at (done_of m) (done_of (shaded m x)) place (shade_base m.heap g s at x b) (shaded_done m x) t1, shaded_greys m x w held)
+    let allocated : m.heap.allocated x ≡ true = ap m.heap.allocated e ∙ b.allocated n k in
+    (tracing_same (shaded m x).heap g s at (done_of m) (done_of (shaded m x)) place (shade_base m.heap g s at x b) (shaded_done m x) t1, shaded_greys m x w allocated)
 
 pub shades : (m : Collector) (g s : PartGraph) (x : ℕ) (n : Name) → Coherent m g s → is_tracing m.phase ≡ true → Kept m.heap.roots s g n → IsMain m.heap x n → Coherent (shaded m x) g s
 shades m g s x n c r k i = by_phase m.phase refl
@@ -52,10 +52,10 @@ shades m g s x n c r k i = by_phase m.phase refl
     by_phase In_moves q = absurd (let z : false ≡ true = subst (λ z. is_tracing z ≡ true) q r in cc)
 
 greys_root : (m : Collector) (j y : ℕ) → Greys m → Greys (record m { heap = set_root m.heap j y })
-greys_root m j y w = record { held = w.held; marked = w.marked; scanning_held = w.scanning_held; scanning_marked = w.scanning_marked; scanning_apart = w.scanning_apart; column = w.column; once = w.once }
+greys_root m j y w = record { allocated = w.allocated; marked = w.marked; scanning_allocated = w.scanning_allocated; scanning_marked = w.scanning_marked; scanning_apart = w.scanning_apart; column = w.column; once = w.once }
 
 greys_cell : (m : Collector) (x i y : ℕ) → Greys m → Greys (record m { heap = set_cell m.heap x i y })
-greys_cell m x i y w = record { held = w.held; marked = w.marked; scanning_held = w.scanning_held; scanning_marked = w.scanning_marked; scanning_apart = w.scanning_apart; column = w.column; once = w.once }
+greys_cell m x i y w = record { allocated = w.allocated; marked = w.marked; scanning_allocated = w.scanning_allocated; scanning_marked = w.scanning_marked; scanning_apart = w.scanning_apart; column = w.column; once = w.once }
 
 -- a root is written, after what it held was recorded
 pub puts_root : (m : Collector) (g s : PartGraph) (j y : ℕ) (v : Name) → Coherent m g s → j < m.heap.roots → (is_tracing m.phase ≡ true → m.heap.marked (m.heap.forward (m.heap.root j)) ≡ true)
@@ -114,22 +114,22 @@ puts_cell m g s x n i y v c kn ix l r kv iy =
     (cell_kept m g s n i v c kn l (λ t. subst (λ z. m.heap.marked (m.heap.forward (m.heap.cell z i)) ≡ true) ex (r t)) kv))
 
 -- the parts of a new object are made
-pub made_done : (m : Collector) (h' : Heap) (ps : Parts) (a : ℕ → ℕ) (x : ℕ) → Makes m.heap ps a h' → m.heap.held x ≡ true → done_of (record m { heap = h' }) x ≡ done_of m x
+pub made_done : (m : Collector) (h' : Heap) (ps : Parts) (a : ℕ → ℕ) (x : ℕ) → Makes m.heap ps a h' → m.heap.allocated x ≡ true → done_of (record m { heap = h' }) x ≡ done_of m x
 unfolding done_by
 made_done m h' ps a x w l = let e = w.stays.says.marked x l in let f = w.stays.says.width x l in grind arith
 
 made_greys : (m : Collector) (h' : Heap) (ps : Parts) (a : ℕ → ℕ) → Makes m.heap ps a h' → Greys m → Greys (record m { heap = h' })
 made_greys m h' ps a w q = record {
-  held = grind arith;
+  allocated = grind arith;
   marked = grind arith;
-  scanning_held = grind arith;
+  scanning_allocated = grind arith;
   scanning_marked = grind arith;
   scanning_apart = q.scanning_apart;
   column = grind arith;
   once = q.once;
 }
 
-made_old : (h h' : Heap) (g s : PartGraph) (at : Name → ℕ) (ps : Parts) (a : ℕ → ℕ) (x : ℕ) → Base h g s at → Makes h ps a h' → h'.held x ≡ true → Reach h'.roots s (h'.name x) → h.held x ≡ true
+made_old : (h h' : Heap) (g s : PartGraph) (at : Name → ℕ) (ps : Parts) (a : ℕ → ℕ) (x : ℕ) → Base h g s at → Makes h ps a h' → h'.allocated x ≡ true → Reach h'.roots s (h'.name x) → h.allocated x ≡ true
 made_old h h' g s at ps a x b w l r =
     let r' : Reach h.roots s (h'.name x) = subst (λ z. Reach z s (h'.name x)) w.roots r in
     let below = b.grows.reached (h'.name x) r' in
@@ -158,7 +158,7 @@ news m h' g s ps a c p w = by_phase m.phase refl
     by_phase In_marking e = let st = stage_at m g s c In_marking e in staged (record m { heap = h' }) (made_at c.at m.heap.next a) (made g ps) s In_marking e b'
         (let r = made_stage m h' g s c.at ps a m.heap.roots c.base p w st.0 st.1 in (subst (λ z. Tracing h' (made g ps) s (made_at c.at m.heap.next a) (done_of (record m { heap = h' })) z) (sym w.roots) r.0, r.1))
     by_phase (In_sweep place) e = staged (record m { heap = h' }) (made_at c.at m.heap.next a) (made g ps) s (In_sweep place) e b' (made_sweeping m.heap g s c.at ps a h' place c.base p w (stage_at m g s c (In_sweep place) e))
-    by_phase In_moves e = let st = stage_at m g s c In_moves e in staged (record m { heap = h' }) (made_at c.at m.heap.next a) (made g ps) s In_moves e b' (made_resting m.heap g s c.at ps a h' c.base p w st.0, made_moving m.heap ps a h' m.receiving w st.1, made_left m.heap ps a h' m.left w st.2)
+    by_phase In_moves e = let st = stage_at m g s c In_moves e in staged (record m { heap = h' }) (made_at c.at m.heap.next a) (made g ps) s In_moves e b' (made_resting m.heap g s c.at ps a h' c.base p w st.0, made_moving m.heap ps a h' m.is_target w st.1, made_left m.heap ps a h' m.left w st.2)
 
 -- the first part of a new object is kept
 pub new_kept : (m : Collector) (g s : PartGraph) (ps : Parts) (c : Coherent m g s) → AreParts ps → Kept m.heap.roots s (made g ps) (record { identity = g.next; part = 0 })

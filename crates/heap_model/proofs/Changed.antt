@@ -10,7 +10,7 @@ use Rattle.graph_heap.specs.Reach.{Reaches}
 use Rattle.size_classes.specs.Parts.{cells_of, parts_in, part_in, column_in}
 use Rattle.heap_model.specs.Block.{with_cell}
 use Rattle.heap_model.specs.Pages.{Page, ArePages}
-use Rattle.heap_model.specs.Store.{Store, Writes, node_of}
+use Rattle.heap_model.specs.Store.{Store, Writes, record_of}
 use Rattle.heap_model.specs.Core.{Name}
 use Rattle.heap_model.specs.Agree.{IsMain, Reads}
 use Rattle.heap_model.specs.Cut.{name_of, count_of, width_of}
@@ -22,7 +22,7 @@ use Rattle.heap_model.specs.Written.{IsKnown, IsRecorded}
 use Rattle.heap_model.specs.Spent.{DoesMore}
 use Rattle.heap_model.specs.Placed.{KeepsPages, IsPlaced}
 use Rattle.heap_model.specs.Marks.{AreClosed}
-use Rattle.heap_model.specs.Standing.{Stands}
+use Rattle.heap_model.specs.Standing.{Represents}
 use Rattle.heap_model.specs.Taking.{Takes}
 use Rattle.heap_model.specs.Change.{Records, HasCell, place_of, DoesChange, Does_nothing, Does_root, Does_ref, Does_word, Does_new, Does_join, Does_leave, Clears, Clears_none, Clears_next}
 use Rattle.heap_model.proofs.Cut.{part_at, column_at, part_below, column_below}
@@ -35,10 +35,10 @@ use Rattle.heap_model.proofs.Within.{more_within, root_more, live_more, ref_more
 use Rattle.heap_model.proofs.Placed.{pages_same, place_stays}
 use Rattle.heap_model.proofs.Marks.{taken_placed, taken_closed}
 use Rattle.heap_model.proofs.Taken.{takes_pages, takes_keep, takes_count, sizes_stay}
-use Rattle.heap_model.proofs.Recorded.{records_stay, records_cells, records_main, records_recorded, records_kept, records_more}
+use Rattle.heap_model.proofs.Recording.{records_stay, records_cells, records_main, records_recorded, records_kept, records_more}
 
 -- a heap with the same place, that has done no less, goes on to stand
-pub stands_on : (h k : HeapState) (present snapshot present' : Graph) → Stands h present snapshot → Consistent k present' snapshot → ArePages k.store.pages → KeepsPages h.store.pages k.store.pages → DoesMore h k → Stands k present' snapshot
+pub stands_on : (h k : HeapState) (present snapshot present' : Graph) → Represents h present snapshot → Consistent k present' snapshot → ArePages k.store.pages → KeepsPages h.store.pages k.store.pages → DoesMore h k → Represents k present' snapshot
 stands_on h k p s p' w c pages keeps more = record {
   pages = pages;
   some = (let a = more.pages in let b = w.some in omega arith);
@@ -51,11 +51,11 @@ stands_on h k p s p' w c pages keeps more = record {
 pub same_pages : (old new : List (Option Page)) → new ≡ old → KeepsPages old new
 same_pages old new e = subst (λ z. KeepsPages old z) (sym e) (pages_same old)
 
-pub stands_same : (h k : HeapState) (present snapshot present' : Graph) → Stands h present snapshot → Consistent k present' snapshot → k.store.pages ≡ h.store.pages → DoesMore h k → Stands k present' snapshot
+pub stands_same : (h k : HeapState) (present snapshot present' : Graph) → Represents h present snapshot → Consistent k present' snapshot → k.store.pages ≡ h.store.pages → DoesMore h k → Represents k present' snapshot
 stands_same h k p s p' w c e more = stands_on h k p s p' w c (subst ArePages (sym e) w.pages) (same_pages h.store.pages k.store.pages e) more
 
 -- the barrier
-pub stands_records : (h k : HeapState) (present snapshot : Graph) (x v : ℕ) → Stands h present snapshot → Records h x k → IsKnown present v → Reads (seen h) x (name_of v) → Stands k present snapshot
+pub stands_records : (h k : HeapState) (present snapshot : Graph) (x v : ℕ) → Represents h present snapshot → Records h x k → IsKnown present v → Reads (seen h) x (name_of v) → Represents k present snapshot
 stands_records h k p s x v w r known reads = stands_same h k p s p w (records_kept h k p s x v w.consistent r known reads) (records_stay h k x r).pages (records_more h k x r)
 
 -- what a root holds
@@ -63,8 +63,8 @@ root_reads : (h : HeapState) (present snapshot : Graph) (j : ℕ) → Consistent
 root_reads h p s j c l = (consistent_agrees h p s c).root j l
 
 -- what a root held is recorded before it is overwritten
-root_recorded : (h k : HeapState) (present snapshot : Graph) (cell : ℕ) → Stands h present snapshot → cell < length present.roots → Records h (get_or h.roots cell 0) k
-    → Stands k present snapshot × (cell < length k.roots) × IsRecorded k (get_or k.roots cell 0)
+root_recorded : (h k : HeapState) (present snapshot : Graph) (cell : ℕ) → Represents h present snapshot → cell < length present.roots → Records h (get_or h.roots cell 0) k
+    → Represents k present snapshot × (cell < length k.roots) × IsRecorded k (get_or k.roots cell 0)
 root_recorded h k p s cell w l r =
     let c = w.consistent in
     let low : cell < length h.roots = subst (λ z. cell < z) (sym c.present_row) l in
@@ -75,8 +75,8 @@ root_recorded h k p s cell w l r =
       subst (λ z. IsRecorded k (get_or z cell 0)) (sym stay.roots) (records_recorded h k _ _ r reads),
     )
 
-stands_root : (h k : HeapState) (present snapshot : Graph) (cell id y : ℕ) → Stands h present snapshot → cell < length present.roots → IsKnown present id → Records h (get_or h.roots cell 0) k → IsMain (seen h) y (name_of id)
-    → Stands (record k { roots = set k.roots cell y }) (changed present (changes.Root cell id)) snapshot
+stands_root : (h k : HeapState) (present snapshot : Graph) (cell id y : ℕ) → Represents h present snapshot → cell < length present.roots → IsKnown present id → Records h (get_or h.roots cell 0) k → IsMain (seen h) y (name_of id)
+    → Represents (record k { roots = set k.roots cell y }) (changed present (changes.Root cell id)) snapshot
 stands_root h k p s cell id y w l known r i =
     let before = root_recorded h k p s cell w l r in
     let v = before.0 in
@@ -85,23 +85,23 @@ stands_root h k p s cell id y w l known r i =
 
 -- roots that get null, one after the other: each heap on the way stands for the graph heap whose roots
 -- are null so far
-stands_clears : (h : HeapState) (present snapshot : Graph) (first : ℕ) → Stands h present snapshot → (n : ℕ) (k : HeapState) → first + n ≤ length present.roots → Clears h first n k → Stands k (record present { roots = nulled present.roots first n }) snapshot
+stands_clears : (h : HeapState) (present snapshot : Graph) (first : ℕ) → Represents h present snapshot → (n : ℕ) (k : HeapState) → first + n ≤ length present.roots → Clears h first n k → Represents k (record present { roots = nulled present.roots first n }) snapshot
 stands_clears h p s first w n k l Clears_none = w
 stands_clears h p s first w n k l (Clears_next n0 j k0 c r) =
     let before : Graph = record p { roots = nulled p.roots first n0 } in
     let e = length-nulled p.roots first n0 in
-    stands_root j k0 before s (first + n0) 0 0 (stands_clears h p s first w n0 j (omega arith) c) (omega arith) (inl refl) r (record { held = refl; forward = refl; name = refl })
+    stands_root j k0 before s (first + n0) 0 0 (stands_clears h p s first w n0 j (omega arith) c) (omega arith) (inl refl) r (record { allocated = refl; forward = refl; name = refl })
 
 -- who is live
-stands_live : (h : HeapState) (present snapshot : Graph) (a b : List Bool) → Stands h present snapshot → a ≡ b → Stands (record h { live = a }) (record present { live = b }) snapshot
+stands_live : (h : HeapState) (present snapshot : Graph) (a b : List Bool) → Represents h present snapshot → a ≡ b → Represents (record h { live = a }) (record present { live = b }) snapshot
 stands_live h p s a b w e =
     let c = w.consistent in
     stands_same h (record h { live = a }) p s (record p { live = b }) w (record { limits = c.limits; live = e; row = c.row; present_row = c.present_row; snapshot_row = c.snapshot_row; cells = c.cells; whole = c.whole; parts = c.parts }) refl (live_more h a)
 
 -- a reference cell
-stands_ref : (h k : HeapState) (present snapshot : Graph) (id i value address y : ℕ) (new : Store) → Stands h present snapshot → Reaches present id → i < length (object_of present.objects id).refs → IsKnown present value
-    → HasCell h present id i address → Records h (get_or (node_of h.store address).cells (place_of present id i) 0) k → IsMain (seen h) y (name_of value)
-    → Writes k.store new address (with_cell (node_of k.store address) (place_of present id i) y) → Stands (record k { store = new }) (changed present (changes.Ref id i value)) snapshot
+stands_ref : (h k : HeapState) (present snapshot : Graph) (id i value address y : ℕ) (new : Store) → Represents h present snapshot → Reaches present id → i < length (object_of present.objects id).refs → IsKnown present value
+    → HasCell h present id i address → Records h (get_or (record_of h.store address).cells (place_of present id i) 0) k → IsMain (seen h) y (name_of value)
+    → Writes k.store new address (with_cell (record_of k.store address) (place_of present id i) y) → Represents (record k { store = new }) (changed present (changes.Ref id i value)) snapshot
 stands_ref h k p s id i value address y new w reaches l known at r main writes =
     let c = w.consistent in
     let o = object_of p.objects id in
@@ -109,7 +109,7 @@ stands_ref h k p s id i value address y new w reaches l known at r main writes =
     let copy = main_copy h address _ at in
     let reads = ref_shown h p id i address a reaches l copy in
     let v = stands_records h k p s _ (get_or o.refs i 0) w r (known_ref p id i (inr reaches) l) reads in
-    let cells = records_cells h k _ address r copy.held in
+    let cells = records_cells h k _ address r copy.allocated in
     let at' = records_main h k _ (address + 1) _ r at in
     let recorded = subst (λ z. IsRecorded k (get_or z (place_of p id i) 0)) (sym cells) (records_recorded h k _ _ r reads) in
     let c1 = ref_written k p s new address y id i value v.consistent reaches l at' recorded known (records_main h k _ y (name_of value) r main) writes in
@@ -119,15 +119,15 @@ stands_ref h k p s id i value address y new w reaches l known at r main writes =
     let at'' : IsMain (seen k) (address + 1) n = subst (λ z. IsMain (seen k) (address + 1) (record { identity = id; part = part_in z i })) (sym sum) at' in
     let within = column_within k p s v.consistent address n (part_kept k p s v.consistent id (part_at o i) reaches below) at'' below in
     let column : column_at o i < width_of o (part_at o i) = column_below o i l in
-    let column' : column_at o i < width_at (node_of k.store address) = subst (λ z. column_at o i < z) (sym within.0) column in
-    let wide : place_of p id i < width_at (node_of k.store address) = subst (λ z. column_in i < width_at (node_of k.store address)) sum column' in
-    let inside : place_of p id i < length (node_of k.store address).cells = (let e = within.1 in omega arith) in
+    let column' : column_at o i < width_at (record_of k.store address) = subst (λ z. column_at o i < z) (sym within.0) column in
+    let wide : place_of p id i < width_at (record_of k.store address) = subst (λ z. column_in i < width_at (record_of k.store address)) sum column' in
+    let inside : place_of p id i < length (record_of k.store address).cells = (let e = within.1 in omega arith) in
     stands_same k (record k { store = new }) p s (changed p (changes.Ref id i value)) v c1 writes.pages (ref_more k new address (place_of p id i) y writes inside wide)
 
 -- a new object
-stands_new : (h k : HeapState) (present snapshot : Graph) (cell id : ℕ) (shape : Shape) (new : Store) (at : ℕ → ℕ) → Stands h present snapshot → cell < length present.roots → id ≡ length present.objects + 1 → fits shape ≡ true
-    → Records h (get_or h.roots cell 0) k → MakesObject k.store shape k.sense k.next at new → Takes (cells_of shape) at k.store.pages (parts_in (cells_of shape)) new.pages
-    → Stands (record k { store = new; next = k.next + 1; roots = set k.roots cell (at 0 + 1) }) (changed present (changes.New cell id shape)) snapshot
+stands_new : (h k : HeapState) (present snapshot : Graph) (cell id : ℕ) (shape : Shape) (new : Store) (at : ℕ → ℕ) → Represents h present snapshot → cell < length present.roots → id ≡ length present.objects + 1 → fits shape ≡ true
+    → Records h (get_or h.roots cell 0) k → MakesObject k.store shape k.mark_parity k.next at new → Takes (cells_of shape) at k.store.pages (parts_in (cells_of shape)) new.pages
+    → Represents (record k { store = new; next = k.next + 1; roots = set k.roots cell (at 0 + 1) }) (changed present (changes.New cell id shape)) snapshot
 stands_new h k p s cell id shape new at w l same f r makes takes =
     let before = root_recorded h k p s cell w l r in
     let v = before.0 in
@@ -141,7 +141,7 @@ stands_new h k p s cell id shape new at w l same f r makes takes =
     (takes_pages (cells_of shape) at k.store.pages (parts_in (cells_of shape)) new.pages v.pages takes) keeps more
 
 -- each change of what is there
-pub stands_changed : (h after : HeapState) (present snapshot : Graph) (c : Change) → Stands h present snapshot → IsFounded present c → DoesChange h present c after → Stands after (changed present c) snapshot
+pub stands_changed : (h after : HeapState) (present snapshot : Graph) (c : Change) → Represents h present snapshot → IsFounded present c → DoesChange h present c after → Represents after (changed present c) snapshot
 stands_changed h after p s c w f Does_nothing = w
 stands_changed h after p s c w f (Does_root cell id y k r i) = stands_root h k p s cell id y w f.0 f.1 r i
 stands_changed h after p s c w f (Does_ref id i value address y k new at r main writes) = stands_ref h k p s id i value address y new w f.0 f.2 f.3 at r main writes

@@ -8,7 +8,7 @@ use Rattle.graph_heap.specs.declared.command.Shape.{Shape}
 use Rattle.graph_heap.specs.declared.command.Change.TheVariants as changes
 use Rattle.graph_heap.specs.Shape.{ref_cells}
 use Rattle.graph_heap.specs.Graph.{Object, Graph, no_object, object_of, put_object, with_ref, with_word, new_object, changed}
-use Rattle.size_classes.specs.Parts.{Run, pieces_of, spines_of, parts_in, run_of, first_by, count_by, part_in, column_in}
+use Rattle.size_classes.specs.Parts.{PartContents, pieces_of, spines_of, parts_in, run_of, first_by, count_by, part_in, column_in}
 use Rattle.size_classes.proofs.Cutting.{Pieces, Spines, pieces_are, spines_are, holds, cell_stands}
 use Rattle.heap_model.specs.Core.{Name, PartGraph}
 use Rattle.heap_model.specs.Cut.{count_of, width_by, width_in, width_of, name_of, target_by, target_of, words_of, view}
@@ -78,7 +78,7 @@ hit n k s a b i p c l e f = let q = cell_stands n k s a b i l in rw (e, f) (past
 miss : (n k s i p c : ℕ) → nat_lt p s ≡ false → c < count_by n k s p → first_by s p + c ≡ i → (p ≡ s + i / 252) × (c ≡ i % 252)
 miss n k s i p c e l f = (grind arith, grind arith)
 
-target_set : (r : Run) (identity : ℕ) (refs : List ℕ) (i v p q c d : ℕ) → i < length refs → (p ≡ q → c ≡ d → (r.spine ≡ false) × (c < r.count) × (r.first + c ≡ i)) → (r.spine ≡ false → c < r.count → r.first + c ≡ i → (p ≡ q) × (c ≡ d))
+target_set : (r : PartContents) (identity : ℕ) (refs : List ℕ) (i v p q c d : ℕ) → i < length refs → (p ≡ q → c ≡ d → (r.spine ≡ false) × (c < r.count) × (r.first + c ≡ i)) → (r.spine ≡ false → c < r.count → r.first + c ≡ i → (p ≡ q) × (c ≡ d))
     → target_by r identity (set refs i v) c ≡ (if (p == q) && (c == d) then name_of v else target_by r identity refs c)
 target_set r identity refs i v p q c d l there back = let e = read-set refs i v (r.first + c) l in grind arith
 
@@ -233,7 +233,7 @@ append_each f xs e k = ap f (object-append xs e k) ∙ pulled (k == length xs + 
     pulled true = refl
     pulled false = refl
 
-link_below : (r : Run) (refs i parts : ℕ) → 0 < parts → i < width_by r refs → (r.spine ≡ true → i < r.count → r.first + i < parts) → link_by r i < parts
+link_below : (r : PartContents) (refs i parts : ℕ) → 0 < parts → i < width_by r refs → (r.spine ≡ true → i < r.count → r.first + i < parts) → link_by r i < parts
 link_below r refs i parts some l below = grind arith
 
 pub parts_are : (shape : Shape) → AreParts (parts_of shape)
@@ -256,7 +256,7 @@ parts_are shape =
 pub no_refs : (n i : ℕ) → get_or {A = ℕ} (replicate n 0) i 0 ≡ 0
 no_refs n i = let l = length-replicate {A = ℕ} n 0 in grind (arith, get_or-replicate, get_or_past)
 
-empty_by : (r : Run) (identity : ℕ) (refs : List ℕ) (i : ℕ) → (r.spine ≡ true → 0 < r.first) → ((j : ℕ) → get_or refs j 0 ≡ 0) → target_by r identity refs i ≡ link_name identity (link_by r i)
+empty_by : (r : PartContents) (identity : ℕ) (refs : List ℕ) (i : ℕ) → (r.spine ≡ true → 0 < r.first) → ((j : ℕ) → get_or refs j 0 ≡ 0) → target_by r identity refs i ≡ link_name identity (link_by r i)
 empty_by r identity refs i some none = let a = none (r.first + i) in grind arith
 
 first_some : (s p : ℕ) → nat_lt p s ≡ true → 0 < first_by s p

@@ -12,7 +12,7 @@ use Rattle.heap_model.specs.declared.phase.Candidate.{Candidate}
 use Rattle.heap_model.specs.Pages.{Page, ArePages, page_at, is_usable}
 use Rattle.heap_model.specs.State.{HeapState}
 use Rattle.heap_model.specs.Action.{Action, Scans_root, Ends_roots, Scans_header, Scans_cell, Ends_marking, Frees_block, Passes_block, Closes_page, Ends_sweep, Looks_at_page, Chooses_page, Chooses_none, Moves_block, Ends_moving, IsDone, AtPass, In_pass, After_page, No_class, No_page}
-use Rattle.heap_model.specs.Turn.{MovesNext, NextCosts, Of_move, Of_other, SpendsTurn}
+use Rattle.heap_model.specs.QuantumSpending.{MovesNext, NextCosts, Of_move, Of_other, QuantumSpends}
 
 is_emptying : Phase → Bool
 is_emptying phases.Idle = false
@@ -45,9 +45,9 @@ done_costs h class page block chosen p e at done = Of_other (λ i. let z : phase
         let block_is : m.block ≡ block = cc same in
         let here : q ≡ p = same_Some q p (sym m.emptied ∙ ap (page_at h.store.pages) page_is ∙ at) in
         let from : block ≤ m.next = (let f = m.is_next.from in omega arith) in
-        let held : slice_get p.held m.next ≡ Some true = ap (λ (z : Page). slice_get z.held m.next) (sym here) ∙ m.is_next.held in
+        let allocated : slice_get p.allocated m.next ≡ Some true = ap (λ (z : Page). slice_get z.allocated m.next) (sym here) ∙ m.is_next.allocated in
         let place : position (is_usable p.class) h.store.pages ≡ Some m.to = ap (λ (z : Page). position (is_usable z.class) h.store.pages) (sym here) ∙ m.place in
-        elim done [ inl left ↦ left m.next from held | inr full ↦ let z : None ≡ Some m.to = sym full ∙ place in cc ]
+        elim done [ inl left ↦ left m.next from allocated | inr full ↦ let z : None ≡ Some m.to = sym full ∙ place in cc ]
 
 pass_costs : (h : HeapState) (class page : ℕ) (best : Option Candidate) (chosen : ℕ) → AtPass h class page best chosen → NextCosts h 1
 unfolding is_emptying busy
@@ -69,7 +69,7 @@ action_costs h after cost (Ends_sweep page block e l) = other_costs h (phases.Sw
 action_costs h after cost (Looks_at_page class page best chosen at few more) = pass_costs h class page best chosen at
 action_costs h after cost (Chooses_page class page best chosen b q new at few last is good there w0 pages) = pass_costs h class page best chosen at
 action_costs h after cost (Chooses_none class page best chosen at few last is) = pass_costs h class page best chosen at
-action_costs h after cost (Moves_block class page block chosen i to j p q new e at leaving next place there empty w0 pages) =
+action_costs h after cost (Moves_block class page block chosen i to j p q new e at evacuating next place there empty w0 pages) =
     Of_move p (record { class = class; page = page; block = block; chosen = chosen; next = i; to = to; phase = e; emptied = at; is_next = next; place = place })
 action_costs h after cost (Ends_moving (No_class page best chosen e)) = other_costs h (phases.Moving (moves.Pass CLASSES page best chosen)) e refl refl
 action_costs h after cost (Ends_moving (No_page class page block chosen p e at done less)) = done_costs h class page block chosen p e at done
@@ -92,7 +92,7 @@ pub cost_high : (h : HeapState) (cost : ℕ) → ArePages h.store.pages → Next
 cost_high h cost w (Of_move p m) = size_high p.class (w.each m.page p m.emptied).class
 cost_high h cost w (Of_other on none) = omega arith
 
-pub turn_left : (h after : HeapState) (budget spent : ℕ) → ArePages after.store.pages → SpendsTurn h budget after spent → (after.phase ≡ phases.Idle) ⊎ (budget < spent + 256)
+pub turn_left : (h after : HeapState) (budget spent : ℕ) → ArePages after.store.pages → QuantumSpends h budget after spent → (after.phase ≡ phases.Idle) ⊎ (budget < spent + 256)
 turn_left h after budget spent w t = elim t.ends [
   | inl e ↦ inl e
   | inr n ↦ inr (let c = cost_high after n.0 w n.1 in let l = n.2 in omega arith)

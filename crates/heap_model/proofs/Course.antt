@@ -20,7 +20,7 @@ use Rattle.heap_model.specs.Agreement.{Consistent}
 use Rattle.heap_model.specs.Alike.{IsFounded}
 use Rattle.heap_model.specs.Opening.{IsOpening}
 use Rattle.heap_model.specs.Spent.{cycle_limit}
-use Rattle.heap_model.specs.Standing.{Stands}
+use Rattle.heap_model.specs.Standing.{Represents}
 use Rattle.heap_model.specs.Bound.{most_quanta}
 use Rattle.heap_model.specs.Change.{DoesChange}
 use Rattle.heap_model.specs.Event.{Course, present_of, snapshot_of, room_for, change_by, Enters, Begins, Collects, Event, Command_done, Cycle_begun, Cycle_on, Quantum_done, Quantum_refused, Does, Runs, IsCourse, quanta_in, HaveBudgets, OneIsLast}
@@ -52,7 +52,7 @@ founded g room m c row = by_effect (effect_of room g m c) refl
 pub present_row : (h : HeapState) (present snapshot : Graph) → Consistent h present snapshot → length present.roots ≡ root_cells present.limits
 present_row h p s c = sym c.present_row ∙ c.row ∙ ap root_cells c.limits
 
-pub stands_command : (h after : HeapState) (present snapshot : Graph) (room : Bool) (m : ℕ) (c : Command) → Stands h present snapshot → DoesChange h present (change_by room present m c) after → Stands after (next_of room present m c) snapshot
+pub stands_command : (h after : HeapState) (present snapshot : Graph) (room : Bool) (m : ℕ) (c : Command) → Represents h present snapshot → DoesChange h present (change_by room present m c) after → Represents after (next_of room present m c) snapshot
 unfolding next_of
 stands_command h after p s room m c w d = stands_changed h after p s (change_by room p m c) w (founded p room m c (present_row h p s w.consistent)) d
 
@@ -64,7 +64,7 @@ module _ (r new : Course) (m : ℕ) (c : Command) (reply : Reply) (w : IsCourse 
   abbrev pub entry : Entry
   entry = record { mutator = m; command = c; reply = reply }
 
-  pub enters_stands : Stands new.heap (changed (present_of r) change) (snapshot_of r)
+  pub enters_stands : Represents new.heap (changed (present_of r) change) (snapshot_of r)
   enters_stands = stands_changed r.heap new.heap (present_of r) (snapshot_of r) change w.stands (founded (present_of r) (room_for r.heap c) m c (present_row r.heap (present_of r) (snapshot_of r) w.stands.consistent)) e.change
 
   enters_limits : new.heap.limits ≡ r.heap.limits
@@ -91,9 +91,9 @@ module _ (r new : Course) (m : ℕ) (c : Command) (reply : Reply) (w : IsCourse 
   pub enters_course : IsCourse new
   enters_course =
       let longer : length new.history ≡ length r.history + 1 = ap length e.history ∙ length-append r.history (entry ∷ []) in
-      let s1 = subst (λ z. Stands new.heap z (snapshot_of r)) (sym enters_present) enters_stands in
+      let s1 = subst (λ z. Represents new.heap z (snapshot_of r)) (sym enters_present) enters_stands in
       record {
-        stands = subst (λ z. Stands new.heap (present_of new) z) (sym enters_snapshot) s1;
+        stands = subst (λ z. Represents new.heap (present_of new) z) (sym enters_snapshot) s1;
         legal = subst (λ z. IsLegal (opening z) new.history) (sym enters_limits) (subst (IsLegal (opening r.heap.limits)) (sym e.history) (IsLegal-push (opening r.heap.limits) r.history entry w.legal enters_step.0));
         place = (let p = w.place in let q = e.place in omega arith);
       }
@@ -108,10 +108,10 @@ begins_course r new w b =
     let limits : new.heap.limits ≡ r.heap.limits = ap (λ (z : HeapState). z.limits) b.heap in
     let all : take new.place new.history ≡ r.history = ap (λ z. take z new.history) b.place ∙ ap (take (length r.history)) b.history ∙ take-length r.history in
     let then : snapshot_of new ≡ present_of r = ap (λ z. after (opening z) (take new.place new.history)) limits ∙ ap (after (opening r.heap.limits)) all in
-    let s1 = subst (λ z. Stands z (present_of r) (present_of r)) (sym b.heap) s in
-    let s2 = subst (λ z. Stands new.heap z (present_of r)) (sym (begins_present r new b)) s1 in
+    let s1 = subst (λ z. Represents z (present_of r) (present_of r)) (sym b.heap) s in
+    let s2 = subst (λ z. Represents new.heap z (present_of r)) (sym (begins_present r new b)) s1 in
     record {
-      stands = subst (λ z. Stands new.heap (present_of new) z) (sym then) s2;
+      stands = subst (λ z. Represents new.heap (present_of new) z) (sym then) s2;
       legal = subst (λ z. IsLegal (opening z) new.history) (sym limits) (subst (IsLegal (opening r.heap.limits)) (sym b.history) w.legal);
       place = (let p = b.place in let q = ap length b.history in omega arith);
     }
@@ -129,9 +129,9 @@ collects_course r new budget units phase w k =
     let limits = collects_limits r new budget units phase w k in
     let first : take new.place new.history ≡ take r.place r.history = ap (λ z. take z new.history) k.place ∙ ap (take r.place) k.history in
     let then : snapshot_of new ≡ snapshot_of r = ap (λ z. after (opening z) (take new.place new.history)) limits ∙ ap (after (opening r.heap.limits)) first in
-    let s1 = subst (λ z. Stands new.heap z (snapshot_of r)) (sym (collects_present r new budget units phase w k)) s in
+    let s1 = subst (λ z. Represents new.heap z (snapshot_of r)) (sym (collects_present r new budget units phase w k)) s in
     record {
-      stands = subst (λ z. Stands new.heap (present_of new) z) (sym then) s1;
+      stands = subst (λ z. Represents new.heap (present_of new) z) (sym then) s1;
       legal = subst (λ z. IsLegal (opening z) new.history) (sym limits) (subst (IsLegal (opening r.heap.limits)) (sym k.history) w.legal);
       place = (let p = k.place in let q = ap length k.history in let l = w.place in omega arith);
     }

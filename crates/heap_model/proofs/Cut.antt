@@ -4,8 +4,8 @@ use Rattle.graph_heap.specs.Graph.{Object, Graph, no_object, object_of}
 use Rattle.graph_heap.specs.Reach.{Path, Reaches}
 use Rattle.heap_model.specs.Core.{Name, null, Reach}
 use Rattle.heap_model.specs.Cut.{count_of, width_by, width_in, width_of, name_of, target_by, target_of, view}
-use Rattle.size_classes.specs.Parts.{Run, pieces_of, spines_of, run_of, holder_of, seat_of, part_in, column_in}
-use Rattle.size_classes.proofs.Cutting.{pieces_are, spines_are, held_by, holds, cell_stands}
+use Rattle.size_classes.specs.Parts.{PartContents, pieces_of, spines_of, run_of, holder_of, seat_of, part_in, column_in}
+use Rattle.size_classes.proofs.Cutting.{pieces_are, spines_are, referrers_are, holds, cell_stands}
 use Rattle.heap_model.proofs.Kept.{reach_root, reach_step, reach_induction}
 
 -- in which part cell i of an object stands, and at which place among its cells of that kind
@@ -16,16 +16,16 @@ abbrev pub column_at : Object → ℕ → ℕ
 column_at o i = column_in i
 
 -- what a run says of its cells
-target_piece : (r : Run) (identity : ℕ) (refs : List ℕ) (i x : ℕ) → r.spine ≡ false → i < r.count → r.first + i ≡ x → target_by r identity refs i ≡ name_of (get_or refs x 0)
+target_piece : (r : PartContents) (identity : ℕ) (refs : List ℕ) (i x : ℕ) → r.spine ≡ false → i < r.count → r.first + i ≡ x → target_by r identity refs i ≡ name_of (get_or refs x 0)
 target_piece r identity refs i x e l q = grind arith
 
-target_spine : (r : Run) (identity : ℕ) (refs : List ℕ) (i x : ℕ) → r.spine ≡ true → i < r.count → r.first + i ≡ x → target_by r identity refs i ≡ record { identity = identity; part = x }
+target_spine : (r : PartContents) (identity : ℕ) (refs : List ℕ) (i x : ℕ) → r.spine ≡ true → i < r.count → r.first + i ≡ x → target_by r identity refs i ≡ record { identity = identity; part = x }
 target_spine r identity refs i x e l q = grind arith
 
-width_piece : (r : Run) (refs i x : ℕ) → r.spine ≡ false → i < r.count → r.first + i ≡ x → x < refs → i < width_by r refs
+width_piece : (r : PartContents) (refs i x : ℕ) → r.spine ≡ false → i < r.count → r.first + i ≡ x → x < refs → i < width_by r refs
 width_piece r refs i x e l q m = grind arith
 
-width_spine : (r : Run) (refs i : ℕ) → r.spine ≡ true → i < r.count → i < width_by r refs
+width_spine : (r : PartContents) (refs i : ℕ) → r.spine ≡ true → i < r.count → i < width_by r refs
 width_spine r refs i e l = grind arith
 
 behind_spines : (s p : ℕ) → s ≤ p → nat_lt p s ≡ false
@@ -68,7 +68,7 @@ seat_at o p = seat_of (length o.refs + length o.words) p
 pub holder_below : (o : Object) (p : ℕ) → p < count_of o → 0 < p → (seat_at o p < width_of o (holder_at o p)) × (holder_at o p < p) × (holder_at o p < count_of o)
 unfolding count_of width_in
 holder_below o p l k =
-    let q = held_by (cells_in o) (pieces_of (cells_in o)) (spines_of (cells_in o)) (pieces_are (cells_in o)) (spines_are (cells_in o)) p k l in
+    let q = referrers_are (cells_in o) (pieces_of (cells_in o)) (spines_of (cells_in o)) (pieces_are (cells_in o)) (spines_are (cells_in o)) p k l in
     (width_spine (run_of (cells_in o) (holder_at o p)) (length o.refs) (seat_at o p) (among_spines _ _ q.0) q.2, q.1, before (q.1) l)
   where
     before : {x : ℕ} → x < p → p < spines_of (cells_in o) + pieces_of (cells_in o) → x < spines_of (cells_in o) + pieces_of (cells_in o)
@@ -77,7 +77,7 @@ holder_below o p l k =
 pub holder_cell : (identity : ℕ) (o : Object) (p : ℕ) → p < count_of o → 0 < p → target_of identity o (holder_at o p) (seat_at o p) ≡ record { identity = identity; part = p }
 unfolding count_of target_of
 holder_cell identity o p l k =
-    let q = held_by (cells_in o) (pieces_of (cells_in o)) (spines_of (cells_in o)) (pieces_are (cells_in o)) (spines_are (cells_in o)) p k l in
+    let q = referrers_are (cells_in o) (pieces_of (cells_in o)) (spines_of (cells_in o)) (pieces_are (cells_in o)) (spines_are (cells_in o)) p k l in
     target_spine (run_of (cells_in o) (holder_at o p)) identity o.refs (seat_at o p) p (among_spines _ _ q.0) q.2 q.3
 
 -- each part is reached from part 0, by way of the spine that refers to it
@@ -130,10 +130,10 @@ width_none p = grind arith
 abbrev is_spine : Object → ℕ → Bool
 is_spine o p = (run_of (length o.refs + length o.words) p).spine
 
-by_spine : (r : Run) (identity : ℕ) (refs : List ℕ) (i : ℕ) → i < width_by r (length refs) → r.spine ≡ true → (i < r.count) × (target_by r identity refs i ≡ record { identity = identity; part = r.first + i })
+by_spine : (r : PartContents) (identity : ℕ) (refs : List ℕ) (i : ℕ) → i < width_by r (length refs) → r.spine ≡ true → (i < r.count) × (target_by r identity refs i ≡ record { identity = identity; part = r.first + i })
 by_spine r identity refs i l e = (grind arith, grind arith)
 
-by_piece : (r : Run) (identity : ℕ) (refs : List ℕ) (i : ℕ) → i < width_by r (length refs) → r.spine ≡ false → (r.first + i < length refs) × (target_by r identity refs i ≡ name_of (get_or refs (r.first + i) 0))
+by_piece : (r : PartContents) (identity : ℕ) (refs : List ℕ) (i : ℕ) → i < width_by r (length refs) → r.spine ≡ false → (r.first + i < length refs) × (target_by r identity refs i ≡ name_of (get_or refs (r.first + i) 0))
 by_piece r identity refs i l e = (grind arith, grind arith)
 
 is_among : (s p : ℕ) → nat_lt p s ≡ true → p < s

@@ -24,16 +24,16 @@ set_word h x c w = record h { words = λ z. if z == x then set (h.words z) c w e
 
 -- a block is freed
 abbrev pub free : Heap → ℕ → Heap
-free h x = record h { held = put h.held x false }
+free h x = record h { allocated = put h.allocated x false }
 
--- the sense of the colour is turned, so that no block is marked
+-- the mark parity is turned, so that no block is marked
 abbrev pub flip : Heap → Heap
 flip h = record h { marked = λ x. x == 0 }
 
 -- a copy of block x at y, to which x forwards from then on
 abbrev pub move : Heap → ℕ → ℕ → Heap
 move h x y = record h {
-  held = put h.held y true;
+  allocated = put h.allocated y true;
   forward = put (put h.forward x y) y y;
   name = put h.name y (h.name x);
   width = put h.width y (h.width x);

@@ -14,7 +14,7 @@ use Rattle.graph_heap.specs.declared.command.Limits.{Limits}
 use Rattle.graph_heap.specs.declared.command.Change.{Change}
 use Rattle.graph_heap.specs.declared.command.Change.TheVariants as changes
 use Rattle.graph_heap.specs.Graph.{Object, Graph, no_object, object_of, root_cells, changed}
-use Rattle.graph_heap.specs.Effect.{◌>>=◌, slot_at, static_at, found, object_at, ref_cell, word_cell, fitting, next_identity, with_room, deed_of, is_join, admits, admitted, effect_of, settled, reply_of, next_of}
+use Rattle.graph_heap.specs.Effect.{◌>>=◌, slot_at, static_at, found, object_at, ref_cell, word_cell, fitting, next_identity, with_room, admitted_effect, is_join, admits, admitted, effect_of, settled, reply_of, next_of}
 use Rattle.heap_model.specs.State.{HeapState}
 use Rattle.heap_model.specs.Agreement.{Agrees}
 use Rattle.heap_model.specs.Written.{IsKnown}
@@ -92,7 +92,7 @@ effect_by room l roots next at m commands.Leave = Ok (replies.Done, changes.Leav
 abbrev named : Graph → ℕ → Result Object Refusal
 named g a = object_at g.objects (slice_index g.roots a)
 
-effect_is : (room : Bool) (g : Graph) (m : ℕ) (c : Command) → deed_of room g m c ≡ effect_by room g.limits g.roots (next_identity g) (λ a. named g a) m c
+effect_is : (room : Bool) (g : Graph) (m : ℕ) (c : Command) → admitted_effect room g m c ≡ effect_by room g.limits g.roots (next_identity g) (λ a. named g a) m c
 effect_is room g m (commands.New dst shape) = refl
 effect_is room g m (commands.Load dst obj i) = refl
 effect_is room g m (commands.Store obj i src) = refl
@@ -145,8 +145,8 @@ named_same h f g p q a = by_size (nat_lt a (length f.roots)) refl ∙ ap (λ z. 
 abbrev next_by : ℕ → Limits → Result ℕ Refusal
 next_by n l = if nat_lt n l.identities then Ok (n + 1) else Err refusals.IdentitiesSpent
 
-same_deed : (h : HeapState) (f g : Graph) (room : Bool) (m : ℕ) (c : Command) → Agrees h f → Agrees h g → deed_of room f m c ≡ deed_of room g m c
-same_deed h f g room m c p q =
+same_admitted_effect : (h : HeapState) (f g : Graph) (room : Bool) (m : ℕ) (c : Command) → Agrees h f → Agrees h g → admitted_effect room f m c ≡ admitted_effect room g m c
+same_admitted_effect h f g room m c p q =
     let a = told h f g p q in
     let at : (λ x. named f x) ≡ (λ x. named g x) = fun_ext (named_same h f g p q) in
     let next : next_identity f ≡ next_identity g = ap (λ n. next_by n f.limits) a.count ∙ ap (λ l. next_by (length g.objects) l) a.limits in
@@ -164,7 +164,7 @@ abbrev let_in : Result Bool Refusal → Result (Reply × Change) Refusal → Res
 let_in a d = a >>= λ ok. d
 
 pub same_effect : (h : HeapState) (f g : Graph) (room : Bool) (m : ℕ) (c : Command) → Agrees h f → Agrees h g → effect_of room f m c ≡ effect_of room g m c
-same_effect h f g room m c p q = ap (λ z. let_in z (deed_of room f m c)) (same_admitted h f g m c p q) ∙ ap (λ z. let_in (admitted g m c) z) (same_deed h f g room m c p q)
+same_effect h f g room m c p q = ap (λ z. let_in z (admitted_effect room f m c)) (same_admitted h f g m c p q) ∙ ap (λ z. let_in (admitted g m c) z) (same_admitted_effect h f g room m c p q)
 
 -- For every graph heap: a command replies the same, and where the heap goes on to agree with one, it
 -- agrees with each other.

@@ -17,7 +17,7 @@ use Rattle.graph_heap.specs.declared.command.Change.TheVariants as changes
 use Rattle.graph_heap.specs.Shape.{fits, takes_refs, takes_words}
 use Rattle.graph_heap.specs.Graph.{Object, Graph, no_object, object_of, root_cells}
 use Rattle.graph_heap.specs.Reach.{Reaches}
-use Rattle.graph_heap.specs.Effect.{◌>>=◌, slot_at, static_at, found, object_at, ref_cell, word_cell, ref_at, word_at, fitting, next_identity, with_room, deed_of, is_join, admits, admitted, effect_of, settled}
+use Rattle.graph_heap.specs.Effect.{◌>>=◌, slot_at, static_at, found, object_at, ref_cell, word_cell, ref_at, word_at, fitting, next_identity, with_room, admitted_effect, is_join, admits, admitted, effect_of, settled}
 use Rattle.heap_model.specs.Written.{IsKnown}
 use Rattle.heap_model.specs.Alike.{IsFounded}
 use Rattle.heap_model.proofs.Sameness.{known_root, known_ref, known_reaches}
@@ -143,26 +143,26 @@ taken g y x e w = let same : y ≡ x = ok_part y x e in subst (λ z. IsFounded g
 slots_low : (l : Limits) (m : ℕ) → m < l.mutators → m * l.slots + l.slots ≤ root_cells l
 slots_low l m low = let above : m + 1 ≤ l.mutators = omega arith in let e : (m + 1) * l.slots ≤ l.mutators * l.slots = mul-le-mul_right l.slots above in let f : (m + 1) * l.slots ≡ m * l.slots + l.slots = grind arith in omega arith
 
-deed_founded : (g : Graph) (room : Bool) (m : ℕ) (c : Command) (x : Reply × Change) → length g.roots ≡ root_cells g.limits → m < g.limits.mutators → deed_of room g m c ≡ Ok x → IsFounded g (change_in x)
-deed_founded g room m (commands.New dst shape) x row low e =
+admitted_founded : (g : Graph) (room : Bool) (m : ℕ) (c : Command) (x : Reply × Change) → length g.roots ≡ root_cells g.limits → m < g.limits.mutators → admitted_effect room g m c ≡ Ok x → IsFounded g (change_in x)
+admitted_founded g room m (commands.New dst shape) x row low e =
     let d = bind_ok (slot_at g.limits m dst) _ x e in
     let f = bind_ok (fitting shape) _ x d.2 in
     let i = bind_ok (next_identity g) _ x f.2 in
     let r = bind_ok (with_room room) _ x i.2 in
     taken g (replies.Made i.0, changes.New d.0 i.0 shape) x r.2 (subst (λ z. d.0 < z) (sym row) (slot_low g.limits m dst d.0 d.1), next_is g i.0 i.1, fitting_fits shape f.0 f.1)
-deed_founded g room m (commands.Load dst obj i) x row low e =
+admitted_founded g room m (commands.Load dst obj i) x row low e =
     let d = bind_ok (slot_at g.limits m dst) _ x e in
     let a = bind_ok (slot_at g.limits m obj) _ x d.2 in
     let v = bind_ok (ref_at g.objects (slice_index g.roots a.0) i) _ x a.2 in
     let w = ref_founded g a.0 i v.0 (subst (λ z. a.0 < z) (sym row) (slot_low g.limits m obj a.0 a.1)) v.1 in
     taken g (replies.Ref v.0, changes.Root d.0 v.0) x v.2 (subst (λ z. d.0 < z) (sym row) (slot_low g.limits m dst d.0 d.1), w.3)
-deed_founded g room m (commands.Store obj i src) x row low e =
+admitted_founded g room m (commands.Store obj i src) x row low e =
     let a = bind_ok (slot_at g.limits m obj) _ x e in
     let s = bind_ok (slot_at g.limits m src) _ x a.2 in
     let v = bind_ok (ref_at g.objects (slice_index g.roots a.0) i) _ x s.2 in
     let w = ref_founded g a.0 i v.0 (subst (λ z. a.0 < z) (sym row) (slot_low g.limits m obj a.0 a.1)) v.1 in
     taken g (replies.Done, changes.Ref (slice_index g.roots a.0) i (slice_index g.roots s.0)) x v.2 (w.0, w.1, w.2, known_root g s.0 (subst (λ z. s.0 < z) (sym row) (slot_low g.limits m src s.0 s.1)))
-deed_founded g room m (commands.CompareStore obj i expect new) x row low e =
+admitted_founded g room m (commands.CompareStore obj i expect new) x row low e =
     let a = bind_ok (slot_at g.limits m obj) _ x e in
     let q = bind_ok (slot_at g.limits m expect) _ x a.2 in
     let n = bind_ok (slot_at g.limits m new) _ x q.2 in
@@ -175,15 +175,15 @@ deed_founded g room m (commands.CompareStore obj i expect new) x row low e =
         → Gives (if b then Ok (replies.Stored, changes.Ref (slice_index g.roots a) i (slice_index g.roots n)) else Ok (replies.Kept v, changes.Nothing)) x → IsFounded g (change_in x)
     by_test a n v true w k e = taken g (replies.Stored, changes.Ref (slice_index g.roots a) i (slice_index g.roots n)) x e (w.0, w.1, w.2, k)
     by_test a n v false w k e = taken g (replies.Kept v, changes.Nothing) x e tt
-deed_founded g room m (commands.Get obj i) x row low e =
+admitted_founded g room m (commands.Get obj i) x row low e =
     let a = bind_ok (slot_at g.limits m obj) _ x e in
     let v = bind_ok (word_at g.objects (slice_index g.roots a.0) i) _ x a.2 in
     taken g (replies.Word v.0, changes.Nothing) x v.2 tt
-deed_founded g room m (commands.Put obj i word) x row low e =
+admitted_founded g room m (commands.Put obj i word) x row low e =
     let a = bind_ok (slot_at g.limits m obj) _ x e in
     let v = bind_ok (word_at g.objects (slice_index g.roots a.0) i) _ x a.2 in
     taken g (replies.Done, changes.Word (slice_index g.roots a.0) i word) x v.2 (word_founded g a.0 i v.0 (subst (λ z. a.0 < z) (sym row) (slot_low g.limits m obj a.0 a.1)) v.1)
-deed_founded g room m (commands.ComparePut obj i old new) x row low e =
+admitted_founded g room m (commands.ComparePut obj i old new) x row low e =
     let a = bind_ok (slot_at g.limits m obj) _ x e in
     let v = bind_ok (word_at g.objects (slice_index g.roots a.0) i) _ x a.2 in
     let w = word_founded g a.0 i v.0 (subst (λ z. a.0 < z) (sym row) (slot_low g.limits m obj a.0 a.1)) v.1 in
@@ -193,22 +193,22 @@ deed_founded g room m (commands.ComparePut obj i old new) x row low e =
         → Gives (if b then Ok (replies.Stored, changes.Word (slice_index g.roots a) i new) else Ok (replies.KeptWord v, changes.Nothing)) x → IsFounded g (change_in x)
     by_test a v true w e = taken g (replies.Stored, changes.Word (slice_index g.roots a) i new) x e w
     by_test a v false w e = taken g (replies.KeptWord v, changes.Nothing) x e tt
-deed_founded g room m (commands.Copy dst src) x row low e =
+admitted_founded g room m (commands.Copy dst src) x row low e =
     let d = bind_ok (slot_at g.limits m dst) _ x e in
     let s = bind_ok (slot_at g.limits m src) _ x d.2 in
     taken g (replies.Done, changes.Root d.0 (slice_index g.roots s.0)) x s.2 (subst (λ z. d.0 < z) (sym row) (slot_low g.limits m dst d.0 d.1), known_root g s.0 (subst (λ z. s.0 < z) (sym row) (slot_low g.limits m src s.0 s.1)))
-deed_founded g room m (commands.Clear dst) x row low e =
+admitted_founded g room m (commands.Clear dst) x row low e =
     let d = bind_ok (slot_at g.limits m dst) _ x e in
     taken g (replies.Done, changes.Root d.0 0) x d.2 (subst (λ z. d.0 < z) (sym row) (slot_low g.limits m dst d.0 d.1), inl refl)
-deed_founded g room m (commands.LoadStatic dst k) x row low e =
+admitted_founded g room m (commands.LoadStatic dst k) x row low e =
     let d = bind_ok (slot_at g.limits m dst) _ x e in
     let s = bind_ok (static_at g.limits k) _ x d.2 in
     taken g (replies.Ref (slice_index g.roots s.0), changes.Root d.0 (slice_index g.roots s.0)) x s.2 (subst (λ z. d.0 < z) (sym row) (slot_low g.limits m dst d.0 d.1), known_root g s.0 (subst (λ z. s.0 < z) (sym row) (static_low g.limits k s.0 s.1)))
-deed_founded g room m (commands.StoreStatic k src) x row low e =
+admitted_founded g room m (commands.StoreStatic k src) x row low e =
     let s = bind_ok (slot_at g.limits m src) _ x e in
     let d = bind_ok (static_at g.limits k) _ x s.2 in
     taken g (replies.Done, changes.Root d.0 (slice_index g.roots s.0)) x d.2 (subst (λ z. d.0 < z) (sym row) (static_low g.limits k d.0 d.1), known_root g s.0 (subst (λ z. s.0 < z) (sym row) (slot_low g.limits m src s.0 s.1)))
-deed_founded g room m (commands.CompareStatic k expect new) x row low e =
+admitted_founded g room m (commands.CompareStatic k expect new) x row low e =
     let q = bind_ok (slot_at g.limits m expect) _ x e in
     let n = bind_ok (slot_at g.limits m new) _ x q.2 in
     let d = bind_ok (static_at g.limits k) _ x n.2 in
@@ -218,16 +218,16 @@ deed_founded g room m (commands.CompareStatic k expect new) x row low e =
         → Gives (if b then Ok (replies.Stored, changes.Root d (slice_index g.roots n)) else Ok (replies.Kept (slice_index g.roots d), changes.Nothing)) x → IsFounded g (change_in x)
     by_test d n true l k e = taken g (replies.Stored, changes.Root d (slice_index g.roots n)) x e (l, k)
     by_test d n false l k e = taken g (replies.Kept (slice_index g.roots d), changes.Nothing) x e tt
-deed_founded g room m (commands.Same a b) x row low e =
+admitted_founded g room m (commands.Same a b) x row low e =
     let p = bind_ok (slot_at g.limits m a) _ x e in
     let q = bind_ok (slot_at g.limits m b) _ x p.2 in
     taken g (replies.Is (slice_index g.roots p.0 == slice_index g.roots q.0), changes.Nothing) x q.2 tt
-deed_founded g room m (commands.Describe a) x row low e =
+admitted_founded g room m (commands.Describe a) x row low e =
     let p = bind_ok (slot_at g.limits m a) _ x e in
     let o = bind_ok (object_at g.objects (slice_index g.roots p.0)) _ x p.2 in
     taken g (replies.Described (slice_index g.roots p.0) o.0.shape, changes.Nothing) x o.2 tt
-deed_founded g room m commands.Join x row low e = taken g (replies.Done, changes.Join m) x e tt
-deed_founded g room m commands.Leave x row low e = taken g (replies.Done, changes.Leave m) x e (subst (λ z. m * g.limits.slots + g.limits.slots ≤ z) (sym row) (slots_low g.limits m low))
+admitted_founded g room m commands.Join x row low e = taken g (replies.Done, changes.Join m) x e tt
+admitted_founded g room m commands.Leave x row low e = taken g (replies.Done, changes.Leave m) x e (subst (λ z. m * g.limits.slots + g.limits.slots ≤ z) (sym row) (slots_low g.limits m low))
 
 admitted_low : (g : Graph) (m : ℕ) (c : Command) (ok : Bool) → admitted g m c ≡ Ok ok → m < g.limits.mutators
 admitted_low g m c ok e = by_test (nat_lt m g.limits.mutators) refl e
@@ -237,7 +237,7 @@ admitted_low g m c ok e = by_test (nat_lt m g.limits.mutators) refl e
     by_test false t e = absurd (cc)
 
 pub effect_founded : (g : Graph) (room : Bool) (m : ℕ) (c : Command) (x : Reply × Change) → length g.roots ≡ root_cells g.limits → effect_of room g m c ≡ Ok x → IsFounded g (change_in x)
-effect_founded g room m c x row e = let a = bind_ok (admitted g m c) _ x e in deed_founded g room m c x row (admitted_low g m c a.0 a.1) a.2
+effect_founded g room m c x row e = let a = bind_ok (admitted g m c) _ x e in admitted_founded g room m c x row (admitted_low g m c a.0 a.1) a.2
 
 pub settled_founded : (g : Graph) (r : Result (Reply × Change) Refusal) → ((x : Reply × Change) → r ≡ Ok x → IsFounded g (change_in x)) → IsFounded g (change_in (settled r))
 settled_founded g (Ok x) w = w x refl

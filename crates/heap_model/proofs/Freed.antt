@@ -10,12 +10,12 @@ use Rattle.heap_model.specs.Cut.{name_of, view}
 use Rattle.heap_model.specs.Core.{Grows, Kept}
 use Rattle.heap_model.specs.Alike.{IsFounded}
 use Rattle.heap_model.specs.Written.{IsKnown}
-use Rattle.heap_model.specs.Swept.{IsKept, IsHeld}
+use Rattle.heap_model.specs.Swept.{IsKept, IsAllocated}
 use Rattle.heap_model.specs.Event.{Course, Event, present_of, snapshot_of, room_for, change_by, Command_done, Cycle_begun, Cycle_on, Quantum_done, Quantum_refused, Does, Runs, IsCourse}
 use Rattle.heap_model.proofs.Changes.{read-set, length-put}
 use Rattle.heap_model.proofs.Cut.{count_some}
 use Rattle.heap_model.proofs.Agreements.{part_kept}
-use Rattle.heap_model.proofs.Rest.{kept_identity, kept_held}
+use Rattle.heap_model.proofs.Rest.{kept_identity, kept_allocated}
 use Rattle.heap_model.proofs.Course.{founded, present_row, enters_present, begins_present, collects_present, does_course}
 use Rattle.heap_model.proofs.Sameness.{known_ref, known_reaches, after_root, after_put, after_new, after_live, after_leave, reach_some}
 
@@ -29,8 +29,8 @@ reached_kept h p s c id r =
     (kept_identity s p (name_of id) grows (let q : id ≢ 0 = omega arith in q) k').0
 
 -- and held
-pub reached_held : (h : HeapState) (present snapshot : Graph) → Consistent h present snapshot → (id : ℕ) → Reaches present id → IsHeld h present id
-reached_held h p s c id r = kept_held h p s c id (reached_kept h p s c id r)
+pub reached_allocated : (h : HeapState) (present snapshot : Graph) → Consistent h present snapshot → (id : ℕ) → Reaches present id → IsAllocated h present id
+reached_allocated h p s c id r = kept_allocated h p s c id (reached_kept h p s c id r)
 
 -- what can be reached after a change could be reached before, or is new
 known_back : (g : Graph) (id : ℕ) → IsKnown g id → 0 < id → (Reaches g id) ⊎ (length g.objects < id)

@@ -3,11 +3,11 @@ use Rattle.std.proofs.Common.{◌≡◌, ℕ, ◌+◌, ◌<◌, List, [], ◌∷
 use Rattle.heap_model.specs.State.{HeapState}
 use Rattle.heap_model.specs.Opening.{IsOpening}
 use Rattle.heap_model.specs.Event.{Course, Event, Command_done, Cycle_begun, Cycle_on, Quantum_done, Quantum_refused, Does, Runs, IsCourse, quanta_in}
-use Rattle.heap_model.specs.Led.{cycles_in, units_in, opened, IsLed}
+use Rattle.heap_model.specs.ReachedFrom.{cycles_in, units_in, opened, IsReachedFrom}
 use Rattle.heap_model.proofs.Course.{opening_course, runs_course}
 
-pub led_opening : (h : HeapState) → IsOpening h → 0 < length h.store.pages → IsLed (opened h) 0 0 0
-led_opening h o l = record { first = h; events = []; opening = o; pages = l; runs = refl; begun = refl; done = refl; spent = refl }
+pub reached_opening : (h : HeapState) → IsOpening h → 0 < length h.store.pages → IsReachedFrom (opened h) 0 0 0
+reached_opening h o l = record { first = h; events = []; opening = o; pages = l; runs = refl; begun = refl; done = refl; spent = refl }
 
 runs_more : (es : List Event) (r s new : Course) (e : Event) → Runs r es s → Does s e new → Runs r (es ++ e ∷ []) new
 runs_more [] r s new e w d = (new, subst (λ z. Does z e new) w d, refl)
@@ -22,8 +22,8 @@ counts_more (Cycle_on ∷ es) e = counts_more es e
 counts_more (Quantum_done budget units phase ∷ es) e = let i = counts_more es e in (i.0, omega (arith, i.1), omega (arith, i.2))
 counts_more (Quantum_refused budget ∷ es) e = counts_more es e
 
-pub led_more : (r new : Course) (e : Event) (cycles quanta units : ℕ) → IsLed r cycles quanta units → Does r e new → IsLed new (cycles + cycles_in (e ∷ [])) (quanta + quanta_in (e ∷ [])) (units + units_in (e ∷ []))
-led_more r new e cycles quanta units w d = record {
+pub reached_more : (r new : Course) (e : Event) (cycles quanta units : ℕ) → IsReachedFrom r cycles quanta units → Does r e new → IsReachedFrom new (cycles + cycles_in (e ∷ [])) (quanta + quanta_in (e ∷ [])) (units + units_in (e ∷ []))
+reached_more r new e cycles quanta units w d = record {
   first = w.first;
   events = w.events ++ e ∷ [];
   opening = w.opening;
@@ -34,5 +34,5 @@ led_more r new e cycles quanta units w d = record {
   spent = omega (arith, (counts_more w.events e).2, w.spent);
 }
 
-pub led_course : (r : Course) (cycles quanta units : ℕ) → IsLed r cycles quanta units → IsCourse r
-led_course r cycles quanta units w = runs_course w.events (opened w.first) r (opening_course w.first w.opening w.pages) w.runs
+pub reached_course : (r : Course) (cycles quanta units : ℕ) → IsReachedFrom r cycles quanta units → IsCourse r
+reached_course r cycles quanta units w = runs_course w.events (opened w.first) r (opening_course w.first w.opening w.pages) w.runs

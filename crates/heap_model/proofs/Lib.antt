@@ -23,7 +23,7 @@ pub mod Written
 pub mod Shown
 pub mod Sameness
 pub mod Effects
-pub mod Held
+pub mod Allocated
 pub mod Acting
 pub mod Moved
 pub mod Actions
@@ -40,7 +40,7 @@ pub mod Marks
 pub mod Stood
 pub mod Costs
 pub mod Bound
-pub mod Recorded
+pub mod Recording
 pub mod Taken
 pub mod Changed
 pub mod Left

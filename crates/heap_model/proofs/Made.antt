@@ -24,7 +24,7 @@ unfolding KeptBy FreshBy
 kept_new roots s g ps n w k e = elim k [ inl r ↦ (let l = w.reached n r in let m = w.next in absurd (omega arith)) | inr f ↦ grind arith ]
 
 pub kept_below : (h : Heap) (g s : PartGraph) (at : Name → ℕ) (n : Name) → Base h g s at → Kept h.roots s g n → n.identity < g.next
-kept_below h g s at n b k = let e = b.held n k in let f = b.name n k in grind arith
+kept_below h g s at n b k = let e = b.allocated n k in let f = b.name n k in grind arith
 
 pub made_grows : (h : Heap) (g s : PartGraph) (at : Name → ℕ) (ps : Parts) → Base h g s at → AreParts ps → Grows h.roots s (made g ps)
 made_grows h g s at ps b w = record {
@@ -40,7 +40,7 @@ pub made_base : (h : Heap) (g s : PartGraph) (at : Name → ℕ) (ps : Parts) (a
 made_base h g s at ps a h' b w m = let grows = made_grows h g s at ps b w in let stays = m.stays in let parts = m.parts in record {
   grows = rw m.roots grows;
   next = grind arith;
-  null_held = grind arith;
+  null_allocated = grind arith;
   null_forward = grind arith;
   null_name = grind arith;
   null_at = grind arith;
@@ -48,15 +48,15 @@ made_base h g s at ps a h' b w m = let grows = made_grows h g s at ps b w in let
   null_words = grind arith;
   null_shape = grind arith;
   below = grind arith;
-  held = λ n k. grind (arith, kept_old, kept_new, kept_below);
+  allocated = λ n k. grind (arith, kept_old, kept_new, kept_below);
   main = λ n k. grind (arith, kept_old, kept_new, kept_below);
   name = λ n k. grind (arith, kept_old, kept_new, kept_below);
   width = λ n k. grind (arith, kept_old, kept_new, kept_below);
   words = λ n k. grind (arith, kept_old, kept_new, kept_below);
   shape = λ n k. grind (arith, kept_old, kept_new, kept_below);
-  cell_held = λ n i k l. grind (arith, kept_old, kept_new, kept_below);
+  cell_allocated = λ n i k l. grind (arith, kept_old, kept_new, kept_below);
   cell = λ n i k l. grind (arith, kept_old, kept_new, kept_below);
-  root_held = grind arith;
+  root_allocated = grind arith;
   root = grind (arith, kept_below);
   only = grind (arith, kept_old);
 }
@@ -114,8 +114,8 @@ made_resting h g s at ps a h' b w m t = let stays = m.stays in let parts = m.par
   forward = grind (arith, kept_below);
 }
 
-pub made_moving : (h : Heap) (ps : Parts) (a : ℕ → ℕ) (h' : Heap) (receiving : ℕ → Bool) → Makes h ps a h' → Moving h receiving → Moving h' receiving
-made_moving h ps a h' receiving m o = let stays = m.stays in let parts = m.parts in record { old = grind arith }
+pub made_moving : (h : Heap) (ps : Parts) (a : ℕ → ℕ) (h' : Heap) (is_target : ℕ → Bool) → Makes h ps a h' → Moving h is_target → Moving h' is_target
+made_moving h ps a h' is_target m o = let stays = m.stays in let parts = m.parts in record { old = grind arith }
 
 pub made_left : (h : Heap) (ps : Parts) (a : ℕ → ℕ) (h' : Heap) (left : ℕ → Bool) → Makes h ps a h' → Left h left → Left h' left
 made_left h ps a h' left m o = let stays = m.stays in let parts = m.parts in record { old = grind arith }

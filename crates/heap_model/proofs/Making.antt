@@ -6,11 +6,11 @@ use Rattle.graph_heap.specs.declared.command.Shape.{Shape}
 use Rattle.graph_heap.specs.declared.command.Shape.TheVariants.{Plain, RefArray, WordArray}
 use Rattle.graph_heap.specs.Shape.{ref_cells, word_cells, fits}
 use Rattle.graph_heap.specs.Graph.{Object, new_object}
-use Rattle.size_classes.specs.Parts.{Run, cells_of, pieces_of, spines_of, parts_in, part_cells, run_of, first_by, count_by, holder_of, seat_of}
-use Rattle.size_classes.proofs.Cutting.{Pieces, Spines, pieces_are, spines_are, held_by, holds}
+use Rattle.size_classes.specs.Parts.{PartContents, cells_of, pieces_of, spines_of, parts_in, part_cells, run_of, first_by, count_by, holder_of, seat_of}
+use Rattle.size_classes.proofs.Cutting.{Pieces, Spines, pieces_are, spines_are, referrers_are, holds}
 use Rattle.heap_model.specs.Header.{Header}
-use Rattle.heap_model.specs.Block.{Node, new_node}
-use Rattle.heap_model.specs.Store.{Store, Adds, is_held, node_of}
+use Rattle.heap_model.specs.Block.{BlockRecord, new_record}
+use Rattle.heap_model.specs.Store.{Store, Adds, is_allocated, record_of}
 use Rattle.heap_model.specs.Core.{Name, null, Heap}
 use Rattle.heap_model.specs.Cut.{count_of, width_by, width_in, width_of, words_by, words_of}
 use Rattle.heap_model.proofs.Cut.{holder_at, seat_at, holder_below}
@@ -23,7 +23,7 @@ use Rattle.heap_model.proofs.Edits.{set_cell}
 use Rattle.heap_model.proofs.Changes.{no_refs, parts_are}
 use Rattle.heap_model.proofs.Steps.{AreLinked, MakesFirst, block_made, first_none, first_root, first_more, first_all}
 use Rattle.heap_model.proofs.Written.{whole_cell, width_le}
-use Rattle.heap_model.proofs.Seen.{behind, held_put, cell_seen}
+use Rattle.heap_model.proofs.Seen.{behind, allocated_put, cell_seen}
 
 -- a heap that shows the same blocks has the same parts made
 pub first_same : (h : Heap) (ps : Parts) (a : ℕ → ℕ) (k : ℕ) (h1 h2 : Heap) → MakesFirst h ps a k h1 → SameBlocks h1 h2 → MakesFirst h ps a k h2
@@ -35,22 +35,22 @@ first_same h ps a k h1 h2 m e = record {
   stays = let s = m.stays in grind arith;
   parts = let o = m.parts in grind arith;
   apart = m.apart;
-  cell = λ p i b d. let u = m.parts.held p b in let w = m.parts.width p b in e.says.cell (a p) i u (omega arith) ∙ m.cell p i b d;
+  cell = λ p i b d. let u = m.parts.allocated p b in let w = m.parts.width p b in e.says.cell (a p) i u (omega arith) ∙ m.cell p i b d;
   part = m.part;
-  others = λ x b. m.others x (sym (e.held x) ∙ b);
+  others = λ x b. m.others x (sym (e.allocated x) ∙ b);
 }
 
 -- a block is added
-add_field : {A : Type 0} (none v : A) (f : Node → A) (old new : Store) (a : ℕ) (n : Node) → Adds old new a n → f n ≡ v → (x : ℕ) → (if x == a + 1 then true else (if x == 0 then true else is_held old (x - 1))) ≡ true
-    → (if x == 0 then none else f (node_of new (x - 1))) ≡ (if x == a + 1 then v else (if x == 0 then none else f (node_of old (x - 1))))
+add_field : {A : Type 0} (none v : A) (f : BlockRecord → A) (old new : Store) (a : ℕ) (n : BlockRecord) → Adds old new a n → f n ≡ v → (x : ℕ) → (if x == a + 1 then true else (if x == 0 then true else is_allocated old (x - 1))) ≡ true
+    → (if x == 0 then none else f (record_of new (x - 1))) ≡ (if x == a + 1 then v else (if x == 0 then none else f (record_of old (x - 1))))
 add_field none v f old new a n w e x l = by_here (x == a + 1) refl l
   where
-    by_null : (t : Bool) → (x == 0) ≡ t → (if t then true else is_held old (x - 1)) ≡ true → (if t then none else f (node_of new (x - 1))) ≡ (if t then none else f (node_of old (x - 1)))
+    by_null : (t : Bool) → (x == 0) ≡ t → (if t then true else is_allocated old (x - 1)) ≡ true → (if t then none else f (record_of new (x - 1))) ≡ (if t then none else f (record_of old (x - 1)))
     by_null true q l = refl
     by_null false q l = ap f (w.others (x - 1) l)
 
-    by_here : (t : Bool) → (x == a + 1) ≡ t → (if t then true else (if x == 0 then true else is_held old (x - 1))) ≡ true → (if x == 0 then none else f (node_of new (x - 1))) ≡ (if t then v else (if x == 0 then none else f (node_of old (x - 1))))
-    by_here true q l = let same : x ≡ a + 1 = grind arith in ap (λ z. if z == 0 then none else f (node_of new (z - 1))) same ∙ behind none (λ z. f (node_of new z)) a ∙ ap f w.here ∙ e
+    by_here : (t : Bool) → (x == a + 1) ≡ t → (if t then true else (if x == 0 then true else is_allocated old (x - 1))) ≡ true → (if x == 0 then none else f (record_of new (x - 1))) ≡ (if t then v else (if x == 0 then none else f (record_of old (x - 1))))
+    by_here true q l = let same : x ≡ a + 1 = grind arith in ap (λ z. if z == 0 then none else f (record_of new (z - 1))) same ∙ behind none (λ z. f (record_of new z)) a ∙ ap f w.here ∙ e
     by_here false q l = by_null (x == 0) refl l
 
 colour_same : (c : Bool) → same_colour c c ≡ true
@@ -108,42 +108,42 @@ part_words_new shape p f l =
 part_width_new : (shape : Shape) (p : ℕ) → width_in (ref_cells shape) (word_cells shape) p ≡ width_of (new_object shape) p
 part_width_new shape p = let a = length-replicate {A = ℕ} (ref_cells shape) 0 in let b = length-replicate {A = ℕ} (word_cells shape) 0 in rw (a, b) refl
 
-pub add_seen : (h : HeapState) (s t : Store) (a p : ℕ) (shape : Shape) → fits shape ≡ true → p < parts_in (cells_of shape) → Adds s t a (new_node a (record { shape = shape; part = p; colour = h.sense }) h.next)
+pub add_seen : (h : HeapState) (s t : Store) (a p : ℕ) (shape : Shape) → fits shape ≡ true → p < parts_in (cells_of shape) → Adds s t a (new_record a (record { shape = shape; part = p; colour = h.mark_parity }) h.next)
     → SameBlocks (block_made (seen (record h { store = s })) (a + 1) (record { identity = h.next; part = p }) shape ((parts_of shape).width p) ((parts_of shape).words p)) (seen (record h { store = t }))
 add_seen h s t a p shape f l w =
-    let n = new_node a (record { shape = shape; part = p; colour = h.sense }) h.next in
+    let n = new_record a (record { shape = shape; part = p; colour = h.mark_parity }) h.next in
     record {
       next = refl;
       roots = refl;
       root = λ j m. refl;
-      held = held_put s t a true w.held w.same;
+      allocated = allocated_put s t a true w.allocated w.same;
       says = record {
         forward = λ x m. add_field 0 (a + 1) (λ z. z.forward + 1) s t a n w refl x m;
-        name = λ x m. let g = λ (z : Node). let y : Name = record { identity = z.identity; part = z.part } in y in add_field null (record { identity = h.next; part = p }) g s t a n w refl x m;
+        name = λ x m. let g = λ (z : BlockRecord). let y : Name = record { identity = z.identity; part = z.part } in y in add_field null (record { identity = h.next; part = p }) g s t a n w refl x m;
         width = λ x m. add_field 0 (width_of (new_object shape) p) width_at s t a n w (part_width_new shape p) x m;
-        words = λ x m. let g = λ (z : Node). drop (width_at z) z.cells in add_field [] (words_of (new_object shape) p) g s t a n w (part_words_new shape p f l) x m;
+        words = λ x m. let g = λ (z : BlockRecord). drop (width_at z) z.cells in add_field [] (words_of (new_object shape) p) g s t a n w (part_words_new shape p f l) x m;
         shape = λ x m. add_field (Plain 0 0) shape (λ z. z.shape) s t a n w refl x m;
-        marked = λ x m. add_field true true (λ z. same_colour h.sense z.colour) s t a n w (colour_same h.sense) x m;
+        marked = λ x m. add_field true true (λ z. same_colour h.mark_parity z.colour) s t a n w (colour_same h.mark_parity) x m;
         cell = λ x i m b. add_field 0 0 (λ z. get_or z.cells i 0) s t a n w (no_refs (part_cells (cells_of shape) p) i) x m;
       };
     }
 
 -- the blocks stay whole
-pub whole_add : (s t : Store) (a : ℕ) (header : Header) (id : ℕ) → Adds s t a (new_node a header id) → IsWhole s → IsWhole t
+pub whole_add : (s t : Store) (a : ℕ) (header : Header) (id : ℕ) → Adds s t a (new_record a header id) → IsWhole s → IsWhole t
 whole_add s t a header id w k b l = by_here (b == a) refl
   where
-    n : Node
-    n = new_node a header id
+    n : BlockRecord
+    n = new_record a header id
 
-    by_here : (t0 : Bool) → (b == a) ≡ t0 → length (node_of t b).cells ≡ part_cells (cells_of (node_of t b).shape) (node_of t b).part
+    by_here : (t0 : Bool) → (b == a) ≡ t0 → length (record_of t b).cells ≡ part_cells (cells_of (record_of t b).shape) (record_of t b).part
     by_here true e =
         let same : b ≡ a = grind arith in
-        let q : node_of t b ≡ n = ap (node_of t) same ∙ w.here in
-        subst (λ (z : Node). length z.cells ≡ part_cells (cells_of z.shape) z.part) (sym q) (length-replicate {A = ℕ} (part_cells (cells_of header.shape) header.part) 0)
+        let q : record_of t b ≡ n = ap (record_of t) same ∙ w.here in
+        subst (λ (z : BlockRecord). length z.cells ≡ part_cells (cells_of z.shape) z.part) (sym q) (length-replicate {A = ℕ} (part_cells (cells_of header.shape) header.part) 0)
     by_here false e =
         let ne : b ≢ a = grind arith in
-        let l' : is_held s b ≡ true = sym (w.same b ne) ∙ l in
-        subst (λ (z : Node). length z.cells ≡ part_cells (cells_of z.shape) z.part) (sym (w.others b l')) (k b l')
+        let l' : is_allocated s b ≡ true = sym (w.same b ne) ∙ l in
+        subst (λ (z : BlockRecord). length z.cells ≡ part_cells (cells_of z.shape) z.part) (sym (w.others b l')) (k b l')
 
 pub making_whole : (old : Store) (shape : Shape) (colour : Bool) (id : ℕ) (at : ℕ → ℕ) (k : ℕ) (new : Store) → Making old (made shape colour id) at k new → IsWhole old → IsWhole new
 making_whole old shape colour id at k new Nothing_made w = w
@@ -159,10 +159,10 @@ parts_count : (shape : Shape) → (parts_of shape).count ≡ parts_in (cells_of 
 unfolding count_of
 parts_count shape = let u = length-replicate {A = ℕ} (ref_cells shape) 0 in let v = length-replicate {A = ℕ} (word_cells shape) 0 in rw (u, v) refl
 
-link_some : (r : Run) (i : ℕ) → 0 < link_by r i → (r.spine ≡ true) × (i < r.count) × (r.first + i ≡ link_by r i)
+link_some : (r : PartContents) (i : ℕ) → 0 < link_by r i → (r.spine ≡ true) × (i < r.count) × (r.first + i ≡ link_by r i)
 link_some r i l = (grind arith, grind arith, grind arith)
 
-link_is : (r : Run) (i x : ℕ) → r.spine ≡ true → i < r.count → r.first + i ≡ x → link_by r i ≡ x
+link_is : (r : PartContents) (i x : ℕ) → r.spine ≡ true → i < r.count → r.first + i ≡ x → link_by r i ≡ x
 link_is r i x e l q = grind arith
 
 among : (s p : ℕ) → nat_lt p s ≡ true → p < s
@@ -176,7 +176,7 @@ linked_there : (o : Object) (k : ℕ) → 0 < k → k < count_of o → link_by (
 unfolding count_of
 linked_there o k l m =
     let n = length o.refs + length o.words in
-    let q = held_by n (pieces_of n) (spines_of n) (pieces_are n) (spines_are n) k l m in
+    let q = referrers_are n (pieces_of n) (spines_of n) (pieces_are n) (spines_are n) k l m in
     link_is (run_of n (holder_of n k)) (seat_of n k) k (sooner _ _ q.0) q.2 q.3
 
 linked_back : (n p i : ℕ) → 0 < link_by (run_of n p) i → (holder_of n (link_by (run_of n p) i) ≡ p) × (seat_of n (link_by (run_of n p) i) ≡ i) × (p < link_by (run_of n p) i)
@@ -196,14 +196,14 @@ parts_linked shape =
       back = λ p i l m n. linked_back (length o.refs + length o.words) p i n;
     })
 
-other_cells : (h1 h2 : Heap) (c1 c2 : ℕ → ℕ → ℕ) → SameBlocks h1 h2 → ((z k : ℕ) → h1.held z ≡ true → k < h1.width z → c2 z k ≡ c1 z k) → SameBlocks (record h1 { cell = c1 }) (record h2 { cell = c2 })
+other_cells : (h1 h2 : Heap) (c1 c2 : ℕ → ℕ → ℕ) → SameBlocks h1 h2 → ((z k : ℕ) → h1.allocated z ≡ true → k < h1.width z → c2 z k ≡ c1 z k) → SameBlocks (record h1 { cell = c1 }) (record h2 { cell = c2 })
 other_cells h1 h2 c1 c2 e same = grind arith
 
 same_set : (h1 h2 : Heap) (x i y : ℕ) → SameBlocks h1 h2 → SameBlocks (set_cell h1 x i y) (set_cell h2 x i y)
 same_set h1 h2 x i y e = other_cells h1 h2 _ _ e (λ z k b d. ap (λ v. if (z == x) && (k == i) then y else v) (e.says.cell z k b d))
 
 pub making_first : (h : HeapState) (shape : Shape) (at : ℕ → ℕ) (k : ℕ) (new : Store) → fits shape ≡ true → IsWhole h.store → k ≤ parts_in (cells_of shape)
-    → Making h.store (made shape h.sense h.next) at k new → MakesFirst (seen h) (parts_of shape) (reference at) k (seen (record h { store = new }))
+    → Making h.store (made shape h.mark_parity h.next) at k new → MakesFirst (seen h) (parts_of shape) (reference at) k (seen (record h { store = new }))
 making_first h shape at k new f whole few Nothing_made = first_none (seen h) (parts_of shape) (reference at)
 making_first h shape at k new f whole few (Part_made part s t u m a none some) =
     let ps = parts_of shape in
@@ -213,7 +213,7 @@ making_first h shape at k new f whole few (Part_made part s t u m a none some) =
     let below : part < parts_in n = omega arith in
     let fewer : part < ps.count = subst (λ z. part < z) (sym (parts_count shape)) below in
     let before = making_first h shape at part s f whole (omega arith) m in
-    let free : (seen hs).held (at part + 1) ≡ false = behind true (λ z. is_held s z) (at part) ∙ a.free in
+    let free : (seen hs).allocated (at part + 1) ≡ false = behind true (λ z. is_allocated s z) (at part) ∙ a.free in
     let added = add_seen h s t (at part) part shape f below a in
     elim (eq-zero-or-pos part) [
       | inl e ↦
@@ -224,14 +224,14 @@ making_first h shape at k new f whole few (Part_made part s t u m a none some) =
           let q = holder_of n part in
           let c = seat_of n part in
           let w = (parts_linked shape).there part l fewer in
-          let held : is_held s (at q) ≡ true = sym (behind true (λ z. is_held s z) (at q)) ∙ before.parts.held q w.0 in
-          let kept : node_of t (at q) ≡ node_of s (at q) = a.others (at q) held in
-          let wide : width_at (node_of s (at q)) ≡ ps.width q = sym (behind 0 (λ z. width_at (node_of s z)) (at q)) ∙ before.parts.width q w.0 in
-          let is_shape : (node_of s (at q)).shape ≡ shape = sym (behind _ (λ z. (node_of s z).shape) (at q)) ∙ before.parts.shape q w.0 in
-          let within_s : c < width_at (node_of s (at q)) = subst (λ z. c < z) (sym wide) w.1 in
-          let inside_s : c < length (node_of s (at q)).cells = under c (width_at (node_of s (at q))) _ _ within_s (width_le (ref_cells (node_of s (at q)).shape) (word_cells (node_of s (at q)).shape) (node_of s (at q)).part) (making_whole h.store shape h.sense h.next at part s m whole (at q) held) in
-          let within : c < width_at (node_of t (at q)) = subst (λ (z : Node). c < width_at z) (sym kept) within_s in
-          let inside : c < length (node_of t (at q)).cells = subst (λ (z : Node). c < length z.cells) (sym kept) inside_s in
+          let allocated : is_allocated s (at q) ≡ true = sym (behind true (λ z. is_allocated s z) (at q)) ∙ before.parts.allocated q w.0 in
+          let kept : record_of t (at q) ≡ record_of s (at q) = a.others (at q) allocated in
+          let wide : width_at (record_of s (at q)) ≡ ps.width q = sym (behind 0 (λ z. width_at (record_of s z)) (at q)) ∙ before.parts.width q w.0 in
+          let is_shape : (record_of s (at q)).shape ≡ shape = sym (behind _ (λ z. (record_of s z).shape) (at q)) ∙ before.parts.shape q w.0 in
+          let within_s : c < width_at (record_of s (at q)) = subst (λ z. c < z) (sym wide) w.1 in
+          let inside_s : c < length (record_of s (at q)).cells = under c (width_at (record_of s (at q))) _ _ within_s (width_le (ref_cells (record_of s (at q)).shape) (word_cells (record_of s (at q)).shape) (record_of s (at q)).part) (making_whole h.store shape h.mark_parity h.next at part s m whole (at q) allocated) in
+          let within : c < width_at (record_of t (at q)) = subst (λ (z : BlockRecord). c < width_at z) (sym kept) within_s in
+          let inside : c < length (record_of t (at q)).cells = subst (λ (z : BlockRecord). c < length z.cells) (sym kept) inside_s in
           let written = cell_seen ht u (at q) c (at part + 1) (some l) inside within in
           let step = first_more (seen h) ps (reference at) (holder_of n) (seat_of n) part (seen hs) (at part + 1) (parts_linked shape) l fewer before free refl in
           first_same (seen h) ps (reference at) (part + 1) _ (seen (record h { store = u })) (first_same (seen h) ps (reference at) (part + 1) _ _ step (same_set _ (seen ht) (at q + 1) c (at part + 1) added)) written
@@ -241,7 +241,7 @@ making_first h shape at k new f whole few (Part_made part s t u m a none some) =
     under c width cells count l m e = omega arith
 
 -- all parts of an object are made
-pub makes_object : (h : HeapState) (shape : Shape) (at : ℕ → ℕ) (new : Store) → fits shape ≡ true → IsWhole h.store → MakesObject h.store shape h.sense h.next at new
+pub makes_object : (h : HeapState) (shape : Shape) (at : ℕ → ℕ) (new : Store) → fits shape ≡ true → IsWhole h.store → MakesObject h.store shape h.mark_parity h.next at new
     → Makes (seen h) (parts_of shape) (reference at) (seen (record h { store = new; next = h.next + 1 }))
 makes_object h shape at new f whole m =
     let first = making_first h shape at (parts_in (cells_of shape)) new f whole (omega arith) m in

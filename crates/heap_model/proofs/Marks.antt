@@ -7,12 +7,12 @@ use Rattle.heap_model.specs.declared.phase.Phase.{Phase}
 use Rattle.heap_model.specs.declared.phase.Phase.TheVariants as phases
 use Rattle.heap_model.specs.declared.phase.Moving.TheVariants as moves
 use Rattle.heap_model.specs.declared.phase.Candidate.{Candidate}
-use Rattle.heap_model.specs.Pages.{Page, IsPage, ArePages, page_at, is_usable, with_held}
+use Rattle.heap_model.specs.Pages.{Page, IsPage, ArePages, page_at, is_usable, with_allocated}
 use Rattle.heap_model.specs.State.{HeapState}
-use Rattle.heap_model.specs.Action.{Action, Scans_root, Ends_roots, Scans_header, Scans_cell, Ends_marking, Frees_block, Passes_block, Closes_page, Ends_sweep, Looks_at_page, Chooses_page, Chooses_none, Moves_block, Ends_moving, held_on, closed, is_sparse, is_choosable, is_chosen}
+use Rattle.heap_model.specs.Action.{Action, Scans_root, Ends_roots, Scans_header, Scans_cell, Ends_marking, Frees_block, Passes_block, Closes_page, Ends_sweep, Looks_at_page, Chooses_page, Chooses_none, Moves_block, Ends_moving, allocated_on, closed, is_sparse, is_choosable, is_chosen}
 use Rattle.heap_model.specs.Placed.{KeepsPages, IsPlaced}
 use Rattle.heap_model.specs.Marks.{HasNoMark, AreClosed}
-use Rattle.heap_model.proofs.Held.{set_page, set_page_here, page_within}
+use Rattle.heap_model.proofs.Allocated.{set_page, set_page_here, page_within}
 use Rattle.heap_model.proofs.Moved.{same_number, usable_fits}
 use Rattle.heap_model.proofs.Spent.{shades_units}
 
@@ -30,15 +30,15 @@ pages_same old new e w = subst ArePages (sym e) w
 pub some_page : (q : Page) → IsPage q → (p : Page) → Some q ≡ Some p → IsPage p
 some_page q w p e = subst IsPage (same_Some q p e) w
 
-pub held_page : (p : Page) (i : ℕ) (b : Bool) → IsPage p → IsPage (with_held p i b)
-held_page p i b w = record { class = w.class; blocks = length-set p.held i b ∙ w.blocks; marks = w.marks }
+pub allocated_page : (p : Page) (i : ℕ) (b : Bool) → IsPage p → IsPage (with_allocated p i b)
+allocated_page p i b w = record { class = w.class; blocks = length-set p.allocated i b ∙ w.blocks; marks = w.marks }
 
 no_and : (b : Bool) → (b && false) ≡ false
 no_and true = refl
 no_and false = refl
 
-chosen_page : (pages : List (Option Page)) (class : ℕ) (c : Candidate) (p : Page) → is_chosen pages class (Some c) ≡ true → page_at pages c.page ≡ Some p → IsPage p → IsPage (record p { leaving = true })
-chosen_page pages class c p e at w = record { class = w.class; blocks = w.blocks; marks = by_marks p.leaving p.receiving refl (subst (λ z. is_choosable class z ≡ true) at (first_true _ _ e)) }
+chosen_page : (pages : List (Option Page)) (class : ℕ) (c : Candidate) (p : Page) → is_chosen pages class (Some c) ≡ true → page_at pages c.page ≡ Some p → IsPage p → IsPage (record p { evacuating = true })
+chosen_page pages class c p e at w = record { class = w.class; blocks = w.blocks; marks = by_marks p.evacuating p.is_target refl (subst (λ z. is_choosable class z ≡ true) at (first_true _ _ e)) }
   where
     first_true : (a b : Bool) → (a && b) ≡ true → a ≡ true
     first_true true b h = refl
@@ -49,23 +49,23 @@ chosen_page pages class c p e at w = record { class = w.class; blocks = w.blocks
     none true false h = cc
     none false b h = cc
 
-    by_marks : (l r : Bool) → p.receiving ≡ r → ((p.class == class) && (not l && not p.receiving)) ≡ true → (true && p.receiving) ≡ false
+    by_marks : (l r : Bool) → p.is_target ≡ r → ((p.class == class) && (not l && not p.is_target)) ≡ true → (true && p.is_target) ≡ false
     by_marks l true t h = absurd (none (p.class == class) (not l) (subst (λ z. ((p.class == class) && (not l && not z)) ≡ true) t h))
     by_marks l false t h = t
 
-got_page : (pages : List (Option Page)) (class to j : ℕ) (q : Page) → position (is_usable class) pages ≡ Some to → page_at pages to ≡ Some q → IsPage q → IsPage (record (with_held q j true) { receiving = true })
+got_page : (pages : List (Option Page)) (class to j : ℕ) (q : Page) → position (is_usable class) pages ≡ Some to → page_at pages to ≡ Some q → IsPage q → IsPage (record (with_allocated q j true) { is_target = true })
 got_page pages class to j q place at w =
     let usable : is_usable class (Some q) ≡ true = ap (is_usable class) (sym at) ∙ (position-Some (is_usable class) pages to None place).1 in
     let good = usable_fits class q usable in
-    record { class = w.class; blocks = length-set q.held j true ∙ w.blocks; marks = ap (λ z. z && true) good.1 }
+    record { class = w.class; blocks = length-set q.allocated j true ∙ w.blocks; marks = ap (λ z. z && true) good.1 }
 
 closed_page : (o : Option Page) → ((p : Page) → o ≡ Some p → IsPage p) → (p : Page) → closed o ≡ Some p → IsPage p
 closed_page None w p e = absurd (cc)
-closed_page (Some q) w p e = by_held (held_on (Some q) == 0) e
+closed_page (Some q) w p e = by_allocated (allocated_on (Some q) == 0) e
   where
-    by_held : (b : Bool) → (if b then None else Some (record q { leaving = false; receiving = false })) ≡ Some p → IsPage p
-    by_held true e = absurd (cc)
-    by_held false e = let is = w q refl in some_page (record q { leaving = false; receiving = false }) (record { class = is.class; blocks = is.blocks; marks = refl }) p e
+    by_allocated : (b : Bool) → (if b then None else Some (record q { evacuating = false; is_target = false })) ≡ Some p → IsPage p
+    by_allocated true e = absurd (cc)
+    by_allocated false e = let is = w q refl in some_page (record q { evacuating = false; is_target = false }) (record { class = is.class; blocks = is.blocks; marks = refl }) p e
 
 -- each page stays one
 pub action_pages : (h after : HeapState) (cost : ℕ) → ArePages h.store.pages → Action h cost after → ArePages after.store.pages
@@ -75,17 +75,17 @@ action_pages h after cost w (Scans_header part cell x front back e f n) = w
 action_pages h after cost w (Scans_cell part cell new k e l w0 sh) = pages_same h.store.pages k.store.pages ((shades_units _ k _ sh).2 ∙ w0.pages) w
 action_pages h after cost w (Ends_marking part cell e f n) = w
 action_pages h after cost w (Frees_block page block p new e f was unmarked w0 pages) =
-    pages_put h.store.pages new.pages page _ (page_within h.store.pages page p f) pages w (some_page (with_held p block false) (held_page p block false (w.each page p f)))
+    pages_put h.store.pages new.pages page _ (page_within h.store.pages page p f) pages w (some_page (with_allocated p block false) (allocated_page p block false (w.each page p f)))
 action_pages h after cost w (Passes_block page block p e f l marked) = w
 action_pages h after cost w (Closes_page page block new e l f w0 pages) =
     pages_put h.store.pages new.pages page _ l pages w (closed_page (page_at h.store.pages page) (w.each page))
 action_pages h after cost w (Ends_sweep page block e l) = w
 action_pages h after cost w (Looks_at_page class page best chosen at few more) = w
 action_pages h after cost w (Chooses_page class page best chosen c p new at few last is good there w0 pages) =
-    pages_put h.store.pages new.pages c.page _ (page_within h.store.pages c.page p there) pages w (some_page (record p { leaving = true }) (chosen_page h.store.pages class c p good there (w.each c.page p there)))
+    pages_put h.store.pages new.pages c.page _ (page_within h.store.pages c.page p there) pages w (some_page (record p { evacuating = true }) (chosen_page h.store.pages class c p good there (w.each c.page p there)))
 action_pages h after cost w (Chooses_none class page best chosen at few last is) = w
-action_pages h after cost w (Moves_block class page block chosen i to j p q new e at leaving next place there empty w0 pages) =
-    pages_put h.store.pages new.pages to _ (page_within h.store.pages to q there) pages w (some_page (record (with_held q j true) { receiving = true }) (got_page h.store.pages p.class to j q place there (w.each to q there)))
+action_pages h after cost w (Moves_block class page block chosen i to j p q new e at evacuating next place there empty w0 pages) =
+    pages_put h.store.pages new.pages to _ (page_within h.store.pages to q there) pages w (some_page (record (with_allocated q j true) { is_target = true }) (got_page h.store.pages p.class to j q place there (w.each to q there)))
 action_pages h after cost w (Ends_moving done) = w
 
 pub action_count : (h after : HeapState) (cost : ℕ) → Action h cost after → length after.store.pages ≡ length h.store.pages
@@ -101,7 +101,7 @@ action_count h after cost (Ends_sweep page block e l) = refl
 action_count h after cost (Looks_at_page class page best chosen at few more) = refl
 action_count h after cost (Chooses_page class page best chosen c p new at few last is good there w0 pages) = ap length pages ∙ length-set h.store.pages c.page _
 action_count h after cost (Chooses_none class page best chosen at few last is) = refl
-action_count h after cost (Moves_block class page block chosen i to j p q new e at leaving next place there empty w0 pages) = ap length pages ∙ length-set h.store.pages to _
+action_count h after cost (Moves_block class page block chosen i to j p q new e at evacuating next place there empty w0 pages) = ap length pages ∙ length-set h.store.pages to _
 action_count h after cost (Ends_moving done) = refl
 
 -- a page that is in use stays in use where another page changes, or where it changes to one in use
@@ -112,16 +112,16 @@ in_use old new page k p v at l e = by_place (page == k) (ap (λ z. page_at z pag
     by_place true f = (v, f)
     by_place false f = (p, f ∙ at)
 
--- a page that is leaving stays so where another changes that isn't
-stays_leaving : (old new : List (Option Page)) (page k : ℕ) (p q v : Page) → page_at old page ≡ Some p → p.leaving ≡ true → page_at old k ≡ Some q → k < length old → new ≡ set old k (Some v) → q.leaving ≡ false
-    → (r : Page) × (page_at new page ≡ Some r) × (r.leaving ≡ true)
-stays_leaving old new page k p q v at is there l e off = by_place (page == k) refl (ap (λ z. page_at z page) e ∙ set_page old k page (Some v) l)
+-- a page that is evacuating stays so where another changes that isn't
+stays_evacuating : (old new : List (Option Page)) (page k : ℕ) (p q v : Page) → page_at old page ≡ Some p → p.evacuating ≡ true → page_at old k ≡ Some q → k < length old → new ≡ set old k (Some v) → q.evacuating ≡ false
+    → (r : Page) × (page_at new page ≡ Some r) × (r.evacuating ≡ true)
+stays_evacuating old new page k p q v at is there l e off = by_place (page == k) refl (ap (λ z. page_at z page) e ∙ set_page old k page (Some v) l)
   where
-    by_place : (t : Bool) → (page == k) ≡ t → page_at new page ≡ (if t then Some v else page_at old page) → (r : Page) × (page_at new page ≡ Some r) × (r.leaving ≡ true)
+    by_place : (t : Bool) → (page == k) ≡ t → page_at new page ≡ (if t then Some v else page_at old page) → (r : Page) × (page_at new page ≡ Some r) × (r.evacuating ≡ true)
     by_place true t f =
         let same : page ≡ k = same_number page k t in
         let one : p ≡ q = same_Some p q (sym at ∙ ap (page_at old) same ∙ there) in
-        absurd (let z : true ≡ false = sym is ∙ ap (λ (z : Page). z.leaving) one ∙ off in cc)
+        absurd (let z : true ≡ false = sym is ∙ ap (λ (z : Page). z.evacuating) one ∙ off in cc)
     by_place false t f = (p, f ∙ at, is)
 
 used_placed : (pages : List (Option Page)) (page block : ℕ) (q : Page) → page_at pages page ≡ Some q → page_at pages page ≡ None → block ≡ 0
@@ -135,7 +135,7 @@ action_placed h after cost (Scans_header part cell x front back e f n) = tt
 action_placed h after cost (Scans_cell part cell new k e l w0 sh) = tt
 action_placed h after cost (Ends_marking part cell e f n) = λ z. refl
 action_placed h after cost (Frees_block page block p new e f was unmarked w0 pages) =
-    let q = in_use h.store.pages new.pages page page p (with_held p block false) f (page_within h.store.pages page p f) pages in used_placed new.pages page (block + 1) q.0 q.1
+    let q = in_use h.store.pages new.pages page page p (with_allocated p block false) f (page_within h.store.pages page p f) pages in used_placed new.pages page (block + 1) q.0 q.1
 action_placed h after cost (Passes_block page block p e f l marked) = used_placed h.store.pages page (block + 1) p f
 action_placed h after cost (Closes_page page block new e l f w0 pages) = λ z. refl
 action_placed h after cost (Ends_sweep page block e l) = by_sparse (is_sparse h)
@@ -145,21 +145,21 @@ action_placed h after cost (Ends_sweep page block e l) = by_sparse (is_sparse h)
     by_sparse false = tt
 action_placed h after cost (Looks_at_page class page best chosen at few more) = tt
 action_placed h after cost (Chooses_page class page best chosen c p new at few last is good there w0 pages) =
-    let v = record p { leaving = true } in (v, ap (λ z. page_at z c.page) pages ∙ set_page_here h.store.pages c.page (Some v) (page_within h.store.pages c.page p there), refl)
+    let v = record p { evacuating = true } in (v, ap (λ z. page_at z c.page) pages ∙ set_page_here h.store.pages c.page (Some v) (page_within h.store.pages c.page p there), refl)
 action_placed h after cost (Chooses_none class page best chosen at few last is) = tt
-action_placed h after cost (Moves_block class page block chosen i to j p q new e at leaving next place there empty w0 pages) =
-    stays_leaving h.store.pages new.pages page to p q (record (with_held q j true) { receiving = true }) at leaving there (page_within h.store.pages to q there) pages
+action_placed h after cost (Moves_block class page block chosen i to j p q new e at evacuating next place there empty w0 pages) =
+    stays_evacuating h.store.pages new.pages page to p q (record (with_allocated q j true) { is_target = true }) at evacuating there (page_within h.store.pages to q there) pages
     (usable_fits p.class q (ap (is_usable p.class) (sym there) ∙ (position-Some (is_usable p.class) h.store.pages to None place).1)).1
 action_placed h after cost (Ends_moving done) = tt
 
 -- a closed page has no mark
 closed_unmarked : (o : Option Page) → HasNoMark (closed o)
-closed_unmarked None = record { leaving = refl; receiving = refl }
-closed_unmarked (Some q) = by_held (held_on (Some q) == 0)
+closed_unmarked None = record { evacuating = refl; is_target = refl }
+closed_unmarked (Some q) = by_allocated (allocated_on (Some q) == 0)
   where
-    by_held : (b : Bool) → HasNoMark (if b then None else Some (record q { leaving = false; receiving = false }))
-    by_held true = record { leaving = refl; receiving = refl }
-    by_held false = record { leaving = refl; receiving = refl }
+    by_allocated : (b : Bool) → HasNoMark (if b then None else Some (record q { evacuating = false; is_target = false }))
+    by_allocated true = record { evacuating = refl; is_target = refl }
+    by_allocated false = record { evacuating = refl; is_target = refl }
 
 -- where one page changes, those before it are as they were
 before_same : (old new : List (Option Page)) (k j : ℕ) (v : Option Page) → k < length old → new ≡ set old k v → j < k → page_at new j ≡ page_at old j
@@ -195,7 +195,7 @@ action_closed h after cost c (Ends_sweep page block e l) = by_sparse (is_sparse 
 action_closed h after cost c (Looks_at_page class page best chosen at few more) = tt
 action_closed h after cost c (Chooses_page class page best chosen k p new at few last is good there w0 pages) = tt
 action_closed h after cost c (Chooses_none class page best chosen at few last is) = tt
-action_closed h after cost c (Moves_block class page block chosen i to j p q new e at leaving next place there empty w0 pages) = tt
+action_closed h after cost c (Moves_block class page block chosen i to j p q new e at evacuating next place there empty w0 pages) = tt
 action_closed h after cost c (Ends_moving done) = tt
 
 -- blocks that are taken keep both
@@ -209,20 +209,20 @@ taken_placed old new (phases.Sweeping page block) i w = λ e. by_page (page_at o
     by_page None q e = i q
     by_page (Some p) q e = let r = w.used page p q in absurd (let z : None ≡ Some r.0 = sym e ∙ r.1 in cc)
 taken_placed old new (phases.Moving (moves.Pass class page best chosen)) i w = tt
-taken_placed old new (phases.Moving (moves.Emptying class page block chosen)) i w = let r = w.used page i.0 i.1 in (r.0, r.1, r.2.leaving ∙ i.2)
+taken_placed old new (phases.Moving (moves.Emptying class page block chosen)) i w = let r = w.used page i.0 i.1 in (r.0, r.1, r.2.evacuating ∙ i.2)
 
 pub unmarked_kept : (old new : List (Option Page)) (k : ℕ) → KeepsPages old new → HasNoMark (page_at old k) → HasNoMark (page_at new k)
 unmarked_kept old new k w n = by_page (page_at old k) refl (page_at new k) refl n
   where
     by_page : (o : Option Page) → page_at old k ≡ o → (q : Option Page) → page_at new k ≡ q → HasNoMark o → HasNoMark q
-    by_page o e None f n = record { leaving = refl; receiving = refl }
-    by_page None e (Some q) f n = let m = w.free k q e f in record { leaving = m.0; receiving = m.1 }
+    by_page o e None f n = record { evacuating = refl; is_target = refl }
+    by_page None e (Some q) f n = let m = w.free k q e f in record { evacuating = m.0; is_target = m.1 }
     by_page (Some p) e (Some q) f n =
         let r = w.used k p e in
         let same : r.0 ≡ q = same_Some r.0 q (sym r.1 ∙ f) in
         record {
-          leaving = sym (ap (λ (z : Page). z.leaving) same) ∙ r.2.leaving ∙ n.leaving;
-          receiving = sym (ap (λ (z : Page). z.receiving) same) ∙ r.2.receiving ∙ n.receiving;
+          evacuating = sym (ap (λ (z : Page). z.evacuating) same) ∙ r.2.evacuating ∙ n.evacuating;
+          is_target = sym (ap (λ (z : Page). z.is_target) same) ∙ r.2.is_target ∙ n.is_target;
         }
 
 pub taken_closed : (old new : List (Option Page)) (p : Phase) → AreClosed old p → KeepsPages old new → AreClosed new p
@@ -237,5 +237,5 @@ pub no_mark : (pages : List (Option Page)) (page : ℕ) → ((k : ℕ) → k < p
 no_mark pages page c l k = by_page (page_at pages k) refl
   where
     by_page : (o : Option Page) → page_at pages k ≡ o → HasNoMark (page_at pages k)
-    by_page None e = subst HasNoMark (sym e) (record { leaving = refl; receiving = refl })
+    by_page None e = subst HasNoMark (sym e) (record { evacuating = refl; is_target = refl })
     by_page (Some p) e = c k (let w = page_within pages k p e in omega arith)

@@ -25,7 +25,7 @@ use Rattle.heap_model.proofs.Making.{reference, making_whole, makes_object}
 use Rattle.heap_model.proofs.Written.{root_kept}
 
 greys_same : (heap : Heap) (old new : List (Option Page)) (p : Phase) (grey : List ℕ) → Greys (collector_by heap old p grey) → Greys (collector_by heap new p grey)
-greys_same heap old new p grey w = record { held = w.held; marked = w.marked; scanning_held = w.scanning_held; scanning_marked = w.scanning_marked; scanning_apart = w.scanning_apart; column = w.column; once = w.once }
+greys_same heap old new p grey w = record { allocated = w.allocated; marked = w.marked; scanning_allocated = w.scanning_allocated; scanning_marked = w.scanning_marked; scanning_apart = w.scanning_apart; column = w.column; once = w.once }
 
 -- the pages change, and the place of the phase stays
 pub place_kept : (heap : Heap) (old new : List (Option Page)) (p : Phase) (grey : List ℕ) (g s : PartGraph) → KeepsPlace old new p → Coherent (collector_by heap old p grey) g s → Coherent (collector_by heap new p grey) g s
@@ -55,7 +55,7 @@ cells_append xs shape all k = subst HasItsCells (sym (object-append xs (new_obje
     by_new false = all k
 
 pub new_written : (h : HeapState) (present snapshot : Graph) (new : Store) (at : ℕ → ℕ) (j : ℕ) (shape : Shape) → Consistent h present snapshot → fits shape ≡ true → j < length h.roots → IsRecorded h (get_or h.roots j 0)
-    → MakesObject h.store shape h.sense h.next at new → KeepsPlace h.store.pages new.pages h.phase
+    → MakesObject h.store shape h.mark_parity h.next at new → KeepsPlace h.store.pages new.pages h.phase
     → Consistent (record h { store = new; next = h.next + 1; roots = set h.roots j (at 0 + 1) }) (changed present (changes.New j h.next shape)) snapshot
 new_written h present snapshot new at j shape c f l rec making place =
     let h1 : HeapState = record h { store = new; next = h.next + 1 } in
@@ -72,16 +72,16 @@ new_written h present snapshot new at j shape c f l rec making place =
       present_row = c.present_row;
       snapshot_row = c.snapshot_row;
       cells = cells_append present.objects shape c.cells;
-      whole = making_whole h.store shape h.sense h.next at _ new making c.whole;
+      whole = making_whole h.store shape h.mark_parity h.next at _ new making c.whole;
       parts = c3;
     } in
     let b = c.parts.base in
     let same : (view present).next ≡ h.next = sym b.next in
     let kept0 : Kept (length h.roots) (view snapshot) (made (view present) ps) (name_of h.next) = subst (λ z. Kept (length h.roots) (view snapshot) (made (view present) ps) (name_of z)) same (new_kept (collector_of h) (view present) (view snapshot) ps c.parts (parts_are shape)) in
     let kept : Kept (length h.roots) (view snapshot) (view (appended present shape)) (name_of h.next) = subst (λ z. Kept (length h.roots) (view snapshot) z (name_of h.next)) (sym (view-appended present shape)) kept0 in
-    let main : IsMain (seen h1) (at 0 + 1) (name_of h.next) = record { held = mk.parts.held 0 some; forward = mk.parts.forward 0 some; name = mk.parts.name 0 some } in
+    let main : IsMain (seen h1) (at 0 + 1) (name_of h.next) = record { allocated = mk.parts.allocated 0 some; forward = mk.parts.forward 0 some; name = mk.parts.name 0 some } in
     let x = get_or h.roots j 0 in
-    let held : (seen h).held x ≡ true = b.root_held j l in
-    let held_main : (seen h).held ((seen h).forward x) ≡ true = ap (seen h).held (b.root j l) ∙ b.held _ (b.grows.kept_root j l) in
-    let rec1 : IsRecorded h1 x = λ t. ap (seen h1).marked (mk.stays.says.forward x held) ∙ mk.stays.says.marked ((seen h).forward x) held_main ∙ rec t in
+    let allocated : (seen h).allocated x ≡ true = b.root_allocated j l in
+    let allocated_main : (seen h).allocated ((seen h).forward x) ≡ true = ap (seen h).allocated (b.root j l) ∙ b.allocated _ (b.grows.kept_root j l) in
+    let rec1 : IsRecorded h1 x = λ t. ap (seen h1).marked (mk.stays.says.forward x allocated) ∙ mk.stays.says.marked ((seen h).forward x) allocated_main ∙ rec t in
     root_kept h1 (appended present shape) snapshot j (at 0 + 1) h.next k1 l rec1 kept main

@@ -6,7 +6,7 @@ use Rattle.graph_heap.specs.declared.command.Limits.{Limits}
 use Rattle.graph_heap.specs.declared.command.Shape.TheVariants.{Plain}
 use Rattle.graph_heap.specs.Graph.{Object, no_object, object_of, opening, root_cells}
 use Rattle.heap_model.specs.Pages.{Page, page_at}
-use Rattle.heap_model.specs.Store.{is_held, held_in}
+use Rattle.heap_model.specs.Store.{is_allocated, allocated_in}
 use Rattle.heap_model.specs.Core.{Name, null, PartGraph, Heap, Kept, Grows, Base}
 use Rattle.heap_model.specs.Cut.{width_in, width_of, words_of, name_of, view}
 use Rattle.heap_model.specs.Collector.{In_idle}
@@ -20,16 +20,16 @@ use Rattle.heap_model.proofs.Changes.{no_refs}
 pub page_none : (n k : ℕ) → page_at (replicate n None) k ≡ None
 page_none n k = let l = length-replicate {A = Option Page} n None in grind (arith, get_or-replicate, get_or_past)
 
-none_held : (h : HeapState) → IsOpening h → (b : ℕ) → is_held h.store b ≡ false
-unfolding is_held
-none_held h o b = ap (λ p. held_in p (b % 2048)) (ap (λ z. page_at z (b / 2048)) o.pages ∙ page_none (length h.store.pages) (b / 2048))
+none_allocated : (h : HeapState) → IsOpening h → (b : ℕ) → is_allocated h.store b ≡ false
+unfolding is_allocated
+none_allocated h o b = ap (λ p. allocated_in p (b % 2048)) (ap (λ z. page_at z (b / 2048)) o.pages ∙ page_none (length h.store.pages) (b / 2048))
 
-held_null : (h : HeapState) → IsOpening h → (x : ℕ) → (seen h).held x ≡ true → x ≡ 0
-held_null h o x l = by_null (x == 0) refl l
+allocated_null : (h : HeapState) → IsOpening h → (x : ℕ) → (seen h).allocated x ≡ true → x ≡ 0
+allocated_null h o x l = by_null (x == 0) refl l
   where
-    by_null : (t : Bool) → (x == 0) ≡ t → (if t then true else is_held h.store (x - 1)) ≡ true → x ≡ 0
+    by_null : (t : Bool) → (x == 0) ≡ t → (if t then true else is_allocated h.store (x - 1)) ≡ true → x ≡ 0
     by_null true q l = grind arith
-    by_null false q l = absurd (let e = none_held h o (x - 1) in let f : false ≡ true = sym e ∙ l in cc)
+    by_null false q l = absurd (let e = none_allocated h o (x - 1) in let f : false ≡ true = sym e ∙ l in cc)
 
 none_there : (k : ℕ) → object_of [] k ≡ no_object
 unfolding object_of
@@ -55,11 +55,11 @@ opening_kept l roots n k = elim (kept_cases roots (view (opening l)) (view (open
 opening_root : (h : HeapState) → IsOpening h → (j : ℕ) → (seen h).root j ≡ 0
 opening_root h o j = ap (λ z. get_or z j 0) o.roots ∙ no_refs (root_cells h.limits) j
 
--- where null alone is held, and nothing else is kept, each block lies where null lies
-null_alone : (h : Heap) (g : PartGraph) → Grows h.roots g g → h.next ≡ g.next → 0 < h.next → h.held 0 ≡ true → h.forward 0 ≡ 0 → h.name 0 ≡ null → h.width 0 ≡ 0 → h.words 0 ≡ [] → h.shape 0 ≡ Plain 0 0
-    → g.words null ≡ [] → ((n : Name) → g.shape n ≡ Plain 0 0) → ((n : Name) → g.width n ≡ 0) → ((n : Name) → Kept h.roots g g n → n ≡ null) → ((x : ℕ) → h.held x ≡ true → x ≡ 0) → ((j : ℕ) → h.root j ≡ 0)
+-- where null alone is allocated, and nothing else is kept, each block lies where null lies
+null_alone : (h : Heap) (g : PartGraph) → Grows h.roots g g → h.next ≡ g.next → 0 < h.next → h.allocated 0 ≡ true → h.forward 0 ≡ 0 → h.name 0 ≡ null → h.width 0 ≡ 0 → h.words 0 ≡ [] → h.shape 0 ≡ Plain 0 0
+    → g.words null ≡ [] → ((n : Name) → g.shape n ≡ Plain 0 0) → ((n : Name) → g.width n ≡ 0) → ((n : Name) → Kept h.roots g g n → n ≡ null) → ((x : ℕ) → h.allocated x ≡ true → x ≡ 0) → ((j : ℕ) → h.root j ≡ 0)
     → Base h g g (λ n. 0)
-null_alone h g grows next some held forward name width words shape no_words plain narrow none only root = grind arith
+null_alone h g grows next some allocated forward name width words shape no_words plain narrow none only root = grind arith
 
 pub opening_stands : (h : HeapState) → IsOpening h → Consistent h (opening h.limits) (opening h.limits)
 opening_stands h o =
@@ -69,7 +69,7 @@ opening_stands h o =
     let k0 = kept_null roots g g in
     let row : length h.roots ≡ root_cells h.limits = ap length o.roots ∙ length-replicate {A = ℕ} (root_cells h.limits) 0 in
     let row' : length h.roots ≡ length (opening h.limits).roots = row ∙ sym (length-replicate {A = ℕ} (root_cells h.limits) 0) in
-    let held = held_null h o in
+    let allocated = allocated_null h o in
     let root = opening_root h o in
     let grows : Grows roots g g = record {
       next = omega arith;
@@ -81,7 +81,7 @@ opening_stands h o =
     } in
     let words = ap (λ z. words_of z 0) (none_there 0) ∙ no_words in
     let shape = λ (n : Name). ap (λ (z : Object). z.shape) (none_there n.identity) in
-    let base = null_alone (seen h) g grows o.next (let p : h.next ≡ 1 = o.next in omega arith) refl refl refl refl refl refl words shape (opening_wide h.limits) none held root in
+    let base = null_alone (seen h) g grows o.next (let p : h.next ≡ 1 = o.next in omega arith) refl refl refl refl refl refl words shape (opening_wide h.limits) none allocated root in
     record {
       limits = refl;
       live = o.live;
@@ -89,10 +89,10 @@ opening_stands h o =
       present_row = row';
       snapshot_row = row';
       cells = λ id. subst HasItsCells (sym (none_there id)) (record { refs = refl; words = refl });
-      whole = λ b l. absurd (let e = none_held h o b in let f : false ≡ true = sym e ∙ l in cc);
+      whole = λ b l. absurd (let e = none_allocated h o b in let f : false ≡ true = sym e ∙ l in cc);
       parts = staged (collector_of h) (λ n. 0) g g In_idle (ap (progress_of h.store.pages) o.phase) base (record {
-        marked = λ x l. ap (seen h).marked (held x l);
-        kept = λ x l. subst (λ z. Kept roots g g ((seen h).name z)) (sym (held x l)) k0;
-        forward = λ x l. ap (seen h).forward (held x l);
+        marked = λ x l. ap (seen h).marked (allocated x l);
+        kept = λ x l. subst (λ z. Kept roots g g ((seen h).name z)) (sym (allocated x l)) k0;
+        forward = λ x l. ap (seen h).forward (allocated x l);
       });
     }

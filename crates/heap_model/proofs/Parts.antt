@@ -2,7 +2,7 @@
 use Rattle.std.specs.Prelude.{◌≡◌, ℕ, ◌+◌, ◌<◌, ◌⊎◌, true, false, List, length, if◌then◌else◌, ◌==◌, ◌&&◌, nat_lt}
 use Rattle.graph_heap.specs.declared.command.Shape.{Shape}
 use Rattle.graph_heap.specs.Graph.{new_object}
-use Rattle.size_classes.specs.Parts.{Run, run_of}
+use Rattle.size_classes.specs.Parts.{PartContents, run_of}
 use Rattle.heap_model.specs.Core.{Name, null, PartGraph, Heap}
 use Rattle.heap_model.specs.Cut.{count_of, width_of, words_of}
 use Rattle.heap_model.proofs.Stays.{Stays}
@@ -16,7 +16,7 @@ pub record Parts : Type 0 where
   pub shape : Shape
 
 -- the part to which a cell refers, or 0
-abbrev pub link_by : Run → ℕ → ℕ
+abbrev pub link_by : PartContents → ℕ → ℕ
 link_by r i = if r.spine && nat_lt i r.count then r.first + i else 0
 
 -- those of a shape
@@ -56,7 +56,7 @@ made_at at next a n = if n.identity == next then a n.part else at n
 
 -- parts 0 to k - 1 of the object stand in their blocks, part p in block a p
 pub record Stand (h : Heap) (ps : Parts) (a : ℕ → ℕ) (k identity : ℕ) : Type 0 where
-  pub held : (p : ℕ) → p < k → h.held (a p) ≡ true
+  pub allocated : (p : ℕ) → p < k → h.allocated (a p) ≡ true
   pub forward : (p : ℕ) → p < k → h.forward (a p) ≡ a p
   pub name : (p : ℕ) → p < k → h.name (a p) ≡ record { identity = identity; part = p }
   pub width : (p : ℕ) → p < k → h.width (a p) ≡ ps.width p
@@ -69,10 +69,10 @@ pub record Makes (h : Heap) (ps : Parts) (a : ℕ → ℕ) (h' : Heap) : Type 0 
   pub next : h'.next ≡ h.next + 1
   pub roots : h'.roots ≡ h.roots
   pub root : (j : ℕ) → j < h.roots → h'.root j ≡ h.root j
-  pub free : (p : ℕ) → p < ps.count → h.held (a p) ≡ false
+  pub free : (p : ℕ) → p < ps.count → h.allocated (a p) ≡ false
   pub stays : Stays h h'
   pub parts : Stand h' ps a ps.count h.next
   pub cell : (p i : ℕ) → p < ps.count → i < ps.width p → h'.cell (a p) i ≡ (if ps.link p i == 0 then 0 else a (ps.link p i))
-  -- no other block is held
+  -- no other block is allocated
   pub part : ℕ → ℕ
-  pub others : (x : ℕ) → h'.held x ≡ true → (h.held x ≡ true) ⊎ ((part x < ps.count) × (x ≡ a (part x)))
+  pub others : (x : ℕ) → h'.allocated x ≡ true → (h.allocated x ≡ true) ⊎ ((part x < ps.count) × (x ≡ a (part x)))

@@ -8,7 +8,7 @@ use Rattle.heap_model.specs.Marks.{AreClosed}
 use Rattle.heap_model.specs.Pages.{ArePages, Page}
 use Rattle.heap_model.specs.Placed.{IsPlaced}
 use Rattle.heap_model.specs.Settings.{settings_of}
-use Rattle.heap_model.specs.Standing.{Stands}
+use Rattle.heap_model.specs.Standing.{Represents}
 use Rattle.heap_model.specs.State.{HeapState, seen, collector_by, collector_of}
 use Rattle.heap_model.specs.Store.{Store}
 use Rattle.heap_model.proofs.Acting.{again, keeps_seen, keeps_whole}
@@ -26,7 +26,7 @@ module _ (h : HeapState) (new : Store) (links : Relinks h.store new) where
   pub relinked_settings : settings_of after ≡ settings_of h
   relinked_settings = ap (λ n. record (settings_of h) { pages = n }) relinked_count
 
-  pub stands_relinked : (present snapshot : Graph) → Stands h present snapshot → Stands after present snapshot
+  pub stands_relinked : (present snapshot : Graph) → Represents h present snapshot → Represents after present snapshot
   stands_relinked p s w = record {
     pages = subst ArePages (sym links.pages) w.pages;
     some = subst (λ n. 0 < n) (sym relinked_count) w.some;

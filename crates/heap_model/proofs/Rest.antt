@@ -4,13 +4,13 @@ use Rattle.graph_heap.specs.Graph.{Graph, object_of}
 use Rattle.graph_heap.specs.Reach.{Reaches}
 use Rattle.heap_model.specs.declared.phase.Phase.TheVariants as phases
 use Rattle.heap_model.specs.declared.phase.Moving.{Moving as Place}
-use Rattle.heap_model.specs.Store.{is_held, node_of}
+use Rattle.heap_model.specs.Store.{is_allocated, record_of}
 use Rattle.heap_model.specs.Core.{Name, null, FreshBy, Kept, Grows, Sweeping, Resting}
 use Rattle.heap_model.specs.Agree.{IsMain}
 use Rattle.heap_model.specs.Cut.{count_of, name_of, view}
 use Rattle.heap_model.specs.State.{HeapState, seen, width_at, reference_of, collector_of, progress_of}
 use Rattle.heap_model.specs.Agreement.{Consistent}
-use Rattle.heap_model.specs.Swept.{IsKept, IsHeld, NamesMain, IsSwept}
+use Rattle.heap_model.specs.Swept.{IsKept, IsAllocated, NamesMain, IsSwept}
 use Rattle.heap_model.proofs.Kept.{kept_reach, kept_fresh, kept_cases}
 use Rattle.heap_model.proofs.Cut.{reaches_reach, reach_reaches, count_some, reach_zero}
 use Rattle.heap_model.proofs.Seen.{behind}
@@ -49,15 +49,15 @@ kept_zero s g n k e = elim (kept_cases (length s.roots) (view s) (view g) n k) [
   | inr f ↦ absurd (let q = fresh_is s g n f in let l = q.0 in omega arith)
 ]
 
--- the name of a held block
-name_behind : (h : HeapState) (a : ℕ) → (seen h).name (a + 1) ≡ record { identity = (node_of h.store a).identity; part = (node_of h.store a).part }
-name_behind h a = behind null (λ z. (let y : Name = record { identity = (node_of h.store z).identity; part = (node_of h.store z).part } in y)) a
+-- the name of an allocated block
+name_behind : (h : HeapState) (a : ℕ) → (seen h).name (a + 1) ≡ record { identity = (record_of h.store a).identity; part = (record_of h.store a).part }
+name_behind h a = behind null (λ z. (let y : Name = record { identity = (record_of h.store z).identity; part = (record_of h.store z).part } in y)) a
 
--- a held block whose reference is the main copy of its name, which is kept
-pub held_kept : (h : HeapState) (present snapshot : Graph) (c : Consistent h present snapshot) (a : ℕ) → Kept (length h.roots) (view snapshot) (view present) ((seen h).name (a + 1)) → a + 1 ≡ c.parts.at ((seen h).name (a + 1))
-    → IsKept present snapshot (node_of h.store a).identity × ((node_of h.store a).part < count_of (object_of present.objects (node_of h.store a).identity))
-held_kept h present snapshot c a k e =
-    let n : Name = record { identity = (node_of h.store a).identity; part = (node_of h.store a).part } in
+-- an allocated block whose reference is the main copy of its name, which is kept
+pub allocated_kept : (h : HeapState) (present snapshot : Graph) (c : Consistent h present snapshot) (a : ℕ) → Kept (length h.roots) (view snapshot) (view present) ((seen h).name (a + 1)) → a + 1 ≡ c.parts.at ((seen h).name (a + 1))
+    → IsKept present snapshot (record_of h.store a).identity × ((record_of h.store a).part < count_of (object_of present.objects (record_of h.store a).identity))
+allocated_kept h present snapshot c a k e =
+    let n : Name = record { identity = (record_of h.store a).identity; part = (record_of h.store a).part } in
     let k' : Kept (length snapshot.roots) (view snapshot) (view present) n = subst (λ z. Kept z (view snapshot) (view present) n) c.snapshot_row (subst (λ z. Kept (length h.roots) (view snapshot) (view present) z) (name_behind h a) k) in
     let grows = subst (λ z. Grows z (view snapshot) (view present)) c.snapshot_row c.parts.base.grows in
     let some : n.identity ≢ 0 = λ z.
@@ -65,14 +65,14 @@ held_kept h present snapshot c a k e =
     let at : a + 1 ≡ 0 = e ∙ ap c.parts.at null_name ∙ c.parts.base.null_at in omega arith in
     kept_identity snapshot present n grows some k'
 
--- what is kept is held
-pub kept_held : (h : HeapState) (present snapshot : Graph) (c : Consistent h present snapshot) (id : ℕ) → IsKept present snapshot id → IsHeld h present id
-kept_held h present snapshot c id k part l =
+-- what is kept is allocated
+pub kept_allocated : (h : HeapState) (present snapshot : Graph) (c : Consistent h present snapshot) (id : ℕ) → IsKept present snapshot id → IsAllocated h present id
+kept_allocated h present snapshot c id k part l =
     let n : Name = record { identity = id; part = part } in
     let b = c.parts.base in
     let grows = subst (λ z. Grows z (view snapshot) (view present)) c.snapshot_row b.grows in
     let kept : Kept (length h.roots) (view snapshot) (view present) n = subst (λ z. Kept z (view snapshot) (view present) n) (sym c.snapshot_row) (identity_kept snapshot present id part grows k l) in
-    let main : IsMain (seen h) (c.parts.at n) n = record { held = b.held n kept; forward = b.main n kept; name = b.name n kept } in
+    let main : IsMain (seen h) (c.parts.at n) n = record { allocated = b.allocated n kept; forward = b.main n kept; name = b.name n kept } in
     let some : c.parts.at n ≢ 0 = λ z.
     let e : null ≡ n = sym b.null_name ∙ ap (seen h).name (sym z) ∙ b.name n kept in
     let zero : id ≡ 0 = sym (ap (λ (y : Name). y.identity) e) in not_zero k zero in
@@ -83,10 +83,10 @@ kept_held h present snapshot c id k part l =
     not_zero (inl r) e = let p : 0 < id = unfold Reaches in r.0 in omega arith
     not_zero (inr f) e = let p = f.0 in omega arith
 
-names_main : (h : HeapState) (x : ℕ) → (seen h).held x ≡ true → (seen h).forward x ≡ x → NamesMain h.store x
+names_main : (h : HeapState) (x : ℕ) → (seen h).allocated x ≡ true → (seen h).forward x ≡ x → NamesMain h.store x
 names_main h x l f = by_null (x == 0) refl l f
   where
-    by_null : (t : Bool) → (x == 0) ≡ t → (if t then true else is_held h.store (x - 1)) ≡ true → (if t then 0 else (node_of h.store (x - 1)).forward + 1) ≡ x → NamesMain h.store x
+    by_null : (t : Bool) → (x == 0) ≡ t → (if t then true else is_allocated h.store (x - 1)) ≡ true → (if t then 0 else (record_of h.store (x - 1)).forward + 1) ≡ x → NamesMain h.store x
     by_null true e l f = inl (grind arith)
     by_null false e l f = inr (l, omega arith)
 
@@ -95,50 +95,50 @@ pub swept : (h : HeapState) (present snapshot : Graph) (page block : ℕ) → Co
 swept h present snapshot page block c e l =
     let w : Sweeping (seen h) (view present) (view snapshot) c.parts.at (reference_of h.store.pages page block) = stage_at (collector_of h) (view present) (view snapshot) c.parts (In_sweep (reference_of h.store.pages page block)) (ap (progress_of h.store.pages) e) in
     let b = c.parts.base in
-    let held : (a : ℕ) → is_held h.store a ≡ true → (seen h).held (a + 1) ≡ true = λ a q. behind true (λ z. is_held h.store z) a ∙ q in
-    let marked : (a : ℕ) → is_held h.store a ≡ true → (seen h).marked (a + 1) ≡ true = λ a q. w.looked_at (a + 1) (held a q) (all_before h page block (a + 1) l (held a q)) in
-    let kept : (a : ℕ) → is_held h.store a ≡ true → Kept (length h.roots) (view snapshot) (view present) ((seen h).name (a + 1)) = λ a q. w.marked_kept (a + 1) (held a q) (marked a q) in
-    let here : (a : ℕ) → is_held h.store a ≡ true → a + 1 ≡ c.parts.at ((seen h).name (a + 1)) = λ a q. w.marked_main (a + 1) (held a q) (marked a q) in
+    let allocated : (a : ℕ) → is_allocated h.store a ≡ true → (seen h).allocated (a + 1) ≡ true = λ a q. behind true (λ z. is_allocated h.store z) a ∙ q in
+    let marked : (a : ℕ) → is_allocated h.store a ≡ true → (seen h).marked (a + 1) ≡ true = λ a q. w.looked_at (a + 1) (allocated a q) (all_before h page block (a + 1) l (allocated a q)) in
+    let kept : (a : ℕ) → is_allocated h.store a ≡ true → Kept (length h.roots) (view snapshot) (view present) ((seen h).name (a + 1)) = λ a q. w.marked_kept (a + 1) (allocated a q) (marked a q) in
+    let here : (a : ℕ) → is_allocated h.store a ≡ true → a + 1 ≡ c.parts.at ((seen h).name (a + 1)) = λ a q. w.marked_main (a + 1) (allocated a q) (marked a q) in
     record {
       main = λ a q.
           let f : (seen h).forward (a + 1) ≡ a + 1 = ap (seen h).forward (here a q) ∙ b.main ((seen h).name (a + 1)) (kept a q) ∙ sym (here a q) in
-          let g : (node_of h.store a).forward + 1 ≡ a + 1 = sym (behind 0 (λ z. (node_of h.store z).forward + 1) a) ∙ f in omega arith;
-      kept = λ a q. (held_kept h present snapshot c a (kept a q) (here a q)).0;
-      part = λ a q. (held_kept h present snapshot c a (kept a q) (here a q)).1;
+          let g : (record_of h.store a).forward + 1 ≡ a + 1 = sym (behind 0 (λ z. (record_of h.store z).forward + 1) a) ∙ f in omega arith;
+      kept = λ a q. (allocated_kept h present snapshot c a (kept a q) (here a q)).0;
+      part = λ a q. (allocated_kept h present snapshot c a (kept a q) (here a q)).1;
       one = λ a d q r i p.
           let same : (seen h).name (a + 1) ≡ (seen h).name (d + 1) = name_behind h a ∙ (λ t. record { identity = i t; part = p t }) ∙ sym (name_behind h d) in
           let z : a + 1 ≡ d + 1 = here a q ∙ ap c.parts.at same ∙ sym (here d r) in omega arith;
-      each = λ id k. kept_held h present snapshot c id k;
+      each = λ id k. kept_allocated h present snapshot c id k;
       cells = λ a i q r.
           let n = (seen h).name (a + 1) in
-          let x = get_or (node_of h.store a).cells i 0 in
+          let x = get_or (record_of h.store a).cells i 0 in
           let width : (seen h).width (a + 1) ≡ (view present).width n = ap (seen h).width (here a q) ∙ b.width n (kept a q) in
-          let r' : i < (view present).width n = subst (λ z. i < z) (sym (behind 0 (λ z. width_at (node_of h.store z)) a) ∙ width) r in
-          let cell : x ≡ c.parts.at ((view present).target n i) = sym (behind 0 (λ z. get_or (node_of h.store z).cells i 0) a) ∙ ap (λ z. (seen h).cell z i) (here a q) ∙ w.cell n i (kept a q) r' in
+          let r' : i < (view present).width n = subst (λ z. i < z) (sym (behind 0 (λ z. width_at (record_of h.store z)) a) ∙ width) r in
+          let cell : x ≡ c.parts.at ((view present).target n i) = sym (behind 0 (λ z. get_or (record_of h.store z).cells i 0) a) ∙ ap (λ z. (seen h).cell z i) (here a q) ∙ w.cell n i (kept a q) r' in
           let target = b.grows.kept_target n i (kept a q) r' in
-          names_main h x (ap (seen h).held cell ∙ b.held _ target) (ap (seen h).forward cell ∙ b.main _ target ∙ sym cell);
+          names_main h x (ap (seen h).allocated cell ∙ b.allocated _ target) (ap (seen h).forward cell ∙ b.main _ target ∙ sym cell);
       roots = λ j q.
           let x = get_or h.roots j 0 in
           let root : x ≡ c.parts.at ((view present).root j) = w.root j q in
           let target = b.grows.kept_root j q in
-          names_main h x (ap (seen h).held root ∙ b.held _ target) (ap (seen h).forward root ∙ b.main _ target ∙ sym root);
+          names_main h x (ap (seen h).allocated root ∙ b.allocated _ target) (ap (seen h).forward root ∙ b.main _ target ∙ sym root);
     }
 
--- in idle and moving what is held is what is kept
-resting_kept : (h : HeapState) (present snapshot : Graph) (c : Consistent h present snapshot) → Resting (seen h) (view present) (view snapshot) c.parts.at → (id : ℕ) → 0 < id → IsHeld h present id ↔ IsKept present snapshot id
+-- in idle and moving what is allocated is what is kept
+resting_kept : (h : HeapState) (present snapshot : Graph) (c : Consistent h present snapshot) → Resting (seen h) (view present) (view snapshot) c.parts.at → (id : ℕ) → 0 < id → IsAllocated h present id ↔ IsKept present snapshot id
 resting_kept h present snapshot c r id some = (
-  (λ held.
-      let q = held 0 (count_some _) in
+  (λ allocated.
+      let q = allocated 0 (count_some _) in
       let m = copy_main h q.0 (name_of id) q.1 in
-      let k : Kept (length h.roots) (view snapshot) (view present) (name_of id) = subst (λ z. Kept (length h.roots) (view snapshot) (view present) z) m.name (r.kept (q.0 + 1) m.held) in
+      let k : Kept (length h.roots) (view snapshot) (view present) (name_of id) = subst (λ z. Kept (length h.roots) (view snapshot) (view present) z) m.name (r.kept (q.0 + 1) m.allocated) in
       let k' : Kept (length snapshot.roots) (view snapshot) (view present) (name_of id) = subst (λ z. Kept z (view snapshot) (view present) (name_of id)) c.snapshot_row k in
       let grows = subst (λ z. Grows z (view snapshot) (view present)) c.snapshot_row c.parts.base.grows in
       (kept_identity snapshot present (name_of id) grows (let s : id ≢ 0 = omega arith in s) k').0),
-  (λ k. kept_held h present snapshot c id k),
+  (λ k. kept_allocated h present snapshot c id k),
 )
 
-pub held_is_kept : (h : HeapState) (present snapshot : Graph) → Consistent h present snapshot → (h.phase ≡ phases.Idle) ⊎ ((m : Place) × (h.phase ≡ phases.Moving m)) → (id : ℕ) → 0 < id → IsHeld h present id ↔ IsKept present snapshot id
-held_is_kept h present snapshot c p id some = elim p [
+pub allocated_is_kept : (h : HeapState) (present snapshot : Graph) → Consistent h present snapshot → (h.phase ≡ phases.Idle) ⊎ ((m : Place) × (h.phase ≡ phases.Moving m)) → (id : ℕ) → 0 < id → IsAllocated h present id ↔ IsKept present snapshot id
+allocated_is_kept h present snapshot c p id some = elim p [
   | inl e ↦ resting_kept h present snapshot c (stage_at (collector_of h) (view present) (view snapshot) c.parts In_idle (ap (progress_of h.store.pages) e)) id some
   | inr m ↦ resting_kept h present snapshot c (stage_at (collector_of h) (view present) (view snapshot) c.parts In_moves (ap (progress_of h.store.pages) m.1)).0 id some
 ]

@@ -15,7 +15,7 @@ use Rattle.size_classes.specs.Sizes.{blocks_in, class_for}
 use Rattle.size_classes.specs.Parts.{cells_of, parts_in, part_words}
 use Rattle.size_classes.specs.Need.{blocks_needed, needed, is_class}
 use Rattle.size_classes.proofs.Table.{blocks_some}
-use Rattle.heap_model.specs.Pages.{Page, IsOpen, is_free, is_usable, first_of, page_at, page_for, page_of_class, fresh_page, with_held, free_on, free_blocks, free_pages, whole_pages, pages_needed, has_room, TakesBlock}
+use Rattle.heap_model.specs.Pages.{Page, IsOpen, is_free, is_usable, first_of, page_at, page_for, page_of_class, fresh_page, with_allocated, free_on, free_blocks, free_pages, whole_pages, pages_needed, has_room, TakesBlock}
 use Rattle.heap_model.specs.Room.{needed_from}
 
 abbrev one_if : Bool → ℕ
@@ -97,14 +97,14 @@ no_free flags e = elim (eq-zero-or-pos (count_by not flags)) [
 -- a page that can't be used adds no free block, and one in use is no free page
 free_if_usable : (class : ℕ) (o : Option Page) → is_usable class o ≡ false → free_on class o ≡ 0
 free_if_usable class None e = refl
-free_if_usable class (Some p) e = by_tests (eqb p.class class) p.leaving refl refl
+free_if_usable class (Some p) e = by_tests (eqb p.class class) p.evacuating refl refl
   where
-    by_tests : (b l : Bool) → eqb p.class class ≡ b → p.leaving ≡ l → free_on class (Some p) ≡ 0
-    by_tests false l eb el = ap (λ b. cond (b && not p.leaving) (count_by not p.held) 0) eb
-    by_tests true true eb el = ap (λ b. cond (b && not p.leaving) (count_by not p.held) 0) eb ∙ ap (λ l. cond (true && not l) (count_by not p.held) 0) el
+    by_tests : (b l : Bool) → eqb p.class class ≡ b → p.evacuating ≡ l → free_on class (Some p) ≡ 0
+    by_tests false l eb el = ap (λ b. cond (b && not p.evacuating) (count_by not p.allocated) 0) eb
+    by_tests true true eb el = ap (λ b. cond (b && not p.evacuating) (count_by not p.allocated) 0) eb ∙ ap (λ l. cond (true && not l) (count_by not p.allocated) 0) el
     by_tests true false eb el =
-        let u : is_some (position not p.held) ≡ false = sym (ap (λ b. b && (not p.leaving && is_some (position not p.held))) eb ∙ ap (λ l. true && (not l && is_some (position not p.held))) el) ∙ e in
-        ap (λ b. cond (b && not p.leaving) (count_by not p.held) 0) eb ∙ ap (λ l. cond (true && not l) (count_by not p.held) 0) el ∙ no_free p.held u
+        let u : is_some (position not p.allocated) ≡ false = sym (ap (λ b. b && (not p.evacuating && is_some (position not p.allocated))) eb ∙ ap (λ l. true && (not l && is_some (position not p.allocated))) el) ∙ e in
+        ap (λ b. cond (b && not p.evacuating) (count_by not p.allocated) 0) eb ∙ ap (λ l. cond (true && not l) (count_by not p.allocated) 0) el ∙ no_free p.allocated u
 
 counted : (o : Option Page) → is_free o ≡ false → one_if (is_free o) ≡ 0
 counted o e = ap one_if e
@@ -154,11 +154,11 @@ same_zero a b e = omega arith
 flags_set : (flags : List Bool) (i : ℕ) → slice_get flags i ≡ Some false → count_by not (set flags i true) + 1 ≡ count_by not flags
 flags_set flags i e = less_one (count_by not (set flags i true)) (count_by not flags) (set_sum (λ b. one_if (not b)) flags i false true false (slice_get_within flags i false e) (get_or_from_slice_get flags i false false e))
 
-open_on : (p : Page) (class index : ℕ) → (eqb p.class class && not p.leaving) ≡ true → IsOpen p index → free_on class (Some (with_held p index true)) + 1 ≡ free_on class (Some p)
-open_on p class index t o = subst (λ b. cond b (count_by not (set p.held index true)) 0 + 1 ≡ cond b (count_by not p.held) 0) (sym t) (flags_set p.held index o)
+open_on : (p : Page) (class index : ℕ) → (eqb p.class class && not p.evacuating) ≡ true → IsOpen p index → free_on class (Some (with_allocated p index true)) + 1 ≡ free_on class (Some p)
+open_on p class index t o = subst (λ b. cond b (count_by not (set p.allocated index true)) 0 + 1 ≡ cond b (count_by not p.allocated) 0) (sym t) (flags_set p.allocated index o)
 
 other_on : (p : Page) (k : ℕ) → eqb p.class k ≡ false → free_on k (Some p) ≡ 0
-other_on p k e = ap (λ b. cond (b && not p.leaving) (count_by not p.held) 0) e
+other_on p k e = ap (λ b. cond (b && not p.evacuating) (count_by not p.allocated) 0) e
 
 both_true : (x y : Bool) → (x && y) ≡ true → (x ≡ true) × (y ≡ true)
 both_true true y h = (refl, h)
@@ -191,31 +191,31 @@ room_less a b f g r e h = le-leb b g (let t = leb-true a f r in omega arith)
 
 -- a block of a page in use is taken
 room_used : (old : List (Option Page)) (m n : ℕ → ℕ) (class page index : ℕ) (p : Page) → has_room old m ≡ true → m class ≡ n class + 1 → ((k : ℕ) → k < CLASSES → k ≢ class → n k ≡ m k)
-    → page < length old → page_at old page ≡ Some p → is_usable class (Some p) ≡ true → IsOpen p index → has_room (set old page (Some (with_held p index true))) n ≡ true
+    → page < length old → page_at old page ≡ Some p → is_usable class (Some p) ≡ true → IsOpen p index → has_room (set old page (Some (with_allocated p index true))) n ≡ true
 room_used old m n class page index p room here others l at usable o =
     room_kept (pages_needed old m CLASSES) (pages_needed new n CLASSES) (free_pages old) (free_pages new) room
     (terms_same old new m n CLASSES (λ k b. term k b (eqb_tells k class)))
     (same_zero (free_pages new) (free_pages old) (free_set old page (Some p) v l at))
   where
     v : Option Page
-    v = Some (with_held p index true)
+    v = Some (with_allocated p index true)
 
     new : List (Option Page)
     new = set old page v
 
-    parts : (eqb p.class class ≡ true) × ((not p.leaving && is_some (position not p.held)) ≡ true)
-    parts = both_true (eqb p.class class) (not p.leaving && is_some (position not p.held)) usable
+    parts : (eqb p.class class ≡ true) × ((not p.evacuating && is_some (position not p.allocated)) ≡ true)
+    parts = both_true (eqb p.class class) (not p.evacuating && is_some (position not p.allocated)) usable
 
-    stays : not p.leaving ≡ true
-    stays = (both_true (not p.leaving) (is_some (position not p.held)) parts.1).0
+    stays : not p.evacuating ≡ true
+    stays = (both_true (not p.evacuating) (is_some (position not p.allocated)) parts.1).0
 
     own : free_blocks new class + 1 ≡ free_blocks old class
-    own = fewer (free_blocks new class) (free_blocks old class) (free_on class (Some p)) (free_on class v) (blocks_set old page class (Some p) v l at) (open_on p class index (both (eqb p.class class) (not p.leaving) parts.0 stays) o)
+    own = fewer (free_blocks new class) (free_blocks old class) (free_on class (Some p)) (free_on class v) (blocks_set old page class (Some p) v l at) (open_on p class index (both (eqb p.class class) (not p.evacuating) parts.0 stays) o)
 
     other : (k : ℕ) → k ≢ class → free_blocks new k ≡ free_blocks old k
     other k d =
         let e = other_class p.class class k (eqb-true p.class class parts.0) d in
-        as_many (free_blocks new k) (free_blocks old k) (free_on k (Some p)) (free_on k v) (blocks_set old page k (Some p) v l at) (other_on p k e) (other_on (with_held p index true) k e)
+        as_many (free_blocks new k) (free_blocks old k) (free_on k (Some p)) (free_on k v) (blocks_set old page k (Some p) v l at) (other_on p k e) (other_on (with_allocated p index true) k e)
 
     term : (k : ℕ) → k < CLASSES → ((eqb k class ≡ true) × (k ≡ class)) ⊎ ((eqb k class ≡ false) × (k ≢ class)) → class_pages new n k ≡ class_pages old m k
     term k b (inl e) = subst (λ c. class_pages new n c ≡ class_pages old m c) (sym e.1) (ap (whole_pages class) (missing_same (m class) (n class) (free_blocks old class) (free_blocks new class) here own))
@@ -263,7 +263,7 @@ fresh_fewer a b y x n e z f g = omega arith
 -- a block of a page that was free is taken
 room_fresh : (old : List (Option Page)) (m n : ℕ → ℕ) (class page index : ℕ) → class < CLASSES → has_room old m ≡ true → m class ≡ n class + 1 → ((k : ℕ) → k < CLASSES → k ≢ class → n k ≡ m k)
     → position (is_usable class) old ≡ None → page < length old → page_at old page ≡ None → IsOpen (fresh_page class) index
-    → has_room (set old page (Some (with_held (fresh_page class) index true))) n ≡ true
+    → has_room (set old page (Some (with_allocated (fresh_page class) index true))) n ≡ true
 room_fresh old m n class page index small room here others none l at o =
     room_less (pages_needed old m CLASSES) (pages_needed new n CLASSES) (free_pages old) (free_pages new) room
     (terms_less old new m n class CLASSES small (pages_less class (m class) (n class) (free_blocks old class) (free_blocks new class) (blocks_some class small) here (no_blocks old class none) own)
@@ -271,7 +271,7 @@ room_fresh old m n class page index small room here others none l at o =
     (less_one (free_pages new) (free_pages old) (free_set old page None v l at))
   where
     v : Option Page
-    v = Some (with_held (fresh_page class) index true)
+    v = Some (with_allocated (fresh_page class) index true)
 
     new : List (Option Page)
     new = set old page v
@@ -282,7 +282,7 @@ room_fresh old m n class page index small room here others none l at o =
         (blocks_set old page class None v l at) (no_blocks old class none) (open_on (fresh_page class) class index (ap (λ b. b && true) (eq-eqb class class refl)) o) (fresh_on class)
 
     other : (k : ℕ) → k ≢ class → free_blocks new k ≡ free_blocks old k
-    other k d = as_many (free_blocks new k) (free_blocks old k) 0 (free_on k v) (blocks_set old page k None v l at) refl (other_on (with_held (fresh_page class) index true) k (other_class class class k refl d))
+    other k d = as_many (free_blocks new k) (free_blocks old k) 0 (free_on k v) (blocks_set old page k None v l at) refl (other_on (with_allocated (fresh_page class) index true) k (other_class class class k refl d))
 
 -- where there is room, there is room for the rest once a block is taken
 pub room_left : (old new : List (Option Page)) (m n : ℕ → ℕ) (class page index : ℕ) → class < CLASSES → has_room old m ≡ true → m class ≡ n class + 1 → ((k : ℕ) → k < CLASSES → k ≢ class → n k ≡ m k)
@@ -291,7 +291,7 @@ room_left old new m n class page index small room here others w =
     subst (λ z. has_room z n ≡ true) (sym w.new_is) (by_usable (position (is_usable class) old) refl w.page_is)
   where
     Left : Option Page → Type 0
-    Left o = has_room (set old page (Some (with_held (page_of_class class o) index true))) n ≡ true
+    Left o = has_room (set old page (Some (with_allocated (page_of_class class o) index true))) n ≡ true
 
     by_page : (o : Option Page) → page_at old page ≡ o → page < length old → is_usable class o ≡ true → IsOpen (page_of_class class o) index → Left o
     by_page None e l u i = absurd (cc)

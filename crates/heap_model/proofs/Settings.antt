@@ -46,7 +46,7 @@ action_rest h after cost (Ends_sweep page block e l) = (refl, refl, refl)
 action_rest h after cost (Looks_at_page class page best chosen at few more) = (refl, refl, refl)
 action_rest h after cost (Chooses_page class page best chosen c p new at few last is good there w pages) = (refl, refl, refl)
 action_rest h after cost (Chooses_none class page best chosen at few last is) = (refl, refl, refl)
-action_rest h after cost (Moves_block class page block chosen i to j p q new e at leaving next place there empty w pages) = (refl, refl, refl)
+action_rest h after cost (Moves_block class page block chosen i to j p q new e at evacuating next place there empty w pages) = (refl, refl, refl)
 action_rest h after cost (Ends_moving done) = (refl, refl, refl)
 
 pub action_settings : (h after : HeapState) (cost : ℕ) → Action h cost after → settings_of after ≡ settings_of h

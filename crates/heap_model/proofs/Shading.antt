@@ -35,13 +35,13 @@ shade_kept h k present snapshot x v c r known main sh =
 
 -- main copies stay main copies
 pub shade_main : (h after : HeapState) (x y : ℕ) (n : Name) → Shades h x after → IsMain (seen h) y n → IsMain (seen after) y n
-shade_main h k x y n sh m = let e = shade_seen h k x sh in record { held = e.held y ∙ m.held; forward = e.says.forward y m.held ∙ m.forward; name = e.says.name y m.held ∙ m.name }
+shade_main h k x y n sh m = let e = shade_seen h k x sh in record { allocated = e.allocated y ∙ m.allocated; forward = e.says.forward y m.allocated ∙ m.forward; name = e.says.name y m.allocated ∙ m.name }
 
 -- what was shaded is recorded
-pub shade_records : (h after : HeapState) (x : ℕ) → Shades h ((seen h).forward x) after → (seen h).held x ≡ true → (seen h).held ((seen h).forward x) ≡ true → (seen after).marked ((seen after).forward x) ≡ true
-shade_records h k x sh held main =
+pub shade_records : (h after : HeapState) (x : ℕ) → Shades h ((seen h).forward x) after → (seen h).allocated x ≡ true → (seen h).allocated ((seen h).forward x) ≡ true → (seen after).marked ((seen after).forward x) ≡ true
+shade_records h k x sh allocated main =
     let e = shade_seen h k ((seen h).forward x) sh in
-    ap (seen k).marked (e.says.forward x held) ∙ e.says.marked ((seen h).forward x) main ∙ here (seen h) ((seen h).forward x)
+    ap (seen k).marked (e.says.forward x allocated) ∙ e.says.marked ((seen h).forward x) main ∙ here (seen h) ((seen h).forward x)
   where
     here : (heap : Heap) (f : ℕ) → (if f == f then true else heap.marked f) ≡ true
     here heap f = grind arith

@@ -13,8 +13,8 @@ use Rattle.heap_model.specs.declared.phase.Phase.TheVariants as phases
 use Rattle.heap_model.specs.declared.phase.Moving.TheVariants as moves
 use Rattle.heap_model.specs.declared.phase.Candidate.{Candidate}
 use Rattle.heap_model.specs.Block.{with_cell}
-use Rattle.heap_model.specs.Pages.{ArePages, Page, page_at, with_held, free_pages}
-use Rattle.heap_model.specs.Store.{Store, Writes, is_held, size_in, size_at, node_of, address_of}
+use Rattle.heap_model.specs.Pages.{ArePages, Page, page_at, with_allocated, free_pages}
+use Rattle.heap_model.specs.Store.{Store, Writes, is_allocated, size_in, size_at, record_of, address_of}
 use Rattle.heap_model.specs.Core.{Heap}
 use Rattle.heap_model.specs.Cut.{view}
 use Rattle.heap_model.specs.Collector.{In_marking, In_moves, Collector, contains, Once}
@@ -28,7 +28,7 @@ use Rattle.heap_model.proofs.Edits.{shade, set_cell, move}
 use Rattle.heap_model.proofs.Acts.{cell_scanned}
 use Rattle.heap_model.proofs.Collector.{same_done, stage_at, left_main, contains-middle, once_middle, placed_contains, placed_done}
 use Rattle.heap_model.proofs.Seen.{behind}
-use Rattle.heap_model.proofs.Held.{set_page, page_within, block_within, is_page, held_at, size_some, page_of_place}
+use Rattle.heap_model.proofs.Allocated.{set_page, page_within, block_within, is_page, allocated_at, size_some, page_of_place}
 use Rattle.heap_model.proofs.Acting.{at_phase, cell_blocks, same_shade, shaded_already, colour_seen, keeps_seen}
 use Rattle.heap_model.proofs.Moved.{move_seen, same_number, at_number, not_below, below_end}
 use Rattle.heap_model.proofs.Units.{total_le, work_bound, gone_bound, cell_units, header_units, move_units}
@@ -38,8 +38,8 @@ use Rattle.heap_model.proofs.Apart.{size_behind, lie_apart}
 pub same_work : (m : Collector) (h' : Heap) (y : ℕ) → SameBlocks m.heap h' → work m y ≡ work (record m { heap = h' }) y
 unfolding work
 same_work m h' y e =
-    let held = e.held y in
-    elim (cases_Bool (m.heap.held y)) [
+    let allocated = e.allocated y in
+    elim (cases_Bool (m.heap.allocated y)) [
       | inl l ↦ (let d = same_done m h' y e l in let q = e.says.marked y l in grind arith)
       | inr l ↦ grind arith
     ]
@@ -110,10 +110,10 @@ header_within h present snapshot part cell x front back w c e f n i =
     let none = or_false (x == 0) (contains (front ++ back) 0) (sym middle ∙ i.1) in
     let some : x ≢ 0 = let z = none.0 in not_null x z in
     let in_grey : contains h.grey x ≡ true = ap (λ z. contains z x) n ∙ contains-middle front back x x ∙ here x (contains (front ++ back) x) in
-    let held = greys.held x in_grey in
+    let allocated = greys.allocated x in_grey in
     let apart = lie_apart h w c.whole in
-    let inside = apart.inside x held (omega arith) in
-    let fits = apart.fits x held (omega arith) in
+    let inside = apart.inside x allocated (omega arith) in
+    let fits = apart.fits x allocated (omega arith) in
     let once = once_middle front back x (subst Once n greys.once) in
     let more = header_units m (arena_words h) front back x greys f n once.0 some (omega arith) in
     let same : total (work (collector_of h)) (arena_words h + 1) ≡ total (work m) (arena_words h + 1) = ap (λ p. total (work (collector_by (seen h) h.store.pages p h.grey)) (arena_words h + 1)) e in
@@ -128,7 +128,7 @@ header_within h present snapshot part cell x front back w c e f n i =
 
 -- a cell is scanned
 cell_within : (h k : HeapState) (present snapshot : Graph) (part cell : ℕ) (new : Store) → ArePages h.store.pages → Consistent h present snapshot → h.phase ≡ phases.Marking part cell → cell < (seen h).width part
-    → Writes h.store new (part - 1) (with_cell (node_of h.store (part - 1)) cell ((seen h).forward ((seen h).cell part cell))) → Shades (record h { store = new }) ((seen h).forward ((seen h).cell part cell)) k
+    → Writes h.store new (part - 1) (with_cell (record_of h.store (part - 1)) cell ((seen h).forward ((seen h).cell part cell))) → Shades (record h { store = new }) ((seen h).forward ((seen h).cell part cell)) k
     → IsWithin h (phases.Marking part cell) → IsWithin (goes_to k 1 (phases.Marking part (cell + 1))) (phases.Marking part (cell + 1))
 unfolding marking_work
 cell_within h k present snapshot part cell new w c e l wr sh i =
@@ -141,8 +141,8 @@ cell_within h k present snapshot part cell new w c e l wr sh i =
     let b = cell_blocks h present snapshot part cell new c e l wr in
     let apart = lie_apart h w c.whole in
     let some : 0 < part = (some_part (seen h) part cell refl l) in
-    let inside = apart.inside part greys.scanning_held some in
-    let fits = apart.fits part greys.scanning_held some in
+    let inside = apart.inside part greys.scanning_allocated some in
+    let fits = apart.fits part greys.scanning_allocated some in
     let more = cell_units m (arena_words h) greys refl l (omega arith) in
     let step : (y : ℕ) → work (cell_scanned m) y ≡ work (collector_of (goes_to k 1 p)) y = λ y.
     same_work (cell_scanned m) (shade (seen h1) x) y (same_shade (set_cell (seen h) part cell x) (seen h1) x b.0)
@@ -166,14 +166,14 @@ cell_within h k present snapshot part cell new w c e l wr sh i =
 few_blocks : (p : Page) (block : ℕ) → 4 ≤ size_of p.class → (block + 1) * size_of p.class ≤ 2048 → block + 1 ≤ MOST_BLOCKS
 few_blocks p block low within = let m = mul-le-mul_left (block + 1) low in omega arith
 
-block_few : (s : Store) (page block : ℕ) (p : Page) → ArePages s.pages → page_at s.pages page ≡ Some p → block < length p.held → block + 1 ≤ MOST_BLOCKS
+block_few : (s : Store) (page block : ℕ) (p : Page) → ArePages s.pages → page_at s.pages page ≡ Some p → block < length p.allocated → block + 1 ≤ MOST_BLOCKS
 block_few s page block p w e l = let is = is_page s page p w e in few_blocks p block (size_low p.class is.class) (block_within p block is l)
 
 marking_end_within : (h : HeapState) (present snapshot : Graph) (part cell : ℕ) → ArePages h.store.pages → Consistent h present snapshot → h.phase ≡ phases.Marking part cell → IsWithin h (phases.Marking part cell) → IsWithin (goes_to h 1 (phases.Sweeping 0 0)) (phases.Sweeping 0 0)
 marking_end_within h present snapshot part cell w c e i = let b = marking_bound h present snapshot part cell w c e in let a = i.0 in (omega arith, omega arith, omega arith)
 
 -- a block is looked at, whether it is freed or not
-look_within : (h : HeapState) (new : Store) (page block : ℕ) (p : Page) → ArePages h.store.pages → page_at h.store.pages page ≡ Some p → block < length p.held → length new.pages ≡ length h.store.pages
+look_within : (h : HeapState) (new : Store) (page block : ℕ) (p : Page) → ArePages h.store.pages → page_at h.store.pages page ≡ Some p → block < length p.allocated → length new.pages ≡ length h.store.pages
     → IsWithin h (phases.Sweeping page block) → IsWithin (goes_to (record h { store = new }) 1 (phases.Sweeping page (block + 1))) (phases.Sweeping page (block + 1))
 look_within h new page block p w e l pages i = let f = block_few h.store page block p w e l in let a = i.0 in let b = i.2 in (omega arith, f, omega arith)
 
@@ -218,11 +218,11 @@ chooses_none_within h class page best chosen few last i =
     (omega arith, omega arith, omega arith, d)
 
 -- words that were moved, where blocks stay
-pub gone_same : (h k : Heap) (f g : ℕ → ℕ) (x : ℕ) → SameBlocks h k → (h.held x ≡ true → f x ≡ g x) → gone h f x ≡ gone k g x
+pub gone_same : (h k : Heap) (f g : ℕ → ℕ) (x : ℕ) → SameBlocks h k → (h.allocated x ≡ true → f x ≡ g x) → gone h f x ≡ gone k g x
 unfolding gone
 gone_same h k f g x e s =
-    let held = e.held x in
-    elim (cases_Bool (h.held x)) [
+    let allocated = e.allocated x in
+    elim (cases_Bool (h.allocated x)) [
       | inl l ↦ (let d = e.says.forward x l in let q = s l in grind arith)
       | inr l ↦ grind arith
     ]
@@ -237,14 +237,14 @@ size_kept s t page b p q l pages e same = ap (λ z. size_in (page_at z (b / 2048
     by_page false f = refl
 
 chooses_within : (h : HeapState) (class page c chosen : ℕ) (best : Option Candidate) (p : Page) (new : Store) → class < CLASSES → page + 1 ≡ length h.store.pages → page_at h.store.pages c ≡ Some p
-    → KeepsBlocks h.store new → new.pages ≡ set h.store.pages c (Some (record p { leaving = true })) → IsWithin h (phases.Moving (moves.Pass class page best chosen))
+    → KeepsBlocks h.store new → new.pages ≡ set h.store.pages c (Some (record p { evacuating = true })) → IsWithin h (phases.Moving (moves.Pass class page best chosen))
     → let q = phases.Moving (moves.Emptying class c 0 (chosen + 1)) in IsWithin (goes_to (record h { store = new }) 1 q) q
 unfolding moving_work
 chooses_within h class page c chosen best p new few last at w pages i =
     let h1 : HeapState = record h { store = new } in
     let l = page_within h.store.pages c p at in
-    let many : length new.pages ≡ length h.store.pages = ap length pages ∙ length-set h.store.pages c (Some (record p { leaving = true })) in
-    let same = total_same (gone (seen h) (size_behind h)) (gone (seen h1) (size_behind h1)) (arena_words h + 1) (λ x. gone_same (seen h) (seen h1) (size_behind h) (size_behind h1) x (keeps_seen h new w) (λ z. sym (size_kept h.store new c (x - 1) p (record p { leaving = true }) l pages at refl))) in
+    let many : length new.pages ≡ length h.store.pages = ap length pages ∙ length-set h.store.pages c (Some (record p { evacuating = true })) in
+    let same = total_same (gone (seen h) (size_behind h)) (gone (seen h1) (size_behind h1)) (arena_words h + 1) (λ x. gone_same (seen h) (seen h1) (size_behind h) (size_behind h1) x (keeps_seen h new w) (λ z. sym (size_kept h.store new c (x - 1) p (record p { evacuating = true }) l pages at refl))) in
     let arena : total (gone (seen h1) (size_behind h1)) (arena_words h + 1) ≡ total (gone (seen h1) (size_behind h1)) (arena_words h1 + 1) = ap (λ z. total (gone (seen h1) (size_behind h1)) (2048 * z + 1)) (sym many) in
     let e = next_pass (chosen + class) (chosen + 1 + class) (length h.store.pages) (omega arith) in
     let f : (chosen + 1 + class) * length h.store.pages ≡ (chosen + 1 + class) * length new.pages = ap (λ z. (chosen + 1 + class) * z) (sym many) in
@@ -252,24 +252,24 @@ chooses_within h class page c chosen best p new few last at w pages i =
     (omega arith, few, omega arith)
 
 -- a block is moved
-move_within : (h : HeapState) (present snapshot : Graph) (class page block chosen i to j : ℕ) (p q : Page) (new : Store) → ArePages h.store.pages → Consistent h present snapshot → (a b : ℕ) → is_held h.store a ≡ true → (node_of h.store a).forward ≡ a → size_at h.store a ≡ size_of p.class
-    → MovesBlock h.store new a b → page_at h.store.pages to ≡ Some q → new.pages ≡ set h.store.pages to (Some (record (with_held q j true) { receiving = true })) → IsWithin h (phases.Moving (moves.Emptying class page block chosen))
+move_within : (h : HeapState) (present snapshot : Graph) (class page block chosen i to j : ℕ) (p q : Page) (new : Store) → ArePages h.store.pages → Consistent h present snapshot → (a b : ℕ) → is_allocated h.store a ≡ true → (record_of h.store a).forward ≡ a → size_at h.store a ≡ size_of p.class
+    → MovesBlock h.store new a b → page_at h.store.pages to ≡ Some q → new.pages ≡ set h.store.pages to (Some (record (with_allocated q j true) { is_target = true })) → IsWithin h (phases.Moving (moves.Emptying class page block chosen))
     → let z = phases.Moving (moves.Emptying class page (i + 1) chosen) in IsWithin (goes_to (record h { store = new }) (size_of p.class) z) z
 unfolding moving_work
-move_within h present snapshot class page block chosen i to j p q new w c a b held main size mv at pages within =
+move_within h present snapshot class page block chosen i to j p q new w c a b allocated main size mv at pages within =
     let h1 : HeapState = record h { store = new } in
     let x = a + 1 in
     let y = b + 1 in
     let l = page_within h.store.pages to q at in
-    let v = record (with_held q j true) { receiving = true } in
+    let v = record (with_allocated q j true) { is_target = true } in
     let many : length new.pages ≡ length h.store.pages = ap length pages ∙ length-set h.store.pages to (Some v) in
-    let held_x : (seen h).held x ≡ true = behind true (λ z. is_held h.store z) a ∙ held in
-    let free_y : (seen h).held y ≡ false = behind true (λ z. is_held h.store z) b ∙ mv.free in
-    let main_x : (seen h).forward x ≡ x = behind 0 (λ z. (node_of h.store z).forward + 1) a ∙ ap (λ z. z + 1) main in
+    let allocated_x : (seen h).allocated x ≡ true = behind true (λ z. is_allocated h.store z) a ∙ allocated in
+    let free_y : (seen h).allocated y ≡ false = behind true (λ z. is_allocated h.store z) b ∙ mv.free in
+    let main_x : (seen h).forward x ≡ x = behind 0 (λ z. (record_of h.store z).forward + 1) a ∙ ap (λ z. z + 1) main in
     let apart = lie_apart h w c.whole in
-    let inside = apart.inside x held_x (omega arith) in
-    let fits = apart.fits x held_x (omega arith) in
-    let moved = move_units (seen h) (size_behind h) (arena_words h) x y held_x free_y main_x (omega arith) in
+    let inside = apart.inside x allocated_x (omega arith) in
+    let fits = apart.fits x allocated_x (omega arith) in
+    let moved = move_units (seen h) (size_behind h) (arena_words h) x y allocated_x free_y main_x (omega arith) in
     let back : x - 1 ≡ a = omega arith in
     let size_x : size_behind h x ≡ size_of p.class = ap (size_at h.store) back ∙ size in
     let same = total_same (gone (move (seen h) x y) (size_behind h)) (gone (seen h1) (size_behind h1)) (arena_words h + 1)
@@ -299,14 +299,14 @@ moving_end_within h present snapshot some w c (No_page class page block chosen p
 
 -- what is moved is a main copy, of its page's size
 pub moved_main : (h : HeapState) (present snapshot : Graph) (class page block chosen i : ℕ) (p : Page) → ArePages h.store.pages → Consistent h present snapshot → h.phase ≡ phases.Moving (moves.Emptying class page block chosen) → page_at h.store.pages page ≡ Some p → IsNext p block i
-    → let a = address_of p.class page i in (is_held h.store a ≡ true) × ((node_of h.store a).forward ≡ a) × (size_at h.store a ≡ size_of p.class)
+    → let a = address_of p.class page i in (is_allocated h.store a ≡ true) × ((record_of h.store a).forward ≡ a) × (size_at h.store a ≡ size_of p.class)
 unfolding size_at
 moved_main h present snapshot class page block chosen i p w c e at next =
     let a = address_of p.class page i in
     let is = is_page h.store page p w at in
-    let held = held_at h.store page i p w at next.held in
-    let held_x : (seen h).held (a + 1) ≡ true = behind true (λ z. is_held h.store z) a ∙ held in
-    let within = block_within p i is (slice_get_within p.held i true next.held) in
+    let allocated = allocated_at h.store page i p w at next.allocated in
+    let allocated_x : (seen h).allocated (a + 1) ≡ true = behind true (λ z. is_allocated h.store z) a ∙ allocated in
+    let within = block_within p i is (slice_get_within p.allocated i true next.allocated) in
     let some = size_some p is in
     let less : i * size_of p.class < 2048 = below_end i (size_of p.class) some within in
     let page_x : (a + 1 - 1) / 2048 ≡ page = page_of_place page (a + 1 - 1) (omega arith) (omega arith) in
@@ -316,9 +316,9 @@ moved_main h present snapshot class page block chosen i p w c e at next =
     let here : ((a + 1 - 1) / 2048 == page) ≡ true = at_number ((a + 1 - 1) / 2048) page page_x in
     let unleft : is_left h.store.pages (phases.Moving (moves.Emptying class page block chosen)) (a + 1) ≡ false = rw here past in
     let left : is_left h.store.pages h.phase (a + 1) ≡ false = ap (λ z. is_left h.store.pages z (a + 1)) e ∙ unleft in
-    let main = left_main (seen h) (λ x. is_left h.store.pages h.phase x) (a + 1) st.2 held_x left in
-    let back : (node_of h.store a).forward + 1 ≡ a + 1 = sym (behind 0 (λ z. (node_of h.store z).forward + 1) a) ∙ main in
-    (held, omega arith, ap (λ z. size_in (page_at h.store.pages z)) page_a ∙ ap size_in at)
+    let main = left_main (seen h) (λ x. is_left h.store.pages h.phase x) (a + 1) st.2 allocated_x left in
+    let back : (record_of h.store a).forward + 1 ≡ a + 1 = sym (behind 0 (λ z. (record_of h.store z).forward + 1) a) ∙ main in
+    (allocated, omega arith, ap (λ z. size_in (page_at h.store.pages z)) page_a ∙ ap size_in at)
 
 -- each action spends what there is room for
 pub within_kept : (h after : HeapState) (cost : ℕ) (present snapshot : Graph) → 0 < length h.store.pages → ArePages h.store.pages → Consistent h present snapshot → IsWithin h h.phase → Action h cost after → IsWithin after after.phase
@@ -328,14 +328,14 @@ within_kept h after cost p s some w c i (Scans_header part cell x front back e f
 within_kept h after cost p s some w c i (Scans_cell part cell new k e l w0 sh) = cell_within h k p s part cell new w c e l w0 sh (subst (λ z. IsWithin h z) e i)
 within_kept h after cost p s some w c i (Ends_marking part cell e f n) = marking_end_within h p s part cell w c e (subst (λ z. IsWithin h z) e i)
 within_kept h after cost p s some w c i (Frees_block page block q new e f was unmarked w0 pages) =
-    look_within h new page block q w f (slice_get_within q.held block true was) (ap length pages ∙ length-set h.store.pages page (Some (with_held q block false))) (subst (λ z. IsWithin h z) e i)
+    look_within h new page block q w f (slice_get_within q.allocated block true was) (ap length pages ∙ length-set h.store.pages page (Some (with_allocated q block false))) (subst (λ z. IsWithin h z) e i)
 within_kept h after cost p s some w c i (Passes_block page block q e f l marked) = look_within h h.store page block q w f l refl (subst (λ z. IsWithin h z) e i)
 within_kept h after cost p s some w c i (Closes_page page block new e l f w0 pages) = close_within h new page block l (ap length pages ∙ length-set h.store.pages page (closed (page_at h.store.pages page))) (subst (λ z. IsWithin h z) e i)
 within_kept h after cost p s some w c i (Ends_sweep page block e l) = sweep_end_within h page block some (subst (λ z. IsWithin h z) e i)
 within_kept h after cost p s some w c i (Looks_at_page class page best chosen at few more) = looks_within h class page best _ chosen more (pass_within h class page best chosen at i)
 within_kept h after cost p s some w c i (Chooses_page class page best chosen b q new at few last is good there w0 pages) = chooses_within h class page b.page chosen best q new few last there w0 pages (pass_within h class page best chosen at i)
 within_kept h after cost p s some w c i (Chooses_none class page best chosen at few last is) = chooses_none_within h class page best chosen few last (pass_within h class page best chosen at i)
-within_kept h after cost p s some w c i (Moves_block class page block chosen k to j q r new e at leaving next place there empty w0 pages) =
+within_kept h after cost p s some w c i (Moves_block class page block chosen k to j q r new e at evacuating next place there empty w0 pages) =
     let m = moved_main h p s class page block chosen k q w c e at next in
     move_within h p s class page block chosen k to j q r new w c (address_of q.class page k) (address_of q.class to j) m.0 m.1 m.2 w0 there pages (subst (λ z. IsWithin h z) e i)
 within_kept h after cost p s some w c i (Ends_moving done) = moving_end_within h p s some w c done i

@@ -8,7 +8,7 @@ use Rattle.heap_model.proofs.Edits.{set_cell}
 -- one block is made at y, with no cell written
 abbrev pub block_made : Heap → ℕ → Name → Shape → ℕ → List ℕ → Heap
 block_made h y n shape width words = record h {
-  held = λ x. if x == y then true else h.held x;
+  allocated = λ x. if x == y then true else h.allocated x;
   forward = λ x. if x == y then y else h.forward x;
   name = λ x. if x == y then n else h.name x;
   width = λ x. if x == y then width else h.width x;
@@ -32,13 +32,13 @@ pub record MakesFirst (h : Heap) (ps : Parts) (a : ℕ → ℕ) (k : ℕ) (h' : 
   pub next : h'.next ≡ h.next
   pub roots : h'.roots ≡ h.roots
   pub root : (j : ℕ) → j < h.roots → h'.root j ≡ h.root j
-  pub free : (p : ℕ) → p < k → h.held (a p) ≡ false
+  pub free : (p : ℕ) → p < k → h.allocated (a p) ≡ false
   pub stays : Stays h h'
   pub parts : Stand h' ps a k h.next
   pub apart : (p q : ℕ) → p < k → q < k → a p ≡ a q → p ≡ q
   pub cell : (p i : ℕ) → p < k → i < ps.width p → h'.cell (a p) i ≡ linked_to a k (ps.link p i)
   pub part : ℕ → ℕ
-  pub others : (x : ℕ) → h'.held x ≡ true → (h.held x ≡ true) ⊎ ((part x < k) × (x ≡ a (part x)))
+  pub others : (x : ℕ) → h'.allocated x ≡ true → (h.allocated x ≡ true) ⊎ ((part x < k) × (x ≡ a (part x)))
 
 -- nothing is made yet
 pub first_none : (h : Heap) (ps : Parts) (a : ℕ → ℕ) → MakesFirst h ps a 0 h
@@ -56,8 +56,8 @@ first_none h ps a = record {
 }
 
 -- one part more, where the cells are given
-first_next : (h : Heap) (ps : Parts) (a : ℕ → ℕ) (k : ℕ) (h' : Heap) (y : ℕ) (cell : ℕ → ℕ → ℕ) → MakesFirst h ps a k h' → h'.held y ≡ false → a k ≡ y
-    → ((x i : ℕ) → h.held x ≡ true → cell x i ≡ h'.cell x i) → ((p i : ℕ) → p < k + 1 → i < ps.width p → cell (a p) i ≡ linked_to a (k + 1) (ps.link p i))
+first_next : (h : Heap) (ps : Parts) (a : ℕ → ℕ) (k : ℕ) (h' : Heap) (y : ℕ) (cell : ℕ → ℕ → ℕ) → MakesFirst h ps a k h' → h'.allocated y ≡ false → a k ≡ y
+    → ((x i : ℕ) → h.allocated x ≡ true → cell x i ≡ h'.cell x i) → ((p i : ℕ) → p < k + 1 → i < ps.width p → cell (a p) i ≡ linked_to a (k + 1) (ps.link p i))
     → MakesFirst h ps a (k + 1) (record (block_made h' y (record { identity = h.next; part = k }) ps.shape (ps.width k) (ps.words k)) { cell = cell })
 first_next h ps a k h' y cell m free e kept told = record {
   next = m.next;
@@ -73,7 +73,7 @@ first_next h ps a k h' y cell m free e kept told = record {
 }
 
 -- part 0
-pub first_root : (h : Heap) (ps : Parts) (a : ℕ → ℕ) (holder seat : ℕ → ℕ) (k : ℕ) (h' : Heap) (y : ℕ) → AreLinked ps holder seat → k ≡ 0 → k < ps.count → MakesFirst h ps a k h' → h'.held y ≡ false → a k ≡ y
+pub first_root : (h : Heap) (ps : Parts) (a : ℕ → ℕ) (holder seat : ℕ → ℕ) (k : ℕ) (h' : Heap) (y : ℕ) → AreLinked ps holder seat → k ≡ 0 → k < ps.count → MakesFirst h ps a k h' → h'.allocated y ≡ false → a k ≡ y
     → MakesFirst h ps a (k + 1) (block_made h' y (record { identity = h.next; part = k }) ps.shape (ps.width k) (ps.words k))
 first_root h ps a holder seat k h' y w none few m free e =
     first_next h ps a k h' y (λ x i. if x == y then 0 else h'.cell x i) m free e (λ x i l. let s = m.stays in grind arith) (λ p i l b. let q = w.back p i in grind arith)
@@ -110,18 +110,18 @@ cell_first a k here spine y i c old link some e ne was there back = by_link (lin
         same l = grind arith
 
 -- one part more, and the cell that names it
-pub first_more : (h : Heap) (ps : Parts) (a : ℕ → ℕ) (holder seat : ℕ → ℕ) (k : ℕ) (h' : Heap) (y : ℕ) → AreLinked ps holder seat → 0 < k → k < ps.count → MakesFirst h ps a k h' → h'.held y ≡ false → a k ≡ y
+pub first_more : (h : Heap) (ps : Parts) (a : ℕ → ℕ) (holder seat : ℕ → ℕ) (k : ℕ) (h' : Heap) (y : ℕ) → AreLinked ps holder seat → 0 < k → k < ps.count → MakesFirst h ps a k h' → h'.allocated y ≡ false → a k ≡ y
     → MakesFirst h ps a (k + 1) (set_cell (block_made h' y (record { identity = h.next; part = k }) ps.shape (ps.width k) (ps.words k)) (a (holder k)) (seat k) y)
 first_more h ps a holder seat k h' y w some few m free e =
     let t = w.there k some few in
-    let stands = m.parts.held (holder k) t.0 in
+    let stands = m.parts.allocated (holder k) t.0 in
     let was_free = m.free (holder k) t.0 in
     first_next h ps a k h' y (λ z i. if (z == a (holder k)) && (i == seat k) then y else (if z == y then 0 else h'.cell z i)) m free e
     (λ x i l. let s = m.stays in grind arith)
     (λ p i l b. elim (last_or p k l) [
-      | inl z ↦ cell_last a k (a p) (a (holder k)) y i (seat k) (h'.cell (a p) i) (ps.link p i) (ap a z ∙ e) (λ x. unheld (h'.held y) (subst (λ r. h'.held r ≡ true) x stands) free)
+      | inl z ↦ cell_last a k (a p) (a (holder k)) y i (seat k) (h'.cell (a p) i) (ps.link p i) (ap a z ∙ e) (λ x. unheld (h'.allocated y) (subst (λ r. h'.allocated r ≡ true) x stands) free)
           (λ n. subst (λ r. r < ps.link p i) z (w.back p i (subst (λ r. r < ps.count) (sym z) few) b n).2)
-      | inr z ↦ cell_first a k (a p) (a (holder k)) y i (seat k) (h'.cell (a p) i) (ps.link p i) some e (λ x. unheld (h'.held y) (subst (λ r. h'.held r ≡ true) x (m.parts.held p z)) free)
+      | inr z ↦ cell_first a k (a p) (a (holder k)) y i (seat k) (h'.cell (a p) i) (ps.link p i) some e (λ x. unheld (h'.allocated y) (subst (λ r. h'.allocated r ≡ true) x (m.parts.allocated p z)) free)
           (m.cell p i z b)
           (λ x f. ap2 ps.link (m.apart p (holder k) z t.0 x) f ∙ t.2)
           (λ x. let n : 0 < ps.link p i = subst (λ r. 0 < r) (sym x) some in let r = w.back p i (lt_trans p k ps.count z few) b n in (ap a (sym r.0 ∙ ap holder x), sym r.1 ∙ ap seat x))

@@ -13,7 +13,7 @@ use Rattle.heap_model.specs.Swept.{IsSwept}
 use Rattle.heap_model.specs.Spent.{IsWithin, cycle_limit}
 use Rattle.heap_model.specs.Placed.{IsPlaced}
 use Rattle.heap_model.specs.Marks.{HasNoMark, AreClosed}
-use Rattle.heap_model.specs.Standing.{Stands, is_sweeping}
+use Rattle.heap_model.specs.Standing.{Represents, is_sweeping}
 use Rattle.heap_model.proofs.Actions.{action_kept, begun_kept}
 use Rattle.heap_model.proofs.Spent.{within_kept, begun_within, limit_kept}
 use Rattle.heap_model.proofs.Marks.{action_pages, action_count, action_placed, action_closed, no_mark}
@@ -21,7 +21,7 @@ use Rattle.heap_model.proofs.Opening.{opening_stands, page_none}
 use Rattle.heap_model.proofs.Relinked.{stands_relinked}
 use Rattle.heap_model.proofs.Rest.{swept}
 
-pub stands_action : (h after : HeapState) (cost : ℕ) (present snapshot : Graph) → Stands h present snapshot → Action h cost after → Stands after present snapshot
+pub stands_action : (h after : HeapState) (cost : ℕ) (present snapshot : Graph) → Represents h present snapshot → Action h cost after → Represents after present snapshot
 stands_action h after cost p s w a = record {
   pages = action_pages h after cost w.pages a;
   some = (let e = action_count h after cost a in let l = w.some in omega arith);
@@ -31,18 +31,18 @@ stands_action h after cost p s w a = record {
   closed = action_closed h after cost w.closed a;
 }
 
-pub stands_chain : (h after : HeapState) (spent : ℕ) (present snapshot : Graph) → Stands h present snapshot → Chain h spent after → Stands after present snapshot
+pub stands_chain : (h after : HeapState) (spent : ℕ) (present snapshot : Graph) → Represents h present snapshot → Chain h spent after → Represents after present snapshot
 stands_chain h after spent p s w Nothing_done = w
 stands_chain h after spent p s w (Then u cost j k linked chain links action) = stands_action (record j { store = linked }) k cost p s (stands_relinked j linked links p s (stands_chain h j u p s w chain)) action
 
-pub stands_begun : (h : HeapState) (present snapshot : Graph) → Stands h present snapshot → h.phase ≡ phases.Idle → Stands (begun h) present present
+pub stands_begun : (h : HeapState) (present snapshot : Graph) → Represents h present snapshot → h.phase ≡ phases.Idle → Represents (begun h) present present
 stands_begun h p s w e = record { pages = w.pages; some = w.some; consistent = begun_kept h p s w.consistent e; within = begun_within h; placed = tt; closed = tt }
 
-pub stands_limit : (h : HeapState) (present snapshot : Graph) → Stands h present snapshot → h.units ≤ cycle_limit h
+pub stands_limit : (h : HeapState) (present snapshot : Graph) → Represents h present snapshot → h.units ≤ cycle_limit h
 stands_limit h p s w = limit_kept h p s w.some w.pages w.consistent w.within
 
 -- the opening heap
-pub stands_opening : (h : HeapState) → IsOpening h → 0 < length h.store.pages → Stands h (opening h.limits) (opening h.limits)
+pub stands_opening : (h : HeapState) → IsOpening h → 0 < length h.store.pages → Represents h (opening h.limits) (opening h.limits)
 stands_opening h o l = record {
   pages = record { each = λ k p e. absurd (let z : None ≡ Some p = sym (ap (λ y. page_at y k) o.pages ∙ page_none (length h.store.pages) k) ∙ e in cc) };
   some = l;
@@ -56,7 +56,7 @@ stands_opening h o l = record {
     within_none u l e = omega arith
 
 -- at the change out of sweeping
-pub sweep_change : (h after : HeapState) (cost : ℕ) (present snapshot : Graph) → Stands h present snapshot → Action h cost after → is_sweeping h.phase ≡ true → is_sweeping after.phase ≡ false
+pub sweep_change : (h after : HeapState) (cost : ℕ) (present snapshot : Graph) → Represents h present snapshot → Action h cost after → is_sweeping h.phase ≡ true → is_sweeping after.phase ≡ false
     → IsSwept after present snapshot × ((k : ℕ) → HasNoMark (page_at after.store.pages k))
 sweep_change h after cost p s w (Scans_root next k e l sh) on off = absurd (let z : true ≡ false = sym on ∙ ap is_sweeping e in cc)
 sweep_change h after cost p s w (Ends_roots next e l) on off = absurd (let z : true ≡ false = sym on ∙ ap is_sweeping e in cc)
@@ -75,7 +75,7 @@ sweep_change h after cost p s w (Chooses_page class page best chosen b q new (In
 sweep_change h after cost p s w (Chooses_page class page best chosen b q new (After_page class0 page0 block chosen0 r e at l done less) few last is good there w0 pages) on off = absurd (let z : true ≡ false = sym on ∙ ap is_sweeping e in cc)
 sweep_change h after cost p s w (Chooses_none class page best chosen (In_pass class0 page0 best0 chosen0 e) few last is) on off = absurd (let z : true ≡ false = sym on ∙ ap is_sweeping e in cc)
 sweep_change h after cost p s w (Chooses_none class page best chosen (After_page class0 page0 block chosen0 r e at l done less) few last is) on off = absurd (let z : true ≡ false = sym on ∙ ap is_sweeping e in cc)
-sweep_change h after cost p s w (Moves_block class page block chosen i to j q r new e at leaving next place there empty w0 pages) on off = absurd (let z : true ≡ false = sym on ∙ ap is_sweeping e in cc)
+sweep_change h after cost p s w (Moves_block class page block chosen i to j q r new e at evacuating next place there empty w0 pages) on off = absurd (let z : true ≡ false = sym on ∙ ap is_sweeping e in cc)
 sweep_change h after cost p s w (Ends_moving (No_class page best chosen e)) on off = absurd (let z : true ≡ false = sym on ∙ ap is_sweeping e in cc)
 sweep_change h after cost p s w (Ends_moving (No_page class page block chosen q e at done less)) on off = absurd (let z : true ≡ false = sym on ∙ ap is_sweeping e in cc)
 
@@ -96,7 +96,7 @@ idle_rests h after cost (Chooses_page class page best chosen b q new (In_pass cl
 idle_rests h after cost (Chooses_page class page best chosen b q new (After_page class0 page0 block chosen0 r e at l done less) few last is good there w0 pages) i = let z : phases.Idle ≡ phases.Moving (moves.Emptying class page0 block chosen) = sym i ∙ e in cc
 idle_rests h after cost (Chooses_none class page best chosen (In_pass class0 page0 best0 chosen0 e) few last is) i = let z : phases.Idle ≡ phases.Moving (moves.Pass class page best chosen) = sym i ∙ e in cc
 idle_rests h after cost (Chooses_none class page best chosen (After_page class0 page0 block chosen0 r e at l done less) few last is) i = let z : phases.Idle ≡ phases.Moving (moves.Emptying class page0 block chosen) = sym i ∙ e in cc
-idle_rests h after cost (Moves_block class page block chosen k to j q r new e at leaving next place there empty w0 pages) i = let z : phases.Idle ≡ phases.Moving (moves.Emptying class page block chosen) = sym i ∙ e in cc
+idle_rests h after cost (Moves_block class page block chosen k to j q r new e at evacuating next place there empty w0 pages) i = let z : phases.Idle ≡ phases.Moving (moves.Emptying class page block chosen) = sym i ∙ e in cc
 idle_rests h after cost (Ends_moving (No_class page best chosen e)) i = let z : phases.Idle ≡ phases.Moving (moves.Pass CLASSES page best chosen) = sym i ∙ e in cc
 idle_rests h after cost (Ends_moving (No_page class page block chosen q e at done less)) i = let z : phases.Idle ≡ phases.Moving (moves.Emptying class page block chosen) = sym i ∙ e in cc
 

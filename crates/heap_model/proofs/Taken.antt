@@ -5,13 +5,13 @@ use Rattle.std.proofs.lemmas.List.{length-replicate}
 use Rattle.std.proofs.lemmas.List.Quantifiers.{position-Some}
 use Rattle.size_classes.specs.declared.class.TheConstants.{CLASSES}
 use Rattle.size_classes.specs.Sizes.{sizes, size_of, blocks_in, class_for}
-use Rattle.heap_model.specs.Pages.{Page, IsPage, ArePages, page_at, page_of_class, fresh_page, with_held, TakesBlock}
-use Rattle.heap_model.specs.Store.{Store, is_held, size_at, size_in}
+use Rattle.heap_model.specs.Pages.{Page, IsPage, ArePages, page_at, page_of_class, fresh_page, with_allocated, TakesBlock}
+use Rattle.heap_model.specs.Store.{Store, is_allocated, size_at, size_in}
 use Rattle.heap_model.specs.Placed.{KeepsPages}
 use Rattle.heap_model.specs.Taking.{Takes, Nothing_taken, Part_taken}
-use Rattle.heap_model.proofs.Held.{held_block}
+use Rattle.heap_model.proofs.Allocated.{allocated_block}
 use Rattle.heap_model.proofs.Placed.{pages_same, pages_then, takes_keeps, page_for_within}
-use Rattle.heap_model.proofs.Marks.{pages_put, some_page, held_page}
+use Rattle.heap_model.proofs.Marks.{pages_put, some_page, allocated_page}
 
 pub class_low : (words class : ℕ) → class_for words ≡ Some class → class < CLASSES
 unfolding class_for
@@ -30,7 +30,7 @@ given_page pages class page l w = by_page (page_at pages page) refl
 pub block_pages : (old new : List (Option Page)) (class page index : ℕ) → class < CLASSES → ArePages old → TakesBlock old class page index new → ArePages new
 block_pages old new class page index l w t =
     pages_put old new page _ (page_for_within old class page t.page_is) t.new_is w
-    (some_page (with_held (page_of_class class (page_at old page)) index true) (held_page (page_of_class class (page_at old page)) index true (given_page old class page l w)))
+    (some_page (with_allocated (page_of_class class (page_at old page)) index true) (allocated_page (page_of_class class (page_at old page)) index true (given_page old class page l w)))
 
 pub takes_pages : (cells : ℕ) (at : ℕ → ℕ) (old : List (Option Page)) (parts : ℕ) (new : List (Option Page)) → ArePages old → Takes cells at old parts new → ArePages new
 takes_pages cells at old parts new w Nothing_taken = w
@@ -44,10 +44,10 @@ pub takes_count : (cells : ℕ) (at : ℕ → ℕ) (old : List (Option Page)) (p
 takes_count cells at old parts new Nothing_taken = refl
 takes_count cells at old parts new (Part_taken part class index s t takes f b) = ap length b.new_is ∙ length-set s (at part / 2048) _ ∙ takes_count cells at old part s takes
 
--- held blocks keep their sizes
-pub sizes_stay : (s t : Store) → KeepsPages s.pages t.pages → (b : ℕ) → is_held s b ≡ true → size_at t b ≡ size_at s b
+-- allocated blocks keep their sizes
+pub sizes_stay : (s t : Store) → KeepsPages s.pages t.pages → (b : ℕ) → is_allocated s b ≡ true → size_at t b ≡ size_at s b
 unfolding size_at
-sizes_stay s t w b held =
-    let q = held_block s b held in
+sizes_stay s t w b allocated =
+    let q = allocated_block s b allocated in
     let r = w.used (b / 2048) q.0 q.2.page in
     ap size_in r.1 ∙ ap size_of r.2.class ∙ sym (ap size_in q.2.page)

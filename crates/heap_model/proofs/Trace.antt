@@ -6,7 +6,7 @@ use Rattle.heap_model.proofs.Kept.{kept_reach, kept_fresh, kept_cases, reach_nul
 -- nothing is grey
 pub record Traced (h : Heap) (g s : PartGraph) (done : ℕ → ℕ) (place : ℕ) : Type 0 where
   pub roots : h.roots ≤ place
-  pub cells : (x i : ℕ) → h.held x ≡ true → h.marked x ≡ true → Reach h.roots s (h.name x) → i < h.width x → i < done x
+  pub cells : (x i : ℕ) → h.allocated x ≡ true → h.marked x ≡ true → Reach h.roots s (h.name x) → i < h.width x → i < done x
 
 -- shading a main copy of what is kept
 pub shade_base : (h : Heap) (g s : PartGraph) (at : Name → ℕ) (x : ℕ) → Base h g s at → Base (shade h x) g s at
@@ -55,7 +55,7 @@ reach_marked_step h g s at done place b t d n i r m l =
     let w : g.width n ≡ s.width n = b.grows.width n below in
     let r' : Reach h.roots s (h.name (at n)) = subst (λ z. Reach h.roots s z) (sym (b.name n k)) r in
     let lw : i < h.width (at n) = rw (b.width n k, w) l in
-    t.done_marked n i r (rw w l) (d.cells (at n) i (b.held n k) m r' lw)
+    t.done_marked n i r (rw w l) (d.cells (at n) i (b.allocated n k) m r' lw)
 
 reach_marked : (h : Heap) (g s : PartGraph) (at : Name → ℕ) (done : ℕ → ℕ) (place : ℕ) → Base h g s at → Tracing h g s at done place → Traced h g s done place → (n : Name) → Reach h.roots s n → (Reach h.roots s n) × (h.marked (at n) ≡ true)
 reach_marked h g s at done place b t d = reach_induction h.roots s (λ n. (Reach h.roots s n) × (h.marked (at n) ≡ true))
@@ -70,7 +70,7 @@ kept_cell : (h : Heap) (g s : PartGraph) (at : Name → ℕ) (done : ℕ → ℕ
 kept_cell h g s at done place b t d n i k l =
     let lw : i < h.width (at n) = rw (b.width n k) l in
     elim (kept_cases h.roots s g n k) [
-      | inl r ↦ t.done_cell n i r l (d.cells (at n) i (b.held n k) (reach_marked h g s at done place b t d n r).1 (subst (λ z. Reach h.roots s z) (sym (b.name n k)) r) lw)
+      | inl r ↦ t.done_cell n i r l (d.cells (at n) i (b.allocated n k) (reach_marked h g s at done place b t d n r).1 (subst (λ z. Reach h.roots s z) (sym (b.name n k)) r) lw)
       | inr f ↦ t.fresh_cell n i f l
     ]
 

@@ -4,7 +4,7 @@ use Rattle.size_classes.proofs.Table.{size_low, size_high}
 use Rattle.heap_model.specs.Pages.{ArePages}
 use Rattle.heap_model.specs.State.{HeapState}
 use Rattle.heap_model.specs.Action.{Action, Scans_root, Ends_roots, Scans_header, Scans_cell, Ends_marking, Frees_block, Passes_block, Closes_page, Ends_sweep, Looks_at_page, Chooses_page, Chooses_none, Moves_block, Ends_moving, Chain, Nothing_done, Then}
-use Rattle.heap_model.proofs.Held.{is_page}
+use Rattle.heap_model.proofs.Allocated.{is_page}
 use Rattle.heap_model.proofs.Settings.{action_rest}
 
 -- an action costs from 1 to 256 units, and they are spent
@@ -21,7 +21,7 @@ action_cost h after cost w (Ends_sweep page block e l) = (omega arith, omega ari
 action_cost h after cost w (Looks_at_page class page best chosen at few more) = (omega arith, omega arith)
 action_cost h after cost w (Chooses_page class page best chosen b q new at few last is good there w0 pages) = (omega arith, omega arith)
 action_cost h after cost w (Chooses_none class page best chosen at few last is) = (omega arith, omega arith)
-action_cost h after cost w (Moves_block class page block chosen k to j q r new e at leaving next place there empty w0 pages) =
+action_cost h after cost w (Moves_block class page block chosen k to j q r new e at evacuating next place there empty w0 pages) =
     let is = is_page h.store page q w at in
     let low = size_low q.class is.class in
     let high = size_high q.class is.class in

@@ -11,9 +11,9 @@ use Rattle.heap_model.proofs.Collector.{shaded_done, cell_done, header_done, con
 
 -- blocks of some words each lie apart, in the first `words` words (references are addresses and one)
 pub record LieApart (h : Heap) (size : ℕ → ℕ) (words : ℕ) : Type 0 where
-  pub fits : (x : ℕ) → h.held x ≡ true → 0 < x → h.width x + 4 ≤ size x
-  pub inside : (x : ℕ) → h.held x ≡ true → 0 < x → x + size x ≤ words + 1
-  pub apart : (x y : ℕ) → h.held x ≡ true → h.held y ≡ true → 0 < x → x < y → x + size x ≤ y
+  pub fits : (x : ℕ) → h.allocated x ≡ true → 0 < x → h.width x + 4 ≤ size x
+  pub inside : (x : ℕ) → h.allocated x ≡ true → 0 < x → x + size x ≤ words + 1
+  pub apart : (x y : ℕ) → h.allocated x ≡ true → h.allocated y ≡ true → 0 < x → x < y → x + size x ≤ y
 
 pub total_le : (f g : ℕ → ℕ) (n : ℕ) → ((x : ℕ) → x < n → f x ≤ g x) → total f n ≤ total g n
 unfolding total
@@ -44,9 +44,9 @@ done_width : (m : Collector) (x : ℕ) → Greys m → done_of m x ≤ m.heap.wi
 unfolding done_by
 done_width m x w = let c = w.column in grind arith
 
-work_held : (m : Collector) (x : ℕ) → 0 < work m x → (m.heap.held x ≡ true) × (0 < x)
+work_allocated : (m : Collector) (x : ℕ) → 0 < work m x → (m.heap.allocated x ≡ true) × (0 < x)
 unfolding work
-work_held m x p = grind arith
+work_allocated m x p = grind arith
 
 work_width : (m : Collector) (x : ℕ) → Greys m → work m x ≤ m.heap.width x + 1
 unfolding work
@@ -55,8 +55,8 @@ work_width m x w = let d = done_width m x w in grind arith
 -- marking spends no more than the words there are
 pub work_bound : (m : Collector) (size : ℕ → ℕ) (words : ℕ) → Greys m → LieApart m.heap size words → total (work m) (words + 1) ≤ words + 1
 work_bound m size words w l = total_apart (work m) (words + 1) (words + 1)
-    (λ x k p. let h = work_held m x p in let a = l.fits x h.0 h.1 in let b = l.inside x h.0 h.1 in let c = work_width m x w in omega arith)
-    (λ x y k n p q. let h = work_held m x p in let i = work_held m y q in let a = l.fits x h.0 h.1 in let b = l.apart x y h.0 i.0 h.1 k in let c = work_width m x w in omega arith)
+    (λ x k p. let h = work_allocated m x p in let a = l.fits x h.0 h.1 in let b = l.inside x h.0 h.1 in let c = work_width m x w in omega arith)
+    (λ x y k n p q. let h = work_allocated m x p in let i = work_allocated m y q in let a = l.fits x h.0 h.1 in let b = l.apart x y h.0 i.0 h.1 k in let c = work_width m x w in omega arith)
 
 -- shading takes nothing away, and adds nothing
 pub shaded_work : (m : Collector) (x y : ℕ) → work (shaded m x) y ≡ work m y
@@ -81,7 +81,7 @@ cell_work_here m w l some =
     let e = contains-shaded (m.heap.marked x) m.grey x m.scanning in
     let a = w.scanning_apart in
     let b = w.scanning_marked in
-    let c = w.scanning_held in
+    let c = w.scanning_allocated in
     grind arith
 
 pub cell_units : (m : Collector) (words : ℕ) → Greys m → m.heap.width 0 ≡ 0 → m.column < m.heap.width m.scanning → m.scanning < words + 1 → total (work m) (words + 1) + 1 ≤ total (work (cell_scanned m)) (words + 1)
@@ -99,7 +99,7 @@ unfolding work
 header_work_here m front back x w e n some =
     let c : contains m.grey x ≡ ((x == x) || contains (front ++ back) x) = ap (λ z. contains z x) e ∙ contains-middle front back x x in
     let c' : contains m.grey x ≡ true = grind arith in
-    let a = w.held x c' in
+    let a = w.allocated x c' in
     let b = w.marked x c' in
     grind arith
 
@@ -108,8 +108,8 @@ header_units m words front back x w f e n some i = total_more (work m) (work (re
 
 pub made_work : (m : Collector) (h' : Heap) (ps : Parts) (a : ℕ → ℕ) (y : ℕ) → Makes m.heap ps a h' → work m y ≤ work (record m { heap = h' }) y
 unfolding work
-made_work m h' ps a y w = elim (cases_Bool (m.heap.held y)) [
-  | inl e ↦ (let d = made_done m h' ps a y w e in let k = w.stays.held y e in let f = w.stays.says.marked y e in grind arith)
+made_work m h' ps a y w = elim (cases_Bool (m.heap.allocated y)) [
+  | inl e ↦ (let d = made_done m h' ps a y w e in let k = w.stays.allocated y e in let f = w.stays.says.marked y e in grind arith)
   | inr e ↦ grind arith
 ]
 
@@ -127,23 +127,23 @@ total_add f g (suc n) y k h l m =
       | inr ne ↦ (let a = total_add f g n y k (λ x i. h x (omega arith)) (omega arith) m in omega arith)
     ]
 
-gone_held : (h : Heap) (size : ℕ → ℕ) (x : ℕ) → h.forward 0 ≡ 0 → 0 < gone h size x → (h.held x ≡ true) × (0 < x) × (gone h size x ≡ size x)
+gone_allocated : (h : Heap) (size : ℕ → ℕ) (x : ℕ) → h.forward 0 ≡ 0 → 0 < gone h size x → (h.allocated x ≡ true) × (0 < x) × (gone h size x ≡ size x)
 unfolding gone
-gone_held h size x z p = (grind arith, elim (cases_eq x 0) [ inl e ↦ absurd (let f : h.forward x ≡ x = ap h.forward e ∙ z ∙ sym e in grind arith) | inr ne ↦ omega arith ], grind arith)
+gone_allocated h size x z p = (grind arith, elim (cases_eq x 0) [ inl e ↦ absurd (let f : h.forward x ≡ x = ap h.forward e ∙ z ∙ sym e in grind arith) | inr ne ↦ omega arith ], grind arith)
 
 -- moving spends no more than the words there are
 pub gone_bound : (h : Heap) (size : ℕ → ℕ) (words : ℕ) → h.forward 0 ≡ 0 → LieApart h size words → total (gone h size) (words + 1) ≤ words + 1
 gone_bound h size words z l = total_apart (gone h size) (words + 1) (words + 1)
-    (λ x k p. let i = gone_held h size x z p in let b = l.inside x i.0 i.1 in let e = i.2 in omega arith)
-    (λ x y k n p q. let i = gone_held h size x z p in let j = gone_held h size y z q in let b = l.apart x y i.0 j.0 i.1 k in let e = i.2 in omega arith)
+    (λ x k p. let i = gone_allocated h size x z p in let b = l.inside x i.0 i.1 in let e = i.2 in omega arith)
+    (λ x y k n p q. let i = gone_allocated h size x z p in let j = gone_allocated h size y z q in let b = l.apart x y i.0 j.0 i.1 k in let e = i.2 in omega arith)
 
-move_gone : (h : Heap) (size : ℕ → ℕ) (x y z : ℕ) → h.held x ≡ true → h.held y ≡ false → h.forward x ≡ x → gone h size z ≤ gone (move h x y) size z
+move_gone : (h : Heap) (size : ℕ → ℕ) (x y z : ℕ) → h.allocated x ≡ true → h.allocated y ≡ false → h.forward x ≡ x → gone h size z ≤ gone (move h x y) size z
 unfolding gone
 move_gone h size x y z a b c = grind arith
 
-move_gone_here : (h : Heap) (size : ℕ → ℕ) (x y : ℕ) → h.held x ≡ true → h.held y ≡ false → h.forward x ≡ x → gone h size x + size x ≤ gone (move h x y) size x
+move_gone_here : (h : Heap) (size : ℕ → ℕ) (x y : ℕ) → h.allocated x ≡ true → h.allocated y ≡ false → h.forward x ≡ x → gone h size x + size x ≤ gone (move h x y) size x
 unfolding gone
 move_gone_here h size x y a b c = grind arith
 
-pub move_units : (h : Heap) (size : ℕ → ℕ) (words x y : ℕ) → h.held x ≡ true → h.held y ≡ false → h.forward x ≡ x → x < words + 1 → total (gone h size) (words + 1) + size x ≤ total (gone (move h x y) size) (words + 1)
+pub move_units : (h : Heap) (size : ℕ → ℕ) (words x y : ℕ) → h.allocated x ≡ true → h.allocated y ≡ false → h.forward x ≡ x → x < words + 1 → total (gone h size) (words + 1) + size x ≤ total (gone (move h x y) size) (words + 1)
 move_units h size words x y a b c l = total_add (gone h size) (gone (move h x y) size) (words + 1) x (size x) (λ z k. move_gone h size x y z a b c) l (move_gone_here h size x y a b c)

@@ -9,7 +9,7 @@ use Rattle.heap_model.specs.declared.phase.Phase.TheVariants as phases
 use Rattle.heap_model.specs.declared.phase.Moving.TheVariants as moves
 use Rattle.heap_model.specs.Block.{with_cell}
 use Rattle.heap_model.specs.Pages.{page_at}
-use Rattle.heap_model.specs.Store.{Store, Writes, is_held, size_at, size_in, node_of}
+use Rattle.heap_model.specs.Store.{Store, Writes, is_allocated, size_at, size_in, record_of}
 use Rattle.heap_model.specs.Core.{Heap}
 use Rattle.heap_model.specs.Collector.{contains}
 use Rattle.heap_model.specs.State.{HeapState, seen, width_at, collector_by, collector_of}
@@ -23,7 +23,7 @@ use Rattle.heap_model.proofs.Parts.{parts_of}
 use Rattle.heap_model.proofs.Edits.{shade, set_cell, set_word}
 use Rattle.heap_model.proofs.Seen.{cell_seen, word_seen}
 use Rattle.heap_model.proofs.Making.{reference, makes_object}
-use Rattle.heap_model.proofs.Acting.{held_behind}
+use Rattle.heap_model.proofs.Acting.{allocated_behind}
 use Rattle.heap_model.proofs.Shading.{shade_seen, shades_phase}
 use Rattle.heap_model.proofs.Units.{total_le, shaded_work, made_work}
 use Rattle.heap_model.proofs.Apart.{size_behind}
@@ -83,10 +83,10 @@ cell_more h new b pages w g e =
     let two : (x : ℕ) → gone (seen h) (size_behind h) x ≡ gone (seen h1) (size_behind h1) x = λ x. g x ∙ gone_same b (seen h1) (size_behind h) (size_behind h1) x e (λ l. sym (size_pages h.store new (x - 1) pages)) in
     as_much h h1 refl refl refl refl (ap length pages) (λ n. n) one two
 
-pub ref_more : (h : HeapState) (new : Store) (a i v : ℕ) → Writes h.store new a (with_cell (node_of h.store a) i v) → i < length (node_of h.store a).cells → i < width_at (node_of h.store a) → DoesMore h (record h { store = new })
+pub ref_more : (h : HeapState) (new : Store) (a i v : ℕ) → Writes h.store new a (with_cell (record_of h.store a) i v) → i < length (record_of h.store a).cells → i < width_at (record_of h.store a) → DoesMore h (record h { store = new })
 ref_more h new a i v w l lw = cell_more h new (set_cell (seen h) (a + 1) i v) w.pages (λ x. unfold work in refl) (λ x. unfold gone in refl) (cell_seen h new a i v w l lw)
 
-pub word_more : (h : HeapState) (new : Store) (a c v : ℕ) → Writes h.store new a (with_cell (node_of h.store a) (width_at (node_of h.store a) + c) v) → DoesMore h (record h { store = new })
+pub word_more : (h : HeapState) (new : Store) (a c v : ℕ) → Writes h.store new a (with_cell (record_of h.store a) (width_at (record_of h.store a) + c) v) → DoesMore h (record h { store = new })
 word_more h new a c v w = cell_more h new (set_word (seen h) (a + 1) c v) w.pages (λ x. unfold work in refl) (λ x. unfold gone in refl) (word_seen h new a c v w)
 
 -- a main copy is shaded
@@ -105,22 +105,22 @@ shade_more h k x sh =
     unmarked : (h : HeapState) (x y : ℕ) → gone (seen h) (size_behind h) y ≡ gone (shade (seen h) x) (size_behind h) y
     unmarked h x y = unfold gone in refl
 
-made_gone : (a b : Heap) (s t : ℕ → ℕ) (x : ℕ) → (a.held x ≡ true → b.held x ≡ true) → (a.held x ≡ true → b.forward x ≡ a.forward x) → (a.held x ≡ true → x ≢ 0 → t x ≡ s x) → a.forward 0 ≡ 0 → gone a s x ≤ gone b t x
+made_gone : (a b : Heap) (s t : ℕ → ℕ) (x : ℕ) → (a.allocated x ≡ true → b.allocated x ≡ true) → (a.allocated x ≡ true → b.forward x ≡ a.forward x) → (a.allocated x ≡ true → x ≢ 0 → t x ≡ s x) → a.forward 0 ≡ 0 → gone a s x ≤ gone b t x
 unfolding gone
-made_gone a b s t x held forward size zero = elim (cases_eq x 0) [
+made_gone a b s t x allocated forward size zero = elim (cases_eq x 0) [
   | inl e ↦ (let f : a.forward x ≡ x = ap a.forward e ∙ zero ∙ sym e in grind arith)
-  | inr ne ↦ elim (cases_Bool (a.held x)) [ inl l ↦ (let h = held l in let f = forward l in let q = size l ne in grind arith) | inr l ↦ grind arith ]
+  | inr ne ↦ elim (cases_Bool (a.allocated x)) [ inl l ↦ (let h = allocated l in let f = forward l in let q = size l ne in grind arith) | inr l ↦ grind arith ]
 ]
 
 -- a new object is made
-pub new_more : (h : HeapState) (new : Store) (at : ℕ → ℕ) (j : ℕ) (shape : Shape) → fits shape ≡ true → IsWhole h.store → MakesObject h.store shape h.sense h.next at new → length new.pages ≡ length h.store.pages
-    → ((b : ℕ) → is_held h.store b ≡ true → size_at new b ≡ size_at h.store b) → DoesMore h (record h { store = new; next = h.next + 1; roots = set h.roots j (at 0 + 1) })
+pub new_more : (h : HeapState) (new : Store) (at : ℕ → ℕ) (j : ℕ) (shape : Shape) → fits shape ≡ true → IsWhole h.store → MakesObject h.store shape h.mark_parity h.next at new → length new.pages ≡ length h.store.pages
+    → ((b : ℕ) → is_allocated h.store b ≡ true → size_at new b ≡ size_at h.store b) → DoesMore h (record h { store = new; next = h.next + 1; roots = set h.roots j (at 0 + 1) })
 new_more h new at j shape f whole making many sizes =
     let h1 : HeapState = record h { store = new; next = h.next + 1 } in
     let h2 : HeapState = record h { store = new; next = h.next + 1; roots = set h.roots j (at 0 + 1) } in
     let mk = makes_object h shape at new f whole making in
     let one : (x : ℕ) → work (collector_of h) x ≤ work (collector_of h2) x = λ x. let a = made_work (collector_of h) (seen h1) (parts_of shape) (reference at) x mk in let e = same_marks x in omega arith in
-    let two : (x : ℕ) → gone (seen h) (size_behind h) x ≤ gone (seen h2) (size_behind h2) x = λ x. made_gone (seen h) (seen h2) (size_behind h) (size_behind h2) x (λ l. mk.stays.held x l) (λ l. mk.stays.says.forward x l) (λ l some. sizes (x - 1) (held_behind h x (omega arith) l)) refl in
+    let two : (x : ℕ) → gone (seen h) (size_behind h) x ≤ gone (seen h2) (size_behind h2) x = λ x. made_gone (seen h) (seen h2) (size_behind h) (size_behind h2) x (λ l. mk.stays.allocated x l) (λ l. mk.stays.says.forward x l) (λ l some. sizes (x - 1) (allocated_behind h x (omega arith) l)) refl in
     no_less h h2 refl refl refl (length-set h.roots j (at 0 + 1)) many (λ n. n) one two
   where
     same_marks : (x : ℕ) → work (record (collector_of h) { heap = seen (record h { store = new; next = h.next + 1 }) }) x ≡ work (collector_of (record h { store = new; next = h.next + 1; roots = set h.roots j (at 0 + 1) })) x

@@ -2,7 +2,7 @@
 use Rattle.std.proofs.Common.{◌≡◌, ℕ, true, false, [], set, arith, ap, subst, sym, ◌==◌, if◌then◌else◌}
 use Rattle.heap_model.specs.Core.{Name, PartGraph, Heap, Kept, Grows, Base}
 use Rattle.heap_model.specs.Agree.{IsMain}
-use Rattle.heap_model.specs.Collector.{Progress, In_idle, In_roots, In_marking, In_sweep, In_moves, Collector, Stage, Coherent}
+use Rattle.heap_model.specs.Collector.{Progress, In_idle, In_roots, In_marking, In_sweep, In_moves, Collector, PhaseInvariant, Coherent}
 use Rattle.heap_model.proofs.Edits.{set_word, write_word}
 use Rattle.heap_model.proofs.Trace.{at_same}
 use Rattle.heap_model.proofs.Barrier.{main_at}
@@ -18,7 +18,7 @@ word_base h g s at n c w b k =
     grind arith
 
 -- the stages don't speak of words
-word_stage : (m : Collector) (g s : PartGraph) (at : Name → ℕ) (n : Name) (x c w : ℕ) (p : Progress) → Stage m g s at p → Stage (record m { heap = set_word m.heap x c w }) (write_word g n c w) s at p
+word_stage : (m : Collector) (g s : PartGraph) (at : Name → ℕ) (n : Name) (x c w : ℕ) (p : Progress) → PhaseInvariant m g s at p → PhaseInvariant (record m { heap = set_word m.heap x c w }) (write_word g n c w) s at p
 word_stage m g s at n x c w In_idle t = grind arith
 word_stage m g s at n x c w (In_roots place) t = (grind arith, grind arith)
 word_stage m g s at n x c w In_marking t = (grind arith, grind arith)

@@ -7,9 +7,9 @@ use Rattle.graph_heap.specs.Reach.{Reaches}
 use Rattle.size_classes.specs.Parts.{part_cells, cells_of, part_in, column_in}
 use Rattle.heap_model.specs.declared.phase.Phase.{Phase}
 use Rattle.heap_model.specs.declared.phase.Phase.TheVariants as phases
-use Rattle.heap_model.specs.Block.{Node, with_cell}
+use Rattle.heap_model.specs.Block.{BlockRecord, with_cell}
 use Rattle.heap_model.specs.Pages.{Page}
-use Rattle.heap_model.specs.Store.{Store, Writes, is_held, node_of}
+use Rattle.heap_model.specs.Store.{Store, Writes, is_allocated, record_of}
 use Rattle.heap_model.specs.Core.{Name, Kept}
 use Rattle.heap_model.specs.Agree.{IsMain}
 use Rattle.heap_model.specs.Cut.{count_of, width_in, width_of, name_of, view}
@@ -23,7 +23,7 @@ use Rattle.heap_model.proofs.Words.{puts_word}
 use Rattle.heap_model.proofs.Collector.{same_stands}
 use Rattle.heap_model.proofs.Cut.{part_at, column_at, part_below, column_below, word_below}
 use Rattle.heap_model.proofs.Changes.{view-root, view-ref, view-word, object-put_same, object-put_other}
-use Rattle.heap_model.proofs.Seen.{held_pages, node_kept, behind, root_seen, cell_seen, word_seen}
+use Rattle.heap_model.proofs.Seen.{allocated_pages, node_kept, behind, root_seen, cell_seen, word_seen}
 use Rattle.heap_model.proofs.Agreements.{stepped, part_kept, known_kept, kept_given}
 
 pub records-progress : (pages : List (Option Page)) (p : Phase) → is_tracing (progress_of pages p) ≡ records p
@@ -54,16 +54,16 @@ pub root_written : (h : HeapState) (present snapshot : Graph) (j y v : ℕ) → 
 root_written h present snapshot j y v c l r k i = root_kept h present snapshot j y v c l r (known_kept h present snapshot c v k) i
 
 -- a write that leaves the shape, the part and the number of cells leaves each block its cells
-pub whole_write : (old new : Store) (a : ℕ) (n : Node) → Writes old new a n → length n.cells ≡ length (node_of old a).cells → n.shape ≡ (node_of old a).shape → n.part ≡ (node_of old a).part → IsWhole old → IsWhole new
+pub whole_write : (old new : Store) (a : ℕ) (n : BlockRecord) → Writes old new a n → length n.cells ≡ length (record_of old a).cells → n.shape ≡ (record_of old a).shape → n.part ≡ (record_of old a).part → IsWhole old → IsWhole new
 whole_write old new a n w cells shape part k b l =
-    let l' : is_held old b ≡ true = sym (held_pages old new b w.pages) ∙ l in
+    let l' : is_allocated old b ≡ true = sym (allocated_pages old new b w.pages) ∙ l in
     let e = node_kept (λ z. length z.cells) old new a n w b l' (λ _. cells) in
     let s = node_kept (λ z. z.shape) old new a n w b l' (λ _. shape) in
     let p = node_kept (λ z. z.part) old new a n w b l' (λ _. part) in
-    e ∙ k b l' ∙ ap (λ z. part_cells (cells_of z) (node_of old b).part) (sym s) ∙ ap (λ z. part_cells (cells_of (node_of new b).shape) z) (sym p)
+    e ∙ k b l' ∙ ap (λ z. part_cells (cells_of z) (record_of old b).part) (sym s) ∙ ap (λ z. part_cells (cells_of (record_of new b).shape) z) (sym p)
 
-pub whole_cell : (old new : Store) (a i v : ℕ) → Writes old new a (with_cell (node_of old a) i v) → IsWhole old → IsWhole new
-whole_cell old new a i v w k = whole_write old new a _ w (length-set (node_of old a).cells i v) refl refl k
+pub whole_cell : (old new : Store) (a i v : ℕ) → Writes old new a (with_cell (record_of old a) i v) → IsWhole old → IsWhole new
+whole_cell old new a i v w k = whole_write old new a _ w (length-set (record_of old a).cells i v) refl refl k
 
 -- each object keeps its cells
 cells_put : (g : Graph) (id : ℕ) (o : Object) → 0 < id → id ≤ length g.objects → HasItsCells o → ((k : ℕ) → HasItsCells (object_of g.objects k)) → (k : ℕ) → HasItsCells (object_of (put_object g.objects id o) k)
@@ -77,7 +77,7 @@ pub cells_sum : (o : Object) → HasItsCells o → length o.refs + length o.word
 cells_sum o k = let r = k.refs in let w = k.words in omega arith
 
 -- a store is written, where an object that is reached is put
-object_written : (h : HeapState) (present snapshot : Graph) (new : Store) (a id : ℕ) (n : Node) (o : Object) → Consistent h present snapshot → Reaches present id → Writes h.store new a n → IsWhole new → HasItsCells o
+object_written : (h : HeapState) (present snapshot : Graph) (new : Store) (a id : ℕ) (n : BlockRecord) (o : Object) → Consistent h present snapshot → Reaches present id → Writes h.store new a n → IsWhole new → HasItsCells o
     → (0 < id → id ≤ length present.objects → Coherent (record (collector_of h) { heap = seen (record h { store = new }) }) (view (record present { objects = put_object present.objects id o })) (view snapshot))
     → Consistent (record h { store = new }) (record present { objects = put_object present.objects id o }) snapshot
 object_written h present snapshot new a id n o c r w whole here parts =
@@ -91,7 +91,7 @@ object_written h present snapshot new a id n o c r w whole here parts =
 -- a word cell is written
 pub word_written : (h : HeapState) (present snapshot : Graph) (new : Store) (address id k word : ℕ) → Consistent h present snapshot → Reaches present id → k < length (object_of present.objects id).words
     → IsMain (seen h) (address + 1) (record { identity = id; part = part_in (cells_of (object_of present.objects id).shape) k })
-    → Writes h.store new address (with_cell (node_of h.store address) (width_at (node_of h.store address) + column_in k) word)
+    → Writes h.store new address (with_cell (record_of h.store address) (width_at (record_of h.store address) + column_in k) word)
     → Consistent (record h { store = new }) (changed present (changes.Word id k word)) snapshot
 word_written h present snapshot new a id k word c r l i w =
     let o = object_of present.objects id in
@@ -111,28 +111,28 @@ width_le refs words p = grind arith
 
 -- the reference cells of a part are among its cells
 pub column_within : (h : HeapState) (present snapshot : Graph) (c : Consistent h present snapshot) (a : ℕ) (n : Name) → Kept (length h.roots) (view snapshot) (view present) n → IsMain (seen h) (a + 1) n
-    → n.part < count_of (object_of present.objects n.identity) → (width_at (node_of h.store a) ≡ width_of (object_of present.objects n.identity) n.part) × (width_at (node_of h.store a) ≤ length (node_of h.store a).cells)
+    → n.part < count_of (object_of present.objects n.identity) → (width_at (record_of h.store a) ≡ width_of (object_of present.objects n.identity) n.part) × (width_at (record_of h.store a) ≤ length (record_of h.store a).cells)
 unfolding count_of
 column_within h present snapshot c a n k i l =
     let b = c.parts.base in
     let o = object_of present.objects n.identity in
     let at : a + 1 ≡ c.parts.at n = main_at (collector_of h) (view present) (view snapshot) c.parts (a + 1) n k i in
-    let width : width_at (node_of h.store a) ≡ width_of o n.part = sym (behind 0 (λ z. width_at (node_of h.store z)) a) ∙ ap (seen h).width at ∙ b.width n k in
-    let shape : (node_of h.store a).shape ≡ o.shape = sym (behind _ (λ z. (node_of h.store z).shape) a) ∙ ap (seen h).shape at ∙ b.shape n k in
-    let name : record { identity = (node_of h.store a).identity; part = (node_of h.store a).part } ≡ n = sym (behind _ (λ z. (let y : Name = record { identity = (node_of h.store z).identity; part = (node_of h.store z).part } in y)) a) ∙ i.name in
-    let part : (node_of h.store a).part ≡ n.part = ap (λ (z : Name). z.part) name in
-    let held : is_held h.store a ≡ true = sym (behind true (λ z. is_held h.store z) a) ∙ i.held in
+    let width : width_at (record_of h.store a) ≡ width_of o n.part = sym (behind 0 (λ z. width_at (record_of h.store z)) a) ∙ ap (seen h).width at ∙ b.width n k in
+    let shape : (record_of h.store a).shape ≡ o.shape = sym (behind _ (λ z. (record_of h.store z).shape) a) ∙ ap (seen h).shape at ∙ b.shape n k in
+    let name : record { identity = (record_of h.store a).identity; part = (record_of h.store a).part } ≡ n = sym (behind _ (λ z. (let y : Name = record { identity = (record_of h.store z).identity; part = (record_of h.store z).part } in y)) a) ∙ i.name in
+    let part : (record_of h.store a).part ≡ n.part = ap (λ (z : Name). z.part) name in
+    let allocated : is_allocated h.store a ≡ true = sym (behind true (λ z. is_allocated h.store z) a) ∙ i.allocated in
     let sum = cells_sum o (c.cells n.identity) in
-    let whole : length (node_of h.store a).cells ≡ part_cells (length o.refs + length o.words) n.part = c.whole a held ∙ ap (λ z. part_cells (cells_of z) (node_of h.store a).part) shape ∙ ap (λ z. part_cells (cells_of o.shape) z) part ∙ ap (λ z. part_cells z n.part) (sym sum) in
+    let whole : length (record_of h.store a).cells ≡ part_cells (length o.refs + length o.words) n.part = c.whole a allocated ∙ ap (λ z. part_cells (cells_of z) (record_of h.store a).part) shape ∙ ap (λ z. part_cells (cells_of o.shape) z) part ∙ ap (λ z. part_cells z n.part) (sym sum) in
     let le = width_le (length o.refs) (length o.words) n.part in
     (width, omega arith)
 
 -- a reference cell is written
 pub ref_written : (h : HeapState) (present snapshot : Graph) (new : Store) (address y id i v : ℕ) → Consistent h present snapshot → Reaches present id → i < length (object_of present.objects id).refs
     → IsMain (seen h) (address + 1) (record { identity = id; part = part_in (cells_of (object_of present.objects id).shape) i })
-    → IsRecorded h (get_or (node_of h.store address).cells (column_in i) 0)
+    → IsRecorded h (get_or (record_of h.store address).cells (column_in i) 0)
     → IsKnown present v → IsMain (seen h) y (name_of v)
-    → Writes h.store new address (with_cell (node_of h.store address) (column_in i) y)
+    → Writes h.store new address (with_cell (record_of h.store address) (column_in i) y)
     → Consistent (record h { store = new }) (changed present (changes.Ref id i v)) snapshot
 ref_written h present snapshot new a y id i v c r l ix rec kv iy w =
     let o = object_of present.objects id in
@@ -144,9 +144,9 @@ ref_written h present snapshot new a y id i v c r l ix rec kv iy w =
     let ix' : IsMain (seen h) (a + 1) n = subst (λ z. IsMain (seen h) (a + 1) (record { identity = id; part = part_in z i })) (sym (cells_sum o (c.cells id))) ix in
     let within = column_within h present snapshot c a n kn ix' below in
     let column : column_at o i < width_of o (part_at o i) = column_below o i l in
-    let column' : column_at o i < width_at (node_of h.store a) = subst (λ z. column_at o i < z) (sym within.0) column in
-    let inside : column_at o i < length (node_of h.store a).cells = (let e = within.1 in omega arith) in
-    let cell : (seen h).cell (a + 1) (column_at o i) ≡ get_or (node_of h.store a).cells (column_at o i) 0 = behind 0 (λ z. get_or (node_of h.store z).cells (column_at o i) 0) a in
+    let column' : column_at o i < width_at (record_of h.store a) = subst (λ z. column_at o i < z) (sym within.0) column in
+    let inside : column_at o i < length (record_of h.store a).cells = (let e = within.1 in omega arith) in
+    let cell : (seen h).cell (a + 1) (column_at o i) ≡ get_or (record_of h.store a).cells (column_at o i) 0 = behind 0 (λ z. get_or (record_of h.store z).cells (column_at o i) 0) a in
     let recorded : is_tracing m.phase ≡ true → m.heap.marked (m.heap.forward (m.heap.cell (a + 1) (column_at o i))) ≡ true = λ t. subst (λ z. m.heap.marked (m.heap.forward z) ≡ true) (sym cell) (rec (sym (records-progress h.store.pages h.phase) ∙ t)) in
     let c1 = puts_cell m (view present) (view snapshot) (a + 1) n (column_at o i) y (name_of v) c.parts kn ix' column recorded (known_kept h present snapshot c v kv) iy in
     let c2 = same_stands (record m { heap = set_cell m.heap (a + 1) (column_at o i) y }) (seen h') (write_target (view present) n (column_at o i) (name_of v)) (view snapshot) (cell_seen h new a (column_at o i) y w inside column') c1 in

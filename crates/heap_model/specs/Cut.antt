@@ -2,7 +2,7 @@
 use Rattle.std.specs.Prelude.{ℕ, ◌+◌, ◌-◌, List, [], if◌then◌else◌, nat_lt, length, slice_index, take, drop, min}
 use Rattle.graph_heap.specs.Graph.{Object, Graph, object_of}
 use Rattle.size_classes.specs.declared.parts.TheConstants.{PART_CELLS}
-use Rattle.size_classes.specs.Parts.{Run, parts_in, run_of}
+use Rattle.size_classes.specs.Parts.{PartContents, parts_in, run_of}
 use Rattle.heap_model.specs.Core.{Name, null, PartGraph}
 
 -- how many parts an object has
@@ -11,7 +11,7 @@ count_of o = parts_in (length o.refs + length o.words)
 
 -- how many reference cells a part has, of an object with this many: all cells of a spine, and of a piece
 -- its share, as references stand first
-abbrev pub width_by : Run → ℕ → ℕ
+abbrev pub width_by : PartContents → ℕ → ℕ
 width_by r refs = if r.spine then r.count else min r.count (refs - r.first)
 
 -- how many reference cells a part has, of an object with this many reference and word cells
@@ -27,7 +27,7 @@ abbrev pub name_of : ℕ → Name
 name_of identity = record { identity = identity; part = 0 }
 
 -- what a reference cell of a part names: in a spine a part, in a piece one of the object's references
-abbrev pub target_by : Run → ℕ → List ℕ → ℕ → Name
+abbrev pub target_by : PartContents → ℕ → List ℕ → ℕ → Name
 target_by r identity refs i = if nat_lt i r.count
     then (if r.spine then record { identity = identity; part = r.first + i }
     else name_of (slice_index refs (r.first + i))) else null
@@ -37,7 +37,7 @@ unfoldable pub target_of : ℕ → Object → ℕ → ℕ → Name
 target_of identity o part i = target_by (run_of (length o.refs + length o.words) part) identity o.refs i
 
 -- the word cells of a part
-abbrev pub words_by : Run → List ℕ → List ℕ
+abbrev pub words_by : PartContents → List ℕ → List ℕ
 words_by r words = if r.spine then [] else take PART_CELLS (drop r.first words)
 
 -- the word cells of an object's part

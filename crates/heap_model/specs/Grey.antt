@@ -3,14 +3,14 @@ use Rattle.std.specs.Prelude.{◌≡◌, ℕ, ◌-◌, ◌*◌, ◌<◌, ◌≤�
 use Rattle.size_classes.specs.declared.class.TheConstants.{MOST_BLOCKS}
 use Rattle.heap_model.specs.Collector.{contains, Once}
 use Rattle.heap_model.specs.State.{HeapState, seen}
-use Rattle.heap_model.specs.Store.{is_held}
+use Rattle.heap_model.specs.Store.{is_allocated}
 
--- There are pages. None of the grey parts is null; each is held, and marked; none stands twice; and there are no
+-- There are pages. None of the grey parts is null; each is allocated, and marked; none stands twice; and there are no
 -- more than a quarter of the arena's words, since a block has four at least.
 pub record AreGrey (h : HeapState) : Type 0 where
   pub pages : 0 < length h.store.pages
   pub some : contains h.grey 0 ≡ false
-  pub held : (x : ℕ) → contains h.grey x ≡ true → is_held h.store (x - 1) ≡ true
+  pub allocated : (x : ℕ) → contains h.grey x ≡ true → is_allocated h.store (x - 1) ≡ true
   pub marked : (x : ℕ) → contains h.grey x ≡ true → (seen h).marked x ≡ true
   pub once : Once h.grey
   pub few : length h.grey ≤ MOST_BLOCKS * length h.store.pages

@@ -2,16 +2,16 @@
 use Rattle.std.specs.Prelude.{◌≡◌, ◌≢◌, ℕ, ◌-◌, ◌<◌, true, ◌==◌, if◌then◌else◌, length, slice_index}
 use Rattle.graph_heap.specs.Graph.{Graph, object_of}
 use Rattle.size_classes.specs.Parts.{cells_of, holder_of, part_in, seat_of}
-use Rattle.heap_model.specs.Store.{Store, is_held, node_of}
+use Rattle.heap_model.specs.Store.{Store, is_allocated, record_of}
 use Rattle.heap_model.specs.Core.{Name}
 use Rattle.heap_model.specs.State.{HeapState}
 
 -- the block at an address is a main copy of a part
 pub record IsMainCopy (s : Store) (address : ℕ) (n : Name) : Type 0 where
-  pub held : is_held s address ≡ true
-  pub forward : (node_of s address).forward ≡ address
-  pub identity : (node_of s address).identity ≡ n.identity
-  pub part : (node_of s address).part ≡ n.part
+  pub allocated : is_allocated s address ≡ true
+  pub forward : (record_of s address).forward ≡ address
+  pub identity : (record_of s address).identity ≡ n.identity
+  pub part : (record_of s address).part ≡ n.part
 
 -- the block at an address is a main copy of the part that has cell i of an object, of its reference cells or of its
 -- word cells
@@ -23,19 +23,19 @@ HasCell h g id i address = IsMainCopy h.store address (record {
 
 -- a reference, other than null, leads by way of its forwarding word to the main copy of a part
 pub record LeadsTo (h : HeapState) (x : ℕ) (n : Name) : Type 0 where
-  pub held : is_held h.store (x - 1) ≡ true
-  pub main : IsMainCopy h.store (node_of h.store (x - 1)).forward n
+  pub allocated : is_allocated h.store (x - 1) ≡ true
+  pub main : IsMainCopy h.store (record_of h.store (x - 1)).forward n
 
 -- the block that a reference cell names, by way of the forwarding word
 abbrev pub step_to : Store → ℕ → ℕ → ℕ
-step_to s block cell = (node_of s (slice_index (node_of s block).cells cell - 1)).forward
+step_to s block cell = (record_of s (slice_index (record_of s block).cells cell - 1)).forward
 
--- a cell of a held block refers to a held block
+-- a cell of an allocated block refers to an allocated block
 pub record Refers (s : Store) (block cell : ℕ) : Type 0 where
-  pub held : is_held s block ≡ true
-  pub within : cell < length (node_of s block).cells
-  pub some : slice_index (node_of s block).cells cell ≢ 0
-  pub there : is_held s (slice_index (node_of s block).cells cell - 1) ≡ true
+  pub allocated : is_allocated s block ≡ true
+  pub within : cell < length (record_of s block).cells
+  pub some : slice_index (record_of s block).cells cell ≢ 0
+  pub there : is_allocated s (slice_index (record_of s block).cells cell - 1) ≡ true
 
 -- the block of the spine that refers to a part, from that of part 0 of an object with this many cells: itself,
 -- or the middle spine to which it refers

@@ -4,7 +4,7 @@ ghost use Rattle.std.specs.Prelude.{◌≡◌, ◌≢◌, ◌↔◌, ℕ, ◌+�
 ghost use Rattle.graph_heap.specs.Graph.{Graph, object_of};
 ghost use Rattle.graph_heap.specs.Reach.{Reaches};
 ghost use Rattle.size_classes.specs.Parts.{cells_of, holder_of, seat_of, column_in};
-ghost use Rattle.heap_model.specs.Store.{node_of};
+ghost use Rattle.heap_model.specs.Store.{record_of};
 ghost use Rattle.heap_model.specs.Core.{Name};
 ghost use Rattle.heap_model.specs.Agree.{IsMain, Reads};
 ghost use Rattle.heap_model.specs.Cut.{count_of, name_of};
@@ -14,7 +14,7 @@ ghost use Rattle.heap_model.specs.Reading.{IsMainCopy, HasCell, LeadsTo, Refers,
 ghost use Rattle.heap_model.specs.declared.phase.Phase.TheVariants as phases;
 ghost use Rattle.heap_model.specs.declared.phase.Moving.{Moving};
 ghost use Rattle.heap_model.specs.Action.{Action};
-ghost use Rattle.heap_model.specs.Standing.{Stands};
+ghost use Rattle.heap_model.specs.Standing.{Represents};
 
 /// What a root holds reads as the graph heap's root.
 pub fn root_reads()
@@ -26,7 +26,7 @@ pub fn root_reads()
 /// nothing reaches it any more.
 pub fn moves_keep_names()
     ensures { (h after : HeapState) (cost : ℕ) (present snapshot : Graph) (place : Moving) (x : ℕ) (n : Name)
-        → Stands h present snapshot → h.phase ≡ phases.Moving place → Action h cost after
+        → Represents h present snapshot → h.phase ≡ phases.Moving place → Action h cost after
         → Reads (seen h) x n → Reads (seen after) x n }
 {}
 
@@ -53,7 +53,7 @@ pub fn main_copies()
 pub fn shape_shown()
     ensures { (h : HeapState) (g : Graph) (id part address : ℕ) → Agrees h g → Reaches g id
         → part < count_of (object_of g.objects id) → IsMainCopy h.store address (record { identity = id; part = part })
-        → (node_of h.store address).shape ≡ (object_of g.objects id).shape }
+        → (record_of h.store address).shape ≡ (object_of g.objects id).shape }
 {}
 
 /// Reference cell i of an object stands in its part, and reads as the object's.
@@ -61,7 +61,7 @@ pub fn ref_shown()
     ensures { (h : HeapState) (g : Graph) (id i address : ℕ) → Agrees h g → Reaches g id
         → i < length (object_of g.objects id).refs
         → HasCell h g id i address
-        → Reads (seen h) (slice_index (node_of h.store address).cells (column_in i))
+        → Reads (seen h) (slice_index (record_of h.store address).cells (column_in i))
         (name_of (slice_index (object_of g.objects id).refs i)) }
 {}
 
@@ -73,7 +73,7 @@ pub fn piece_shown()
           identity = id;
           part = holder_of (cells_of (object_of g.objects id).shape) part;
         })
-        → Reads (seen h) (slice_index (node_of h.store address).cells
+        → Reads (seen h) (slice_index (record_of h.store address).cells
         (seat_of (cells_of (object_of g.objects id).shape) part)) (record { identity = id; part = part }) }
 {}
 
@@ -82,12 +82,12 @@ pub fn word_shown()
     ensures { (h : HeapState) (g : Graph) (id k address : ℕ) → Agrees h g → Reaches g id
         → k < length (object_of g.objects id).words
         → HasCell h g id k address
-        → slice_index (node_of h.store address).cells (width_at (node_of h.store address) + column_in k)
+        → slice_index (record_of h.store address).cells (width_at (record_of h.store address) + column_in k)
         ≡ slice_index (object_of g.objects id).words k }
 {}
 
 /// From the block of part 0 the block of each part is found, in two steps at most, and each step is by a
-/// cell that refers to a held block.
+/// cell that refers to an allocated block.
 pub fn part_reached()
     ensures main { (h : HeapState) (g : Graph) (id part address : ℕ) → Agrees h g → Reaches g id
         → part < count_of (object_of g.objects id) → IsMainCopy h.store address (name_of id)

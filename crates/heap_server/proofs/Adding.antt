@@ -6,7 +6,7 @@ use mathlib.Core.List.{IsPrefix}
 use prog.Atomic.{either}
 use Rattle.logbook.specs.Pages.{Cell, cell, keeps, no_nib, step, Moves, Goes}
 use Rattle.graph_heap.specs.declared.command.Entry.{Entry}
-use Rattle.heap_server.specs.Place.{IsLength, Appends, Commits}
+use Rattle.heap_server.specs.HistoryLength.{IsLength, Appends, Commits}
 use Rattle.heap_server.proofs.Fronts.{prefix_whole, prefix_trans, prefix_length}
 
 abbrev pub shown : List Entry → List Entry

@@ -7,10 +7,10 @@ use Rattle.heap_model.specs.declared.phase.Phase.{Phase}
 use Rattle.heap_model.specs.State.{HeapState}
 use Rattle.heap_model.specs.Opening.{IsOpening}
 use Rattle.heap_model.specs.Event.{Course, Event, Command_done, Cycle_begun, Quantum_done, present_of, room_for, change_by, Enters, Begins, Collects, Does, quanta_in}
-use Rattle.heap_model.specs.Led.{IsLed, cycles_in, units_in, opened}
+use Rattle.heap_model.specs.ReachedFrom.{IsReachedFrom, cycles_in, units_in, opened}
 use Rattle.heap_model.specs.Settings.{HeapSettings, settings_of}
 use Rattle.heap_model.proofs.Left.{change_left}
-use Rattle.heap_model.proofs.Leading.{led_opening, led_more, led_course}
+use Rattle.heap_model.proofs.Leading.{reached_opening, reached_more, reached_course}
 use Rattle.heap_model.proofs.Settings.{does_settings}
 use Rattle.machine.proofs.Headline.{course_holds}
 use Rattle.machine.proofs.Space.{found_space}
@@ -22,15 +22,15 @@ use Rattle.heap_server.proofs.Turning.{cycles_fall}
 event_kept : (settings : HeapSettings) (v new : LockedView) (e : Event) → IsKept settings v → Does v.course e new.course → length new.course.history ≡ new.calls
     → v.begun + cycles_in (e ∷ []) ≡ new.begun → v.quanta + quanta_in (e ∷ []) ≡ new.quanta → v.spent + units_in (e ∷ []) ≡ new.spent → new.ended + cycles_on new.course.heap.phase ≡ new.begun → IsKept settings new
 event_kept settings v new e k d counted begun quanta spent cycles =
-    let more = led_more v.course new.course e v.begun v.quanta v.spent k.led d in
-    let led = subst (λ (n : ℕ). IsLed new.course n new.quanta new.spent) begun
-    (subst (λ (q : ℕ). IsLed new.course (v.begun + cycles_in (e ∷ [])) q new.spent) quanta
-    (subst (λ (u : ℕ). IsLed new.course (v.begun + cycles_in (e ∷ [])) (v.quanta + quanta_in (e ∷ [])) u) spent more)) in
+    let more = reached_more v.course new.course e v.begun v.quanta v.spent k.reached_from d in
+    let reached_from = subst (λ (n : ℕ). IsReachedFrom new.course n new.quanta new.spent) begun
+    (subst (λ (q : ℕ). IsReachedFrom new.course (v.begun + cycles_in (e ∷ [])) q new.spent) quanta
+    (subst (λ (u : ℕ). IsReachedFrom new.course (v.begun + cycles_in (e ∷ [])) (v.quanta + quanta_in (e ∷ [])) u) spent more)) in
     record {
       some = k.some;
-      sound = record { settings_are = does_settings v.course e new.course d ∙ k.sound.settings_are; holds = course_holds new.course (led_course new.course new.begun new.quanta new.spent led); space = found_space new.course };
+      sound = record { settings_are = does_settings v.course e new.course d ∙ k.sound.settings_are; holds = course_holds new.course (reached_course new.course new.begun new.quanta new.spent reached_from); space = found_space new.course };
       counted = counted;
-      led = led;
+      reached_from = reached_from;
       cycles = cycles;
     }
 
@@ -55,7 +55,7 @@ begin_kept settings v new k d calls begun ended quanta spent =
 pub quantum_kept : (settings : HeapSettings) (v new : LockedView) (budget units : ℕ) (phase : Phase) → IsKept settings v → Collects v.course budget units phase new.course
     → new.calls ≡ v.calls → new.begun ≡ v.begun → new.ended ≡ v.ended + (cycles_on v.course.heap.phase - cycles_on phase) → new.quanta ≡ v.quanta + 1 → new.spent ≡ v.spent + units → IsKept settings new
 quantum_kept settings v new budget units phase k d calls begun ended quanta spent =
-    let less = cycles_fall v.course new.course budget units phase (led_course v.course v.begun v.quanta v.spent k.led) d in
+    let less = cycles_fall v.course new.course budget units phase (reached_course v.course v.begun v.quanta v.spent k.reached_from) d in
     let is : cycles_on new.course.heap.phase ≡ cycles_on phase = ap cycles_on d.ends in
     let counted = ap length d.history ∙ k.counted in
     let cycles = k.cycles in
@@ -66,21 +66,21 @@ pub opening_kept : (settings : HeapSettings) (v : LockedView) → 0 < settings.l
 opening_kept settings v mutators o some history place is calls begun ended quanta spent =
     let at : List Entry → ℕ → Course = λ entries n. record { heap = v.course.heap; history = entries; place = n } in
     let same : opened v.course.heap ≡ v.course = ap (λ (entries : List Entry). at entries 0) (sym history) ∙ ap (at v.course.history) (sym place) in
-    let first = led_opening v.course.heap o some in
-    let led = subst (λ (r : Course). IsLed r v.begun v.quanta v.spent) same
-    (subst (λ (n : ℕ). IsLed (opened v.course.heap) n v.quanta v.spent) (sym begun)
-    (subst (λ (q : ℕ). IsLed (opened v.course.heap) 0 q v.spent) (sym quanta)
-    (subst (λ (u : ℕ). IsLed (opened v.course.heap) 0 0 u) (sym spent) first))) in
+    let first = reached_opening v.course.heap o some in
+    let reached_from = subst (λ (r : Course). IsReachedFrom r v.begun v.quanta v.spent) same
+    (subst (λ (n : ℕ). IsReachedFrom (opened v.course.heap) n v.quanta v.spent) (sym begun)
+    (subst (λ (q : ℕ). IsReachedFrom (opened v.course.heap) 0 q v.spent) (sym quanta)
+    (subst (λ (u : ℕ). IsReachedFrom (opened v.course.heap) 0 0 u) (sym spent) first))) in
     let idle : cycles_on v.course.heap.phase ≡ 0 = ap cycles_on o.phase in
     record {
       some = mutators;
-      sound = record { settings_are = is; holds = course_holds v.course (led_course v.course v.begun v.quanta v.spent led); space = found_space v.course };
+      sound = record { settings_are = is; holds = course_holds v.course (reached_course v.course v.begun v.quanta v.spent reached_from); space = found_space v.course };
       counted = ap length history ∙ sym calls;
-      led = led;
+      reached_from = reached_from;
       cycles = omega arith;
     }
 
 -- making room leaves what is kept
 pub reserve_kept : (settings : HeapSettings) (v : LockedView) (course : Course) (room : ℕ) → IsKept settings v → course ≡ v.course → IsKept settings (record v { course = course; room = room })
 reserve_kept settings v course room k same =
-    subst (λ (r : Course). IsKept settings (record v { course = r; room = room })) (sym same) (record { some = k.some; sound = k.sound; counted = k.counted; led = k.led; cycles = k.cycles })
+    subst (λ (r : Course). IsKept settings (record v { course = r; room = room })) (sym same) (record { some = k.some; sound = k.sound; counted = k.counted; reached_from = k.reached_from; cycles = k.cycles })

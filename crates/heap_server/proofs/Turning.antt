@@ -6,7 +6,7 @@ use Rattle.heap_model.specs.declared.phase.Phase.TheVariants as phases
 use Rattle.heap_model.specs.State.{HeapState}
 use Rattle.heap_model.specs.Action.{Chain, Nothing_done, Then}
 use Rattle.heap_model.specs.Pages.{ArePages}
-use Rattle.heap_model.specs.Standing.{Stands}
+use Rattle.heap_model.specs.Standing.{Represents}
 use Rattle.heap_model.specs.Event.{Course, present_of, snapshot_of, Collects, IsCourse}
 use Rattle.heap_model.proofs.Turns.{action_cost}
 use Rattle.heap_model.proofs.Stood.{stands_chain, idle_chain}
@@ -24,7 +24,7 @@ idle_or (phases.Sweeping page block) = inr (λ e. cc, refl)
 idle_or (phases.Moving place) = inr (λ e. cc, refl)
 
 -- without units spent nothing was done
-nothing_done : (h after : HeapState) (spent : ℕ) (present snapshot : Graph) → Stands h present snapshot → Chain h spent after → spent ≡ 0 → after ≡ h
+nothing_done : (h after : HeapState) (spent : ℕ) (present snapshot : Graph) → Represents h present snapshot → Chain h spent after → spent ≡ 0 → after ≡ h
 nothing_done h after spent p s w Nothing_done e = refl
 nothing_done h after spent p s w (Then u cost j k linked chain links action) e =
     let c : 0 < cost = (action_cost (record j { store = linked }) k cost (subst ArePages (sym links.pages) (stands_chain h j u p s w chain).pages) action).0 in absurd (omega arith)

@@ -3,7 +3,7 @@ use Rattle.std.specs.Prelude.{ℕ, ◌≡◌, ◌+◌, ◌<◌, length}
 use Rattle.heap_model.specs.declared.phase.Phase.{Phase}
 use Rattle.heap_model.specs.declared.phase.Phase.TheVariants as phases
 use Rattle.heap_model.specs.Event.{Course}
-use Rattle.heap_model.specs.Led.{IsLed}
+use Rattle.heap_model.specs.ReachedFrom.{IsReachedFrom}
 use Rattle.heap_model.specs.Settings.{HeapSettings, settings_of}
 use Rattle.machine.specs.Headline.{Holds}
 use Rattle.machine.specs.Space.{FoundSpace}
@@ -28,5 +28,5 @@ pub record IsKept (settings : HeapSettings) (v : LockedView) : Type 0 where
   pub some : 0 < settings.limits.mutators
   pub sound : IsSound settings v.course
   pub counted : length v.course.history ≡ v.calls
-  pub led : IsLed v.course v.begun v.quanta v.spent
+  pub reached_from : IsReachedFrom v.course v.begun v.quanta v.spent
   pub cycles : v.ended + cycles_on v.course.heap.phase ≡ v.begun

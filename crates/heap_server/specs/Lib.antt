@@ -1,5 +1,5 @@
 pub mod Views
-pub mod Place
+pub mod HistoryLength
 pub mod Kept
 pub mod Paced
 pub mod Seats

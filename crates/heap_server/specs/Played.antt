@@ -4,7 +4,7 @@ use Rattle.std.specs.List.{AllZip}
 use Rattle.graph_heap.specs.declared.command.Command.{Command}
 use Rattle.graph_heap.specs.declared.command.Entry.{Entry}
 use Rattle.heap_model.specs.Event.{IsBudget}
-use Rattle.heap_model.specs.Led.{IsLed}
+use Rattle.heap_model.specs.ReachedFrom.{IsReachedFrom}
 use Rattle.heap_model.specs.Settings.{HeapSettings}
 use Rattle.heap_server.specs.Views.{PacerView, SeatView}
 use Rattle.heap_server.specs.Seats.{mutators_of, upto}
@@ -68,7 +68,7 @@ pub record IsOutcome (settings : HeapSettings) (scripts : List (List Command)) (
   pub counted : length o.recorded.course.history ≡ sum o.done.items
   pub within : AllZip (λ n most. n ≤ most) o.done.items (map length scripts)
   pub fronts : o.torn ≡ false → HasFronts o.recorded.course.history scripts o.done.items
-  pub led : IsLed o.recorded.course o.tally.numbers.begun o.tally.numbers.quanta o.tally.numbers.spent
+  pub reached_from : IsReachedFrom o.recorded.course o.tally.numbers.begun o.tally.numbers.quanta o.tally.numbers.spent
   pub collected : IsCollected budgets o.used o.tally.numbers
   pub all : o.all ≡ true ↔ (o.torn ≡ false) × (o.done.items ≡ map length scripts) × (o.used ≡ length budgets)
   pub merge : o.all ≡ true → IsMerge o.recorded.course.history scripts

@@ -16,7 +16,7 @@ pub use fault::ServerFault;
 pub use gate::{Gate, OpenGate};
 pub use locked::{Locked, Pacer, Seat};
 pub use naming::{Begun, Calls, Ended, Naming, Opening, Units};
-pub use place::{Front, Opened, Place};
+pub use place::{Front, HistoryLength, Opened};
 pub use play::{Outcome, play_threads};
 pub use server::Server;
 pub use tally::Tally;

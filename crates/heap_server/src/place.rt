@@ -1,12 +1,12 @@
 //! The place word: the length of the running history, which is read without waiting.
 ghost use Rattle.std.specs.Prelude.{◌≡◌, ◌+◌, ◌==◌, ◌<◌, ◌≤◌, ◌^◌, ◌++◌, ◌∷◌, [], length, MatchBool};
 ghost use mathlib.Core.List.{IsPrefix};
-ghost use Rattle.heap_server.specs.Place.{word_of, next_entry, Commits};
+ghost use Rattle.heap_server.specs.HistoryLength.{word_of, next_entry, Commits};
 
 use crate::naming::Naming;
 use graph_heap::{Command, Entry};
 use logbook::{Gain, Offer, Plain, Play, Rule, Seen, Start, Word};
-use machine::Recorded;
+use machine::HeapWithHistory;
 use std::marker::{Model, PhantomData};
 use std::snapshot::Snapshot;
 
@@ -16,7 +16,7 @@ pub struct LengthRule;
 impl Rule<Entry, u64> for LengthRule {
     ghost use Rattle.std.specs.Prelude.{[]};
     ghost use base.Fml.{ftrue};
-    ghost use Rattle.heap_server.specs.Place.{IsLength};
+    ghost use Rattle.heap_server.specs.HistoryLength.{IsLength};
 
     ghost holds = { λ cells log. IsLength cells log };
 
@@ -53,7 +53,7 @@ impl logbook::Opening<u64, Entry> for EmptyLog {
 pub struct LoadStep;
 
 impl Play<Entry, u64> for LoadStep {
-    ghost use Rattle.heap_server.specs.Place.{Loads};
+    ghost use Rattle.heap_server.specs.HistoryLength.{Loads};
 
     ghost then = { Loads };
 }
@@ -62,7 +62,7 @@ impl Play<Entry, u64> for LoadStep {
 pub struct AppendStep;
 
 impl Play<Entry, u64> for AppendStep {
-    ghost use Rattle.heap_server.specs.Place.{Appends};
+    ghost use Rattle.heap_server.specs.HistoryLength.{Appends};
 
     ghost then = { Appends };
 }
@@ -89,14 +89,14 @@ impl Plain<PendingEntry, Entry, u64> for AppendStep {
 /// the entry can be added to the log before the command is planned.
 #[derive(Drop)]
 pub struct PendingEntry {
-    recorded: Snapshot<Recorded>,
+    recorded: Snapshot<HeapWithHistory>,
     mutator: u32,
     command: Command,
 }
 
 impl Model for PendingEntry {
     ghost use Rattle.graph_heap.specs.declared.command.Entry.{Entry};
-    ghost use Rattle.heap_server.specs.Place.{next_entry};
+    ghost use Rattle.heap_server.specs.HistoryLength.{next_entry};
 
     ghost Value = { Entry };
 
@@ -105,7 +105,7 @@ impl Model for PendingEntry {
 
 impl PendingEntry {
     /// The command, at this heap with its history.
-    pub fn of(recorded: &Recorded, mutator: u32, command: Command) -> PendingEntry
+    pub fn from_command(recorded: &HeapWithHistory, mutator: u32, command: Command) -> PendingEntry
         ensures { result ≡ next_entry recorded.now.course mutator command }
     {
         PendingEntry {
@@ -137,13 +137,13 @@ impl Opened {
     }
 
     /// The word under a name, and a front that has seen nothing.
-    pub fn named<N: Naming>(self) -> (Place<N>, Front<N>)
+    pub fn named<N: Naming>(self) -> (HistoryLength<N>, Front<N>)
         requires { self.seen.book ≡ N.names.book }
         ensures { result.1 ≡ [] }
     {
         let Opened { word, seen } = self;
         (
-            Place {
+            HistoryLength {
                 word,
                 of: PhantomData,
             },
@@ -157,7 +157,7 @@ impl Opened {
 
 /// The word that all threads share: the length of the running history.
 #[derive(Drop)]
-pub struct Place<N: Naming> {
+pub struct HistoryLength<N: Naming> {
     word: Word<Entry, u64, LengthRule>,
     of: PhantomData<N>,
     ghost word_is: { word ≡ word_of N.names.book },
@@ -201,7 +201,7 @@ impl<N: Naming> Front<N> {
     }
 
     /// One load: the length of the log, which is then seen.
-    pub fn observe(&mut self, place: &Place<N>) -> u64
+    pub fn observe(&mut self, place: &HistoryLength<N>) -> u64
         ensures found { result ≡ length self.new }
         ensures grows { IsPrefix self.old self.new }
     {
@@ -214,7 +214,7 @@ impl<N: Naming> Front<N> {
     }
 
     /// One exchange, which adds the entry if the log has the length given, and answers the length found.
-    pub(crate) fn add(&mut self, place: &Place<N>, at: u64, next: &PendingEntry) -> u64
+    pub(crate) fn add(&mut self, place: &HistoryLength<N>, at: u64, next: &PendingEntry) -> u64
         requires room { at + 1 < 2 ^ 64 }
         requires known { at ≤ length self.old }
         ensures grows { IsPrefix self.old self.new }
@@ -240,7 +240,7 @@ impl<N: Naming> Front<N> {
     /// know the log; or the log is longer, and the other front knows it.
     pub(crate) fn commit(
         &mut self,
-        place: &Place<N>,
+        place: &HistoryLength<N>,
         mine: &mut Front<N>,
         at: u64,
         next: &PendingEntry,

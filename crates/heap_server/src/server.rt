@@ -5,7 +5,7 @@ ghost use Rattle.std.specs.List.{sum_by};
 ghost use Rattle.graph_heap.specs.Graph.{opening};
 ghost use Rattle.graph_heap.specs.History.{IsLegal};
 ghost use Rattle.heap_model.specs.Event.{IsBudget};
-ghost use Rattle.heap_model.specs.Led.{IsLed};
+ghost use Rattle.heap_model.specs.ReachedFrom.{IsReachedFrom};
 ghost use Rattle.heap_server.specs.Kept.{IsSound};
 ghost use Rattle.heap_server.specs.Opened.{names_of};
 ghost use Rattle.heap_server.specs.Paced.{IsPaced};
@@ -15,9 +15,9 @@ ghost use Rattle.heap_server.specs.Seen.{EachKnown, Extends, FaultShows, IsKnown
 use crate::fault::ServerFault;
 use crate::locked::{Locked, Pacer, Seat};
 use crate::naming::{Calls, Naming, Opening};
-use crate::place::{Front, Place};
+use crate::place::{Front, HistoryLength};
 use graph_heap::{Command, NoMemory};
-use machine::{BudgetOutOfRange, Busy, Receipt, Recorded, Spent};
+use machine::{BudgetOutOfRange, Busy, HeapWithHistory, Receipt, Spent};
 use size_classes::Config;
 use std::alloc::Global;
 use std::sync::ledger::Share;
@@ -27,7 +27,7 @@ use std::sync::{Mutex, Wait};
 /// lock is held. The place word beside the lock has the length of the history, and is read without the lock.
 #[derive(Drop)]
 pub struct Server<N: Naming> {
-    pub(crate) place: Place<N>,
+    pub(crate) place: HistoryLength<N>,
     pub(crate) locked: Mutex<Locked<N>>,
 }
 
@@ -53,7 +53,7 @@ impl<N: Naming> Server<N> {
             units,
             place,
         } = opening;
-        let recorded = Recorded::new(alloc, &config)?;
+        let recorded = HeapWithHistory::new(alloc, &config)?;
         let (place, front) = place.named();
         let (calls, shares) = calls.open();
         let (begun, my_begun) = begun.open();
@@ -144,11 +144,11 @@ impl<N: Naming> Server<N> {
 
     /// The heap with the history of all calls, the number of the place word, and what was seen of the log by the load
     /// that found it. All that `new` gave comes back: every seat, in any order, and the pacer. It waits for nobody.
-    pub fn close(self, seats: Vec<Seat<N>>, mut pacer: Pacer<N>) -> (Recorded, u64, Front<N>)
+    pub fn close(self, seats: Vec<Seat<N>>, mut pacer: Pacer<N>) -> (HeapWithHistory, u64, Front<N>)
         requires { IsPermutation (mutators_of seats.items) (upto N.names.settings.limits.mutators) }
         ensures sound { IsSound N.names.settings result.0.course }
         ensures counted { length result.0.course.history ≡ sum_by (λ s. s.calls) seats.items }
-        ensures led { IsLed result.0.course pacer.begun pacer.quanta pacer.spent }
+        ensures reached_from { IsReachedFrom result.0.course pacer.begun pacer.quanta pacer.spent }
         ensures found { result.1 ≡ length result.2 }
         ensures whole { IsPrefix result.0.course.history result.2 }
         ensures seen { All (λ s. IsPrefix s.seen result.2) seats.items }

@@ -2,7 +2,7 @@
 use Rattle.std.proofs.Common.{◌≡◌, ℕ, ◌+◌, ◌*◌, ◌≤◌, ◌==◌, Bool, true, false, if◌then◌else◌, Option, Some, None, List, ◌++◌, ap, ◌∙◌, sym, refl, arith, add-one, append_assoc}
 use Rattle.std.specs.Prelude.{codes, decimal}
 use Rattle.size_classes.specs.declared.class.TheConstants.{PAGE_WORDS}
-use Rattle.heap_model.specs.Action.{held_on}
+use Rattle.heap_model.specs.Action.{allocated_on}
 use Rattle.heap_model.specs.Pages.{Page}
 use Rattle.pages.specs.View.{view_of}
 use Rattle.pages.specs.declared.view.PageView.{PageView}
@@ -21,23 +21,23 @@ module _ (class inside : ℕ) where
   class_told : (p : Page) (v : PageView) → Some v ≡ view_of (Some p) → p.class ≡ v.class
   class_told p v e = sym (ap (λ (x : PageView). x.class) (same_view e))
 
-  chosen : (p : Page) (b : Bool) → (p.class == class) ≡ b → filling_by class (Some p) inside ≡ (if b then page_filling class (held_on (Some p)) inside else nothing)
-  chosen p b e = ap (λ (x : Bool). if x then page_filling class (held_on (Some p)) inside else nothing) e
+  chosen : (p : Page) (b : Bool) → (p.class == class) ≡ b → filling_by class (Some p) inside ≡ (if b then page_filling class (allocated_on (Some p)) inside else nothing)
+  chosen p b e = ap (λ (x : Bool). if x then page_filling class (allocated_on (Some p)) inside else nothing) e
 
   pub other_filling : (o : Option Page) (v : PageView) → Some v ≡ view_of o → (v.class == class) ≡ false → nothing ≡ filling_by class o inside
   other_filling None v e f = absurd (cc)
   other_filling (Some p) v e f = sym (chosen p false (ap (λ n. n == class) (class_told p v e) ∙ f))
 
-  pub page_told : (o : Option Page) (v : PageView) → Some v ≡ view_of o → (v.class == class) ≡ true → page_filling class v.held inside ≡ filling_by class o inside
+  pub page_told : (o : Option Page) (v : PageView) → Some v ≡ view_of o → (v.class == class) ≡ true → page_filling class v.allocated inside ≡ filling_by class o inside
   page_told None v e f = absurd (cc)
   page_told (Some p) v e f =
-      ap (λ n. page_filling class n inside) (ap (λ (x : PageView). x.held) (same_view e)) ∙ sym (chosen p true (ap (λ n. n == class) (class_told p v e) ∙ f))
+      ap (λ n. page_filling class n inside) (ap (λ (x : PageView). x.allocated) (same_view e)) ∙ sym (chosen p true (ap (λ n. n == class) (class_told p v e) ∙ f))
 
 -- bounds
 pub within_more : (f : Filling) (m n : ℕ) → IsWithin f m → m ≤ n → IsWithin f n
 within_more f m n w l = record {
   pages = omega (arith, w.pages, l);
-  held = omega (arith, w.held, l);
+  allocated = omega (arith, w.allocated, l);
   free = omega (arith, w.free, l);
   inside = omega (arith, w.inside, l);
   behind = omega (arith, w.behind, l);
@@ -47,7 +47,7 @@ within_more f m n w l = record {
 pub nothing_within : (f : Filling) (m : ℕ) → f ≡ nothing → IsWithin f m
 nothing_within f m e = record {
   pages = omega (arith, ap (λ (x : Filling). x.pages) e);
-  held = omega (arith, ap (λ (x : Filling). x.held) e);
+  allocated = omega (arith, ap (λ (x : Filling). x.allocated) e);
   free = omega (arith, ap (λ (x : Filling). x.free) e);
   inside = omega (arith, ap (λ (x : Filling). x.inside) e);
   behind = omega (arith, ap (λ (x : Filling). x.behind) e);
@@ -57,7 +57,7 @@ nothing_within f m e = record {
 pub both_within : (a b c : Filling) (m n : ℕ) → c ≡ both a b → IsWithin a m → IsWithin b n → IsWithin c (m + n)
 both_within a b c m n e v w = record {
   pages = omega (arith, ap (λ (x : Filling). x.pages) e, v.pages, w.pages);
-  held = omega (arith, ap (λ (x : Filling). x.held) e, v.held, w.held);
+  allocated = omega (arith, ap (λ (x : Filling). x.allocated) e, v.allocated, w.allocated);
   free = omega (arith, ap (λ (x : Filling). x.free) e, v.free, w.free);
   inside = omega (arith, ap (λ (x : Filling). x.inside) e, v.inside, w.inside);
   behind = omega (arith, ap (λ (x : Filling). x.behind) e, v.behind, w.behind);

@@ -2,7 +2,7 @@
 use Rattle.std.specs.Prelude.{ℕ, zero, suc, ◌+◌, ◌-◌, ◌*◌, ◌≤◌, ◌==◌, if◌then◌else◌, List, [], ◌∷◌, ◌++◌, length, Option, Some, None, codes, decimal}
 use Rattle.size_classes.specs.declared.class.TheConstants.{PAGE_WORDS, CLASSES}
 use Rattle.size_classes.specs.Sizes.{size_of, blocks_in}
-use Rattle.heap_model.specs.Action.{held_on}
+use Rattle.heap_model.specs.Action.{allocated_on}
 use Rattle.heap_model.specs.Pages.{Page, page_at}
 use Rattle.heap_model.specs.State.{HeapState}
 use Rattle.heap_model.specs.Store.{Store}
@@ -12,23 +12,24 @@ use Rattle.inspector.specs.declared.filling.Filling.{Filling}
 
 -- of no page
 abbrev pub nothing : Filling
-nothing = record { pages = 0; held = 0; free = 0; inside = 0; behind = 0; spare = 0 }
+nothing = record { pages = 0; allocated = 0; free = 0; inside = 0; behind = 0; spare = 0 }
 
--- of a page of a class with this many held blocks, and this many words wasted inside them
+-- of a page of a class with this many allocated blocks, and this many words wasted inside them
 abbrev pub page_filling : ℕ → ℕ → ℕ → Filling
-page_filling class held inside = record {
+page_filling class allocated inside = record {
   pages = 1;
-  held = held;
-  free = blocks_in class - held;
+  allocated = allocated;
+  free = blocks_in class - allocated;
   inside = inside;
   behind = PAGE_WORDS - blocks_in class * size_of class;
-  spare = (blocks_in class - held) * size_of class;
+  spare = (blocks_in class - allocated) * size_of class;
 }
 
 -- of a page, if it has the class
 abbrev pub filling_by : ℕ → Option Page → ℕ → Filling
 filling_by class None inside = nothing
-filling_by class (Some p) inside = if p.class == class then page_filling class (held_on (Some p)) inside else nothing
+filling_by class (Some p) inside = if p.class == class then page_filling class (allocated_on (Some p)) inside
+    else nothing
 
 -- of page k, if it has the class
 abbrev pub filling_on : Store → ℕ → ℕ → Filling
@@ -38,7 +39,7 @@ filling_on s class k = filling_by class (page_at s.pages k) (wasted_on s k)
 abbrev pub both : Filling → Filling → Filling
 both a b = record {
   pages = a.pages + b.pages;
-  held = a.held + b.held;
+  allocated = a.allocated + b.allocated;
   free = a.free + b.free;
   inside = a.inside + b.inside;
   behind = a.behind + b.behind;
@@ -61,16 +62,17 @@ filling_in s = summed (filling_of s) CLASSES
 -- no figure is greater than a number
 pub record IsWithin (f : Filling) (most : ℕ) : Type 0 where
   pub pages : f.pages ≤ most
-  pub held : f.held ≤ most
+  pub allocated : f.allocated ≤ most
   pub free : f.free ≤ most
   pub inside : f.inside ≤ most
   pub behind : f.behind ≤ most
   pub spare : f.spare ≤ most
 
--- pages, held blocks (old copies too) and free ones, and the words that are wasted inside held blocks and behind the
--- last block of each page
+-- pages, allocated blocks (old copies too) and free ones, and the words that are wasted inside allocated blocks and
+-- behind the last block of each page
 abbrev pub figures : Filling → List ℕ
-figures f = codes " pages " ++ decimal f.pages ++ codes " held " ++ decimal f.held ++ codes " free " ++ decimal f.free
+figures f = codes " pages " ++ decimal f.pages ++ codes " held " ++ decimal f.allocated ++ codes " free "
+    ++ decimal f.free
     ++ codes " inside " ++ decimal f.inside ++ codes " behind " ++ decimal f.behind
 
 -- a class with its size in words
@@ -90,7 +92,7 @@ classes_lines s (suc class) = classes_lines s class ++ class_lines class (fillin
 abbrev pub sum_line : Filling → List ℕ
 sum_line f = codes "all" ++ figures f
 
--- the words of all pages in use, and how many of them are lost to blocks that are held and pages that are cut into
+-- the words of all pages in use, and how many of them are lost to blocks that are allocated and pages that are cut into
 -- blocks, and how many to blocks that are free
 abbrev pub fragmentation_line : Filling → List ℕ
 fragmentation_line f =

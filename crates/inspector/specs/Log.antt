@@ -4,14 +4,14 @@ use Rattle.heap_model.specs.Event.{Course}
 use Rattle.heap_model.specs.State.{HeapState}
 use Rattle.heap_model.specs.Pages.{free_pages}
 use Rattle.nodes.specs.Copies.{copies_in}
-use Rattle.nodes.specs.declared.nodes.counting.Copies.{Copies}
+use Rattle.nodes.specs.declared.block_store.counting.Copies.{Copies}
 use Rattle.inspector.specs.declared.cycles.cycle.Cycle.{Cycle}
 use Rattle.inspector.specs.declared.cycles.open.Base.{Base}
 use Rattle.inspector.specs.declared.cycles.open.End.{End}
 use Rattle.inspector.specs.declared.cycles.open.Open.{Open}
 use Rattle.inspector.specs.declared.cycles.open.Start.{Start}
 use Rattle.inspector.specs.declared.cycles.turn.Mark.{Mark}
-use Rattle.inspector.specs.declared.cycles.turn.Turn.{Turn}
+use Rattle.inspector.specs.declared.cycles.turn.QuantumEffect.{QuantumEffect}
 use Rattle.inspector.specs.declared.cycles.log.Log.{Log}
 use Rattle.inspector.specs.Steps.{Step, begins, works, ends_sweep, ends_cycle}
 use Rattle.inspector.specs.Cycles.{counted, behind_last, copies_at, units_by, longest_of, end_of, SweptBy, AreCycles}
@@ -38,7 +38,7 @@ pub record IsMark (h : HeapState) (m : Mark) : Type 0 where
   pub units : m.units ≡ h.units
 
 -- what a step was to the cycle that it found
-pub record IsTurn (s : Step) (t : Turn) : Type 0 where
+pub record IsQuantumEffect (s : Step) (t : QuantumEffect) : Type 0 where
   pub works : t.works ≡ works s
   pub sweep : t.ends_sweep ≡ ends_sweep s
   pub cycle : t.ends_cycle ≡ ends_cycle s

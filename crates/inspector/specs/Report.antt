@@ -9,7 +9,7 @@ use Rattle.pages.specs.View.{view_of}
 use Rattle.pages.specs.declared.view.PageView.{PageView}
 use Rattle.roots.specs.Used.{used_in}
 use Rattle.nodes.specs.Copies.{copies_in}
-use Rattle.nodes.specs.declared.nodes.counting.Copies.{Copies}
+use Rattle.nodes.specs.declared.block_store.counting.Copies.{Copies}
 use Rattle.trace.specs.Streams.{text_of}
 
 -- the name of a phase
@@ -36,12 +36,13 @@ two_named first n second m = first ++ decimal n ++ second ++ decimal m
 abbrev pub pages_line : HeapState → List ℕ
 pages_line h = two_named (codes "pages ") (length h.store.pages) (codes " free ") (free_pages h.store.pages)
 
--- a page in use: its number, the words of a block, the held blocks, and all its blocks
+-- a page in use: its number, the words of a block, the allocated blocks, and all its blocks
 abbrev pub page_line : ℕ → PageView → List ℕ
 page_line number v =
-    codes "page " ++ decimal number ++ codes " size " ++ decimal (size_of v.class) ++ codes " held " ++ decimal v.held
+    codes "page " ++ decimal number ++ codes " size " ++ decimal (size_of v.class) ++ codes " held "
+    ++ decimal v.allocated
     ++ codes " of " ++ decimal (blocks_in v.class)
-    ++ (if v.leaving then codes " leaving" else [])
+    ++ (if v.evacuating then codes " leaving" else [])
 
 -- a free page has no line
 abbrev pub lines_on : ℕ → Option PageView → List (List ℕ)

@@ -2,13 +2,13 @@
 use Rattle.std.specs.Prelude.{ℕ, ◌+◌, Bool, true, false, ◌&&◌, not, List, [], ◌∷◌, ◌++◌, length}
 use Rattle.std.proofs.Common.{inl, inr}
 use Rattle.heap_model.specs.Event.{Course, Event, Command_done, Cycle_begun, Cycle_on, Quantum_done}
-use Rattle.space.specs.Tally.{is_tracing}
+use Rattle.space.specs.Tally.{awaits_sweep_end}
 use Rattle.space.specs.Pace.{in_cycle}
 use Rattle.trace.specs.declared.line.Line.{Line}
 use Rattle.trace.specs.TextLine.{Text}
 use Rattle.player.specs.declared.style.Style.TheVariants.{Nothing}
 use Rattle.player.specs.Player.{PlayerState, QuantaDue, None_yet, One_more, DoesLine, Skips, Commands, Begins, Goes_on, Spends, Ticks}
-use Rattle.player.specs.Playing.{Stage, PlaysLine}
+use Rattle.player.specs.Playing.{Session, PlaysLine}
 
 -- An event that was done: the number of the line that asked for it, and the heap with its history before and after it.
 pub record Step : Type 0 where
@@ -41,7 +41,7 @@ works s = is_quantum s.event && in_cycle s.before.heap.phase
 
 -- the step is a quantum that ends the sweep
 abbrev pub ends_sweep : Step → Bool
-ends_sweep s = works s && (is_tracing s.before.heap.phase && not (is_tracing s.after.heap.phase))
+ends_sweep s = works s && (awaits_sweep_end s.before.heap.phase && not (awaits_sweep_end s.after.heap.phase))
 
 -- the step is a quantum that ends the cycle
 abbrev pub ends_cycle : Step → Bool
@@ -68,7 +68,7 @@ steps_of line old text events new (Ticks n es q within quanta none) =
     steps_due line (old.timetable.clock + n) old es q quanta
 
 -- the same of a line that may tell the version, which has none
-abbrev pub steps_in : (text : Text) (old : Stage) (events : List Event) (new : Stage)
+abbrev pub steps_in : (text : Text) (old : Session) (events : List Event) (new : Session)
     → PlaysLine Nothing text old events new → List Step
 steps_in text old events new (inl tells) = []
 steps_in text old events new (inr goes) =

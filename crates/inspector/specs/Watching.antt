@@ -10,7 +10,7 @@ use Rattle.trace.specs.TextLine.{Text}
 use Rattle.player.specs.declared.player.TickFault.{TickFault}
 use Rattle.player.specs.declared.style.Style.TheVariants.{Nothing}
 use Rattle.player.specs.Player.{QuantaDue, DoesLine}
-use Rattle.player.specs.Playing.{stage, PlaysLine}
+use Rattle.player.specs.Playing.{session, PlaysLine}
 use Rattle.player.specs.Alongside.{TicksStop, LineStops, TextStops}
 use Rattle.inspector.specs.declared.cycles.watch.Watch.{Watch}
 use Rattle.inspector.specs.Steps.{Step, steps_due, steps_of, steps_in}
@@ -54,6 +54,6 @@ EventLogged line number old new (Err fault) = LineStops fault line number old.pl
 abbrev pub TextLogged : Text → Watch → Watch → Result (Unit {0}) TextFault → Type 0
 TextLogged text old new (Ok done) =
     (es : List Event)
-    × (goes : PlaysLine Nothing text (stage old.player []) es (stage new.player []))
-    × LogsOn old (steps_in text (stage old.player []) es (stage new.player []) goes) new
+    × (goes : PlaysLine Nothing text (session old.player []) es (session new.player []))
+    × LogsOn old (steps_in text (session old.player []) es (session new.player []) goes) new
 TextLogged text old new (Err fault) = TextStops fault text old.player new.player

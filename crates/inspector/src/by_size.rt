@@ -18,7 +18,7 @@ fn put_figures(out: &mut [u8], at: usize, filling: Filling) -> usize
     ensures place { result ≤ at + 135 }
 {
     let end = put_named(out, at, b" pages ", filling.pages);
-    let end = put_named(out, end, b" held ", filling.held);
+    let end = put_named(out, end, b" held ", filling.allocated);
     let end = put_named(out, end, b" free ", filling.free);
     let end = put_named(out, end, b" inside ", filling.inside);
     put_named(out, end, b" behind ", filling.behind)
@@ -97,11 +97,11 @@ fn write_fragmentation<K: Sink>(all: Filling, sink: &mut K) -> Result<(), WriteF
 }
 
 /// Writes how full the size classes are to a sink, in lines that end with LF: of each class that has a page its size in
-/// words, its pages, its held and its free blocks, and how many words are wasted inside held blocks, behind the last
-/// cell of a part, and behind the last block of a page; then the sums of these; last the words of all pages in use, and
-/// how many of them internal fragmentation takes, which is what is wasted so, and external fragmentation, which are the
-/// words of free blocks. It takes no memory. After a fault, which comes only where the sink failed, the sink has taken
-/// a beginning of the report.
+/// words, its pages, its held and its free blocks, and how many words are wasted inside allocated blocks, behind the
+/// last cell of a part, and behind the last block of a page; then the sums of these; last the words of all pages in
+/// use, and how many of them internal fragmentation takes, which is what is wasted so, and external fragmentation,
+/// which are the words of free blocks. It takes no memory. After a fault, which comes only where the sink failed, the
+/// sink has taken a beginning of the report.
 pub fn report_sizes<K: Sink>(heap: &Heap, sink: &mut K) -> Result<(), WriteFault>
     ensures ok { OnOk result (K.taken sink.new ≡ K.taken sink.old ++ sizes_told heap.now) }
     ensures err { OnErr result (GrowsByPart (K.taken sink.old) (K.taken sink.new) (sizes_told heap.now)) }

@@ -10,11 +10,11 @@ use size_classes::{Class, PAGE_WORDS};
 pub(crate) struct Filling {
     /// How many pages they are.
     pub pages: u64,
-    /// Their held blocks, old copies too.
-    pub held: u64,
+    /// Their allocated blocks, old copies too.
+    pub allocated: u64,
     /// Their free blocks.
     pub free: u64,
-    /// The words of held blocks behind the last cell of their part.
+    /// The words of allocated blocks behind the last cell of their part.
     pub inside: u64,
     /// The words of pages behind their last block.
     pub behind: u64,
@@ -28,7 +28,7 @@ pub(crate) fn nothing() -> Filling
 {
     Filling {
         pages: 0,
-        held: 0,
+        allocated: 0,
         free: 0,
         inside: 0,
         behind: 0,
@@ -36,20 +36,20 @@ pub(crate) fn nothing() -> Filling
     }
 }
 
-/// That of a page of a class with this many held blocks, and this many words wasted inside them.
-fn page_filling(class: Class, held: u64, inside: u64) -> Filling
-    requires held { held ≤ 512 }
+/// That of a page of a class with this many allocated blocks, and this many words wasted inside them.
+fn page_filling(class: Class, allocated: u64, inside: u64) -> Filling
+    requires allocated { allocated ≤ 512 }
     requires inside { inside ≤ 131072 }
-    ensures filling { result ≡ page_filling class held inside }
+    ensures filling { result ≡ page_filling class allocated inside }
     ensures within { IsWithin result 131072 }
 {
     let size = u64::from(class.size());
     let blocks = u64::from(class.blocks_per_page());
-    let free = blocks.saturating_sub(held);
+    let free = blocks.saturating_sub(allocated);
     let (cut, spare) = (blocks * size, free * size);
     Filling {
         pages: 1,
-        held,
+        allocated,
         free,
         inside,
         behind: u64::from(PAGE_WORDS).saturating_sub(cut),
@@ -68,7 +68,11 @@ fn filling_on(heap: &Heap, class: Class, number: usize) -> Filling
     if page.class.number() != class.number() {
         return nothing();
     }
-    page_filling(class, page.held as u64, heap.wasted_inside(number) as u64)
+    page_filling(
+        class,
+        page.allocated as u64,
+        heap.wasted_inside(number) as u64,
+    )
 }
 
 /// That of some pages and of some others.
@@ -79,7 +83,7 @@ pub(crate) fn both(some: Filling, others: Filling) -> Filling
 {
     Filling {
         pages: some.pages + others.pages,
-        held: some.held + others.held,
+        allocated: some.allocated + others.allocated,
         free: some.free + others.free,
         inside: some.inside + others.inside,
         behind: some.behind + others.behind,

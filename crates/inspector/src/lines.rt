@@ -97,9 +97,9 @@ fn put_page(out: &mut [u8; 256], number: usize, page: PageView) -> usize
     let out = out.as_mut_slice();
     let end = put_named(out, 0, b"page ", number as u64);
     let end = put_named(out, end, b" size ", page.class.size() as u64);
-    let end = put_named(out, end, b" held ", page.held as u64);
+    let end = put_named(out, end, b" held ", page.allocated as u64);
     let end = put_named(out, end, b" of ", blocks);
-    if page.leaving {
+    if page.evacuating {
         put(out, end, b" leaving")
     } else {
         end

@@ -11,7 +11,7 @@ use Rattle.graph_heap.specs.Graph.{Graph, Object, object_of}
 use Rattle.graph_heap.specs.Effect.{◌>>=◌, object_at, ref_at, ref_cell, word_at, word_cell}
 use Rattle.size_classes.specs.Parts.{cells_of, pieces_of, spines_of, parts_in, first_by, count_by, part_cells, part_in, column_in, holder_of, seat_of}
 use Rattle.size_classes.proofs.Cutting.{pieces_are, spines_are, cell_stands}
-use Rattle.heap_model.specs.Store.{node_of}
+use Rattle.heap_model.specs.Store.{record_of}
 use Rattle.heap_model.specs.Cut.{count_of, width_in}
 use Rattle.heap_model.specs.State.{HeapState, width_at}
 use Rattle.heap_model.specs.Agreement.{Agrees, IsWhole}
@@ -20,8 +20,8 @@ use Rattle.heap_model.proofs.Hops.{root_to_spine, spine_to_part, part_reached}
 use Rattle.heap_model.proofs.Shown.{copy_main, shape_shown}
 use Rattle.heap_model.proofs.Written.{cells_sum}
 use Rattle.heap_model.proofs.Cut.{part_below, word_below}
-use Rattle.arraylets.specs.declared.place.Place.{Place}
-use Rattle.arraylets.specs.Place.{ref_place, word_place}
+use Rattle.arraylets.specs.declared.place.CellPosition.{CellPosition}
+use Rattle.arraylets.specs.CellPosition.{ref_place, word_place}
 use Rattle.machine.specs.declared.plan.Found.{Found}
 use Rattle.machine.specs.declared.plan.Kind.{Kind}
 use Rattle.machine.specs.declared.plan.Kind.TheVariants as kinds
@@ -114,36 +114,36 @@ module _ (h : HeapState) (g : Graph) (a : Agrees h g) (id : ℕ) (f : Found) (w 
     part_main : IsMainCopy h.store (block_of h.store (cells_of f.shape) f.block p) (record { identity = id; part = p })
     part_main = subst (λ s. IsMainCopy h.store (block_of h.store (cells_of s) f.block p) (record { identity = id; part = p })) (sym w.shape) (part_reached h g id a w.reaches p f.block below w.main)
 
-    part_shape : (node_of h.store (block_of h.store (cells_of f.shape) f.block p)).shape ≡ o.shape
+    part_shape : (record_of h.store (block_of h.store (cells_of f.shape) f.block p)).shape ≡ o.shape
     part_shape = shape_shown h g id p (block_of h.store (cells_of f.shape) f.block p) a w.reaches below part_main
 
-    part_length : IsWhole h.store → length (node_of h.store (block_of h.store (cells_of f.shape) f.block p)).cells ≡ part_cells (cells_of o.shape) p
+    part_length : IsWhole h.store → length (record_of h.store (block_of h.store (cells_of f.shape) f.block p)).cells ≡ part_cells (cells_of o.shape) p
     part_length whole =
-        whole (block_of h.store (cells_of f.shape) f.block p) part_main.held
-        ∙ ap (λ s. part_cells (cells_of s) (node_of h.store (block_of h.store (cells_of f.shape) f.block p)).part) part_shape
+        whole (block_of h.store (cells_of f.shape) f.block p) part_main.allocated
+        ∙ ap (λ s. part_cells (cells_of s) (record_of h.store (block_of h.store (cells_of f.shape) f.block p)).part) part_shape
         ∙ ap (part_cells (cells_of o.shape)) part_main.part
 
   module _ (i : ℕ) where
     -- a cell of a kind, of which the object has n: what its place tells
-    record IsCell (n column : ℕ) (takes : Bool) (place : Place) : Type 0 where
+    record IsCell (n column : ℕ) (takes : Bool) (place : CellPosition) : Type 0 where
       taken : takes ≡ true
       below : i < n
       counted : nat_lt i n ≡ true
       part : place.part < count_of o
       main : IsMainCopy h.store (block_of h.store (cells_of f.shape) f.block place.part) (record { identity = id; part = part_in (cells_of o.shape) i })
       column_is : place.cell ≡ column
-      within : column < part_cells (cells_of o.shape) (part_in (cells_of o.shape) i) → IsWhole h.store → place.cell < length (node_of h.store (block_of h.store (cells_of f.shape) f.block place.part)).cells
+      within : column < part_cells (cells_of o.shape) (part_in (cells_of o.shape) i) → IsWhole h.store → place.cell < length (record_of h.store (block_of h.store (cells_of f.shape) f.block place.part)).cells
 
-    module _ (takes : Shape → Bool) (cells column : Shape → ℕ) (n : ℕ) (is : n ≡ cells o.shape) (low : i < n → part_in (length o.refs + length o.words) i < count_of o) (place : Place)
+    module _ (takes : Shape → Bool) (cells column : Shape → ℕ) (n : ℕ) (is : n ≡ cells o.shape) (low : i < n → part_in (length o.refs + length o.words) i < count_of o) (place : CellPosition)
         (at : cond (takes f.shape) (cond (nat_lt i (cells f.shape)) (Ok (record { part = part_in (cells_of f.shape) i; cell = column f.shape })) (Err refusals.BadIndex)) (Err refusals.WrongKind) ≡ Ok place) where
       parts : (takes f.shape ≡ true) × (nat_lt i (cells f.shape) ≡ true) × (record { part = part_in (cells_of f.shape) i; cell = column f.shape } ≡ place)
       parts = place_parts (takes f.shape) (nat_lt i (cells f.shape)) (record { part = part_in (cells_of f.shape) i; cell = column f.shape }) place at
 
       part_is : place.part ≡ part_in (cells_of o.shape) i
-      part_is = sym (ap (λ (x : Place). x.part) parts.2) ∙ ap (λ s. part_in (cells_of s) i) w.shape
+      part_is = sym (ap (λ (x : CellPosition). x.part) parts.2) ∙ ap (λ s. part_in (cells_of s) i) w.shape
 
       cell_is : place.cell ≡ column o.shape
-      cell_is = sym (ap (λ (x : Place). x.cell) parts.2) ∙ ap column w.shape
+      cell_is = sym (ap (λ (x : CellPosition). x.cell) parts.2) ∙ ap column w.shape
 
       cell_low : i < n
       cell_low = subst (λ z. i < z) (ap cells w.shape ∙ sym is) (ltb-true i (cells f.shape) parts.1)
@@ -151,7 +151,7 @@ module _ (h : HeapState) (g : Graph) (a : Agrees h g) (id : ℕ) (f : Found) (w 
       part_low : place.part < count_of o
       part_low = subst (λ p. p < count_of o) (ap (λ n. part_in n i) sum ∙ sym part_is) (low cell_low)
 
-      cell_within : column o.shape < part_cells (cells_of o.shape) (part_in (cells_of o.shape) i) → IsWhole h.store → place.cell < length (node_of h.store (block_of h.store (cells_of f.shape) f.block place.part)).cells
+      cell_within : column o.shape < part_cells (cells_of o.shape) (part_in (cells_of o.shape) i) → IsWhole h.store → place.cell < length (record_of h.store (block_of h.store (cells_of f.shape) f.block place.part)).cells
       cell_within column_low whole =
           let n = part_length place.part part_low whole in
           let q : part_cells (cells_of o.shape) place.part ≡ part_cells (cells_of o.shape) (part_in (cells_of o.shape) i) = ap (part_cells (cells_of o.shape)) part_is in
@@ -169,11 +169,11 @@ module _ (h : HeapState) (g : Graph) (a : Agrees h g) (id : ℕ) (f : Found) (w 
       }
 
     -- a reference cell
-    module _ (place : Place) (at : ref_place f.shape i ≡ Ok place) where
+    module _ (place : CellPosition) (at : ref_place f.shape i ≡ Ok place) where
       ref_there : IsCell (length o.refs) (column_in i) (takes_refs o.shape) place
       ref_there = cell_there takes_refs ref_cells (λ s. column_in i) (length o.refs) (a.given id w.reaches).cells.refs (part_below o i) place at
 
-      ref_cell_within : IsWhole h.store → place.cell < length (node_of h.store (block_of h.store (cells_of f.shape) f.block place.part)).cells
+      ref_cell_within : IsWhole h.store → place.cell < length (record_of h.store (block_of h.store (cells_of f.shape) f.block place.part)).cells
       ref_cell_within =
           let l : i < cells_of o.shape = (let r = ref_there.below in omega (arith, r, sum)) in
           ref_there.within (column_within (cells_of o.shape) i l)
@@ -185,14 +185,14 @@ module _ (h : HeapState) (g : Graph) (a : Agrees h g) (id : ℕ) (f : Found) (w 
       found_ref whole = (ref_at_is, (w.reaches, record { below = ref_there.below; main = copy_main h (block_of h.store (cells_of f.shape) f.block place.part) _ ref_there.main; index = ref_there.column_is; within = ref_cell_within whole }))
 
     -- a word cell
-    module _ (place : Place) (at : word_place f.shape i ≡ Ok place) where
+    module _ (place : CellPosition) (at : word_place f.shape i ≡ Ok place) where
       word_there : IsCell (length o.words) (width_in (ref_cells o.shape) (word_cells o.shape) (part_in (cells_of o.shape) i) + column_in i) (takes_words o.shape) place
       word_there = cell_there takes_words word_cells (λ s. width_in (ref_cells s) (word_cells s) (part_in (cells_of s) i) + column_in i) (length o.words) (a.given id w.reaches).cells.words (word_below o i) place at
 
-      word_column : place.cell ≡ width_at (node_of h.store (block_of h.store (cells_of f.shape) f.block place.part)) + column_in i
+      word_column : place.cell ≡ width_at (record_of h.store (block_of h.store (cells_of f.shape) f.block place.part)) + column_in i
       word_column =
           word_there.column_is ∙ ap (λ n. n + column_in i)
-          (sym (ap (λ s. width_in (ref_cells s) (word_cells s) (node_of h.store (block_of h.store (cells_of f.shape) f.block place.part)).part) (part_shape place.part word_there.part) ∙ ap (width_in (ref_cells o.shape) (word_cells o.shape)) word_there.main.part))
+          (sym (ap (λ s. width_in (ref_cells s) (word_cells s) (record_of h.store (block_of h.store (cells_of f.shape) f.block place.part)).part) (part_shape place.part word_there.part) ∙ ap (width_in (ref_cells o.shape) (word_cells o.shape)) word_there.main.part))
 
       word_at_is : word_at g.objects id i ≡ Ok (get_or o.words i 0)
       word_at_is = ap (λ z. z >>= λ o. word_cell o i) w.object ∙ rw (word_there.taken, word_there.counted) refl
@@ -217,11 +217,11 @@ module _ (h : HeapState) (g : Graph) (a : Agrees h g) (id : ℕ) (f : Found) (w 
         ∙ refused_by (takes_words o.shape) (takes_words f.shape) (nat_lt i (length o.words)) (nat_lt i (word_cells f.shape)) (get_or o.words i 0) _ e (ap takes_words (sym w.shape)) (ap (nat_lt i) n) at
 
     -- of either kind
-    pub cell_below : (kind : Kind) (place : Place) → place_of kind f.shape i ≡ Ok place → place.part < count_of o
+    pub cell_below : (kind : Kind) (place : CellPosition) → place_of kind f.shape i ≡ Ok place → place.part < count_of o
     cell_below kinds.Ref place at = (ref_there place at).part
     cell_below kinds.Word place at = (word_there place at).part
 
-    pub found_cell : (kind : Kind) (place : Place) → place_of kind f.shape i ≡ Ok place → fits f.shape ≡ true → IsWhole h.store
+    pub found_cell : (kind : Kind) (place : CellPosition) → place_of kind f.shape i ≡ Ok place → fits f.shape ≡ true → IsWhole h.store
         → FindsCell h g kind id i (Ok (record { block = block_of h.store (cells_of f.shape) f.block place.part; index = place.cell }))
     found_cell kinds.Ref place at fit whole = found_ref place at whole
     found_cell kinds.Word place at fit whole = found_word place at fit whole

@@ -9,7 +9,7 @@ use Rattle.heap_model.specs.Action.{Action, Relinks, Chain, Nothing_done, Then, 
 use Rattle.heap_model.specs.Pages.{ArePages}
 use Rattle.heap_model.specs.Store.{Store}
 use Rattle.heap_model.specs.Written.{records}
-use Rattle.heap_model.specs.Turn.{NextCosts, Of_other, SpendsTurn}
+use Rattle.heap_model.specs.QuantumSpending.{NextCosts, Of_other, QuantumSpends}
 use Rattle.heap_model.proofs.Agreements.{consistent_agrees}
 use Rattle.heap_model.proofs.Sameness.{told, agrees_alike}
 use Rattle.heap_model.proofs.Bound.{same_limit}
@@ -17,9 +17,9 @@ use Rattle.heap_model.proofs.Costs.{turn_left}
 use Rattle.heap_model.proofs.Relinked.{relinked_count, stands_relinked}
 use Rattle.heap_model.proofs.Stood.{stands_chain, stands_begun}
 use Rattle.nodes.proofs.Keeping.{relinked_twice}
-use Rattle.nodes.specs.declared.raw_heap.RawHeap.{RawHeap}
+use Rattle.nodes.specs.declared.heap_fields.HeapFields.{HeapFields}
 use Rattle.nodes.specs.Grey.{grey_in}
-use Rattle.nodes.specs.RawHeap.{state_of, IsHeap, IsRawHeap}
+use Rattle.nodes.specs.HeapFields.{state_of, IsHeap, AreHeapFields}
 use Rattle.machine.proofs.Doing.{present_agrees}
 
 -- a cycle begins
@@ -60,7 +60,7 @@ chain_relinked h s after u l (Then v cost j k linked chain links action) = elim 
 ]
 
 -- and so is a turn, in roots and marking
-pub turn_relinked : (h : HeapState) (s : Store) (after : HeapState) (budget spent : ℕ) → Relinks h.store s → records h.phase ≡ true → 256 ≤ budget → ArePages after.store.pages → SpendsTurn (record h { store = s }) budget after spent → SpendsTurn h budget after spent
+pub turn_relinked : (h : HeapState) (s : Store) (after : HeapState) (budget spent : ℕ) → Relinks h.store s → records h.phase ≡ true → 256 ≤ budget → ArePages after.store.pages → QuantumSpends (record h { store = s }) budget after spent → QuantumSpends h budget after spent
 turn_relinked h s after budget spent l on low pages t = elim (chain_relinked h s after spent l t.chain) [
   | inl z ↦ absurd (elim (turn_left (record h { store = s }) after budget spent pages t) [
     | inl i ↦ (let e : true ≡ false = sym on ∙ ap records (sym (ap (λ (x : HeapState). x.phase) z.1) ∙ i) in cc)
@@ -70,20 +70,20 @@ turn_relinked h s after budget spent l on low pages t = elim (chain_relinked h s
 ]
 
 -- the buffers went into the list
-module _ (a mid : RawHeap) (w : IsRawHeap a) (same : mid ≡ record a { nodes = mid.nodes; grey = mid.grey }) (grey : grey_in mid.nodes mid.grey ≡ grey_in a.nodes a.grey) (links : Relinks a.nodes mid.nodes) where
+module _ (a mid : HeapFields) (w : AreHeapFields a) (same : mid ≡ record a { nodes = mid.nodes; grey = mid.grey }) (grey : grey_in mid.nodes mid.grey ≡ grey_in a.nodes a.grey) (links : Relinks a.nodes mid.nodes) where
   flushed_state : state_of mid ≡ record (state_of a) { store = mid.nodes }
   flushed_state = ap state_of same ∙ ap (λ xs. record (state_of a) { store = mid.nodes; grey = xs }) grey
 
-  pub flushed_heap : length mid.grey.buffers ≡ length a.grey.buffers → IsRawHeap mid
+  pub flushed_heap : length mid.grey.buffers ≡ length a.grey.buffers → AreHeapFields mid
   flushed_heap count = record {
     heap = subst IsHeap (sym flushed_state) (relinked_heap (state_of a) mid.nodes w.heap links);
-    buffers = count ∙ w.buffers ∙ ap (λ (x : RawHeap). x.roots.limits.mutators) (sym same);
-    empty = λ off. grey ∙ w.empty (ap (λ (x : RawHeap). records x.phase) (sym same) ∙ off);
+    buffers = count ∙ w.buffers ∙ ap (λ (x : HeapFields). x.roots.limits.mutators) (sym same);
+    empty = λ off. grey ∙ w.empty (ap (λ (x : HeapFields). records x.phase) (sym same) ∙ off);
   }
 
-  pub flushed_turn : (records a.phase ≡ false → mid ≡ a) → (after : HeapState) (budget spent : ℕ) → 256 ≤ budget → ArePages after.store.pages → SpendsTurn (state_of mid) budget after spent → SpendsTurn (state_of a) budget after spent
+  pub flushed_turn : (records a.phase ≡ false → mid ≡ a) → (after : HeapState) (budget spent : ℕ) → 256 ≤ budget → ArePages after.store.pages → QuantumSpends (state_of mid) budget after spent → QuantumSpends (state_of a) budget after spent
   flushed_turn rests after budget spent low pages t = by_phase (records a.phase) refl
     where
-      by_phase : (b : Bool) → records a.phase ≡ b → SpendsTurn (state_of a) budget after spent
-      by_phase false off = subst (λ (x : RawHeap). SpendsTurn (state_of x) budget after spent) (rests off) t
-      by_phase true on = turn_relinked (state_of a) mid.nodes after budget spent links on low pages (subst (λ h. SpendsTurn h budget after spent) flushed_state t)
+      by_phase : (b : Bool) → records a.phase ≡ b → QuantumSpends (state_of a) budget after spent
+      by_phase false off = subst (λ (x : HeapFields). QuantumSpends (state_of x) budget after spent) (rests off) t
+      by_phase true on = turn_relinked (state_of a) mid.nodes after budget spent links on low pages (subst (λ h. QuantumSpends h budget after spent) flushed_state t)

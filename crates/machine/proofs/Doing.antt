@@ -7,7 +7,7 @@ use Rattle.graph_heap.specs.declared.command.Limits.{Limits}
 use Rattle.graph_heap.specs.Shape.{fits}
 use Rattle.graph_heap.specs.Graph.{Graph, first_slot, root_cells, Object, object_of, changed, with_ref, with_word, new_object}
 use Rattle.heap_model.specs.State.{HeapState}
-use Rattle.heap_model.specs.Standing.{Stands}
+use Rattle.heap_model.specs.Standing.{Represents}
 use Rattle.heap_model.specs.Agreement.{Agrees}
 use Rattle.heap_model.specs.Alike.{IsAlike, IsFounded}
 use Rattle.heap_model.specs.Written.{IsKnown}
@@ -17,7 +17,7 @@ use Rattle.heap_model.proofs.Sameness.{each_changed, reach_some, alike_back, ali
 use Rattle.heap_model.proofs.Changes.{put_each, object-append}
 use Rattle.heap_model.proofs.Changed.{stands_changed}
 use Rattle.heap_model.proofs.Left.{change_left}
-use Rattle.nodes.specs.RawHeap.{IsHeap}
+use Rattle.nodes.specs.HeapFields.{IsHeap}
 use Rattle.machine.specs.Plan.{IsPlanned}
 use Rattle.machine.specs.Reading.{IsRefCell, IsWordCell}
 use Rattle.machine.specs.declared.plan.Cell.{Cell}
@@ -85,7 +85,7 @@ planned_alike h f g a c (writes.Join m) p = p
 planned_alike h f g a c (writes.Leave m) p = p
 
 module _ (h after : HeapState) (w : IsHeap h) (c : Change) (is_founded : IsFounded w.present c) (does : DoesChange h w.present c after) where
-  stands_after : Stands after (changed w.present c) w.snapshot
+  stands_after : Represents after (changed w.present c) w.snapshot
   stands_after = stands_changed h after w.present w.snapshot c w.stands is_founded does
 
   pub heap_after : IsHeap after

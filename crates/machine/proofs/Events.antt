@@ -12,7 +12,7 @@ use Rattle.machine.specs.declared.collector.Busy.{Busy}
 use Rattle.machine.specs.declared.collector.Spent.{Spent}
 use Rattle.machine.specs.Collecting.{Begins, Spends}
 use Rattle.machine.specs.Plan.{Steps}
-use Rattle.machine.specs.Recorded.{begin_done, quantum_done}
+use Rattle.machine.specs.HeapWithHistory.{begin_done, quantum_done}
 use Rattle.machine.proofs.Courses.{quantum_does}
 use Rattle.machine.proofs.Replying.{enters}
 

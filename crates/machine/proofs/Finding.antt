@@ -9,7 +9,7 @@ use Rattle.graph_heap.specs.Shape.{fits}
 use Rattle.graph_heap.specs.Graph.{Object, Graph, no_object, object_of}
 use Rattle.graph_heap.specs.Effect.{object_at, found}
 use Rattle.graph_heap.specs.Reach.{Reaches}
-use Rattle.heap_model.specs.Store.{Store, is_held, node_of}
+use Rattle.heap_model.specs.Store.{Store, is_allocated, record_of}
 use Rattle.heap_model.specs.Agree.{IsMain, Reads}
 use Rattle.heap_model.specs.Core.{Name}
 use Rattle.heap_model.specs.Cut.{name_of}
@@ -20,12 +20,12 @@ use Rattle.heap_model.specs.Reading.{IsMainCopy}
 use Rattle.heap_model.proofs.Shown.{leads, copy_main, main_copy, root_reads, shape_shown, ref_shown, word_shown}
 use Rattle.heap_model.proofs.Sameness.{known_root, known_ref, known_reaches}
 use Rattle.heap_model.proofs.Cut.{count_some}
-use Rattle.nodes.specs.RawHeap.{IsHeap}
+use Rattle.nodes.specs.HeapFields.{IsHeap}
 use Rattle.machine.proofs.Doing.{present_agrees}
 use Rattle.nodes.proofs.Standing.{follows}
 use Rattle.machine.specs.Reading.{Names, IsFound, IsRefPlace, IsWordPlace}
 use Rattle.machine.specs.declared.plan.Cell.{Cell}
-use Rattle.nodes.specs.declared.nodes.Referent.{Referent}
+use Rattle.nodes.specs.declared.block_store.Referent.{Referent}
 use Rattle.nodes.specs.Referent.{referent_of, CanFollow}
 
 pub object_at-given : (xs : List Object) (id : ℕ) → 0 < id → id ≤ length xs → object_at xs id ≡ Ok (object_of xs id)
@@ -55,7 +55,7 @@ module _ (h : HeapState) (x n : ℕ) (r : Reads (seen h) x (name_of n)) where
           subst Resolved (sym z) (null_resolved (subst (λ y. Reads (seen h) y (name_of n)) z r))
       by_null false e =
           let l = leads h x (name_of n) r (λ z. some z e) in
-          rw e (sym l.main.identity, copy_main h (node_of h.store (x - 1)).forward (name_of n) l.main)
+          rw e (sym l.main.identity, copy_main h (record_of h.store (x - 1)).forward (name_of n) l.main)
         where
           some : x ≡ 0 → (x == 0) ≡ false → ⊥
           some z f = grind arith
@@ -87,9 +87,9 @@ root_names h t is root x below get r named g a =
 -- the main copy of what isn't null isn't
 pub followed_some : (s : Store) (x : ℕ) (r : Referent) → x ≢ 0 → r ≡ referent_of s x → r.reference ≢ 0
 followed_some s x r some named null =
-    let main : r.reference ≡ (node_of s (x - 1)).forward + 1 =
+    let main : r.reference ≡ (record_of s (x - 1)).forward + 1 =
     ap (λ (z : Referent). z.reference) named
-    ∙ ap (λ b. (cond {A = Referent} b (record { identity = 0; reference = 0 }) (record { identity = (node_of s (node_of s (x - 1)).forward).identity; reference = (node_of s (x - 1)).forward + 1 })).reference) (ne_eqb x 0 some) in
+    ∙ ap (λ b. (cond {A = Referent} b (record { identity = 0; reference = 0 }) (record { identity = (record_of s (record_of s (x - 1)).forward).identity; reference = (record_of s (x - 1)).forward + 1 })).reference) (ne_eqb x 0 some) in
     absurd (omega (arith, main, null))
 
 -- null is no object
@@ -110,10 +110,10 @@ module _ (h : HeapState) (w : IsHeap h) (r : Referent) (some : r.reference ≢ 0
       main_copy h block (name_of id) (subst (λ y. IsMain (seen h) y (name_of id)) e n.main)
 
   module _ (present : ℕ) (named : Names h w.present present r) where
-    pub object_held : is_held h.store block ≡ true
-    object_held = (block_main w.present present named).held
+    pub object_allocated : is_allocated h.store block ≡ true
+    object_allocated = (block_main w.present present named).allocated
 
-  pub finds_by : (g : Graph) → Agrees h g → (id : ℕ) → Names h g id r → (shape : Shape) → shape ≡ (node_of h.store block).shape → IsFound h g id (record { block = block; id = r.identity; shape = shape })
+  pub finds_by : (g : Graph) → Agrees h g → (id : ℕ) → Names h g id r → (shape : Shape) → shape ≡ (record_of h.store block).shape → IsFound h g id (record { block = block; id = r.identity; shape = shape })
   finds_by g a id n shape es =
       let m = block_main g id n in
       let some_id : 0 < id = positive id (λ z. some (a.null r.reference (subst (λ k. IsMain (seen h) r.reference (name_of k)) z n.main))) in
@@ -126,20 +126,20 @@ module _ (h : HeapState) (w : IsHeap h) (r : Referent) (some : r.reference ≢ 0
         main = m;
       }
 
-  pub object_fits : (present : ℕ) → Names h w.present present r → (shape : Shape) → shape ≡ (node_of h.store block).shape → fits shape ≡ true
+  pub object_fits : (present : ℕ) → Names h w.present present r → (shape : Shape) → shape ≡ (record_of h.store block).shape → fits shape ≡ true
   object_fits present named shape es =
       let f = finds_by w.present (present_agrees h w) present named shape es in
       subst (λ z. fits z ≡ true) (sym f.shape) (w.fits present)
 
 -- a reference cell of an object that can be reached
 module _ (h : HeapState) (g : Graph) (a : Agrees h g) (id i : ℕ) (at : Cell) (p : IsRefPlace h g id i at) where
-  pub ref_held : is_held h.store at.block ≡ true
-  ref_held = (main_copy h at.block _ p.1.main).held
+  pub ref_allocated : is_allocated h.store at.block ≡ true
+  ref_allocated = (main_copy h at.block _ p.1.main).allocated
 
-  module _ (x : ℕ) (e : x ≡ get_or (node_of h.store at.block).cells at.index 0) where
+  module _ (x : ℕ) (e : x ≡ get_or (record_of h.store at.block).cells at.index 0) where
     reads_ref : Reads (seen h) x (name_of (get_or (object_of g.objects id).refs i 0))
     reads_ref =
-        subst (λ z. Reads (seen h) z (name_of (get_or (object_of g.objects id).refs i 0))) (sym (e ∙ ap (λ z. get_or (node_of h.store at.block).cells z 0) p.1.index))
+        subst (λ z. Reads (seen h) z (name_of (get_or (object_of g.objects id).refs i 0))) (sym (e ∙ ap (λ z. get_or (record_of h.store at.block).cells z 0) p.1.index))
         (ref_shown h g id i at.block a p.0 p.1.below (main_copy h at.block _ p.1.main))
 
     pub ref_follows : CanFollow h.store x
@@ -150,8 +150,8 @@ module _ (h : HeapState) (g : Graph) (a : Agrees h g) (id i : ℕ) (at : Cell) (
 
 -- a word cell
 module _ (h : HeapState) (g : Graph) (a : Agrees h g) (id i : ℕ) (at : Cell) (p : IsWordPlace h g id i at) where
-  pub word_held : is_held h.store at.block ≡ true
-  word_held = (main_copy h at.block _ p.1.main).held
+  pub word_allocated : is_allocated h.store at.block ≡ true
+  word_allocated = (main_copy h at.block _ p.1.main).allocated
 
-  pub word_is : (x : ℕ) → x ≡ get_or (node_of h.store at.block).cells at.index 0 → x ≡ get_or (object_of g.objects id).words i 0
-  word_is x e = e ∙ ap (λ z. get_or (node_of h.store at.block).cells z 0) p.1.index ∙ word_shown h g id i at.block a p.0 p.1.below (main_copy h at.block _ p.1.main)
+  pub word_is : (x : ℕ) → x ≡ get_or (record_of h.store at.block).cells at.index 0 → x ≡ get_or (object_of g.objects id).words i 0
+  word_is x e = e ∙ ap (λ z. get_or (record_of h.store at.block).cells z 0) p.1.index ∙ word_shown h g id i at.block a p.0 p.1.below (main_copy h at.block _ p.1.main)

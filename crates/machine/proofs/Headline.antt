@@ -5,8 +5,8 @@ use Rattle.graph_heap.specs.declared.command.Entry.{Entry}
 use Rattle.heap_model.specs.Event.{Course, Event, Command_done, Cycle_begun, Cycle_on, Quantum_done, Quantum_refused, IsCourse, Does, Runs, present_of, snapshot_of}
 use Rattle.heap_model.proofs.Agreements.{consistent_agrees}
 use Rattle.heap_model.proofs.Course.{runs_course}
-use Rattle.heap_model.proofs.Freed.{reached_held, runs_back}
-use Rattle.heap_model.proofs.Rest.{held_is_kept}
+use Rattle.heap_model.proofs.Freed.{reached_allocated, runs_back}
+use Rattle.heap_model.proofs.Rest.{allocated_is_kept}
 use Rattle.heap_model.proofs.Stood.{stands_chain, stands_limit, sweep_change}
 use Rattle.machine.specs.Headline.{Holds, AlwaysHolds}
 use Rattle.machine.proofs.Courses.{ends_soon}
@@ -15,9 +15,9 @@ pub course_holds : (r : Course) → IsCourse r → Holds r
 course_holds r w = record {
   legal = w.legal;
   agrees = λ spent h chain. consistent_agrees h (present_of r) (snapshot_of r) (stands_chain r.heap h spent (present_of r) (snapshot_of r) w.stands chain).consistent;
-  held = λ id reach. reached_held r.heap (present_of r) (snapshot_of r) w.stands.consistent id reach;
+  allocated = λ id reach. reached_allocated r.heap (present_of r) (snapshot_of r) w.stands.consistent id reach;
   swept = λ spent cost h after chain action from to. sweep_change h after cost (present_of r) (snapshot_of r) (stands_chain r.heap h spent (present_of r) (snapshot_of r) w.stands chain) action from to;
-  kept = λ spent h chain rests. held_is_kept h (present_of r) (snapshot_of r) (stands_chain r.heap h spent (present_of r) (snapshot_of r) w.stands chain).consistent rests;
+  kept = λ spent h chain rests. allocated_is_kept h (present_of r) (snapshot_of r) (stands_chain r.heap h spent (present_of r) (snapshot_of r) w.stands chain).consistent rests;
   units = λ spent h chain. stands_limit h (present_of r) (snapshot_of r) (stands_chain r.heap h spent (present_of r) (snapshot_of r) w.stands chain);
   ends = λ start begins. ends_soon r start w begins;
 }

@@ -8,17 +8,17 @@ use Rattle.graph_heap.specs.declared.command.Change.{Change}
 use Rattle.graph_heap.specs.declared.command.Change.TheVariants as changes
 use Rattle.graph_heap.specs.declared.command.Refusal.{Refusal}
 use Rattle.graph_heap.specs.Graph.{Graph, first_slot}
-use Rattle.graph_heap.specs.Effect.{◌>>=◌, is_join, deed_of, admitted, admitted_to, effect_of}
+use Rattle.graph_heap.specs.Effect.{◌>>=◌, is_join, admitted_effect, admitted, admitted_to, effect_of}
 use Rattle.heap_model.specs.Agree.{IsMain}
 use Rattle.heap_model.specs.Cut.{name_of}
 use Rattle.heap_model.specs.State.{HeapState, seen}
 use Rattle.heap_model.specs.Agreement.{Agrees}
 use Rattle.heap_model.specs.Event.{room_for}
 use Rattle.heap_model.specs.Change.{Records, DoesChange, Does_root, Does_join, Does_leave, Clears, Clears_none, Clears_next}
-use Rattle.heap_model.proofs.Recorded.{records_stay}
+use Rattle.heap_model.proofs.Recording.{records_stay}
 use Rattle.nodes.specs.Grey.{GreySet, buffer_of, with_buffer}
-use Rattle.nodes.specs.RawHeap.{state_of, IsHeap}
-use Rattle.nodes.specs.declared.raw_heap.RawHeap.{RawHeap}
+use Rattle.nodes.specs.HeapFields.{state_of, IsHeap}
+use Rattle.nodes.specs.declared.heap_fields.HeapFields.{HeapFields}
 use Rattle.satb_barrier.specs.Recording.{with_room, shades, buffers_after}
 use Rattle.machine.specs.Buffers.{AreOwn}
 use Rattle.machine.specs.Plan.{IsPlanned, CanPerform, DoesEach}
@@ -31,8 +31,8 @@ module _ (h : HeapState) (g : Graph) (a : Agrees h g) (m : ℕ) (c : Command) wh
   same_admission : admitted g m c ≡ admitted_to h.limits h.live m (is_join c)
   same_admission = ap (λ (l : Limits). admitted_to l g.live m (is_join c)) (sym a.limits) ∙ ap (λ z. admitted_to h.limits z m (is_join c)) (sym a.live)
 
-  pub effect_is : (r : Result Bool Refusal) → r ≡ admitted_to h.limits h.live m (is_join c) → effect_of (room_for h c) g m c ≡ (r >>= λ ok. deed_of (room_for h c) g m c)
-  effect_is r is = ap (λ (x : Result Bool Refusal). x >>= λ ok. deed_of (room_for h c) g m c) (same_admission ∙ sym is)
+  pub effect_is : (r : Result Bool Refusal) → r ≡ admitted_to h.limits h.live m (is_join c) → effect_of (room_for h c) g m c ≡ (r >>= λ ok. admitted_effect (room_for h c) g m c)
+  effect_is r is = ap (λ (x : Result Bool Refusal). x >>= λ ok. admitted_effect (room_for h c) g m c) (same_admission ∙ sym is)
 
 -- what a root that gets null does
 null_does : (h after : HeapState) (g : Graph) (cell id : ℕ) → id ≡ 0 → Agrees h g → DoesChange h g (changes.Root cell id) after → (k : HeapState) × Records h (get_or h.roots cell 0) k × (after ≡ record k { roots = set k.roots cell 0 })
@@ -42,7 +42,7 @@ null_does h after g cell id e a (Does_root cell0 id0 y k r i) =
 
 -- a root may get null
 null_planned : (h : HeapState) (cell : ℕ) → cell < length h.roots → (g : Graph) → IsPlanned h g (changes.Root cell 0) (writes.Root cell 0)
-null_planned h cell l g = (0, refl, l, inl refl, record { held = refl; forward = refl; name = refl })
+null_planned h cell l g = (0, refl, l, inl refl, record { allocated = refl; forward = refl; name = refl })
 
 pub null_can : (h : HeapState) (cell : ℕ) → cell < length h.roots → CanPerform h (writes.Root cell 0)
 null_can h cell l g a = (changes.Root cell 0, null_planned h cell l g)
@@ -87,7 +87,7 @@ own_none m grey = (refl, λ k ne. refl)
 pub own_then : (m : ℕ) (old mid new : GreySet) → AreOwn m old mid → AreOwn m mid new → AreOwn m old new
 own_then m old mid new a b = (b.0 ∙ a.0, λ k ne. b.1 k ne ∙ a.1 k ne)
 
-pub own_after : (a : RawHeap) (m x : ℕ) (new : GreySet) → new.buffers ≡ buffers_after a m x → AreOwn m a.grey new
+pub own_after : (a : HeapFields) (m x : ℕ) (new : GreySet) → new.buffers ≡ buffers_after a m x → AreOwn m a.grey new
 own_after a m x new e = (ap length e ∙ count_after a m x, λ k ne. ap (λ (bs : List (ArrayVec ℕ)). (get_or bs k (record { items = [] })).items) e ∙ by_case k ne (shades a x))
   where
     by_case : (k : ℕ) → k ≢ m → (b : Bool) → (get_or (if b then (with_buffer a.grey m (with_room (buffer_of a.grey m) ++ (seen (state_of a)).forward x ∷ [])).buffers else a.grey.buffers) k (record { items = [] })).items ≡ buffer_of a.grey k

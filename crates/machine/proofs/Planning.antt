@@ -12,7 +12,7 @@ use Rattle.graph_heap.specs.declared.command.Change.TheVariants as changes
 use Rattle.graph_heap.specs.declared.command.Command.TheVariants as commands
 use Rattle.graph_heap.specs.Shape.{fits}
 use Rattle.graph_heap.specs.Graph.{Graph}
-use Rattle.graph_heap.specs.Effect.{◌>>=◌, slot_at, fitting, next_identity, with_room, deed_of}
+use Rattle.graph_heap.specs.Effect.{◌>>=◌, slot_at, fitting, next_identity, with_room, admitted_effect}
 use Rattle.size_classes.specs.Parts.{cells_of, parts_in}
 use Rattle.size_classes.specs.Need.{needed, blocks_needed}
 use Rattle.heap_model.specs.Pages.{Page, has_room}
@@ -52,7 +52,7 @@ module _ (h : HeapState) (g : Graph) (a : Agrees h g) (m dst root : ℕ) (shape 
   abbrev next_by : Bool → Result ℕ Refusal
   next_by b = cond b (Ok (length g.objects + 1)) (Err refusals.IdentitiesSpent)
 
-  pub spent_effect : (room : Bool) → h.limits.identities < h.next → deed_of room g m (commands.New dst shape) ≡ Err refusals.IdentitiesSpent
+  pub spent_effect : (room : Bool) → h.limits.identities < h.next → admitted_effect room g m (commands.New dst shape) ≡ Err refusals.IdentitiesSpent
   spent_effect room over =
       let l = a.limits in let n = a.next in
       let e : nat_lt (length g.objects) g.limits.identities ≡ false = le-ltb (length g.objects) g.limits.identities (subst (λ x. x.identities ≤ length g.objects) l (omega (arith, over, n))) in
@@ -65,11 +65,11 @@ module _ (h : HeapState) (g : Graph) (a : Agrees h g) (m dst root : ℕ) (shape 
         let e : nat_lt (length g.objects) g.limits.identities ≡ true = lt-ltb (length g.objects) g.limits.identities (subst (λ x. length g.objects < x.identities) l (omega (arith, under, n))) in
         ap next_by e ∙ ap Ok (sym n)
 
-    pub full_effect : (room : Bool) → room ≡ false → deed_of room g m (commands.New dst shape) ≡ Err refusals.NoSpace
+    pub full_effect : (room : Bool) → room ≡ false → admitted_effect room g m (commands.New dst shape) ≡ Err refusals.NoSpace
     full_effect room e = chained shape _ _ _ _ _ _ _ _ slot_is fitting_is next_is (ap with_room e)
 
-    new_effect : (room : Bool) → room ≡ true → deed_of room g m (commands.New dst shape) ≡ Ok (replies.Made h.next, changes.New root h.next shape)
+    new_effect : (room : Bool) → room ≡ true → admitted_effect room g m (commands.New dst shape) ≡ Ok (replies.Made h.next, changes.New root h.next shape)
     new_effect room e = chained shape _ _ _ _ _ _ _ _ slot_is fitting_is next_is (ap with_room e)
 
-    pub new_plans : has_room h.store.pages (needed shape) ≡ true → root < length h.roots → h.next < 2 ^ 63 → PlansBy h g (deed_of (has_room h.store.pages (needed shape)) g m (commands.New dst shape)) (Ok (record { reply = replies.Made h.next; write = writes.New root shape }))
+    pub new_plans : has_room h.store.pages (needed shape) ≡ true → root < length h.roots → h.next < 2 ^ 63 → PlansBy h g (admitted_effect (has_room h.store.pages (needed shape)) g m (commands.New dst shape)) (Ok (record { reply = replies.Made h.next; write = writes.New root shape }))
     new_plans room below small = (changes.New root h.next shape, new_effect (has_room h.store.pages (needed shape)) room, (refl, below, small, fit, room))

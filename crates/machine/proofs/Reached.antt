@@ -8,10 +8,10 @@ use Rattle.heap_model.specs.Cut.{count_of}
 use Rattle.heap_model.specs.State.{HeapState}
 use Rattle.heap_model.specs.Agreement.{Agrees}
 use Rattle.heap_model.specs.Reading.{Refers, spine_at, block_of}
-use Rattle.arraylets.specs.declared.place.Place.{Place}
+use Rattle.arraylets.specs.declared.place.CellPosition.{CellPosition}
 use Rattle.machine.specs.declared.plan.Found.{Found}
 use Rattle.machine.specs.declared.plan.Kind.{Kind}
-use Rattle.nodes.specs.RawHeap.{IsHeap}
+use Rattle.nodes.specs.HeapFields.{IsHeap}
 use Rattle.machine.specs.Reading.{IsFound, place_of, FindsCell}
 use Rattle.machine.proofs.Doing.{present_agrees, at_present}
 use Rattle.machine.proofs.Cells.{parts_below, spine_refers, part_refers, cell_below, found_cell}
@@ -54,11 +54,11 @@ module _ (h t : HeapState) (is : h ≡ t) (w : IsHeap h) (root i : ℕ) (f : Fou
     can_reach = (within_parts, to_spine, to_part)
 
   module _ (kind : Kind) where
-    pub reached : (place : Place) → place_of kind f.shape i ≡ Ok place → CanReach place.part
+    pub reached : (place : CellPosition) → place_of kind f.shape i ≡ Ok place → CanReach place.part
     reached place at = can_reach place.part (cell_below h w.present (present_agrees h w) present_id f found_now i kind place at)
 
     -- the cell
-    pub finds_cell : (place : Place) (block : ℕ) → block ≡ block_of h.store (cells_of f.shape) f.block place.part → place_of kind f.shape i ≡ Ok place → fits f.shape ≡ true → (g : Graph) → Agrees t g
+    pub finds_cell : (place : CellPosition) (block : ℕ) → block ≡ block_of h.store (cells_of f.shape) f.block place.part → place_of kind f.shape i ≡ Ok place → fits f.shape ≡ true → (g : Graph) → Agrees t g
         → FindsCell t g kind (get_or g.roots root 0) i (Ok (record { block = block; index = place.cell }))
     finds_cell place block eb at fit g a =
         subst (λ (y : HeapState). FindsCell y g kind (get_or g.roots root 0) i (Ok (record { block = block; index = place.cell }))) is

@@ -7,11 +7,11 @@ use Rattle.graph_heap.specs.Graph.{Graph, first_slot, changed}
 use Rattle.size_classes.specs.Parts.{cells_of, parts_in}
 use Rattle.heap_model.specs.Block.{with_cell}
 use Rattle.heap_model.specs.Agreement.{Agrees}
-use Rattle.heap_model.specs.Store.{Store, node_of, Writes}
+use Rattle.heap_model.specs.Store.{Store, record_of, Writes}
 use Rattle.heap_model.specs.State.{HeapState, seen}
 use Rattle.heap_model.specs.Written.{records}
 use Rattle.heap_model.proofs.Left.{change_left}
-use Rattle.heap_model.proofs.Recorded.{records_stay}
+use Rattle.heap_model.proofs.Recording.{records_stay}
 use Rattle.nodes.specs.Grey.{GreySet, buffer_of, with_buffer}
 use Rattle.satb_barrier.specs.Recording.{with_room, shades, buffers_after}
 use Rattle.machine.specs.Buffers.{AreBuffersBy}
@@ -22,8 +22,8 @@ use Rattle.heap_model.specs.Settings.{HeapSettings}
 use Rattle.heap_model.proofs.Settings.{change_settings}
 use Rattle.heap_model.proofs.Sameness.{told}
 use Rattle.nodes.specs.Referent.{CanFollow}
-use Rattle.nodes.specs.declared.raw_heap.RawHeap.{RawHeap}
-use Rattle.nodes.specs.RawHeap.{state_of, IsHeap, IsRawHeap}
+use Rattle.nodes.specs.declared.heap_fields.HeapFields.{HeapFields}
+use Rattle.nodes.specs.HeapFields.{state_of, IsHeap, AreHeapFields}
 use Rattle.machine.specs.Plan.{IsPlanned, CanPerform, DoesEach}
 use Rattle.machine.specs.declared.plan.Cell.{Cell}
 use Rattle.machine.specs.declared.plan.Write.{Write}
@@ -65,26 +65,26 @@ module _ (h k : HeapState) (before : ℕ) (r : Records h before k) where
   root_does cell x e g c a p =
       subst (λ (z : Change). DoesChange h g z (record k { roots = set k.roots cell x })) (sym p.1) (Does_root cell p.0 x k (subst (λ z. Records h z k) e r) p.4)
 
-  pub ref_does : (at : Cell) (x : ℕ) (new : Store) → before ≡ get_or (node_of h.store at.block).cells at.index 0 → Writes k.store new at.block (with_cell (node_of k.store at.block) at.index x)
+  pub ref_does : (at : Cell) (x : ℕ) (new : Store) → before ≡ get_or (record_of h.store at.block).cells at.index 0 → Writes k.store new at.block (with_cell (record_of k.store at.block) at.index x)
       → DoesEach h (writes.Ref at x) (record k { store = new })
   ref_does at x new e wr g c a p =
       subst (λ (z : Change). DoesChange h g z (record k { store = new })) (sym p.3)
       (Does_ref p.0 p.1 p.2 at.block x k new p.4.1.main
-      (subst (λ z. Records h z k) (e ∙ ap (λ z. get_or (node_of h.store at.block).cells z 0) p.4.1.index) r) p.6
-      (subst (λ z. Writes k.store new at.block (with_cell (node_of k.store at.block) z x)) p.4.1.index wr))
+      (subst (λ z. Records h z k) (e ∙ ap (λ z. get_or (record_of h.store at.block).cells z 0) p.4.1.index) r) p.6
+      (subst (λ z. Writes k.store new at.block (with_cell (record_of k.store at.block) z x)) p.4.1.index wr))
 
   pub new_does : (cell block : ℕ) (shape : Shape) (new : Store) → before ≡ get_or h.roots cell 0
-      → ((at : ℕ → ℕ) × (at 0 ≡ block) × MakesObject k.store shape k.sense k.next at new × Takes (cells_of shape) at k.store.pages (parts_in (cells_of shape)) new.pages)
+      → ((at : ℕ → ℕ) × (at 0 ≡ block) × MakesObject k.store shape k.mark_parity k.next at new × Takes (cells_of shape) at k.store.pages (parts_in (cells_of shape)) new.pages)
       → DoesEach h (writes.New cell shape) (record k { store = new; next = k.next + 1; roots = set k.roots cell (block + 1) })
   new_does cell block shape new e makes g c a p =
       subst (λ (z : Change). DoesChange h g z (record k { store = new; next = k.next + 1; roots = set k.roots cell (block + 1) })) (sym p.0)
       (subst (λ b. DoesChange h g (changes.New cell h.next shape) (record k { store = new; next = k.next + 1; roots = set k.roots cell (b + 1) })) makes.1
       (Does_new cell h.next shape k new makes.0 (subst (λ z. Records h z k) e r) makes.2 makes.3))
 
-pub word_does : (h : HeapState) (at : Cell) (word : ℕ) (new : Store) → Writes h.store new at.block (with_cell (node_of h.store at.block) at.index word) → DoesEach h (writes.Word at word) (record h { store = new })
+pub word_does : (h : HeapState) (at : Cell) (word : ℕ) (new : Store) → Writes h.store new at.block (with_cell (record_of h.store at.block) at.index word) → DoesEach h (writes.Word at word) (record h { store = new })
 word_does h at word new wr g c a p =
     subst (λ (z : Change). DoesChange h g z (record h { store = new })) (sym p.2)
-    (Does_word p.0 p.1 word at.block new p.3.1.main (subst (λ z. Writes h.store new at.block (with_cell (node_of h.store at.block) z word)) p.3.1.index wr))
+    (Does_word p.0 p.1 word at.block new p.3.1.main (subst (λ z. Writes h.store new at.block (with_cell (record_of h.store at.block) z word)) p.3.1.index wr))
 
 -- where nothing is recorded, what a change does leaves the grey parts
 records_grey : (h k : HeapState) (x : ℕ) → Records h x k → records h.phase ≡ false → k.grey ≡ h.grey
@@ -108,7 +108,7 @@ grey_left h after g c (Does_new cell id shape k new at r makes takes) off = reco
 grey_left h after g c (Does_join m) off = refl
 grey_left h after g c (Does_leave m k clears) off = clears_grey h (first_slot g.limits m) g.limits.slots k clears off
 
-pub count_after : (a : RawHeap) (m x : ℕ) → length (buffers_after a m x) ≡ length a.grey.buffers
+pub count_after : (a : HeapFields) (m x : ℕ) → length (buffers_after a m x) ≡ length a.grey.buffers
 count_after a m x = by_case (shades a x)
   where
     by_case : (b : Bool) → length (if b then (with_buffer a.grey m (with_room (buffer_of a.grey m) ++ (seen (state_of a)).forward x ∷ [])).buffers else a.grey.buffers) ≡ length a.grey.buffers
@@ -116,7 +116,7 @@ count_after a m x = by_case (shades a x)
     by_case false = refl
 
 -- a write done leaves a heap
-pub written_heap : (a b : RawHeap) → IsRawHeap a → (write : Write) → CanPerform (state_of a) write → DoesEach (state_of a) write (state_of b) → length b.grey.buffers ≡ length a.grey.buffers → IsRawHeap b
+pub written_heap : (a b : HeapFields) → AreHeapFields a → (write : Write) → CanPerform (state_of a) write → DoesEach (state_of a) write (state_of b) → length b.grey.buffers ≡ length a.grey.buffers → AreHeapFields b
 written_heap a b w write can does count =
     let p = can w.heap.present (present_agrees (state_of a) w.heap) in
     let change = does w.heap.present p.0 (present_agrees (state_of a) w.heap) p.1 in
@@ -129,10 +129,10 @@ written_heap a b w write can does count =
     }
 
 -- how many buffers there are
-pub count_by : (a : RawHeap) (m : ℕ) (write : Write) (grey : GreySet) → AreBuffersBy a m write grey → length grey.buffers ≡ length a.grey.buffers
+pub count_by : (a : HeapFields) (m : ℕ) (write : Write) (grey : GreySet) → AreBuffersBy a m write grey → length grey.buffers ≡ length a.grey.buffers
 count_by a m writes.Nothing grey e = ap length e
 count_by a m (writes.Root cell x) grey e = ap length e ∙ count_after a m (get_or a.roots.cells cell 0)
-count_by a m (writes.Ref at x) grey e = ap length e ∙ count_after a m (get_or (node_of a.nodes at.block).cells at.index 0)
+count_by a m (writes.Ref at x) grey e = ap length e ∙ count_after a m (get_or (record_of a.nodes at.block).cells at.index 0)
 count_by a m (writes.Word at word) grey e = ap length e
 count_by a m (writes.New cell shape) grey e = ap length e ∙ count_after a m (get_or a.roots.cells cell 0)
 count_by a m (writes.Join n) grey e = ap length e

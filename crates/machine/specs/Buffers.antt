@@ -1,17 +1,18 @@
 -- What a write leaves in the buffers of the mutators.
 use Rattle.std.specs.Prelude.{◌≡◌, ◌≢◌, ℕ, List, length, slice_index}
 use Rattle.arrayvec.specs.ArrayVec.{ArrayVec}
-use Rattle.heap_model.specs.Store.{node_of}
+use Rattle.heap_model.specs.Store.{record_of}
 use Rattle.nodes.specs.Grey.{GreySet, buffer_of}
-use Rattle.nodes.specs.declared.raw_heap.RawHeap.{RawHeap}
+use Rattle.nodes.specs.declared.heap_fields.HeapFields.{HeapFields}
 use Rattle.satb_barrier.specs.Recording.{buffers_after}
 use Rattle.machine.specs.declared.plan.Write.{Write}
 use Rattle.machine.specs.declared.plan.Write.TheVariants as writes
 
 -- the mutator's own has what a write of one root or cell overwrote
-abbrev pub buffers_by : RawHeap → ℕ → Write → List (ArrayVec ℕ)
+abbrev pub buffers_by : HeapFields → ℕ → Write → List (ArrayVec ℕ)
 buffers_by a mutator (writes.Root cell x) = buffers_after a mutator (slice_index a.roots.cells cell)
-buffers_by a mutator (writes.Ref at x) = buffers_after a mutator (slice_index (node_of a.nodes at.block).cells at.index)
+buffers_by a mutator (writes.Ref at x) = buffers_after a mutator
+    (slice_index (record_of a.nodes at.block).cells at.index)
 buffers_by a mutator (writes.New cell shape) = buffers_after a mutator (slice_index a.roots.cells cell)
 buffers_by a mutator _ = a.grey.buffers
 
@@ -21,6 +22,6 @@ AreOwn mutator old new = (length new.buffers ≡ length old.buffers)
     × ((k : ℕ) → k ≢ mutator → buffer_of new k ≡ buffer_of old k)
 
 -- and of a mutator that leaves, its own alone has what its slots held
-abbrev pub AreBuffersBy : RawHeap → ℕ → Write → GreySet → Type 0
+abbrev pub AreBuffersBy : HeapFields → ℕ → Write → GreySet → Type 0
 AreBuffersBy a mutator (writes.Leave m) grey = AreOwn m a.grey grey
 AreBuffersBy a mutator write grey = grey.buffers ≡ buffers_by a mutator write

@@ -7,10 +7,10 @@ use Rattle.graph_heap.specs.Reach.{Reaches}
 use Rattle.heap_model.specs.State.{HeapState}
 use Rattle.heap_model.specs.Agreement.{Agrees}
 use Rattle.heap_model.specs.Action.{Chain}
-use Rattle.heap_model.specs.Swept.{IsHeld}
+use Rattle.heap_model.specs.Swept.{IsAllocated}
 use Rattle.heap_model.specs.Spent.{cycle_limit}
 use Rattle.heap_model.specs.Event.{Course, Event, present_of, Begins, Runs}
-use Rattle.machine.specs.Recorded.{EachSweepEnds, HoldsKept, EndsSoon}
+use Rattle.machine.specs.HeapWithHistory.{EachSweepEnds, HoldsKept, EndsSoon}
 
 -- The history is one of the graph heap, which never moves or frees an object. The heap agrees with the
 -- graph heap to which it leads, also within a quantum, after each action. All that can be reached there is
@@ -20,7 +20,7 @@ use Rattle.machine.specs.Recorded.{EachSweepEnds, HoldsKept, EndsSoon}
 pub record Holds (r : Course) : Type 0 where
   pub legal : IsLegal (opening r.heap.limits) r.history
   pub agrees : (spent : ℕ) (h : HeapState) → Chain r.heap spent h → Agrees h (present_of r)
-  pub held : (id : ℕ) → Reaches (present_of r) id → IsHeld r.heap (present_of r) id
+  pub allocated : (id : ℕ) → Reaches (present_of r) id → IsAllocated r.heap (present_of r) id
   pub swept : EachSweepEnds r
   pub kept : HoldsKept r
   pub units : (spent : ℕ) (h : HeapState) → Chain r.heap spent h → h.units ≤ cycle_limit h

@@ -8,7 +8,7 @@ use Rattle.graph_heap.specs.declared.command.Change.{Change}
 use Rattle.graph_heap.specs.declared.command.Change.TheVariants as changes
 use Rattle.graph_heap.specs.Shape.{fits}
 use Rattle.graph_heap.specs.Graph.{Graph, changed}
-use Rattle.graph_heap.specs.Effect.{deed_of, settled, reply_of, next_of}
+use Rattle.graph_heap.specs.Effect.{admitted_effect, settled, reply_of, next_of}
 use Rattle.size_classes.specs.Need.{needed}
 use Rattle.heap_model.specs.Pages.{has_room}
 use Rattle.heap_model.specs.Agree.{IsMain}
@@ -55,31 +55,32 @@ abbrev pub write_to : Target → ℕ → Write
 write_to (targets.Root cell) x = writes.Root cell x
 write_to (targets.Ref at) x = writes.Ref at x
 
--- the plan of a comparison: what was held is kept, or, where it was expected, it gives way by a write
+-- the plan of a comparison: what was referent is kept, or, where it was expected, it gives way by a write
 abbrev pub Compares : ℕ → ℕ → Write → Planned → Type 0
-Compares held expected write p = ((held ≢ expected) × (p ≡ record { reply = replies.Kept held; write = writes.Nothing }))
-    ⊎ ((held ≡ expected) × (p ≡ record { reply = replies.Stored; write = write }))
+Compares referent expected write p = ((referent ≢ expected)
+    × (p ≡ record { reply = replies.Kept referent; write = writes.Nothing }))
+    ⊎ ((referent ≡ expected) × (p ≡ record { reply = replies.Stored; write = write }))
 
 -- the plan of a command that is admitted, for each graph heap with which the heap agrees
-abbrev pub Deeds : HeapState → ℕ → Command → Result Planned Refusal → Type 0
-Deeds h m c result = (g : Graph) → Agrees h g → PlansBy h g (deed_of (room_for h c) g m c) result
+abbrev pub IsPlan : HeapState → ℕ → Command → Result Planned Refusal → Type 0
+IsPlan h m c result = (g : Graph) → Agrees h g → PlansBy h g (admitted_effect (room_for h c) g m c) result
 
 -- what was planned is what some command does, for each graph heap with which the heap agrees
-abbrev pub CanSettle : HeapState → Result Planned Refusal → Type 0
-CanSettle h planned = (g : Graph) → Agrees h g → (done : Result (Reply × Change) Refusal) × PlansBy h g done planned
+abbrev pub CanCommit : HeapState → Result Planned Refusal → Type 0
+CanCommit h planned = (g : Graph) → Agrees h g → (done : Result (Reply × Change) Refusal) × PlansBy h g done planned
 
 -- the reply is that of what the graph heap does, where a refusal is a reply; the heap does its change, and agrees with
 -- the graph heap after it
-pub record Settles (h : HeapState) (g : Graph) (done : Result (Reply × Change) Refusal) (told : Reply)
+pub record Commits (h : HeapState) (g : Graph) (done : Result (Reply × Change) Refusal) (told : Reply)
     (after : HeapState) : Type 0 where
   pub reply : told ≡ (settled done).0
   pub change : DoesChange h g (settled done).1 after
   pub agrees : Agrees after (changed g (settled done).1)
 
 -- this holds for each graph heap for which what was planned is a plan
-abbrev pub SettlesEach : HeapState → Result Planned Refusal → Reply → HeapState → Type 0
-SettlesEach h planned reply after = (g : Graph) (done : Result (Reply × Change) Refusal) → Agrees h g
-    → PlansBy h g done planned → Settles h g done reply after
+abbrev pub CommitsEach : HeapState → Result Planned Refusal → Reply → HeapState → Type 0
+CommitsEach h planned reply after = (g : Graph) (done : Result (Reply × Change) Refusal) → Agrees h g
+    → PlansBy h g done planned → Commits h g done reply after
 
 -- the write is that of some change, for each graph heap with which the heap agrees
 abbrev pub CanPerform : HeapState → Write → Type 0

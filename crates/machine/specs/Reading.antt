@@ -6,15 +6,15 @@ use Rattle.graph_heap.specs.Graph.{Graph, Object, object_of}
 use Rattle.graph_heap.specs.Effect.{slot_at, object_at, ref_at, word_at}
 use Rattle.graph_heap.specs.Reach.{Reaches}
 use Rattle.size_classes.specs.Parts.{cells_of, part_in, column_in}
-use Rattle.heap_model.specs.Store.{node_of}
+use Rattle.heap_model.specs.Store.{record_of}
 use Rattle.heap_model.specs.Agree.{IsMain}
 use Rattle.heap_model.specs.Cut.{name_of}
 use Rattle.heap_model.specs.State.{HeapState, seen, width_at}
 use Rattle.heap_model.specs.Written.{IsKnown}
 use Rattle.heap_model.specs.Reading.{IsMainCopy}
-use Rattle.nodes.specs.declared.nodes.Referent.{Referent}
-use Rattle.arraylets.specs.declared.place.Place.{Place}
-use Rattle.arraylets.specs.Place.{ref_place, word_place}
+use Rattle.nodes.specs.declared.block_store.Referent.{Referent}
+use Rattle.arraylets.specs.declared.place.CellPosition.{CellPosition}
+use Rattle.arraylets.specs.CellPosition.{ref_place, word_place}
 use Rattle.machine.specs.declared.plan.Found.{Found}
 use Rattle.machine.specs.declared.plan.Cell.{Cell}
 use Rattle.machine.specs.declared.plan.Kind.{Kind}
@@ -50,13 +50,13 @@ pub record IsRefCell (h : HeapState) (o : Object) (id i : ℕ) (at : Cell) : Typ
   pub below : i < length o.refs
   pub main : IsMain (seen h) (at.block + 1) (record { identity = id; part = part_in (cells_of o.shape) i })
   pub index : at.index ≡ column_in i
-  pub within : at.index < length (node_of h.store at.block).cells
+  pub within : at.index < length (record_of h.store at.block).cells
 
 pub record IsWordCell (h : HeapState) (o : Object) (id i : ℕ) (at : Cell) : Type 0 where
   pub below : i < length o.words
   pub main : IsMain (seen h) (at.block + 1) (record { identity = id; part = part_in (cells_of o.shape) i })
-  pub index : at.index ≡ width_at (node_of h.store at.block) + column_in i
-  pub within : at.index < length (node_of h.store at.block).cells
+  pub index : at.index ≡ width_at (record_of h.store at.block) + column_in i
+  pub within : at.index < length (record_of h.store at.block).cells
 
 -- and the object can be reached
 abbrev pub IsRefPlace : HeapState → Graph → ℕ → ℕ → Cell → Type 0
@@ -78,7 +78,7 @@ FindsWord h g id i (Ok at) = (word_at g.objects id i ≡ Ok (slice_index (object
 FindsWord h g id i (Err e) = word_at g.objects id i ≡ Err e
 
 -- where cell i of a kind stands in its object
-abbrev pub place_of : Kind → Shape → ℕ → Result Place Refusal
+abbrev pub place_of : Kind → Shape → ℕ → Result CellPosition Refusal
 place_of kinds.Ref shape i = ref_place shape i
 place_of kinds.Word shape i = word_place shape i
 

@@ -4,7 +4,7 @@ use Rattle.size_classes.specs.declared.config.Config.{Config}
 use Rattle.size_classes.specs.Config.{limits_of}
 use Rattle.heap_model.specs.State.{HeapState}
 use Rattle.heap_model.specs.Event.{Course, Event, Runs}
-use Rattle.heap_model.specs.Led.{opened}
+use Rattle.heap_model.specs.ReachedFrom.{opened}
 use Rattle.heap_model.specs.Opening.{IsOpening}
 use Rattle.heap_model.specs.Settings.{settings_of, settings_by}
 use Rattle.space.specs.Demand.{Demand}

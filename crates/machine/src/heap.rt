@@ -7,10 +7,10 @@ ghost use Rattle.heap_model.specs.Settings.{settings_of, settings_by};
 ghost use Rattle.heap_model.specs.Agreement.{Agrees};
 ghost use Rattle.heap_model.specs.Change.{DoesChange};
 ghost use Rattle.heap_model.specs.Event.{change_by, room_for};
-ghost use Rattle.machine.specs.Plan.{CanSettle, SettlesEach};
+ghost use Rattle.machine.specs.Plan.{CanCommit, CommitsEach};
 
 use graph_heap::{Command, NoMemory, Reply, dispatch};
-use nodes::RawHeap;
+use nodes::HeapFields;
 use size_classes::Config;
 use std::alloc::Global;
 use std::marker::Model;
@@ -27,7 +27,7 @@ use writing::do_write;
 
 /// A heap of objects, with its roots. Contracts see the heap as it lies in words.
 pub struct Heap {
-    raw: RawHeap,
+    raw: HeapFields,
 }
 
 impl Drop for Heap {
@@ -39,13 +39,13 @@ impl Drop for Heap {
 
 impl Model for Heap {
     ghost use Rattle.heap_model.specs.State.{HeapState};
-    ghost use Rattle.nodes.specs.RawHeap.{state_of, IsRawHeap};
+    ghost use Rattle.nodes.specs.HeapFields.{state_of, AreHeapFields};
 
     ghost Value = { HeapState };
 
     ghost view = { λ a. state_of a.raw };
 
-    ghost invariant = { λ a. IsRawHeap a.raw };
+    ghost invariant = { λ a. AreHeapFields a.raw };
 }
 
 impl Heap {
@@ -55,7 +55,7 @@ impl Heap {
         ensures opening { IfOk result IsOpening }
         ensures settings { IfOk result (λ h. settings_of h ≡ settings_by config.now) }
     {
-        let raw = RawHeap::new(alloc, config)?;
+        let raw = HeapFields::new(alloc, config)?;
         Ok(Heap { raw })
     }
 
@@ -76,10 +76,10 @@ impl Heap {
 
     /// Does what was planned for a mutator, and replies.
     #[inline(always)]
-    fn settle(&mut self, mutator: u32, planned: Plan) -> Reply
+    fn commit(&mut self, mutator: u32, planned: Plan) -> Reply
         requires mutator { mutator < self.old.limits.mutators }
-        requires planned { CanSettle self.old planned }
-        ensures { SettlesEach self.old planned result self.new }
+        requires planned { CanCommit self.old planned }
+        ensures { CommitsEach self.old planned result self.new }
     {
         match planned {
             Ok(planned) => {

@@ -8,7 +8,7 @@ ghost use Rattle.heap_model.specs.declared.phase.Phase.TheVariants as phases;
 ghost use Rattle.heap_model.specs.declared.phase.Moving.{Moving};
 ghost use Rattle.heap_model.specs.Action.{Action, KeepsBlocks};
 ghost use Rattle.heap_model.specs.Event.{Course, Command_done, Does, IsCourse};
-ghost use Rattle.heap_model.specs.Standing.{Stands};
+ghost use Rattle.heap_model.specs.Standing.{Represents};
 ghost use Rattle.heap_model.specs.State.{HeapState};
 ghost use Rattle.machine.specs.declared.collector.BudgetOutOfRange.{BudgetOutOfRange};
 ghost use Rattle.machine.specs.declared.collector.Busy.{Busy};
@@ -17,7 +17,7 @@ ghost use Rattle.machine.specs.Collecting.{Begins, Spends};
 ghost use Rattle.machine.specs.Copies.{MakesOneOld};
 ghost use Rattle.machine.specs.Headline.{AlwaysHolds};
 ghost use Rattle.machine.specs.Plan.{Steps};
-ghost use Rattle.machine.specs.Recorded.{begin_done, quantum_done};
+ghost use Rattle.machine.specs.HeapWithHistory.{begin_done, quantum_done};
 ghost use Rattle.machine.specs.Space.{FindsSpace, FoundSpace};
 
 /// All that is promised of a heap with its history, whatever events are done next, is promised where that holds which
@@ -46,7 +46,8 @@ pub fn calls_are_events()
 
 /// While blocks are moved, each action leaves all blocks as they are, or makes exactly one main copy an old copy.
 pub fn moves_make_one_old()
-    ensures { (h after : HeapState) (cost : ℕ) (present snapshot : Graph) (place : Moving) → Stands h present snapshot
+    ensures { (h after : HeapState) (cost : ℕ) (present snapshot : Graph) (place : Moving)
+        → Represents h present snapshot
         → h.phase ≡ phases.Moving place → Action h cost after → KeepsBlocks h.store after.store
         ⊎ MakesOneOld h.store after.store }
 {}

@@ -1,17 +1,17 @@
 //! One step of the roots and of marking.
 ghost use Rattle.std.specs.Prelude.{◌≡◌, ◌≢◌, ◌-◌, ◌+◌, ◌<◌, ◌≤◌, ◌^◌, ℕ, [], length, slice_index, true, IfSome, IsNone};
-ghost use Rattle.heap_model.specs.Store.{is_held, node_of};
+ghost use Rattle.heap_model.specs.Store.{is_allocated, record_of};
 ghost use Rattle.heap_model.specs.State.{seen, width_at};
 ghost use Rattle.heap_model.specs.Action.{Action, Chain, goes_to};
 ghost use Rattle.heap_model.specs.declared.phase.Phase.TheVariants as phases;
 ghost use Rattle.nodes.specs.Acting.{Acts};
 ghost use Rattle.nodes.specs.Grey.{in_buffers};
-ghost use Rattle.nodes.specs.RawHeap.{state_of, IsRawHeap};
+ghost use Rattle.nodes.specs.HeapFields.{state_of, AreHeapFields};
 ghost use Rattle.marker.specs.Scanning.{scanning, IsScanning, Scans};
 
 use heap_model::phase::Phase;
-use nodes::{Nodes, RawHeap};
-use satb_barrier::{shade, take};
+use nodes::{BlockStore, HeapFields};
+use satb_barrier::{pop_grey, shade};
 
 /// The part in scan, by reference, 0 for none yet; its next cell; and how many of its cells are references.
 #[derive(Clone, Copy, Debug, PartialEq, Eq)]
@@ -30,8 +30,8 @@ struct Step {
 
 /// Scans a root cell: it is corrected to the main copy, and that is shaded. Where all were scanned,
 /// marking begins. Each costs one unit.
-pub fn scan_root(heap: &mut RawHeap, next: usize)
-    requires heap { IsRawHeap heap.old }
+pub fn scan_root(heap: &mut HeapFields, next: usize)
+    requires heap { AreHeapFields heap.old }
     requires phase { heap.old.phase ≡ phases.Roots next }
     ensures acts { Action (state_of heap.old) 1 (state_of heap.new) }
     ensures buffers { heap.new.grey.buffers ≡ heap.old.grey.buffers }
@@ -48,8 +48,8 @@ pub fn scan_root(heap: &mut RawHeap, next: usize)
 /// Goes on with marking, as far as there is room for: scans the reference cells of the part in scan, then takes a
 /// grey part and scans its header, and so on; where no part is grey, sweeping begins. Each of these costs one unit.
 /// Answers the units. The buffers are empty.
-pub fn scan_parts(heap: &mut RawHeap, part: u64, cell: u32, room: u32) -> u32
-    requires heap { IsRawHeap heap.old }
+pub fn scan_parts(heap: &mut HeapFields, part: u64, cell: u32, room: u32) -> u32
+    requires heap { AreHeapFields heap.old }
     requires buffers { in_buffers heap.old.grey.buffers ≡ [] }
     requires phase { heap.old.phase ≡ phases.Marking part cell }
     requires room { 0 < room }
@@ -75,8 +75,8 @@ pub fn scan_parts(heap: &mut RawHeap, part: u64, cell: u32, room: u32) -> u32
 
 /// A part in scan, at a cell.
 #[inline(always)]
-fn scan_at(heap: &RawHeap, part: u64, cell: usize) -> Scan
-    requires { part ≢ 0 → is_held heap.now.nodes (part - 1) ≡ true }
+fn scan_at(heap: &HeapFields, part: u64, cell: usize) -> Scan
+    requires { part ≢ 0 → is_allocated heap.now.nodes (part - 1) ≡ true }
     ensures { result ≡ record { part = part; cell = cell; width = (seen (state_of heap.now)).width part } }
 {
     if part == 0 {
@@ -93,7 +93,7 @@ fn scan_at(heap: &RawHeap, part: u64, cell: usize) -> Scan
 /// Scans reference cells of the part in scan, as many as are left or as there is room for. Where none is left, it takes
 /// a grey part and scans its header; None where no part is grey, and then nothing changes. The buffers are empty.
 #[inline(always)]
-fn scan_next(heap: &mut RawHeap, scan: Scan, room: u32) -> Option<Step>
+fn scan_next(heap: &mut HeapFields, scan: Scan, room: u32) -> Option<Step>
     requires heap { IsScanning heap.old scan.part scan.cell }
     requires buffers { in_buffers heap.old.grey.buffers ≡ [] }
     requires width { scan.width ≡ (seen (state_of heap.old)).width scan.part }
@@ -117,19 +117,19 @@ fn scan_next(heap: &mut RawHeap, scan: Scan, room: u32) -> Option<Step>
             units,
         });
     }
-    let part = take(heap)?;
+    let part = pop_grey(heap)?;
     let scan = scan_at(heap, part, 0);
     Some(Step { scan, units: 1 })
 }
 
 /// Scans `count` reference cells of a part, from one on.
-fn scan_cells(heap: &mut RawHeap, part: u64, cell: usize, count: usize)
+fn scan_cells(heap: &mut HeapFields, part: u64, cell: usize, count: usize)
     requires heap { IsScanning heap.old part cell }
     requires some { part ≢ 0 }
-    requires within { cell + count ≤ width_at (node_of heap.old.nodes (part - 1)) }
+    requires within { cell + count ≤ width_at (record_of heap.old.nodes (part - 1)) }
     ensures acts { (units : ℕ) → Chain (state_of (scanning heap.old part cell units)) count
         (state_of (scanning heap.new part (cell + count) (units + count))) }
-    ensures width { width_at (node_of heap.new.nodes (part - 1)) ≡ width_at (node_of heap.old.nodes (part - 1)) }
+    ensures width { width_at (record_of heap.new.nodes (part - 1)) ≡ width_at (record_of heap.old.nodes (part - 1)) }
     ensures buffers { heap.new.grey.buffers ≡ heap.old.grey.buffers }
     ensures same { heap.new ≡ record heap.old { nodes = heap.new.nodes; grey = heap.new.grey } }
 {
@@ -140,18 +140,18 @@ fn scan_cells(heap: &mut RawHeap, part: u64, cell: usize, count: usize)
 }
 
 /// Scans the next reference cell of a part: it is corrected to the main copy, and that is shaded. Null stays as it is,
-/// and the cells after it are scanned too, up to the first that isn't null, this many in all at most. Answers how many it
-/// scanned.
+/// and the cells after it are scanned too, up to the first that isn't null, this many in all at most. Answers how many
+/// it scanned.
 #[inline(always)]
-fn scan_run(heap: &mut RawHeap, part: u64, cell: usize, most: usize) -> usize
+fn scan_run(heap: &mut HeapFields, part: u64, cell: usize, most: usize) -> usize
     requires heap { IsScanning heap.old part cell }
     requires some { part ≢ 0 }
     requires most { 0 < most }
-    requires within { cell + most ≤ width_at (node_of heap.old.nodes (part - 1)) }
+    requires within { cell + most ≤ width_at (record_of heap.old.nodes (part - 1)) }
     ensures count { (0 < result) × (result ≤ most) }
     ensures acts { (units : ℕ) → Chain (state_of (scanning heap.old part cell units)) result
         (state_of (scanning heap.new part (cell + result) (units + result))) }
-    ensures width { width_at (node_of heap.new.nodes (part - 1)) ≡ width_at (node_of heap.old.nodes (part - 1)) }
+    ensures width { width_at (record_of heap.new.nodes (part - 1)) ≡ width_at (record_of heap.old.nodes (part - 1)) }
     ensures buffers { heap.new.grey.buffers ≡ heap.old.grey.buffers }
     ensures same { heap.new ≡ record heap.old { nodes = heap.new.nodes; grey = heap.new.grey } }
 {
@@ -168,12 +168,12 @@ fn scan_run(heap: &mut RawHeap, part: u64, cell: usize, most: usize) -> usize
 
 /// How many cells of a block, from one on and at most `most`, are null before the first that isn't.
 #[inline(always)]
-fn nulls_from(nodes: &Nodes, block: usize, from: usize, most: usize) -> usize
-    requires held { is_held nodes.now block ≡ true }
+fn nulls_from(nodes: &BlockStore, block: usize, from: usize, most: usize) -> usize
+    requires allocated { is_allocated nodes.now block ≡ true }
     requires small { from + most < 2 ^ 32 }
-    requires within { from + most ≤ length (node_of nodes.now block).cells }
+    requires within { from + most ≤ length (record_of nodes.now block).cells }
     ensures within { result ≤ most }
-    ensures null { (k : ℕ) → from ≤ k → k < from + result → slice_index (node_of nodes.now block).cells k ≡ 0 }
+    ensures null { (k : ℕ) → from ≤ k → k < from + result → slice_index (record_of nodes.now block).cells k ≡ 0 }
 {
     let mut nulls = 0;
     while nulls < most && nodes.cell(block, from + nulls) == 0 {

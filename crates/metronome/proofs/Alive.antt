@@ -11,23 +11,23 @@ use Rattle.machine.proofs.Space.{runs_settings}
 use Rattle.trace.specs.Streams.{Given}
 use Rattle.player.specs.declared.style.Style.TheVariants.{Nothing}
 use Rattle.player.specs.New.{IsNew}
-use Rattle.player.specs.Playing.{Stage, Played}
+use Rattle.player.specs.Playing.{Session, Played}
 use Rattle.metronome.specs.Behind.{PlayedUpTo}
 
 -- a play that reached its end ran its events
-played_runs : (given : Given) (old new : Stage) → Played Nothing given old new (Ok tt) → (es : List Event) × Runs old.player.course es new.player.course
+played_runs : (given : Given) (old new : Session) → Played Nothing given old new (Ok tt) → (es : List Event) × Runs old.player.course es new.player.course
 played_runs given old new p = elim p.over.ends [
-  | inl e ↦ (p.over.events, subst (λ (s : Stage). Runs old.player.course p.over.events s.player.course) (sym e.2) p.runs)
+  | inl e ↦ (p.over.events, subst (λ (s : Session). Runs old.player.course p.over.events s.player.course) (sym e.2) p.runs)
   | inr h ↦ (let no : Ok tt ≡ Err _ = h.0 in absurd (cc))
 ]
 
-up_to_runs : (n : Option ℕ) (given : Given) (old new : Stage) → PlayedUpTo n given old new (Ok tt) → (es : List Event) × Runs old.player.course es new.player.course
+up_to_runs : (n : Option ℕ) (given : Given) (old new : Session) → PlayedUpTo n given old new (Ok tt) → (es : List Event) × Runs old.player.course es new.player.course
 up_to_runs None given old new p = played_runs given old new p
 up_to_runs (Some n) given old new (inl all) = played_runs given old new all.0
 up_to_runs (Some n) given old new (inr first) = played_runs (record given { after = first.0; ended = true }) old new first.2
 
 -- the heap behind it has the configuration's settings
-pub played_settings : (config : Config) (n : Option ℕ) (given : Given) (old new : Stage) → IsNew config old.player → PlayedUpTo n given old new (Ok tt) → settings_of new.player.course.heap ≡ settings_by config
+pub played_settings : (config : Config) (n : Option ℕ) (given : Given) (old new : Session) → IsNew config old.player → PlayedUpTo n given old new (Ok tt) → settings_of new.player.course.heap ≡ settings_by config
 played_settings config n given old new is p =
     let r = up_to_runs n given old new p in
     runs_settings r.0 old.player.course new.player.course r.1 ∙ is.settings

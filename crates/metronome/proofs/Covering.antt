@@ -9,10 +9,10 @@ use Rattle.graph_heap.specs.Graph.{opening}
 use Rattle.heap_model.specs.Settings.{HeapSettings}
 use Rattle.heap_model.specs.Event.{Event, Command_done, Cycle_begun, Cycle_on, Quantum_done, Quantum_refused, HaveBudgets}
 use Rattle.trace.specs.Streams.{Given, NoLf, Splits}
-use Rattle.trace.specs.GoneOver.{LinesRead}
+use Rattle.trace.specs.LinesProcessed.{LinesRead}
 use Rattle.trace.proofs.Cutting.{one_cutting}
 use Rattle.player.specs.declared.style.Style.TheVariants.{Nothing}
-use Rattle.player.specs.Playing.{stage}
+use Rattle.player.specs.Playing.{session}
 use Rattle.space.specs.declared.pace.Pace.{Pace as PaceTable}
 use Rattle.space.specs.Pace.{Pace, opening_beat, AllKeepPace}
 use Rattle.space.specs.Fitting.{pace_in}
@@ -20,10 +20,10 @@ use Rattle.space.specs.Room.{AllHaveRoom}
 use Rattle.sizing.specs.declared.measured.Measured.{Measured}
 use Rattle.sizing.specs.Measured.{IsLeastPace, IsPaceStated}
 use Rattle.sizing.specs.Measuring.{RunMeasured}
-use Rattle.sizing.specs.declared.arrivals.load.Load.{Load as LoadTable}
-use Rattle.sizing.specs.declared.arrivals.keeping.Kept.{Kept}
-use Rattle.sizing.specs.declared.arrivals.keeping.Kept.TheVariants.{Keeps, Breaks}
-use Rattle.sizing.specs.Load.{KeepsLoad, AllLive}
+use Rattle.sizing.specs.declared.arrivals.load.AllocationProfile.{AllocationProfile as LoadTable}
+use Rattle.sizing.specs.declared.arrivals.keeping.Conformance.{Conformance}
+use Rattle.sizing.specs.declared.arrivals.keeping.Conformance.TheVariants.{Keeps, Breaks}
+use Rattle.sizing.specs.AllocationProfile.{KeepsLoad, AllLive}
 use Rattle.sizing.specs.New.{LoadFits}
 use Rattle.sizing.specs.Fitting.{load_in}
 use Rattle.sizing.specs.Keeping.{LoadChecked}
@@ -86,18 +86,18 @@ module _ (config : Config) (l : LoadTable) (text : List ℕ) (given again : Give
         let over = run.played.over in
         let same = same_lines text given again over.lines checked.over.lines over.rest checked.over.rest reads reads' ended_so.1 checked.over.ends.1 over.read checked.over.read ended_so.0 checked.over.ends.0 in
         let keeps = subst (λ z. KeepsLoad (load_in l) (config.collector_ticks * config.rate) z) same checked.keeps in
-        finds_room config Nothing (stage run.old []) over.mid over.lines over.version over.events (load_in l) run.is_new over.done keeps (live_so p e within) fits
+        finds_room config Nothing (session run.old []) over.mid over.lines over.version over.events (load_in l) run.is_new over.done keeps (live_so p e within) fits
 
     by_pace : (o : Option PaceTable) → m.pace ≡ o → IsCovered l Keeps o → LoadChecked (load_in l) (config.collector_ticks * config.rate) again (Ok Keeps) → AllHaveRoom run.played.over.events
     by_pace None e covered checked = elim covered [ ]
     by_pace (Some p) e covered checked = room_so p e covered checked
 
-    pub covered_room : (kept : Kept) → LoadChecked (load_in l) (config.collector_ticks * config.rate) again (Ok kept) → IsCovered l kept m.pace → AllHaveRoom run.played.over.events
+    pub covered_room : (kept : Conformance) → LoadChecked (load_in l) (config.collector_ticks * config.rate) again (Ok kept) → IsCovered l kept m.pace → AllHaveRoom run.played.over.events
     covered_room Keeps checked covered = by_pace m.pace refl covered checked
     covered_room (Breaks line by) checked covered = elim covered [ ]
 
 -- what is reported of a load, once a trace of a text was measured and checked
-pub tells : (config : Config) (l : LoadTable) (text : List ℕ) (m : Measured) (run : TextMeasured config text (Ok m)) (kept : Kept) → TextChecked config (load_in l) text (Ok kept) → (report : List ℕ) → IsLoadReport config l kept m.pace report
+pub tells : (config : Config) (l : LoadTable) (text : List ℕ) (m : Measured) (run : TextMeasured config text (Ok m)) (kept : Conformance) → TextChecked config (load_in l) text (Ok kept) → (report : List ℕ) → IsLoadReport config l kept m.pace report
     → TellsLoad config l m run.2.played.over.events kept report
 tells config l text m run kept checked report is = record {
   report = is;

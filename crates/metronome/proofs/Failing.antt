@@ -11,7 +11,7 @@ use Rattle.trace.specs.declared.fault.TextFault.{TextFault}
 use Rattle.trace.specs.declared.fault.TextFault.TheVariants as texts
 use Rattle.trace.specs.declared.version.Version.{Version}
 use Rattle.trace.specs.declared.version.Version.TheVariants.{First, Second}
-use Rattle.trace.specs.GoneOver.{Reached, Ends, reads_failed, writes_failed}
+use Rattle.trace.specs.LinesProcessed.{Reached, ProcessingEnds, reads_failed, writes_failed}
 use Rattle.trace.specs.TextLine.{Text as LineText}
 use Rattle.trace.specs.Streams.{Given, Taken}
 use Rattle.trace.specs.declared.transcripts.histories.Checked.{Checked}
@@ -19,7 +19,7 @@ use Rattle.trace.specs.Histories.{EntriesChecked, HistoryStops}
 use Rattle.trace.specs.Scripts.{ReadScripts, AreScripts, ScriptsRead, ScriptStops}
 use Rattle.player.specs.declared.style.Style.TheVariants.{Nothing}
 use Rattle.player.specs.Player.{entries_in}
-use Rattle.player.specs.Playing.{Stage, stage, Played, text_written}
+use Rattle.player.specs.Playing.{Session, session, Played, text_written}
 use Rattle.player.proofs.Lines.{ends_otherwise, nothing_written}
 use Rattle.pictures.specs.declared.timeline.samples.Samples.{Samples}
 use Rattle.pictures.specs.GraphDrawn.{GraphDrawn}
@@ -28,8 +28,8 @@ use Rattle.inspector.specs.declared.cycles.cycle.Cycles.{Cycles}
 use Rattle.inspector.specs.Taking.{CyclesTaken}
 use Rattle.sizing.specs.declared.measured.Measured.{Measured}
 use Rattle.sizing.specs.Measuring.{TraceMeasured}
-use Rattle.sizing.specs.Load.{Load}
-use Rattle.sizing.specs.declared.arrivals.keeping.Kept.{Kept}
+use Rattle.sizing.specs.AllocationProfile.{AllocationProfile}
+use Rattle.sizing.specs.declared.arrivals.keeping.Conformance.{Conformance}
 use Rattle.sizing.specs.Metering.{NoEvent}
 use Rattle.sizing.specs.Keeping.{LoadChecked}
 use Rattle.size_classes.specs.declared.fault.ConfigFault.{ConfigFault}
@@ -121,7 +121,7 @@ unwritten : {A : Type 0} (how : Result A TextFault) → (how ≡ Err texts.Write
 unwritten (Err texts.Write) never = absurd (never refl)
 unwritten how never = refl
 
-ends_unwritten : {S E : Type 0} (Stops : TextFault → LineText → S → S → Type 0) → ((text : LineText) (old new : S) → Stops texts.Write text old new → ⊥) → (reached : Reached S E) (ended : Bool) (new : S) → Ends Stops {A = Unit {0}} reached ended new (Err texts.Write) → ⊥
+ends_unwritten : {S E : Type 0} (Stops : TextFault → LineText → S → S → Type 0) → ((text : LineText) (old new : S) → Stops texts.Write text old new → ⊥) → (reached : Reached S E) (ended : Bool) (new : S) → ProcessingEnds Stops {A = Unit {0}} reached ended new (Err texts.Write) → ⊥
 ends_unwritten Stops never reached ended new (inl none) = none.0
 ends_unwritten Stops never reached ended new (inr (line, more, whole, is, stops)) = never _ reached.state new stops
 
@@ -138,7 +138,7 @@ scripts_unwritten given mutators how (inl none) = ap writes_failed none.0
 scripts_unwritten given mutators how (inr w) =
     unwritten how (λ e. (let v = subst (AreScripts given mutators) e w in ends_unwritten (ScriptStops mutators) (λ text g k stops. stops) (reached_by v.over) given.ended tt v.over.ends))
 
-pub load_unwritten : (l : Load) (k : ℕ) (given : Given) (how : Result Kept TextFault) → LoadChecked l k given how → writes_failed how ≡ 0
+pub load_unwritten : (l : AllocationProfile) (k : ℕ) (given : Given) (how : Result Conformance TextFault) → LoadChecked l k given how → writes_failed how ≡ 0
 load_unwritten l k given how w =
     unwritten how (λ e. (let v = subst (LoadChecked l k given) e w in ends_unwritten NoEvent (λ text g m stops. (let z = stops.0 in cc)) (reached_by v.over) given.ended tt v.over.ends))
 
@@ -152,22 +152,22 @@ cut_of_nothing version entries n few =
     let none : length (text_written Nothing version entries) ≡ 0 = ap length (nothing_told version entries) in
     omega (arith, few, none)
 
-nothing_cut : (given : Given) (old new : Stage) → Played Nothing given old new (Err texts.Write) → ⊥
+nothing_cut : (given : Given) (old new : Session) → Played Nothing given old new (Err texts.Write) → ⊥
 nothing_cut given old new p = elim p.over.ends [
   | inl e ↦ ends_otherwise Nothing (reached_by p.over) given.ended new (Err texts.Write) e refl
   | inr w ↦ cut_of_nothing p.over.version (entries_in p.over.events) w.1.0.0 w.1.0.1
 ]
 
 pub samples_unwritten : (config : Settings) (given : Given) (how : Result Samples TextFault) → SamplesTaken config given how → writes_failed how ≡ 0
-samples_unwritten config given (Err texts.Write) w = absurd (nothing_cut given (stage w.0 []) w.1 w.2)
+samples_unwritten config given (Err texts.Write) w = absurd (nothing_cut given (session w.0 []) w.1 w.2)
 samples_unwritten config given how w = refl
 
 cycles_unwritten : (config : Settings) (given : Given) (how : Result Cycles TextFault) → CyclesTaken config given how → writes_failed how ≡ 0
-cycles_unwritten config given (Err texts.Write) w = absurd (nothing_cut given (stage w.0 []) w.1 w.2)
+cycles_unwritten config given (Err texts.Write) w = absurd (nothing_cut given (session w.0 []) w.1 w.2)
 cycles_unwritten config given how w = refl
 
 pub measured_unwritten : (config : Settings) (given : Given) (how : Result Measured TextFault) → TraceMeasured config given how → writes_failed how ≡ 0
-measured_unwritten config given (Err texts.Write) w = absurd (nothing_cut given (stage w.0 []) w.1 w.2)
+measured_unwritten config given (Err texts.Write) w = absurd (nothing_cut given (session w.0 []) w.1 w.2)
 measured_unwritten config given how w = refl
 
 -- nor in answering a question

@@ -7,13 +7,13 @@ use Rattle.trace.specs.Streams.{Given, Taken}
 use Rattle.player.specs.declared.style.Style.TheVariants.{Nothing}
 use Rattle.player.specs.New.{IsNew}
 use Rattle.player.specs.Player.{PlayerState}
-use Rattle.player.specs.Playing.{Stage, stage, Played, PlayedFirst}
+use Rattle.player.specs.Playing.{Session, session, Played, PlayedFirst}
 use Rattle.metronome.specs.declared.fault.Ending.{Ending}
 use Rattle.metronome.specs.declared.fault.RunFault.{RunFault}
 use Rattle.metronome.specs.declared.fault.RunFault.TheVariants.{Text}
 
 -- a trace, or its first event lines, played without a line written
-abbrev pub PlayedUpTo : Option ℕ → Given → Stage → Stage → Result (Unit {0}) TextFault → Type 0
+abbrev pub PlayedUpTo : Option ℕ → Given → Session → Session → Result (Unit {0}) TextFault → Type 0
 PlayedUpTo None given old new how = Played Nothing given old new how
 PlayedUpTo (Some events) given old new how = PlayedFirst events Nothing given old new how
 
@@ -21,11 +21,11 @@ PlayedUpTo (Some events) given old new how = PlayedFirst events Nothing given ol
 -- before anything was read or written.
 abbrev pub PlayerBehind : Option ℕ → Config → Given → Taken → Result PlayerState RunFault → Type 0
 PlayerBehind after config given taken (Ok new) = (old : PlayerState) × IsNew config old
-    × PlayedUpTo after given (stage old taken.before) (stage new taken.after) (Ok tt)
+    × PlayedUpTo after given (session old taken.before) (session new taken.after) (Ok tt)
 PlayerBehind after config given taken (Err fault) =
     ((given.after ≡ given.before) × (taken.after ≡ taken.before) × (fault ≡ Text NoMemory))
     ⊎ ((old : PlayerState) × (new : PlayerState) × (why : TextFault) × IsNew config old
-    × PlayedUpTo after given (stage old taken.before) (stage new taken.after) (Err why) × (fault ≡ Text why))
+    × PlayedUpTo after given (session old taken.before) (session new taken.after) (Err why) × (fault ≡ Text why))
 
 -- A new player played a trace, or its first event lines, to the end, and then this was reported of it; or the play
 -- ended in a fault, and nothing was reported.

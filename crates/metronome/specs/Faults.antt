@@ -4,7 +4,7 @@ use Rattle.size_classes.specs.declared.fault.ConfigFault.{ConfigFault}
 use Rattle.command_line.specs.declared.toml_table.ReadFault.{ReadFault}
 use Rattle.command_line.specs.declared.toml_table.ReadFault.TheVariants as settings
 use Rattle.trace.specs.declared.fault.TextFault.TheVariants.{Read, NoMemory}
-use Rattle.trace.specs.GoneOver.{reads_failed, writes_failed}
+use Rattle.trace.specs.LinesProcessed.{reads_failed, writes_failed}
 use Rattle.metronome.specs.declared.fault.RunFault.{RunFault}
 use Rattle.metronome.specs.declared.fault.RunFault.TheVariants.{Config, Load, Text}
 

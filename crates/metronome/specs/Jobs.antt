@@ -13,7 +13,7 @@ use Rattle.player.specs.declared.style.Style.{Style}
 use Rattle.player.specs.declared.style.Style.TheVariants.{Entries}
 use Rattle.player.specs.New.{IsNew}
 use Rattle.player.specs.Player.{PlayerState}
-use Rattle.player.specs.Playing.{stage, Played, text_written}
+use Rattle.player.specs.Playing.{session, Played, text_written}
 use Rattle.metronome.specs.declared.fault.Ending.{Ending}
 use Rattle.metronome.specs.declared.fault.Ending.TheVariants.{Done}
 use Rattle.metronome.specs.declared.fault.RunFault.{RunFault}
@@ -35,7 +35,7 @@ abbrev pub TracePlayed : Style → Config → Given → Taken → Result Ending 
 TracePlayed style config given taken result =
     NotBegun given taken result
     ⊎ ((old : PlayerState) × (new : PlayerState) × (how : Result (Unit {0}) TextFault) × IsNew config old
-    × Played style given (stage old taken.before) (stage new taken.after) how × (result ≡ ends_as how))
+    × Played style given (session old taken.before) (session new taken.after) how × (result ≡ ends_as how))
 
 -- how a run ends whose scripts and budgets were all done, or not
 abbrev pub finish : Bool → Result Ending RunFault

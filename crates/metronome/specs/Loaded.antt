@@ -7,9 +7,9 @@ use Rattle.trace.specs.Streams.{Given, Taken, Begins}
 use Rattle.sizing.specs.declared.measured.Measured.{Measured}
 use Rattle.space.specs.Room.{AllHaveRoom}
 use Rattle.sizing.specs.Measuring.{TraceMeasured}
-use Rattle.sizing.specs.declared.arrivals.load.Load.{Load as LoadTable}
-use Rattle.sizing.specs.declared.arrivals.keeping.Kept.{Kept}
-use Rattle.sizing.specs.Load.{Load}
+use Rattle.sizing.specs.declared.arrivals.load.AllocationProfile.{AllocationProfile as LoadTable}
+use Rattle.sizing.specs.declared.arrivals.keeping.Conformance.{Conformance}
+use Rattle.sizing.specs.AllocationProfile.{AllocationProfile}
 use Rattle.sizing.specs.New.{LoadFits, LoadFindsRoom}
 use Rattle.sizing.specs.Fitting.{load_in}
 use Rattle.sizing.specs.Keeping.{LoadChecked}
@@ -28,7 +28,7 @@ abbrev pub TextMeasured : Config → List ℕ → Result Measured TextFault → 
 TextMeasured config text how = (given : Given) × ReadsText text given × TraceMeasured config given how
 
 -- a trace of this text was checked against a load, with quanta of the schedule's units
-abbrev pub TextChecked : Config → Load → List ℕ → Result Kept TextFault → Type 0
+abbrev pub TextChecked : Config → AllocationProfile → List ℕ → Result Conformance TextFault → Type 0
 TextChecked config l text how = (given : Given) × ReadsText text given
     × LoadChecked l (config.collector_ticks * config.rate) given how
 
@@ -36,7 +36,7 @@ module _ (config : Config) (l : LoadTable) where
   -- What is reported of the load, and of a run with these events, of which this was measured. Where the load's pace
   -- fits in the pages, each run that keeps to the load while no more is live than it has finds room; and so does this
   -- one, if it is reported to be within the load.
-  pub record TellsLoad (m : Measured) (es : List Event) (kept : Kept) (text : List ℕ) : Type 0 where
+  pub record TellsLoad (m : Measured) (es : List Event) (kept : Conformance) (text : List ℕ) : Type 0 where
     pub report : IsLoadReport config l kept m.pace text
     pub each : LoadFits config (load_in l) → LoadFindsRoom config (load_in l)
     pub this : LoadFits config (load_in l) → IsCovered l kept m.pace → AllHaveRoom es
@@ -44,7 +44,8 @@ module _ (config : Config) (l : LoadTable) where
   -- once it was measured, it is read again and checked
   abbrev pub CheckedBehind : (text : List ℕ) (how : Result Measured TextFault) → TextMeasured config text how → Taken
       → Result Ending RunFault → Type 0
-  CheckedBehind text (Ok m) run taken result = (how : Result Kept TextFault) × TextChecked config (load_in l) text how
+  CheckedBehind text (Ok m) run taken result = (how : Result Conformance TextFault)
+      × TextChecked config (load_in l) text how
       × ToldOf (λ kept. ReportTold (TellsLoad m run.2.played.over.events kept)) how taken result
   CheckedBehind text (Err why) run taken result = NothingTold why taken result
 

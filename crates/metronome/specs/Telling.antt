@@ -57,7 +57,7 @@ GraphTold most g taken result = (how : Result (Unit {0}) TextFault) × GraphDraw
 
 -- the text that tells why an object is alive in a graph heap, and whether a heap holds a block of it
 abbrev pub TellsWhy : ℕ → HeapState → Graph → List ℕ → Type 0
-TellsWhy id h g text = (held : Bool) × (IsTrue held ↔ HasBlock h.store id) × PathTold g id held text
+TellsWhy id h g text = (allocated : Bool) × (IsTrue allocated ↔ HasBlock h.store id) × PathTold g id allocated text
 
 -- a line for each window is written, or for the first of them
 abbrev pub WindowsTold : Config → Timetable → List ℕ → Taken → Result Ending RunFault → Type 0

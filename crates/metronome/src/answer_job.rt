@@ -1,6 +1,6 @@
 //! Answering a question about an input.
 ghost use Rattle.std.specs.Prelude.{◌≡◌, ◌+◌, IfOk, string_bytes};
-ghost use Rattle.trace.specs.GoneOver.{reads_failed};
+ghost use Rattle.trace.specs.LinesProcessed.{reads_failed};
 ghost use Rattle.trace.specs.Streams.{given_by, taken_by};
 ghost use Rattle.metronome.specs.Faults.{failed_reads, failed_writes};
 ghost use Rattle.metronome.specs.Told.{TextWritten};
@@ -23,9 +23,9 @@ pub enum Question {
     History,
     /// Which cycles the run of a trace had: a line for each.
     Cycles(Layout),
-    /// What a trace needs of each size class and how many pages suffice, in each way; or that of its pace. Where those of
-    /// the configuration do, no reply of this run was the refusal for lack of space, nor is one of any run that needs
-    /// no more.
+    /// What a trace needs of each size class and how many pages suffice, in each way; or that of its pace. Where those
+    /// of the configuration do, no reply of this run was the refusal for lack of space, nor is one of any run that
+    /// needs no more.
     Pages { pace: bool },
 }
 

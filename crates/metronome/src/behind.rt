@@ -2,8 +2,8 @@
 ghost use Rattle.std.specs.Prelude.{◌≡◌, ◌+◌, IfOk};
 ghost use Rattle.heap_model.specs.Event.{present_of};
 ghost use Rattle.heap_model.specs.Settings.{settings_of, settings_by};
-ghost use Rattle.player.specs.Playing.{stage};
-ghost use Rattle.trace.specs.GoneOver.{reads_failed, writes_failed};
+ghost use Rattle.player.specs.Playing.{session};
+ghost use Rattle.trace.specs.LinesProcessed.{reads_failed, writes_failed};
 ghost use Rattle.trace.specs.Streams.{given_by, taken_by};
 ghost use Rattle.metronome.specs.Faults.{failed_reads, failed_writes};
 ghost use Rattle.metronome.specs.Behind.{PlayedUpTo, PlayerBehind, AfterPlay};
@@ -38,8 +38,8 @@ pub enum Telling<'a> {
     Picture(Picture),
     /// A picture of the objects that can be reached, at most this many, nearest to the roots first.
     Graph(u32),
-    /// A shortest path from a root to an object; or that none leads to it, and whether blocks of it are still held; or that
-    /// it was never made.
+    /// A shortest path from a root to an object; or that none leads to it, and whether blocks of it are still
+    /// allocated; or that it was never made.
     Path(u64),
     /// A line for each window.
     Windows(&'a [u64]),
@@ -53,7 +53,7 @@ fn play_silently<S: Source, K: Sink>(
     after: Option<u32>,
 ) -> Result<(), TextFault>
     ensures played { PlayedUpTo after (given_by S.given S.ended source.old source.new)
-        (stage player.old (K.taken sink.old)) (stage player.new (K.taken sink.new)) result }
+        (session player.old (K.taken sink.old)) (session player.new (K.taken sink.new)) result }
     ensures reads { S.failures source.new ≡ S.failures source.old + reads_failed result }
     ensures writes { K.failures sink.new ≡ K.failures sink.old + writes_failed result }
 {

@@ -1,6 +1,6 @@
 //! Telling what a load needs, and whether a trace keeps to it.
 ghost use Rattle.std.specs.Prelude.{◌≡◌, ◌+◌, IfErr, IfOk};
-ghost use Rattle.trace.specs.GoneOver.{reads_failed};
+ghost use Rattle.trace.specs.LinesProcessed.{reads_failed};
 ghost use Rattle.trace.specs.Streams.{given_by, taken_by};
 ghost use Rattle.sizing.specs.Fitting.{load_in};
 ghost use Rattle.metronome.specs.Faults.{IsUnread, failed_reads, failed_writes, CountsReads};
@@ -10,7 +10,7 @@ use crate::fault::{Ending, RunFault};
 use crate::files::{Opener, read_document};
 use inspector::load_kept::load_report;
 use size_classes::Config;
-use sizing::arrivals::{Kept, Load, keeps_load};
+use sizing::arrivals::{AllocationProfile, Conformance, keeps_load};
 use sizing::{LoadFault, Measured, measure, read_load};
 use std::alloc::Global;
 use trace::{MemorySource, Sink, Source, TextFault, write_all};
@@ -19,7 +19,7 @@ use trace::{MemorySource, Sink, Source, TextFault, write_all};
 const PIECE: usize = 4096;
 
 /// The load that a file gives.
-fn load_of<O: Opener>(alloc: Global, opener: &O, name: &str) -> Result<Load, RunFault>
+fn load_of<O: Opener>(alloc: Global, opener: &O, name: &str) -> Result<AllocationProfile, RunFault>
     ensures { IfErr result IsUnread }
 {
     let bytes = read_document(alloc, opener, name)?;
@@ -61,7 +61,11 @@ fn measure_text(alloc: Global, config: &Config, text: &[u8]) -> Result<Measured,
 }
 
 /// Whether the trace of a text keeps to a load.
-fn check_text(config: &Config, load: &Load, text: &[u8]) -> Result<Kept, TextFault>
+fn check_text(
+    config: &Config,
+    load: &AllocationProfile,
+    text: &[u8],
+) -> Result<Conformance, TextFault>
     ensures checked { TextChecked config.now (load_in load.now) text.now result }
     ensures reads { reads_failed result ≡ 0 }
 {
@@ -74,7 +78,7 @@ fn check_text(config: &Config, load: &Load, text: &[u8]) -> Result<Kept, TextFau
 fn tell_text<K: Sink>(
     alloc: Global,
     config: &Config,
-    load: &Load,
+    load: &AllocationProfile,
     text: &[u8],
     sink: &mut K,
 ) -> Result<Ending, RunFault>

@@ -6,7 +6,7 @@ use Rattle.size_classes.specs.declared.config.Config.{Config}
 use Rattle.size_classes.specs.Config.{IsOf}
 use Rattle.heap_model.specs.State.{HeapState}
 use Rattle.heap_model.specs.Event.{Course, Event, Command_done, Cycle_begun, Cycle_on, Quantum_done, Quantum_refused, Runs}
-use Rattle.heap_model.specs.Led.{opened}
+use Rattle.heap_model.specs.ReachedFrom.{opened}
 use Rattle.machine.specs.Headline.{Holds, AlwaysHolds}
 use Rattle.machine.specs.Space.{IsJustMade, FindsSpace}
 use Rattle.metronome_c.specs.declared.answer.Answer.{Answer}

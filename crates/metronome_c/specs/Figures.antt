@@ -4,7 +4,7 @@ use Rattle.graph_heap.specs.Graph.{Graph}
 use Rattle.size_classes.specs.Sizes.{size_of}
 use Rattle.heap_model.specs.Pages.{free_pages, page_at}
 use Rattle.heap_model.specs.State.{HeapState}
-use Rattle.heap_model.specs.Standing.{Stands}
+use Rattle.heap_model.specs.Standing.{Represents}
 use Rattle.nodes.specs.Copies.{copies_in}
 use Rattle.pages.specs.View.{view_of}
 use Rattle.pages.specs.declared.view.PageView.{PageView}
@@ -27,8 +27,8 @@ Tells tell (Err why) new before after status = (new ≡ Err why) × (after ≡ b
 Tells tell (Ok h) new before after status = (new ≡ Ok h) × (after ≡ tell h) × (status ≡ status_number Done)
 
 -- a heap stands for some graph heap at present, and for one when the last cycle began
-abbrev pub StandsForSome : HeapState → Type 0
-StandsForSome h = (present : Graph) × (snapshot : Graph) × Stands h present snapshot
+abbrev pub RepresentsSome : HeapState → Type 0
+RepresentsSome h = (present : Graph) × (snapshot : Graph) × Represents h present snapshot
 
 -- the counts of a heap: pages, root cells, objects with the parts that they have, and old copies
 abbrev pub counts_of : HeapState → Counts
@@ -48,9 +48,9 @@ abbrev pub page_told : Option PageView → MetronomePage
 page_told None = record { size = 0; held = 0; leaving = 0; receiving = 0 }
 page_told (Some v) = record {
   size = size_of v.class;
-  held = v.held;
-  leaving = if v.leaving then 1 else 0;
-  receiving = if v.receiving then 1 else 0;
+  held = v.allocated;
+  leaving = if v.evacuating then 1 else 0;
+  receiving = if v.is_target then 1 else 0;
 }
 
 -- the page of this number, where there is one: else it is given as a free one

@@ -3,7 +3,7 @@ pub mod Asking
 pub mod Calls
 pub mod Collecting
 pub mod Figures
-pub mod Held
+pub mod Opened
 pub mod Kept
 pub mod Lending
 pub mod Lifetime

@@ -25,7 +25,7 @@ pub struct MetronomeShape {
 impl Answer {
     /// The answer that tells a reply.
     #[inline(always)]
-    fn of(reply: Reply) -> Answer
+    fn from_reply(reply: Reply) -> Answer
         ensures { result ≡ answer_of reply }
     {
         let (kind, number) = match reply {
@@ -45,11 +45,11 @@ impl Answer {
 
     /// The answer that tells a reply, or why the handle holds no heap.
     #[inline(always)]
-    pub(crate) fn told(reply: Result<Reply, Status>) -> Answer
+    pub(crate) fn from_outcome(reply: Result<Reply, Status>) -> Answer
         ensures { result ≡ answered reply }
     {
         match reply {
-            Ok(reply) => Answer::of(reply),
+            Ok(reply) => Answer::from_reply(reply),
             Err(why) => Answer::refused(why),
         }
     }
@@ -69,7 +69,7 @@ impl Answer {
 
 impl MetronomeShape {
     /// The shape, as C sees it.
-    fn of(shape: Shape) -> MetronomeShape
+    fn from_shape(shape: Shape) -> MetronomeShape
         ensures { result ≡ shape_of shape }
     {
         let (kind, refs, words) = match shape {
@@ -85,7 +85,7 @@ impl MetronomeShape {
         ensures { result ≡ shape_told self reply }
     {
         match reply {
-            Ok(Reply::Described(_, shape)) => MetronomeShape::of(shape),
+            Ok(Reply::Described(_, shape)) => MetronomeShape::from_shape(shape),
             _ => self,
         }
     }

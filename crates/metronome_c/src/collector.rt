@@ -1,5 +1,5 @@
 //! The collector: a cycle is begun, and goes on by quanta.
-ghost use Rattle.metronome_c.specs.Held.{held};
+ghost use Rattle.metronome_c.specs.Opened.{heap_in};
 ghost use Rattle.metronome_c.specs.Collecting.{BeginsOpen, SpendsOpen};
 
 use crate::metronome::Metronome;
@@ -17,7 +17,7 @@ pub struct QuantumSpent {
 /// Begins a cycle.
 #[unsafe(no_mangle)]
 pub extern "C" fn metronome_begin(heap: &mut Metronome) -> u32
-    ensures { BeginsOpen (held heap.old) (held heap.new) result }
+    ensures { BeginsOpen (heap_in heap.old) (heap_in heap.new) result }
 {
     let status = match heap.ask(|inner| inner.begin()) {
         Ok(Ok(())) => Status::Done,
@@ -34,7 +34,7 @@ pub extern "C" fn metronome_quantum(
     budget: u32,
     spent: &mut QuantumSpent,
 ) -> u32
-    ensures { SpendsOpen (held heap.old) budget (held heap.new) spent.old spent.new result }
+    ensures { SpendsOpen (heap_in heap.old) budget (heap_in heap.new) spent.old spent.new result }
 {
     let status = match heap.ask(|inner| inner.quantum(budget)) {
         Ok(Ok(did)) => {

@@ -1,7 +1,7 @@
 //! The commands of mutators, each with a function for C, in the order of `graph_heap::Command`.
 ghost use Rattle.graph_heap.specs.declared.command.Command.TheVariants as commands;
 ghost use Rattle.graph_heap.specs.declared.command.Shape.TheVariants as shapes;
-ghost use Rattle.metronome_c.specs.Held.{held};
+ghost use Rattle.metronome_c.specs.Opened.{heap_in};
 ghost use Rattle.metronome_c.specs.Steps.{Steps, TellsShape};
 
 use crate::answer::{Answer, MetronomeShape};
@@ -17,10 +17,10 @@ pub extern "C" fn metronome_new_plain(
     refs: u32,
     words: u32,
 ) -> Answer
-    ensures { Steps (held heap.old) mutator (commands.New dst (shapes.Plain refs words)) (held heap.new) result }
+    ensures { Steps (heap_in heap.old) mutator (commands.New dst (shapes.Plain refs words)) (heap_in heap.new) result }
 {
     let shape = Shape::Plain { refs, words };
-    heap.told(|inner| inner.make(mutator, dst, shape))
+    heap.answer(|inner| inner.make(mutator, dst, shape))
 }
 
 /// A new array of reference cells, into slot dst.
@@ -31,10 +31,10 @@ pub extern "C" fn metronome_new_refs(
     dst: u32,
     refs: u32,
 ) -> Answer
-    ensures { Steps (held heap.old) mutator (commands.New dst (shapes.RefArray refs)) (held heap.new) result }
+    ensures { Steps (heap_in heap.old) mutator (commands.New dst (shapes.RefArray refs)) (heap_in heap.new) result }
 {
     let shape = Shape::RefArray(refs);
-    heap.told(|inner| inner.make(mutator, dst, shape))
+    heap.answer(|inner| inner.make(mutator, dst, shape))
 }
 
 /// A new array of word cells, into slot dst.
@@ -45,10 +45,10 @@ pub extern "C" fn metronome_new_words(
     dst: u32,
     words: u32,
 ) -> Answer
-    ensures { Steps (held heap.old) mutator (commands.New dst (shapes.WordArray words)) (held heap.new) result }
+    ensures { Steps (heap_in heap.old) mutator (commands.New dst (shapes.WordArray words)) (heap_in heap.new) result }
 {
     let shape = Shape::WordArray(words);
-    heap.told(|inner| inner.make(mutator, dst, shape))
+    heap.answer(|inner| inner.make(mutator, dst, shape))
 }
 
 /// What a reference cell holds into slot dst.
@@ -60,9 +60,9 @@ pub extern "C" fn metronome_load(
     obj: u32,
     i: u32,
 ) -> Answer
-    ensures { Steps (held heap.old) mutator (commands.Load dst obj i) (held heap.new) result }
+    ensures { Steps (heap_in heap.old) mutator (commands.Load dst obj i) (heap_in heap.new) result }
 {
-    heap.told(|inner| inner.load(mutator, dst, obj, i))
+    heap.answer(|inner| inner.load(mutator, dst, obj, i))
 }
 
 /// What slot src holds into a reference cell.
@@ -74,9 +74,9 @@ pub extern "C" fn metronome_store(
     i: u32,
     src: u32,
 ) -> Answer
-    ensures { Steps (held heap.old) mutator (commands.Store obj i src) (held heap.new) result }
+    ensures { Steps (heap_in heap.old) mutator (commands.Store obj i src) (heap_in heap.new) result }
 {
-    heap.told(|inner| inner.store(mutator, obj, i, src))
+    heap.answer(|inner| inner.store(mutator, obj, i, src))
 }
 
 /// What slot new holds into a reference cell, if that holds what slot expect does.
@@ -89,17 +89,17 @@ pub extern "C" fn metronome_compare_store(
     expect: u32,
     new: u32,
 ) -> Answer
-    ensures { Steps (held heap.old) mutator (commands.CompareStore obj i expect new) (held heap.new) result }
+    ensures { Steps (heap_in heap.old) mutator (commands.CompareStore obj i expect new) (heap_in heap.new) result }
 {
-    heap.told(|inner| inner.compare_store(mutator, obj, i, expect, new))
+    heap.answer(|inner| inner.compare_store(mutator, obj, i, expect, new))
 }
 
 /// Reads a word cell.
 #[unsafe(no_mangle)]
 pub extern "C" fn metronome_get(heap: &mut Metronome, mutator: u32, obj: u32, i: u32) -> Answer
-    ensures { Steps (held heap.old) mutator (commands.Get obj i) (held heap.new) result }
+    ensures { Steps (heap_in heap.old) mutator (commands.Get obj i) (heap_in heap.new) result }
 {
-    heap.told(|inner| inner.get(mutator, obj, i))
+    heap.answer(|inner| inner.get(mutator, obj, i))
 }
 
 /// Writes a word cell.
@@ -111,9 +111,9 @@ pub extern "C" fn metronome_put(
     i: u32,
     word: u64,
 ) -> Answer
-    ensures { Steps (held heap.old) mutator (commands.Put obj i word) (held heap.new) result }
+    ensures { Steps (heap_in heap.old) mutator (commands.Put obj i word) (heap_in heap.new) result }
 {
-    heap.told(|inner| inner.put(mutator, obj, i, word))
+    heap.answer(|inner| inner.put(mutator, obj, i, word))
 }
 
 /// Writes a word cell, if that is old.
@@ -126,25 +126,25 @@ pub extern "C" fn metronome_compare_put(
     old: u64,
     new: u64,
 ) -> Answer
-    ensures { Steps (held heap.old) mutator (commands.ComparePut obj i old new) (held heap.new) result }
+    ensures { Steps (heap_in heap.old) mutator (commands.ComparePut obj i old new) (heap_in heap.new) result }
 {
-    heap.told(|inner| inner.compare_put(mutator, obj, i, old, new))
+    heap.answer(|inner| inner.compare_put(mutator, obj, i, old, new))
 }
 
 /// What slot src holds into slot dst.
 #[unsafe(no_mangle)]
 pub extern "C" fn metronome_copy(heap: &mut Metronome, mutator: u32, dst: u32, src: u32) -> Answer
-    ensures { Steps (held heap.old) mutator (commands.Copy dst src) (held heap.new) result }
+    ensures { Steps (heap_in heap.old) mutator (commands.Copy dst src) (heap_in heap.new) result }
 {
-    heap.told(|inner| inner.copy(mutator, dst, src))
+    heap.answer(|inner| inner.copy(mutator, dst, src))
 }
 
 /// Null into slot dst.
 #[unsafe(no_mangle)]
 pub extern "C" fn metronome_clear(heap: &mut Metronome, mutator: u32, dst: u32) -> Answer
-    ensures { Steps (held heap.old) mutator (commands.Clear dst) (held heap.new) result }
+    ensures { Steps (heap_in heap.old) mutator (commands.Clear dst) (heap_in heap.new) result }
 {
-    heap.told(|inner| inner.clear(mutator, dst))
+    heap.answer(|inner| inner.clear(mutator, dst))
 }
 
 /// What static k holds into slot dst.
@@ -155,9 +155,9 @@ pub extern "C" fn metronome_load_static(
     dst: u32,
     k: u32,
 ) -> Answer
-    ensures { Steps (held heap.old) mutator (commands.LoadStatic dst k) (held heap.new) result }
+    ensures { Steps (heap_in heap.old) mutator (commands.LoadStatic dst k) (heap_in heap.new) result }
 {
-    heap.told(|inner| inner.load_static(mutator, dst, k))
+    heap.answer(|inner| inner.load_static(mutator, dst, k))
 }
 
 /// What slot src holds into static k.
@@ -168,9 +168,9 @@ pub extern "C" fn metronome_store_static(
     k: u32,
     src: u32,
 ) -> Answer
-    ensures { Steps (held heap.old) mutator (commands.StoreStatic k src) (held heap.new) result }
+    ensures { Steps (heap_in heap.old) mutator (commands.StoreStatic k src) (heap_in heap.new) result }
 {
-    heap.told(|inner| inner.store_static(mutator, k, src))
+    heap.answer(|inner| inner.store_static(mutator, k, src))
 }
 
 /// What slot new holds into static k, if that holds what slot expect does.
@@ -182,17 +182,17 @@ pub extern "C" fn metronome_compare_static(
     expect: u32,
     new: u32,
 ) -> Answer
-    ensures { Steps (held heap.old) mutator (commands.CompareStatic k expect new) (held heap.new) result }
+    ensures { Steps (heap_in heap.old) mutator (commands.CompareStatic k expect new) (heap_in heap.new) result }
 {
-    heap.told(|inner| inner.compare_static(mutator, k, expect, new))
+    heap.answer(|inner| inner.compare_static(mutator, k, expect, new))
 }
 
 /// Whether slots a and b hold the same object, or both null.
 #[unsafe(no_mangle)]
 pub extern "C" fn metronome_same(heap: &mut Metronome, mutator: u32, a: u32, b: u32) -> Answer
-    ensures { Steps (held heap.old) mutator (commands.Same a b) (held heap.new) result }
+    ensures { Steps (heap_in heap.old) mutator (commands.Same a b) (heap_in heap.new) result }
 {
-    heap.told(|inner| inner.same(mutator, a, b))
+    heap.answer(|inner| inner.same(mutator, a, b))
 }
 
 /// The identity of slot a's object, and its shape.
@@ -203,8 +203,8 @@ pub extern "C" fn metronome_describe(
     a: u32,
     shape: &mut MetronomeShape,
 ) -> Answer
-    ensures steps { Steps (held heap.old) mutator (commands.Describe a) (held heap.new) result }
-    ensures shape { TellsShape (held heap.old) mutator (commands.Describe a) shape.old shape.new }
+    ensures steps { Steps (heap_in heap.old) mutator (commands.Describe a) (heap_in heap.new) result }
+    ensures shape { TellsShape (heap_in heap.old) mutator (commands.Describe a) shape.old shape.new }
 {
     heap.told_with_shape(shape, |inner| inner.describe(mutator, a))
 }
@@ -212,15 +212,15 @@ pub extern "C" fn metronome_describe(
 /// The mutator becomes live.
 #[unsafe(no_mangle)]
 pub extern "C" fn metronome_join(heap: &mut Metronome, mutator: u32) -> Answer
-    ensures { Steps (held heap.old) mutator commands.Join (held heap.new) result }
+    ensures { Steps (heap_in heap.old) mutator commands.Join (heap_in heap.new) result }
 {
-    heap.told(|inner| inner.join(mutator))
+    heap.answer(|inner| inner.join(mutator))
 }
 
 /// Null into each slot of the mutator, which is live no more.
 #[unsafe(no_mangle)]
 pub extern "C" fn metronome_leave(heap: &mut Metronome, mutator: u32) -> Answer
-    ensures { Steps (held heap.old) mutator commands.Leave (held heap.new) result }
+    ensures { Steps (heap_in heap.old) mutator commands.Leave (heap_in heap.new) result }
 {
-    heap.told(|inner| inner.leave(mutator))
+    heap.answer(|inner| inner.leave(mutator))
 }

@@ -19,7 +19,7 @@ ghost use Rattle.metronome_c.specs.declared.status.Status.TheVariants.{Done, Ref
 
 /// Where a heap was just made of a closed handle, and a program calls the library as it likes, the calls are events
 /// that the heap does one after the other, with a history that only grows: each call tells the outcome of its event,
-/// and what is promised of a heap with its history (`machine::Recorded::run`) holds of it, whatever comes.
+/// and what is promised of a heap with its history (`machine::HeapWithHistory::run`) holds of it, whatever comes.
 pub fn calls_are_events()
     ensures made { (s : Settings) (h : HeapState) (status : ℕ) → Creates (Err Closed) s (Ok h) status → IsPromised s h }
     ensures calls { (s : Settings) (h : HeapState) (status : ℕ) (calls : List Call) (new : Result HeapState Status)
@@ -38,7 +38,8 @@ pub fn limits_are_those_of_heaps()
 /// The order of the statuses. A number stands for the first status that has it.
 pub fn statuses_are_in_order()
     ensures { all_statuses ≡ Done ∷ Refused refusals.BadSlot ∷ Refused refusals.NullSlot
-        ∷ Refused refusals.BadIndex ∷ Refused refusals.WrongKind ∷ Refused refusals.TooLarge ∷ Refused refusals.IdentitiesSpent
+        ∷ Refused refusals.BadIndex ∷ Refused refusals.WrongKind ∷ Refused refusals.TooLarge
+        ∷ Refused refusals.IdentitiesSpent
         ∷ Refused refusals.NoSpace ∷ Refused refusals.BadStatic ∷ NoMemory ∷ Busy ∷ BudgetOutOfRange
         ∷ Refused refusals.NotLive ∷ Refused refusals.AlreadyLive ∷ Closed ∷ Open ∷ ScheduleOutOfRange ∷ BadHandle
         ∷ SettingOutOfRange keys.Pages ∷ SettingOutOfRange keys.Mutators ∷ SettingOutOfRange keys.Slots

@@ -1,7 +1,7 @@
 //! Heaps are made and given back.
 ghost use Rattle.std.specs.Prelude.{◌≡◌, ◌≢◌};
 ghost use Rattle.metronome_c.specs.declared.status.Status.TheVariants.{OtherVersion};
-ghost use Rattle.metronome_c.specs.Held.{held};
+ghost use Rattle.metronome_c.specs.Opened.{heap_in};
 ghost use Rattle.metronome_c.specs.Lifetime.{Creates, Destroys};
 ghost use Rattle.metronome_c.specs.Status.{status_number};
 
@@ -19,8 +19,8 @@ pub extern "C" fn metronome_create_for(
     settings: &Settings,
     version: u32,
 ) -> u32
-    ensures same { version ≡ 2 → Creates (held heap.old) settings.now (held heap.new) result }
-    ensures other { version ≢ 2 → (held heap.new ≡ held heap.old) × (result ≡ status_number OtherVersion) }
+    ensures same { version ≡ 2 → Creates (heap_in heap.old) settings.now (heap_in heap.new) result }
+    ensures other { version ≢ 2 → (heap_in heap.new ≡ held heap.old) × (result ≡ status_number OtherVersion) }
 {
     if version != VERSION {
         return Status::OtherVersion.number();
@@ -30,7 +30,7 @@ pub extern "C" fn metronome_create_for(
 
 /// Makes a heap of these settings, where the handle is closed.
 fn create(heap: &mut Metronome, settings: &Settings) -> u32
-    ensures { Creates (held heap.old) settings.now (held heap.new) result }
+    ensures { Creates (heap_in heap.old) settings.now (heap_in heap.new) result }
 {
     if heap.is_open() {
         return Status::Open.number();
@@ -56,7 +56,7 @@ fn create(heap: &mut Metronome, settings: &Settings) -> u32
 /// Gives the memory of a heap back. Where the handle holds none nothing is done.
 #[unsafe(no_mangle)]
 pub extern "C" fn metronome_destroy(heap: &mut Metronome)
-    ensures { Destroys (held heap.old) (held heap.new) }
+    ensures { Destroys (heap_in heap.old) (heap_in heap.new) }
 {
     if heap.is_open() {
         drop(heap.take());

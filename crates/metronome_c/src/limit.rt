@@ -15,7 +15,7 @@ pub struct CycleLimit {
 
 impl CycleLimit {
     /// The limit of a configuration. Each quantum of its schedule spends all of its budget but 255 units, or more.
-    fn of(config: &Config) -> CycleLimit
+    fn from_config(config: &Config) -> CycleLimit
         ensures { result ≡ limit_of config.now }
     {
         let spent = config.budget() - (LEAST_BUDGET - 1);
@@ -34,7 +34,7 @@ pub extern "C" fn metronome_cycle_limit(settings: &Settings, limit: &mut CycleLi
 {
     match Config::check(settings) {
         Ok(config) => {
-            *limit = CycleLimit::of(&config);
+            *limit = CycleLimit::from_config(&config);
             Status::Done.number()
         }
         Err(fault) => Status::of_fault(fault).number(),

@@ -27,7 +27,7 @@ pub struct Metronome {
 }
 
 impl Metronome {
-    ghost use Rattle.metronome_c.specs.Held.{absence, held};
+    ghost use Rattle.metronome_c.specs.Opened.{absence, heap_in};
 
     /// No heap.
     pub(crate) fn closed(alloc: Global) -> Metronome
@@ -73,7 +73,7 @@ impl Metronome {
         ensures { self.new.handle.value ≡ Some heap.value }
     {
         *self = Metronome {
-            handle: Handle::shut(Loose::of(heap)),
+            handle: Handle::shut(Loose::from_box(heap)),
             alloc: self.alloc,
             check: CHECK_WORD,
         };
@@ -96,7 +96,7 @@ impl Metronome {
     #[inline(always)]
     pub(crate) fn ask<T, F: FnOnce(&mut Heap) -> T + Drop>(&mut self, call: F) -> Result<T, Status>
         requires { F.IsAlwaysCallable call }
-        ensures { Asks (FnOnceReturnsAtMut F.FnOnce call) (held self.old) result (held self.new) }
+        ensures { Asks (FnOnceReturnsAtMut F.FnOnce call) (heap_in self.old) result (heap_in self.new) }
     {
         if !self.is_open() {
             return Err(self.why_empty());
@@ -106,11 +106,11 @@ impl Metronome {
 
     /// Asks the heap for a reply, if there is one, and tells it.
     #[inline(always)]
-    pub(crate) fn told<F: FnOnce(&mut Heap) -> Reply + Drop>(&mut self, call: F) -> Answer
+    pub(crate) fn answer<F: FnOnce(&mut Heap) -> Reply + Drop>(&mut self, call: F) -> Answer
         requires { F.IsAlwaysCallable call }
-        ensures { AsksTold (FnOnceReturnsAtMut F.FnOnce call) (held self.old) (held self.new) result }
+        ensures { AsksTold (FnOnceReturnsAtMut F.FnOnce call) (heap_in self.old) (heap_in self.new) result }
     {
-        Answer::told(self.ask(call))
+        Answer::from_outcome(self.ask(call))
     }
 
     /// The same, and tells the shape that the reply tells.
@@ -120,11 +120,12 @@ impl Metronome {
         call: F,
     ) -> Answer
         requires { F.IsAlwaysCallable call }
-        ensures { AsksToldWithShape (FnOnceReturnsAtMut F.FnOnce call) (held self.old) (held self.new) result shape.old
+        ensures { AsksToldWithShape (FnOnceReturnsAtMut F.FnOnce call) (heap_in self.old)
+            (heap_in self.new) result shape.old
             shape.new }
     {
         let reply = self.ask(call);
         *shape = shape.told_by(reply);
-        Answer::told(reply)
+        Answer::from_outcome(reply)
     }
 }

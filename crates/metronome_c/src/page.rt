@@ -1,6 +1,6 @@
 //! Pages as C sees them.
 ghost use Rattle.std.specs.Prelude.{◌≡◌};
-ghost use Rattle.metronome_c.specs.Held.{held};
+ghost use Rattle.metronome_c.specs.Opened.{heap_in};
 ghost use Rattle.metronome_c.specs.Figures.{Tells, page_of};
 
 use crate::figures::tell;
@@ -20,15 +20,15 @@ pub struct MetronomePage {
 
 impl MetronomePage {
     /// The page of a number; a free one, where there is none.
-    fn of(heap: &Heap, number: usize) -> MetronomePage
+    fn from_heap(heap: &Heap, number: usize) -> MetronomePage
         ensures { result ≡ page_of number heap.now }
     {
         match heap.page(number) {
             Some(view) => MetronomePage {
                 size: view.class.size(),
-                held: view.held as u32,
-                leaving: u32::from(view.leaving),
-                receiving: u32::from(view.receiving),
+                held: view.allocated as u32,
+                leaving: u32::from(view.evacuating),
+                receiving: u32::from(view.is_target),
             },
             None => MetronomePage {
                 size: 0,
@@ -47,7 +47,10 @@ pub extern "C" fn metronome_page(
     number: usize,
     page: &mut MetronomePage,
 ) -> u32
-    ensures { Tells (page_of number) (held heap.old) (held heap.new) page.old page.new result }
+    ensures { Tells (page_of number) (heap_in heap.old) (heap_in heap.new) page.old page.new result }
 {
-    tell(page, heap.ask(|inner| MetronomePage::of(inner, number)))
+    tell(
+        page,
+        heap.ask(|inner| MetronomePage::from_heap(inner, number)),
+    )
 }

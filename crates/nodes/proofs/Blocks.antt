@@ -1,15 +1,15 @@
--- A block of a page in use, held or not.
+-- A block of a page in use, allocated or not.
 use Rattle.std.proofs.Common.{◌≡◌, ℕ, ◌+◌, ◌*◌, ◌/◌, ◌%◌, ◌<◌, ◌≤◌, ◌&&◌, eqb, false, Some, None, length, get_or, ap, ◌∙◌, sym, subst, arith, refl}
 use Rattle.std.proofs.lemmas.Option.{slice_get-get_or}
 use Rattle.size_classes.specs.Sizes.{size_of, blocks_in}
 use Rattle.size_classes.proofs.Table.{size_low}
 use Rattle.heap_model.specs.Pages.{Page, IsPage, page_at}
-use Rattle.heap_model.specs.Store.{Store, IsStore, size_in, held_in, size_at, is_held, address_of}
+use Rattle.heap_model.specs.Store.{Store, IsStore, size_in, allocated_in, size_at, is_allocated, address_of}
 use Rattle.nodes.specs.Place.{IsPlace}
 use Rattle.nodes.proofs.Places.{count_in}
 use Rattle.nodes.proofs.Freeing.{offset_place, divided, page_within}
 
-module _ (s : Store) (whole : IsStore s) (k i : ℕ) (p : Page) (there : page_at s.pages k ≡ Some p) (below : i < length p.held) where
+module _ (s : Store) (whole : IsStore s) (k i : ℕ) (p : Page) (there : page_at s.pages k ≡ Some p) (below : i < length p.allocated) where
   pub page_below : k < length s.pages
   page_below = page_within s.pages k p there
 
@@ -30,17 +30,17 @@ module _ (s : Store) (whole : IsStore s) (k i : ℕ) (p : Page) (there : page_at
   unfolding size_at
   size_is = ap (λ n. size_in (page_at s.pages n)) place.0 ∙ ap size_in there
 
-  flag_is : held_in (Some p) (i * size_of p.class) ≡ get_or p.held i false
+  flag_is : allocated_in (Some p) (i * size_of p.class) ≡ get_or p.allocated i false
   flag_is =
       let d = divided i (size_of p.class) low in
-      ap (λ n. eqb n 0 && get_or p.held ((i * size_of p.class) / size_of p.class) false) d.0 ∙ ap (λ n. get_or p.held n false) d.1
+      ap (λ n. eqb n 0 && get_or p.allocated ((i * size_of p.class) / size_of p.class) false) d.0 ∙ ap (λ n. get_or p.allocated n false) d.1
 
-  -- it is held if its flag is set
-  pub held_is : is_held s (address_of p.class k i) ≡ get_or p.held i false
-  unfolding is_held
-  held_is =
-      ap (λ n. held_in (page_at s.pages n) ((address_of p.class k i) % 2048)) place.0
-      ∙ ap (λ o. held_in o ((address_of p.class k i) % 2048)) there ∙ ap (held_in (Some p)) place.1 ∙ flag_is
+  -- it is allocated if its flag is set
+  pub allocated_is : is_allocated s (address_of p.class k i) ≡ get_or p.allocated i false
+  unfolding is_allocated
+  allocated_is =
+      ap (λ n. allocated_in (page_at s.pages n) ((address_of p.class k i) % 2048)) place.0
+      ∙ ap (λ o. allocated_in o ((address_of p.class k i) % 2048)) there ∙ ap (allocated_in (Some p)) place.1 ∙ flag_is
 
   pub is_place : IsPlace s (address_of p.class k i)
   is_place = record {

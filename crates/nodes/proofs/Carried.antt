@@ -1,31 +1,31 @@
--- A change of blocks, with words that stayed in held blocks before it or after it.
+-- A change of blocks, with words that stayed in allocated blocks before it or after it.
 use Rattle.std.proofs.Common.{◌≡◌, ℕ, true, List, Option, ap, ◌∙◌}
 use Rattle.heap_model.specs.Action.{Frees, MovesBlock}
-use Rattle.heap_model.specs.Block.{Node, with_forward}
+use Rattle.heap_model.specs.Block.{BlockRecord, with_forward}
 use Rattle.heap_model.specs.Pages.{Page}
-use Rattle.heap_model.specs.Store.{Store, Adds, is_held}
-use Rattle.pages.specs.Together.{KeepsHeld}
+use Rattle.heap_model.specs.Store.{Store, Adds, is_allocated}
+use Rattle.pages.specs.Together.{KeepsAllocated}
 use Rattle.nodes.proofs.Joining.{node_kept}
 
 -- words stayed, and then a block was added or moved
-module _ (pages : List (Option Page)) (words mid : List ℕ) (kept : KeepsHeld pages words mid) (new : Store) where
-  pub adds_then : (a : ℕ) (node : Node) → Adds (record { pages = pages; words = mid }) new a node → Adds (record { pages = pages; words = words }) new a node
-  unfolding is_held
+module _ (pages : List (Option Page)) (words mid : List ℕ) (kept : KeepsAllocated pages words mid) (new : Store) where
+  pub adds_then : (a : ℕ) (node : BlockRecord) → Adds (record { pages = pages; words = mid }) new a node → Adds (record { pages = pages; words = words }) new a node
+  unfolding is_allocated
   adds_then a node x = record {
     free = x.free;
-    held = x.held;
+    allocated = x.allocated;
     here = x.here;
     others = λ b h. x.others b h ∙ node_kept pages words mid kept b h;
     same = x.same;
   }
 
-  pub moves_then : (from to : ℕ) → is_held (record { pages = pages; words = words }) from ≡ true → MovesBlock (record { pages = pages; words = mid }) new from to → MovesBlock (record { pages = pages; words = words }) new from to
-  unfolding is_held
+  pub moves_then : (from to : ℕ) → is_allocated (record { pages = pages; words = words }) from ≡ true → MovesBlock (record { pages = pages; words = mid }) new from to → MovesBlock (record { pages = pages; words = words }) new from to
+  unfolding is_allocated
   moves_then from to h x =
       let source = node_kept pages words mid kept from h in
       record {
         free = x.free;
-        held = x.held;
+        allocated = x.allocated;
         copy = x.copy ∙ ap (λ n. with_forward n to) source;
         forward = x.forward ∙ ap (λ n. with_forward n to) source;
         same = x.same;
@@ -33,8 +33,8 @@ module _ (pages : List (Option Page)) (words mid : List ℕ) (kept : KeepsHeld p
       }
 
 -- a block was freed, and the words of the others stayed
-pub frees_then : (s : Store) (pages : List (Option Page)) (new : List ℕ) → KeepsHeld pages s.words new → (a : ℕ) → Frees s (record { pages = pages; words = s.words }) a → Frees s (record { pages = pages; words = new }) a
-unfolding is_held
+pub frees_then : (s : Store) (pages : List (Option Page)) (new : List ℕ) → KeepsAllocated pages s.words new → (a : ℕ) → Frees s (record { pages = pages; words = s.words }) a → Frees s (record { pages = pages; words = new }) a
+unfolding is_allocated
 frees_then s pages new kept a x = record {
   gone = x.gone;
   same = x.same;

@@ -11,8 +11,8 @@ use Rattle.heap_model.proofs.Settings.{chain_settings}
 use Rattle.heap_model.proofs.Stood.{stands_chain}
 use Rattle.heap_model.proofs.Turns.{action_cost}
 use Rattle.nodes.specs.Acting.{Acts}
-use Rattle.nodes.specs.declared.raw_heap.RawHeap.{RawHeap}
-use Rattle.nodes.specs.RawHeap.{state_of, IsRawHeap}
+use Rattle.nodes.specs.declared.heap_fields.HeapFields.{HeapFields}
+use Rattle.nodes.specs.HeapFields.{state_of, AreHeapFields}
 use Rattle.nodes.proofs.Standing.{still}
 
 -- one action
@@ -35,7 +35,7 @@ rests_chain h after u Nothing_done none = none
 rests_chain h after u (Then v cost j k linked chain links action) none = rests_empty (record j { store = linked }) after cost action (rests_chain h j v chain none)
 
 -- a chain leaves a heap
-pub heap_after_chain : (a b : RawHeap) → IsRawHeap a → (units : ℕ) → Chain (state_of a) units (state_of b) → length b.grey.buffers ≡ length a.grey.buffers → IsRawHeap b
+pub heap_after_chain : (a b : HeapFields) → AreHeapFields a → (units : ℕ) → Chain (state_of a) units (state_of b) → length b.grey.buffers ≡ length a.grey.buffers → AreHeapFields b
 heap_after_chain a b w units chain count = record {
   heap = record {
     present = w.heap.present;
@@ -49,7 +49,7 @@ heap_after_chain a b w units chain count = record {
 }
 
 -- one action within the room
-pub runs_once : (a b : RawHeap) (room cost : ℕ) → IsRawHeap a → Action (state_of a) cost (state_of b) → cost ≤ room → Acts a room b cost
+pub runs_once : (a b : HeapFields) (room cost : ℕ) → AreHeapFields a → Action (state_of a) cost (state_of b) → cost ≤ room → Acts a room b cost
 runs_once a b room cost w action within = (one_action (state_of a) (state_of b) cost action, (action_cost (state_of a) (state_of b) cost w.heap.stands.pages action).0, within)
 
 -- steps of one unit each, that change nothing but the phase

@@ -9,11 +9,11 @@ use Rattle.std.specs.Int.{from_bool}
 use Rattle.size_classes.specs.Sizes.{size_of, blocks_in}
 use Rattle.size_classes.proofs.Table.{size_low}
 use Rattle.heap_model.specs.Pages.{Page, IsPage, page_at}
-use Rattle.heap_model.specs.Store.{Store, IsStore, size_in, held_in, is_held, node_of, address_of}
-use Rattle.heap_model.proofs.Held.{is_page, store_pages}
+use Rattle.heap_model.specs.Store.{Store, IsStore, size_in, allocated_in, is_allocated, record_of, address_of}
+use Rattle.heap_model.proofs.Allocated.{is_page, store_pages}
 use Rattle.nodes.specs.Copies.{count_below, is_main, is_old, is_object, copies_below}
-use Rattle.nodes.specs.declared.nodes.counting.Copies.{Copies}
-use Rattle.nodes.proofs.Blocks.{fit, held_is}
+use Rattle.nodes.specs.declared.block_store.counting.Copies.{Copies}
+use Rattle.nodes.proofs.Blocks.{fit, allocated_is}
 
 abbrev copies_of : ℕ → ℕ → ℕ → Copies
 copies_of objects parts old = record { objects = objects; parts = parts; old = old }
@@ -53,26 +53,26 @@ count_none p a (suc n) none =
     ∙ ap (λ b. count_below p (a + n) + (if b then 1 else 0)) last ∙ (let e : count_below p (a + n) + 0 ≡ count_below p (a + n) = omega arith in e)
     ∙ count_none p a n (λ b l u. none b l (omega (arith, u)))
 
--- where no block is held, nothing is counted
-none_held : (s : Store) (a n : ℕ) → ((b : ℕ) → a ≤ b → b < a + n → is_held s b ≡ false) → copies_below s (a + n) ≡ copies_below s a
+-- where no block is allocated, nothing is counted
+none_allocated : (s : Store) (a n : ℕ) → ((b : ℕ) → a ≤ b → b < a + n → is_allocated s b ≡ false) → copies_below s (a + n) ≡ copies_below s a
 unfolding is_main is_old is_object
-none_held s a n none =
+none_allocated s a n none =
     same_copies _ _ _ _ _ _
-    (count_none (is_object s) a n (λ b l u. ap (λ h. (h && (node_of s b).forward == b) && (node_of s b).part == 0) (none b l u)))
-    (count_none (is_main s) a n (λ b l u. ap (λ h. h && (node_of s b).forward == b) (none b l u)))
-    (count_none (is_old s) a n (λ b l u. ap (λ h. h && not ((node_of s b).forward == b)) (none b l u)))
+    (count_none (is_object s) a n (λ b l u. ap (λ h. (h && (record_of s b).forward == b) && (record_of s b).part == 0) (none b l u)))
+    (count_none (is_main s) a n (λ b l u. ap (λ h. h && (record_of s b).forward == b) (none b l u)))
+    (count_none (is_old s) a n (λ b l u. ap (λ h. h && not ((record_of s b).forward == b)) (none b l u)))
 
--- a held block counts as what it is
-one_more : (s : Store) (b : ℕ) → is_held s b ≡ true → copies_below s (b + 1) ≡ copies_of
-    (count_below (is_object s) b + (if ((node_of s b).forward == b) && ((node_of s b).part == 0) then 1 else 0))
-    (count_below (is_main s) b + (if (node_of s b).forward == b then 1 else 0))
-    (count_below (is_old s) b + (if not ((node_of s b).forward == b) then 1 else 0))
+-- an allocated block counts as what it is
+one_more : (s : Store) (b : ℕ) → is_allocated s b ≡ true → copies_below s (b + 1) ≡ copies_of
+    (count_below (is_object s) b + (if ((record_of s b).forward == b) && ((record_of s b).part == 0) then 1 else 0))
+    (count_below (is_main s) b + (if (record_of s b).forward == b then 1 else 0))
+    (count_below (is_old s) b + (if not ((record_of s b).forward == b) then 1 else 0))
 unfolding is_main is_old is_object
-one_more s b held =
+one_more s b allocated =
     same_copies _ _ _ _ _ _
-    (count_more (is_object s) b ∙ ap (λ h. count_below (is_object s) b + (if (h && (node_of s b).forward == b) && (node_of s b).part == 0 then 1 else 0)) held)
-    (count_more (is_main s) b ∙ ap (λ h. count_below (is_main s) b + (if h && (node_of s b).forward == b then 1 else 0)) held)
-    (count_more (is_old s) b ∙ ap (λ h. count_below (is_old s) b + (if h && not ((node_of s b).forward == b) then 1 else 0)) held)
+    (count_more (is_object s) b ∙ ap (λ h. count_below (is_object s) b + (if (h && (record_of s b).forward == b) && (record_of s b).part == 0 then 1 else 0)) allocated)
+    (count_more (is_main s) b ∙ ap (λ h. count_below (is_main s) b + (if h && (record_of s b).forward == b then 1 else 0)) allocated)
+    (count_more (is_old s) b ∙ ap (λ h. count_below (is_old s) b + (if h && not ((record_of s b).forward == b) then 1 else 0)) allocated)
 
 pub number_few : (b : Bool) → from_bool b ≤ 1
 number_few true = omega arith
@@ -83,14 +83,14 @@ as_number true = refl
 as_number false = refl
 
 -- the same, by what the code adds
-pub block_counted : (s : Store) (b : ℕ) (c : Copies) (main first : Bool) (x y z : ℕ) → is_held s b ≡ true → c ≡ copies_below s b → ((node_of s b).forward == b) ≡ main → ((node_of s b).part == 0) ≡ first
+pub block_counted : (s : Store) (b : ℕ) (c : Copies) (main first : Bool) (x y z : ℕ) → is_allocated s b ≡ true → c ≡ copies_below s b → ((record_of s b).forward == b) ≡ main → ((record_of s b).part == 0) ≡ first
     → x ≡ from_bool (main && first) → y ≡ from_bool main → z ≡ from_bool (not main) → copies_of (c.objects + x) (c.parts + y) (c.old + z) ≡ copies_below s (b + 1)
-block_counted s b c main first x y z held before em ef ex ey ez =
-    sym (one_more s b held ∙ same_copies _ _ _ _ _ _
-    (ap (λ n. n + (if ((node_of s b).forward == b) && ((node_of s b).part == 0) then 1 else 0)) (sym (ap (λ (k : Copies). k.objects) before))
-    ∙ ap (λ m. c.objects + (if m && ((node_of s b).part == 0) then 1 else 0)) em ∙ ap (λ m. c.objects + (if main && m then 1 else 0)) ef ∙ ap (λ n. c.objects + n) (sym (ex ∙ as_number (main && first))))
-    (ap (λ n. n + (if (node_of s b).forward == b then 1 else 0)) (sym (ap (λ (k : Copies). k.parts) before)) ∙ ap (λ m. c.parts + (if m then 1 else 0)) em ∙ ap (λ n. c.parts + n) (sym (ey ∙ as_number main)))
-    (ap (λ n. n + (if not ((node_of s b).forward == b) then 1 else 0)) (sym (ap (λ (k : Copies). k.old) before)) ∙ ap (λ m. c.old + (if not m then 1 else 0)) em ∙ ap (λ n. c.old + n) (sym (ez ∙ as_number (not main)))))
+block_counted s b c main first x y z allocated before em ef ex ey ez =
+    sym (one_more s b allocated ∙ same_copies _ _ _ _ _ _
+    (ap (λ n. n + (if ((record_of s b).forward == b) && ((record_of s b).part == 0) then 1 else 0)) (sym (ap (λ (k : Copies). k.objects) before))
+    ∙ ap (λ m. c.objects + (if m && ((record_of s b).part == 0) then 1 else 0)) em ∙ ap (λ m. c.objects + (if main && m then 1 else 0)) ef ∙ ap (λ n. c.objects + n) (sym (ex ∙ as_number (main && first))))
+    (ap (λ n. n + (if (record_of s b).forward == b then 1 else 0)) (sym (ap (λ (k : Copies). k.parts) before)) ∙ ap (λ m. c.parts + (if m then 1 else 0)) em ∙ ap (λ n. c.parts + n) (sym (ey ∙ as_number main)))
+    (ap (λ n. n + (if not ((record_of s b).forward == b) then 1 else 0)) (sym (ap (λ (k : Copies). k.old) before)) ∙ ap (λ m. c.old + (if not m then 1 else 0)) em ∙ ap (λ n. c.old + n) (sym (ez ∙ as_number (not main)))))
 
 pub not_true : (b : Bool) → (b ≡ true → ⊥) → b ≡ false
 not_true true never = absurd (never refl)
@@ -120,61 +120,61 @@ module _ (s : Store) (whole : IsStore s) (k : ℕ) (p : Page) (there : page_at s
   low : 4 ≤ size_of p.class
   low = size_low p.class is_one.class
 
-  pub blocks_are : length p.held ≡ blocks_in p.class
+  pub blocks_are : length p.allocated ≡ blocks_in p.class
   blocks_are = is_one.blocks
 
-  whole_page : length p.held * size_of p.class ≤ 2048
+  whole_page : length p.allocated * size_of p.class ≤ 2048
   unfolding blocks_in
   whole_page = let m = div-mul-le_self 2048 (size_of p.class) in subst (λ n. n * size_of p.class ≤ 2048) (sym is_one.blocks) m
 
-  held_there : (b : ℕ) → b / 2048 ≡ k → is_held s b ≡ true → (j : ℕ) × (b % 2048 ≡ j * size_of p.class) × (j < length p.held)
-  unfolding is_held
-  held_there b e h =
-      let f : held_in (Some p) (b % 2048) ≡ true = subst (λ o. held_in o (b % 2048) ≡ true) there (subst (λ n. held_in (page_at s.pages n) (b % 2048) ≡ true) e h) in
-      let g = and_parts (b % 2048 % size_of p.class == 0) (get_or p.held (b % 2048 / size_of p.class) false) f in
-      (b % 2048 / size_of p.class, whole_places (b % 2048) (size_of p.class) (eqb-true (b % 2048 % size_of p.class) 0 g.0), flag_within p.held (b % 2048 / size_of p.class) g.1)
+  allocated_there : (b : ℕ) → b / 2048 ≡ k → is_allocated s b ≡ true → (j : ℕ) × (b % 2048 ≡ j * size_of p.class) × (j < length p.allocated)
+  unfolding is_allocated
+  allocated_there b e h =
+      let f : allocated_in (Some p) (b % 2048) ≡ true = subst (λ o. allocated_in o (b % 2048) ≡ true) there (subst (λ n. allocated_in (page_at s.pages n) (b % 2048) ≡ true) e h) in
+      let g = and_parts (b % 2048 % size_of p.class == 0) (get_or p.allocated (b % 2048 / size_of p.class) false) f in
+      (b % 2048 / size_of p.class, whole_places (b % 2048) (size_of p.class) (eqb-true (b % 2048 % size_of p.class) 0 g.0), flag_within p.allocated (b % 2048 / size_of p.class) g.1)
 
   -- no block begins within another, and none behind the last
-  between : (i : ℕ) → i < length p.held → (b : ℕ) → 2048 * k + i * size_of p.class < b → b < 2048 * k + (i + 1) * size_of p.class → is_held s b ≡ false
-  between i l b lo hi = not_true (is_held s b) (λ h.
+  between : (i : ℕ) → i < length p.allocated → (b : ℕ) → 2048 * k + i * size_of p.class < b → b < 2048 * k + (i + 1) * size_of p.class → is_allocated s b ≡ false
+  between i l b lo hi = not_true (is_allocated s b) (λ h.
       let f : (i + 1) * size_of p.class ≤ 2048 = fit s whole k i p there l in
       let e : b / 2048 ≡ k = omega (arith, f, lo, hi) in
-      let j = held_there b e h in
+      let j = allocated_there b e h in
       no_between i j.0 (size_of p.class) (omega (arith, e, j.1, lo)) (omega (arith, e, j.1, hi)))
 
-  behind : (b : ℕ) → 2048 * k + length p.held * size_of p.class ≤ b → b < 2048 * k + 2048 → is_held s b ≡ false
-  behind b lo hi = not_true (is_held s b) (λ h.
+  behind : (b : ℕ) → 2048 * k + length p.allocated * size_of p.class ≤ b → b < 2048 * k + 2048 → is_allocated s b ≡ false
+  behind b lo hi = not_true (is_allocated s b) (λ h.
       let e : b / 2048 ≡ k = omega (arith, lo, hi) in
-      let j = held_there b e h in
-      let next : j.0 + 1 ≤ length p.held = omega (arith, j.2) in
+      let j = allocated_there b e h in
+      let next : j.0 + 1 ≤ length p.allocated = omega (arith, j.2) in
       let m = mul-le-mul_right (size_of p.class) next in
       absurd (omega (arith, m, e, j.1, lo, low)))
 
-  pub next_held : (i : ℕ) → i < length p.held → copies_below s (2048 * k + (i + 1) * size_of p.class) ≡ copies_below s (address_of p.class k i + 1)
-  next_held i l =
+  pub next_allocated : (i : ℕ) → i < length p.allocated → copies_below s (2048 * k + (i + 1) * size_of p.class) ≡ copies_below s (address_of p.class k i + 1)
+  next_allocated i l =
       let e : 2048 * k + (i + 1) * size_of p.class ≡ (address_of p.class k i + 1) + (size_of p.class - 1) = omega (arith, low) in
       ap (copies_below s) e
-      ∙ none_held s (address_of p.class k i + 1) (size_of p.class - 1) (λ b lo hi. between i l b (omega (arith, lo)) (omega (arith, hi, low)))
+      ∙ none_allocated s (address_of p.class k i + 1) (size_of p.class - 1) (λ b lo hi. between i l b (omega (arith, lo)) (omega (arith, hi, low)))
 
-  pub next_none : (i : ℕ) → i < length p.held → get_or p.held i false ≡ false → copies_below s (2048 * k + (i + 1) * size_of p.class) ≡ copies_below s (2048 * k + i * size_of p.class)
+  pub next_none : (i : ℕ) → i < length p.allocated → get_or p.allocated i false ≡ false → copies_below s (2048 * k + (i + 1) * size_of p.class) ≡ copies_below s (2048 * k + i * size_of p.class)
   next_none i l free =
-      let not_held : is_held s (address_of p.class k i) ≡ false = held_is s whole k i p there l ∙ free in
-      next_held i l ∙ none_held s (address_of p.class k i) 1 (λ b lo hi. let e : b ≡ address_of p.class k i = omega (arith, lo, hi) in ap (is_held s) e ∙ not_held)
+      let not_allocated : is_allocated s (address_of p.class k i) ≡ false = allocated_is s whole k i p there l ∙ free in
+      next_allocated i l ∙ none_allocated s (address_of p.class k i) 1 (λ b lo hi. let e : b ≡ address_of p.class k i = omega (arith, lo, hi) in ap (is_allocated s) e ∙ not_allocated)
 
-  pub page_done : copies_below s (2048 * (k + 1)) ≡ copies_below s (2048 * k + length p.held * size_of p.class)
+  pub page_done : copies_below s (2048 * (k + 1)) ≡ copies_below s (2048 * k + length p.allocated * size_of p.class)
   page_done =
-      let e : 2048 * (k + 1) ≡ (2048 * k + length p.held * size_of p.class) + (2048 - length p.held * size_of p.class) = omega (arith, whole_page) in
-      ap (copies_below s) e ∙ none_held s (2048 * k + length p.held * size_of p.class) (2048 - length p.held * size_of p.class) (λ b lo hi. behind b lo (omega (arith, hi, whole_page)))
+      let e : 2048 * (k + 1) ≡ (2048 * k + length p.allocated * size_of p.class) + (2048 - length p.allocated * size_of p.class) = omega (arith, whole_page) in
+      ap (copies_below s) e ∙ none_allocated s (2048 * k + length p.allocated * size_of p.class) (2048 - length p.allocated * size_of p.class) (λ b lo hi. behind b lo (omega (arith, hi, whole_page)))
 
 -- the same, by the class that the code knows
 module _ (s : Store) (whole : IsStore s) (k : ℕ) where
   pub free_done : option_map (λ (p : Page). p.class) (page_at s.pages k) ≡ None → copies_below s (2048 * (k + 1)) ≡ copies_below s (2048 * k)
-  unfolding is_held
+  unfolding is_allocated
   free_done none =
       let free : page_at s.pages k ≡ None = no_page (page_at s.pages k) none in
       let e : 2048 * (k + 1) ≡ 2048 * k + 2048 = omega arith in
       ap (copies_below s) e
-      ∙ none_held s (2048 * k) 2048 (λ b lo hi. (let d : b / 2048 ≡ k = omega (arith, lo, hi) in ap (λ n. held_in (page_at s.pages n) (b % 2048)) d ∙ ap (λ o. held_in o (b % 2048)) free))
+      ∙ none_allocated s (2048 * k) 2048 (λ b lo hi. (let d : b / 2048 ≡ k = omega (arith, lo, hi) in ap (λ n. allocated_in (page_at s.pages n) (b % 2048)) d ∙ ap (λ o. allocated_in o (b % 2048)) free))
     where
       no_page : (o : Option Page) → option_map (λ (p : Page). p.class) o ≡ None → o ≡ None
       no_page None e = refl
@@ -194,24 +194,24 @@ module _ (s : Store) (whole : IsStore s) (k : ℕ) where
     size_is : size_of found.0.class ≡ size_in (page_at s.pages k)
     size_is = sym (ap size_in found.1)
 
-    below_held : (i : ℕ) → i < blocks_in class → i < length found.0.held
-    below_held i l = subst (λ n. i < n) (sym (blocks_are s whole k found.0 found.1 ∙ ap blocks_in found.2)) l
+    below_allocated : (i : ℕ) → i < blocks_in class → i < length found.0.allocated
+    below_allocated i l = subst (λ n. i < n) (sym (blocks_are s whole k found.0 found.1 ∙ ap blocks_in found.2)) l
 
     pub block_there : (i b : ℕ) → IfSome (page_at s.pages k) (λ p. b ≡ address_of p.class k i) → b ≡ 2048 * k + i * size_in (page_at s.pages k)
     block_there i b h =
         let f : b ≡ address_of found.0.class k i = subst (λ o. IfSome o (λ p. b ≡ address_of p.class k i)) found.1 h in
         f ∙ ap (λ z. 2048 * k + i * z) size_is
 
-    pub step_held : (i b : ℕ) → i < blocks_in class → b ≡ 2048 * k + i * size_in (page_at s.pages k) → copies_below s (b + 1) ≡ copies_below s (2048 * k + (i + 1) * size_in (page_at s.pages k))
-    step_held i b l e =
+    pub step_allocated : (i b : ℕ) → i < blocks_in class → b ≡ 2048 * k + i * size_in (page_at s.pages k) → copies_below s (b + 1) ≡ copies_below s (2048 * k + (i + 1) * size_in (page_at s.pages k))
+    step_allocated i b l e =
         ap (λ n. copies_below s (n + 1)) e
-        ∙ sym (subst (λ z. copies_below s (2048 * k + (i + 1) * z) ≡ copies_below s (2048 * k + i * z + 1)) size_is (next_held s whole k found.0 found.1 i (below_held i l)))
+        ∙ sym (subst (λ z. copies_below s (2048 * k + (i + 1) * z) ≡ copies_below s (2048 * k + i * z + 1)) size_is (next_allocated s whole k found.0 found.1 i (below_allocated i l)))
 
-    pub step_none : (i : ℕ) → i < blocks_in class → (IsSomeAnd (page_at s.pages k) (λ p. slice_get p.held i ≡ Some true) → ⊥)
+    pub step_none : (i : ℕ) → i < blocks_in class → (IsSomeAnd (page_at s.pages k) (λ p. slice_get p.allocated i ≡ Some true) → ⊥)
         → copies_below s (2048 * k + i * size_in (page_at s.pages k)) ≡ copies_below s (2048 * k + (i + 1) * size_in (page_at s.pages k))
     step_none i l never =
-        let b = below_held i l in
-        let free : get_or found.0.held i false ≡ false = not_true (get_or found.0.held i false) (λ h. never (subst (λ o. IsSomeAnd o (λ p. slice_get p.held i ≡ Some true)) (sym found.1) (slice_get-get_or found.0.held i false b ∙ ap Some h))) in
+        let b = below_allocated i l in
+        let free : get_or found.0.allocated i false ≡ false = not_true (get_or found.0.allocated i false) (λ h. never (subst (λ o. IsSomeAnd o (λ p. slice_get p.allocated i ≡ Some true)) (sym found.1) (slice_get-get_or found.0.allocated i false b ∙ ap Some h))) in
         sym (subst (λ z. copies_below s (2048 * k + (i + 1) * z) ≡ copies_below s (2048 * k + i * z)) size_is (next_none s whole k found.0 found.1 i b free))
 
     pub all_done : (i : ℕ) → i ≡ blocks_in class → copies_below s (2048 * k + i * size_in (page_at s.pages k)) ≡ copies_below s (2048 * (k + 1))

@@ -3,14 +3,14 @@ use Rattle.std.proofs.Common.{◌≡◌, ℕ, ◌*◌, ◌/◌, ◌%◌, ◌<◌
 use Rattle.std.proofs.lemmas.List.{length-replicate, get_or-replicate, same_lists}
 use Rattle.std.proofs.lemmas.Option.{get_or_from_slice_get, none-some}
 use Rattle.heap_model.specs.Pages.{Page}
-use Rattle.heap_model.specs.Store.{Store, IsStore, is_held, held_in}
+use Rattle.heap_model.specs.Store.{Store, IsStore, is_allocated, allocated_in}
 use Rattle.heap_model.proofs.Opening.{page_none}
 use Rattle.pages.specs.declared.page.PageRecord.{PageRecord}
 use Rattle.pages.specs.Together.{joined, page_by, pages_in}
 use Rattle.pages.proofs.Indexing.{row_none}
 use Rattle.pages.proofs.Telling.{length-pages, page_is}
 use Rattle.pages.proofs.Writing.{fresh_together}
-use Rattle.nodes.specs.Joined.{AreNodes}
+use Rattle.nodes.specs.Joined.{AreBlockRecords}
 
 free_pages : (n : ℕ) → pages_in (replicate n None) (replicate (2048 * n) 0) ≡ replicate n None
 free_pages n =
@@ -37,9 +37,9 @@ module _ (n : ℕ) (few : n ≤ 4096) (rows : List (Option PageRecord)) (words :
         few = omega (arith, count, few);
       }
 
-  none_held : (b : ℕ) → is_held (joined (replicate n None) (replicate (2048 * n) 0)) b ≡ false
-  unfolding is_held
-  none_held b = ap (λ o. held_in o (b % 2048)) (ap (λ (g : List (Option Page)). get_or g (b / 2048) None) (free_pages n) ∙ page_none n (b / 2048))
+  none_allocated : (b : ℕ) → is_allocated (joined (replicate n None) (replicate (2048 * n) 0)) b ≡ false
+  unfolding is_allocated
+  none_allocated b = ap (λ o. allocated_in o (b % 2048)) (ap (λ (g : List (Option Page)). get_or g (b / 2048) None) (free_pages n) ∙ page_none n (b / 2048))
 
-  pub fresh_nodes : AreNodes rows words
-  fresh_nodes = both AreNodes (record { whole = free_store (joined (replicate n None) (replicate (2048 * n) 0)) (free_pages n) (length-replicate {A = ℕ} (2048 * n) 0); together = fresh_together n; headers = λ b held. absurd (let none = none_held b in let z : true ≡ false = sym held ∙ none in cc) })
+  pub fresh_nodes : AreBlockRecords rows words
+  fresh_nodes = both AreBlockRecords (record { whole = free_store (joined (replicate n None) (replicate (2048 * n) 0)) (free_pages n) (length-replicate {A = ℕ} (2048 * n) 0); together = fresh_together n; headers = λ b allocated. absurd (let none = none_allocated b in let z : true ≡ false = sym allocated ∙ none in cc) })

@@ -1,4 +1,4 @@
--- The words of held blocks, and writes of them, with the records.
+-- The words of allocated blocks, and writes of them, with the records.
 use Rattle.std.proofs.Common.{◌≡◌, ℕ, ◌+◌, ◌-◌, ◌*◌, ◌/◌, ◌%◌, ◌<◌, ◌≤◌, true, false, not, eqb, List, Option, Some, length, get_or, set, ap, ◌∙◌, sym, subst, arith, refl, length-set, inl, inr}
 use Rattle.std.specs.Prelude.{slice_get}
 use Rattle.std.proofs.lemmas.Bool.{ne_eqb}
@@ -6,59 +6,59 @@ use Rattle.std.proofs.lemmas.Grind.{common_steps}
 use Rattle.std.proofs.lemmas.List.{get_or-set_same, get_or-set_other}
 use Rattle.std.proofs.lemmas.Option.{slice_get_within, slice_get-get_or, get_or_from_slice_get}
 use Rattle.size_classes.specs.Sizes.{size_of, blocks_in}
-use Rattle.heap_model.specs.Block.{node_in, spliced}
+use Rattle.heap_model.specs.Block.{record_in, spliced}
 use Rattle.heap_model.specs.Action.{KeepsBlocks}
 use Rattle.heap_model.specs.Pages.{Page, page_at}
-use Rattle.heap_model.specs.Store.{Store, IsStore, size_in, size_at, is_held, node_of}
+use Rattle.heap_model.specs.Store.{Store, IsStore, size_in, size_at, is_allocated, record_of}
 use Rattle.headers.proofs.Fresh.{words_at-same, length-spliced, spliced_other}
 use Rattle.pages.specs.declared.page.PageRecord.{PageRecord}
 use Rattle.pages.specs.FreeList.{flags_of, free_mark}
 use Rattle.pages.specs.Index.{row_at}
-use Rattle.pages.specs.Together.{joined, pages_in, Together, KeepsHeld, Tells}
+use Rattle.pages.specs.Together.{joined, pages_in, Together, KeepsAllocated, Tells}
 use Rattle.pages.proofs.Telling.{length-pages}
-use Rattle.pages.proofs.Writing.{WritesBlock, held_place, write_keeps, write_same}
+use Rattle.pages.proofs.Writing.{WritesBlock, allocated_place, write_keeps, write_same}
 use Rattle.pages.proofs.Flags.{get_flag, length-flags}
-use Rattle.nodes.specs.Joined.{IsHeader, AreNodes}
+use Rattle.nodes.specs.Joined.{IsHeader, AreBlockRecords}
 use Rattle.nodes.proofs.Headers.{header_after}
-use Rattle.nodes.proofs.Places.{held_in-page, flag_within, placed}
+use Rattle.nodes.proofs.Places.{allocated_in-page, flag_within, placed}
 
 -- words of the same number
 pub still_store : (pages : List (Option Page)) (words new : List ℕ) → length new ≡ length words → IsStore (record { pages = pages; words = words }) → IsStore (record { pages = pages; words = new })
 still_store pages words new e s = record { pages = s.pages; words = e ∙ s.words; few = s.few }
 
 -- what the records tell, of the value t as which the fields are seen
-pub told : (rows : List (Option PageRecord)) (words : List ℕ) (t : Store) → joined rows words ≡ t → AreNodes rows words → {X : Type 0} (f : List (Option Page) → X) (v : X) → Tells rows (λ pages. v ≡ f pages) → v ≡ f t.pages
+pub told : (rows : List (Option PageRecord)) (words : List ℕ) (t : Store) → joined rows words ≡ t → AreBlockRecords rows words → {X : Type 0} (f : List (Option Page) → X) (v : X) → Tells rows (λ pages. v ≡ f pages) → v ≡ f t.pages
 told rows words t is are f v tells = tells words are.together ∙ ap (λ (x : Store). f x.pages) is
 
 pub below_by : (rows : List (Option PageRecord)) (words : List ℕ) (t : Store) → joined rows words ≡ t → (page : ℕ) → page < length t.pages → page < length rows
 below_by rows words t is page h = let e : length rows ≡ length t.pages = sym (length-pages rows words) ∙ ap (λ (x : Store). length x.pages) is in omega (arith, h, e)
 
--- where the words of held blocks stayed
-module _ (pages : List (Option Page)) (words new : List ℕ) (kept : KeepsHeld pages words new) (b : ℕ) (held : is_held (record { pages = pages; words = words }) b ≡ true) where
+-- where the words of allocated blocks stayed
+module _ (pages : List (Option Page)) (words new : List ℕ) (kept : KeepsAllocated pages words new) (b : ℕ) (allocated : is_allocated (record { pages = pages; words = words }) b ≡ true) where
   pub word_kept : (j : ℕ) → j < size_at (record { pages = pages; words = words }) b → get_or new (b + j) 0 ≡ get_or words (b + j) 0
-  unfolding size_at is_held
+  unfolding size_at is_allocated
   word_kept j within =
-      let f = held_in-page (page_at pages (b / 2048)) (b % 2048) held in
+      let f = allocated_in-page (page_at pages (b / 2048)) (b % 2048) allocated in
       let size = size_of f.page.class in
       let i = b % 2048 / size in
-      let flag : slice_get f.page.held i ≡ Some true = slice_get-get_or f.page.held i false (flag_within f.page.held i f.flag) ∙ ap Some f.flag in
+      let flag : slice_get f.page.allocated i ≡ Some true = slice_get-get_or f.page.allocated i false (flag_within f.page.allocated i f.flag) ∙ ap Some f.flag in
       let place : b ≡ 2048 * (b / 2048) + i * size = placed b (b / 2048) (b % 2048) size refl refl f.whole in
       let small : j < size = omega (arith, within, ap size_in f.is) in
       ap (λ n. get_or new (n + j) 0) place ∙ kept.each (b / 2048) f.page i j f.is flag small ∙ ap (λ n. get_or words (n + j) 0) (sym place)
 
-  -- a held block says what it said
-  pub node_kept : node_of (record { pages = pages; words = new }) b ≡ node_of (record { pages = pages; words = words }) b
-  unfolding node_of size_at
+  -- an allocated block says what it said
+  pub node_kept : record_of (record { pages = pages; words = new }) b ≡ record_of (record { pages = pages; words = words }) b
+  unfolding record_of size_at
   node_kept =
-      ap node_in (words_at-same new words b (size_at (record { pages = pages; words = words }) b) kept.len
+      ap record_in (words_at-same new words b (size_at (record { pages = pages; words = words }) b) kept.len
       (λ n low high. let at : n ≡ b + (n - b) = omega (arith, low) in ap (λ m. get_or new m 0) at ∙ word_kept (n - b) (omega (arith, low, high)) ∙ ap (λ m. get_or words m 0) (sym at)))
 
--- where the same blocks are held, with the same words
-pub same_headers : (rows : List (Option PageRecord)) (words : List ℕ) (t : Store) → joined rows words ≡ t → AreNodes rows words → (new : Store) → KeepsBlocks t new → (b : ℕ) → is_held new b ≡ true → IsHeader (get_or words (b + 1) 0)
-same_headers rows words t is are new kept b held = are.headers b (ap (λ (x : Store). is_held x b) is ∙ sym (kept.held b) ∙ held)
+-- where the same blocks are allocated, with the same words
+pub same_headers : (rows : List (Option PageRecord)) (words : List ℕ) (t : Store) → joined rows words ≡ t → AreBlockRecords rows words → (new : Store) → KeepsBlocks t new → (b : ℕ) → is_allocated new b ≡ true → IsHeader (get_or words (b + 1) 0)
+same_headers rows words t is are new kept b allocated = are.headers b (ap (λ (x : Store). is_allocated x b) is ∙ sym (kept.allocated b) ∙ allocated)
 
--- a held block, by the record of its page
-pub record HeldBlock (rows : List (Option PageRecord)) (words : List ℕ) (a : ℕ) : Type 0 where
+-- an allocated block, by the record of its page
+pub record AllocatedBlock (rows : List (Option PageRecord)) (words : List ℕ) (a : ℕ) : Type 0 where
   pub row : PageRecord
   pub row_is : row_at rows (a / 2048) ≡ Some row
   pub below : a / 2048 < length rows
@@ -67,13 +67,13 @@ pub record HeldBlock (rows : List (Option PageRecord)) (words : List ℕ) (a : �
   pub place : 2048 * (a / 2048) + index * size_of row.class ≡ a
   pub size : size_at (joined rows words) a ≡ size_of row.class
 
-pub held_block : (rows : List (Option PageRecord)) (words : List ℕ) (a : ℕ) → is_held (joined rows words) a ≡ true → HeldBlock rows words a
-unfolding is_held size_at
-held_block rows words a h =
-    let f = held_in-page (page_at (pages_in rows words) (a / 2048)) (a % 2048) h in
+pub allocated_block : (rows : List (Option PageRecord)) (words : List ℕ) (a : ℕ) → is_allocated (joined rows words) a ≡ true → AllocatedBlock rows words a
+unfolding is_allocated size_at
+allocated_block rows words a h =
+    let f = allocated_in-page (page_at (pages_in rows words) (a / 2048)) (a % 2048) h in
     let i = a % 2048 / size_of f.page.class in
-    let flag : slice_get f.page.held i ≡ Some true = slice_get-get_or f.page.held i false (flag_within f.page.held i f.flag) ∙ ap Some f.flag in
-    let p = held_place rows words (a / 2048) f.page i f.is flag in
+    let flag : slice_get f.page.allocated i ≡ Some true = slice_get-get_or f.page.allocated i false (flag_within f.page.allocated i f.flag) ∙ ap Some f.flag in
+    let p = allocated_place rows words (a / 2048) f.page i f.is flag in
     let e : size_of f.page.class ≡ size_of p.row.class = ap size_of p.class_is in
     record {
       row = p.row;
@@ -85,9 +85,9 @@ held_block rows words a h =
       size = ap size_in f.is ∙ e;
     }
 
--- a held block's first word isn't the mark
-pub first_held : (rows : List (Option PageRecord)) (words : List ℕ) (a : ℕ) → HeldBlock rows words a → not (eqb (get_or words a 0) free_mark) ≡ true
-first_held rows words a h =
+-- an allocated block's first word isn't the mark
+pub first_allocated : (rows : List (Option PageRecord)) (words : List ℕ) (a : ℕ) → AllocatedBlock rows words a → not (eqb (get_or words a 0) free_mark) ≡ true
+first_allocated rows words a h =
     let at = 2048 * (a / 2048) in
     let flags = flags_of words at h.row.class in
     let w = slice_get_within flags h.index true h.flag in
@@ -101,11 +101,11 @@ no_mark v h = ap not (ne_eqb v 18446744073709551615 (λ e. absurd (omega (arith,
 
 -- writes of a block
 pub writes_later : (words new : List ℕ) (a size k v : ℕ) → not (eqb (get_or words a 0) free_mark) ≡ true → 0 < k → k < size → new ≡ set words (a + k) v → WritesBlock words new a size
-writes_later words new a size k v held some within is = record {
+writes_later words new a size k v allocated some within is = record {
   len = ap (λ w. length w) is ∙ length-set words (a + k) v;
   below = λ n h. ap (λ w. get_or w n 0) is ∙ get_or-set_other words (a + k) n v 0 (omega (arith, h));
   above = λ n h. ap (λ w. get_or w n 0) is ∙ get_or-set_other words (a + k) n v 0 (omega (arith, h, within));
-  held = ap (λ w. not (eqb (get_or w a 0) free_mark)) is ∙ ap (λ n. not (eqb n free_mark)) (get_or-set_other words (a + k) a v 0 (omega (arith, some))) ∙ held;
+  allocated = ap (λ w. not (eqb (get_or w a 0) free_mark)) is ∙ ap (λ n. not (eqb n free_mark)) (get_or-set_other words (a + k) a v 0 (omega (arith, some))) ∙ allocated;
 }
 
 pub writes_first : (words new : List ℕ) (a size v : ℕ) → v ≤ 8388608 → 0 < size → a < length words → new ≡ set words a v → WritesBlock words new a size
@@ -113,7 +113,7 @@ writes_first words new a size v small some within is = record {
   len = ap (λ w. length w) is ∙ length-set words a v;
   below = λ n h. ap (λ w. get_or w n 0) is ∙ get_or-set_other words a n v 0 (omega (arith, h));
   above = λ n h. ap (λ w. get_or w n 0) is ∙ get_or-set_other words a n v 0 (omega (arith, h, some));
-  held = ap (λ w. not (eqb (get_or w a 0) free_mark)) is ∙ ap (λ n. not (eqb n free_mark)) (get_or-set_same words a v 0 within) ∙ no_mark v small;
+  allocated = ap (λ w. not (eqb (get_or w a 0) free_mark)) is ∙ ap (λ n. not (eqb n free_mark)) (get_or-set_same words a v 0 within) ∙ no_mark v small;
 }
 
 pub word_spliced : (words others : List ℕ) (a k : ℕ) → a + length others ≤ length words → k < length others → get_or (spliced words a others) (a + k) 0 ≡ get_or others k 0
@@ -124,11 +124,11 @@ writes_spliced words new others a size fit some within small is = record {
   len = ap (λ w. length w) is ∙ length-spliced words others a fit;
   below = λ n h. ap (λ w. get_or w n 0) is ∙ spliced_other words others a n fit (inl h);
   above = λ n h. ap (λ w. get_or w n 0) is ∙ spliced_other words others a n fit (inr (omega (arith, h, within)));
-  held = ap (λ w. not (eqb (get_or w a 0) free_mark)) is ∙ ap (λ n. not (eqb n free_mark)) (ap (λ n. get_or (spliced words a others) n 0) (let e : a ≡ a + 0 = omega arith in e) ∙ word_spliced words others a 0 fit some) ∙ no_mark (get_or others 0 0) small;
+  allocated = ap (λ w. not (eqb (get_or w a 0) free_mark)) is ∙ ap (λ n. not (eqb n free_mark)) (ap (λ n. get_or (spliced words a others) n 0) (let e : a ≡ a + 0 = omega arith in e) ∙ word_spliced words others a 0 fit some) ∙ no_mark (get_or others 0 0) small;
 }
 
--- a write of a held block keeps the records and the words together
-module _ (rows : List (Option PageRecord)) (words new : List ℕ) (t : Together rows words) (a : ℕ) (h : HeldBlock rows words a) (w : WritesBlock words new a (size_of h.row.class)) where
+-- a write of an allocated block keeps the records and the words together
+module _ (rows : List (Option PageRecord)) (words new : List ℕ) (t : Together rows words) (a : ℕ) (h : AllocatedBlock rows words a) (w : WritesBlock words new a (size_of h.row.class)) where
   there : WritesBlock words new (2048 * (a / 2048) + h.index * size_of h.row.class) (size_of h.row.class)
   there = subst (λ n. WritesBlock words new n (size_of h.row.class)) (sym h.place) w
 
@@ -141,11 +141,11 @@ module _ (rows : List (Option PageRecord)) (words new : List ℕ) (t : Together 
   pub through : (P : Store → Type 0) → P (record { pages = pages_in rows words; words = new }) → P (joined rows new)
   through P p = subst (λ g. P (record { pages = g; words = new })) (sym same_pages) p
 
-  pub still_nodes : AreNodes rows words → is_held (joined rows words) a ≡ true → IsHeader (get_or new (a + 1) 0) → AreNodes rows new
-  unfolding is_held
-  still_nodes are held header = record {
+  pub still_nodes : AreBlockRecords rows words → is_allocated (joined rows words) a ≡ true → IsHeader (get_or new (a + 1) 0) → AreBlockRecords rows new
+  unfolding is_allocated
+  still_nodes are allocated header = record {
     whole = through IsStore (still_store (pages_in rows words) words new w.len are.whole);
     together = still_together;
-    headers = through (λ s. (b : ℕ) → is_held s b ≡ true → IsHeader (get_or new (b + 1) 0))
-        (λ b other. header_after (pages_in rows words) words new are.whole a (size_of h.row.class) h.size held w header b other (λ ne. are.headers b other));
+    headers = through (λ s. (b : ℕ) → is_allocated s b ≡ true → IsHeader (get_or new (b + 1) 0))
+        (λ b other. header_after (pages_in rows words) words new are.whole a (size_of h.row.class) h.size allocated w header b other (λ ne. are.headers b other));
   }

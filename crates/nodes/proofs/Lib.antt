@@ -9,7 +9,7 @@ pub mod Headers
 pub mod Holding
 pub mod Joining
 pub mod Keeping
-pub mod Leaving
+pub mod Evacuating
 pub mod Linked
 pub mod Made
 pub mod Making

@@ -1,5 +1,5 @@
 -- A block moved, with the records: the words may have changed in free blocks when a place was received, and
--- both writes are of held blocks.
+-- both writes are of allocated blocks.
 use Rattle.std.proofs.Common.{◌≡◌, ◌≢◌, ℕ, ◌+◌, ◌*◌, ◌/◌, ◌<◌, ◌≤◌, refl, true, false, List, Option, Some, length, get_or, set, drop, ap, ◌∙◌, sym, subst, arith, length-set}
 use Rattle.std.specs.Prelude.{IfSome, IsSomeAnd}
 use Rattle.std.proofs.lemmas.List.{get_or-set_same, get_or-set_other, get_or-take, get_or-drop}
@@ -9,33 +9,33 @@ use Rattle.size_classes.specs.Sizes.{size_of}
 use Rattle.size_classes.proofs.Table.{size_low}
 use Rattle.heap_model.specs.Action.{MovesBlock}
 use Rattle.heap_model.specs.Block.{words_at, spliced}
-use Rattle.heap_model.specs.Pages.{Page, page_at, with_held, IsOpen}
-use Rattle.heap_model.specs.Store.{Store, IsStore, size_in, size_at, is_held, address_of}
+use Rattle.heap_model.specs.Pages.{Page, page_at, with_allocated, IsOpen}
+use Rattle.heap_model.specs.Store.{Store, IsStore, size_in, size_at, is_allocated, address_of}
 use Rattle.headers.proofs.Fields.{length-words_at}
 use Rattle.pages.specs.declared.page.PageRecord.{PageRecord}
-use Rattle.pages.specs.Together.{joined, pages_in, Together, KeepsHeld}
+use Rattle.pages.specs.Together.{joined, pages_in, Together, KeepsAllocated}
 use Rattle.pages.proofs.Writing.{WritesBlock}
-use Rattle.nodes.specs.Joined.{IsHeader, AreNodes}
+use Rattle.nodes.specs.Joined.{IsHeader, AreBlockRecords}
 use Rattle.nodes.specs.Moving.{CanMove}
 use Rattle.nodes.proofs.Blocks.{block_by}
 use Rattle.nodes.proofs.Carried.{moves_then}
 use Rattle.nodes.proofs.Headers.{header_after}
-use Rattle.nodes.proofs.Joining.{HeldBlock, held_block, writes_first, writes_spliced, same_pages, still_store, still_together, word_kept, word_spliced}
-use Rattle.nodes.proofs.Moving.{clash, from, target, received, forwarded, words_after, after_move, four, source_words, target_words, source_held, target_free, target_size, size_after, same_held, received_store, moved_store, target_held, moves}
-use Rattle.nodes.proofs.Places.{held_place}
+use Rattle.nodes.proofs.Joining.{AllocatedBlock, allocated_block, writes_first, writes_spliced, same_pages, still_store, still_together, word_kept, word_spliced}
+use Rattle.nodes.proofs.Moving.{clash, from, target, received, forwarded, words_after, after_move, four, source_words, target_words, source_allocated, target_free, target_size, size_after, same_allocated, received_store, moved_store, target_allocated, moves}
+use Rattle.nodes.proofs.Places.{allocated_place}
 
-module _ (rows : List (Option PageRecord)) (words : List ℕ) (t : Store) (is : joined rows words ≡ t) (are : AreNodes rows words) (page index to : ℕ) (m : CanMove t.pages page index to) (size : ℕ) (size_is : size ≡ size_in (page_at t.pages page)) where
+module _ (rows : List (Option PageRecord)) (words : List ℕ) (t : Store) (is : joined rows words ≡ t) (are : AreBlockRecords rows words) (page index to : ℕ) (m : CanMove t.pages page index to) (size : ℕ) (size_is : size ≡ size_in (page_at t.pages page)) where
   can : CanMove (pages_in rows words) page index to
   can = subst (λ (x : Store). CanMove x.pages page index to) (sym is) m
 
   source_there : size ≡ size_of can.source.class
   source_there = size_is ∙ ap (λ (x : Store). size_in (page_at x.pages page)) (sym is) ∙ ap size_in can.from
 
-  held_below : index < length can.source.held
-  held_below = slice_get_within can.source.held index true can.held
+  allocated_below : index < length can.source.allocated
+  allocated_below = slice_get_within can.source.allocated index true can.allocated
 
   pub source_fit : (page < 4096) × (index * size + size ≤ 2048)
-  source_fit = block_by (joined rows words) are.whole page index can.source can.from held_below size source_there
+  source_fit = block_by (joined rows words) are.whole page index can.source can.from allocated_below size source_there
 
   module _ (place : ℕ) (is_open : IsSomeAnd (page_at (pages_in rows words) to) (λ q. IsOpen q place)) where
     free : IsOpen can.target place
@@ -48,9 +48,9 @@ module _ (rows : List (Option PageRecord)) (words : List ℕ) (t : Store) (is : 
     target_there = source_there ∙ ap size_of (sym can.class)
 
     pub target_fit : (to < 4096) × (place * size + size ≤ 2048)
-    target_fit = block_by (joined rows words) are.whole to place can.target can.into (slice_get_within can.target.held place false free) size target_there
+    target_fit = block_by (joined rows words) are.whole to place can.target can.into (slice_get_within can.target.allocated place false free) size target_there
 
-    module _ (mid : List ℕ) (kept : KeepsHeld (pages_in rows words) words mid) where
+    module _ (mid : List ℕ) (kept : KeepsAllocated (pages_in rows words) words mid) where
       abbrev midway : Store
       midway = record { pages = pages_in rows words; words = mid }
 
@@ -76,8 +76,8 @@ module _ (rows : List (Option PageRecord)) (words : List ℕ) (t : Store) (is : 
       four_words : 4 ≤ size
       four_words = omega (arith, source_there, four midway whole page index to can place free)
 
-      old_held : is_held midway old_at ≡ true
-      old_held = source_held midway whole page index to can place free
+      old_allocated : is_allocated midway old_at ≡ true
+      old_allocated = source_allocated midway whole page index to can place free
 
       module _ (a b : ℕ) (a_is : a ≡ 2048 * page + index * size) (b_is : b ≡ 2048 * to + place * size) where
         from_is : a ≡ old_at
@@ -102,23 +102,23 @@ module _ (rows : List (Option PageRecord)) (words : List ℕ) (t : Store) (is : 
         both_fit first e = let l : length first ≡ length mid = ap (λ w. length w) e ∙ length-set mid a b in (omega (arith, from_fits, l), omega (arith, to_fits, l))
 
         module _ (after : List (Option PageRecord)) (together : Together after mid)
-            (given : IfSome (page_at (pages_in rows words) to) (λ q. pages_in after mid ≡ set (pages_in rows words) to (Some (record (with_held q place true) { receiving = true }))))
+            (given : IfSome (page_at (pages_in rows words) to) (λ q. pages_in after mid ≡ set (pages_in rows words) to (Some (record (with_allocated q place true) { is_target = true }))))
             (first second : List ℕ) (first_is : first ≡ set mid a b) (second_is : second ≡ spliced first b (words_at first a size)) where
           pages_mid : pages_in after mid ≡ pages_then
-          pages_mid = subst (λ o. IfSome o (λ q. pages_in after mid ≡ set (pages_in rows words) to (Some (record (with_held q place true) { receiving = true })))) can.into given
+          pages_mid = subst (λ o. IfSome o (λ q. pages_in after mid ≡ set (pages_in rows words) to (Some (record (with_allocated q place true) { is_target = true })))) can.into given
 
           -- the old copy
-          source_held_then : is_held (joined after mid) a ≡ true
-          unfolding is_held
-          source_held_then =
-              ap (λ (g : List (Option Page)). is_held (record { pages = g; words = mid }) a) pages_mid ∙ ap (is_held (record { pages = pages_then; words = mid })) from_is
-              ∙ same_held midway whole page index to can place free old_at source_other ∙ old_held
+          source_allocated_then : is_allocated (joined after mid) a ≡ true
+          unfolding is_allocated
+          source_allocated_then =
+              ap (λ (g : List (Option Page)). is_allocated (record { pages = g; words = mid }) a) pages_mid ∙ ap (is_allocated (record { pages = pages_then; words = mid })) from_is
+              ∙ same_allocated midway whole page index to can place free old_at source_other ∙ old_allocated
             where
               source_other : old_at ≢ new_at
-              source_other e = clash old_held (ap (is_held midway) e ∙ target_free midway whole page index to can place free)
+              source_other e = clash old_allocated (ap (is_allocated midway) e ∙ target_free midway whole page index to can place free)
 
-          source_block : HeldBlock after mid a
-          source_block = held_block after mid a source_held_then
+          source_block : AllocatedBlock after mid a
+          source_block = allocated_block after mid a source_allocated_then
 
           source_low : 4 ≤ size_of source_block.row.class
           source_low = size_low source_block.row.class (subst (λ o. IfSome o (λ r. r.class < CLASSES)) source_block.row_is (together.classes (a / 2048)))
@@ -133,15 +133,15 @@ module _ (rows : List (Option PageRecord)) (words : List ℕ) (t : Store) (is : 
           together_first = still_together after mid first together a source_block forwards
 
           -- the copy
-          target_held_then : is_held (joined after first) b ≡ true
-          unfolding is_held
-          target_held_then =
-              ap (λ (g : List (Option Page)). is_held (record { pages = g; words = first }) b) pages_first
-              ∙ ap (is_held (record { pages = pages_then; words = first })) target_is
-              ∙ target_held midway whole page index to can place free
+          target_allocated_then : is_allocated (joined after first) b ≡ true
+          unfolding is_allocated
+          target_allocated_then =
+              ap (λ (g : List (Option Page)). is_allocated (record { pages = g; words = first }) b) pages_first
+              ∙ ap (is_allocated (record { pages = pages_then; words = first })) target_is
+              ∙ target_allocated midway whole page index to can place free
 
-          target_block : HeldBlock after first b
-          target_block = held_block after first b target_held_then
+          target_block : AllocatedBlock after first b
+          target_block = allocated_block after first b target_allocated_then
 
           target_size_then : size_of target_block.row.class ≡ size
           target_size_then =
@@ -179,16 +179,16 @@ module _ (rows : List (Option PageRecord)) (words : List ℕ) (t : Store) (is : 
               (subst (λ g. P (record { pages = g; words = words_then })) (sym pages_second) p)
 
           -- word 1 of each block
-          header_then : (x : ℕ) → is_held (joined rows words) x ≡ true → IsHeader (get_or mid (x + 1) 0)
+          header_then : (x : ℕ) → is_allocated (joined rows words) x ≡ true → IsHeader (get_or mid (x + 1) 0)
           header_then x was =
-              let low = (held_place (joined rows words) x are.whole was).size in
+              let low = (allocated_place (joined rows words) x are.whole was).size in
               subst IsHeader (sym (word_kept (pages_in rows words) words mid kept x was 1 (omega (arith, low)))) (are.headers x was)
 
           source_header : IsHeader (get_or first (a + 1) 0)
-          unfolding is_held
+          unfolding is_allocated
           source_header =
               subst IsHeader (sym (ap (λ w. get_or w (a + 1) 0) first_is ∙ get_or-set_other mid a (a + 1) b 0 (omega arith)))
-              (header_then a (ap (is_held midway) from_is ∙ old_held))
+              (header_then a (ap (is_allocated midway) from_is ∙ old_allocated))
 
           target_header : IsHeader (get_or second (b + 1) 0)
           target_header =
@@ -203,21 +203,21 @@ module _ (rows : List (Option PageRecord)) (words : List ℕ) (t : Store) (is : 
               subst (λ (g : List (Option Page)). IsStore (record { pages = g; words = w })) (sym same)
               (still_store pages_then mid w e (received_store midway whole page index to can place free))
 
-          headers_first : (x : ℕ) → is_held (joined after mid) x ≡ true → x ≢ b → IsHeader (get_or first (x + 1) 0)
-          unfolding is_held
-          headers_first x held ne =
-              header_after (pages_in after mid) mid first (store_with mid refl pages_mid) a (size_of source_block.row.class) source_block.size source_held_then forwards source_header x held
-              (λ _. header_then x (sym (ap (λ (g : List (Option Page)). is_held (record { pages = g; words = mid }) x) pages_mid ∙ same_held midway whole page index to can place free x (λ e. ne (e ∙ sym target_is))) ∙ held))
+          headers_first : (x : ℕ) → is_allocated (joined after mid) x ≡ true → x ≢ b → IsHeader (get_or first (x + 1) 0)
+          unfolding is_allocated
+          headers_first x allocated ne =
+              header_after (pages_in after mid) mid first (store_with mid refl pages_mid) a (size_of source_block.row.class) source_block.size source_allocated_then forwards source_header x allocated
+              (λ _. header_then x (sym (ap (λ (g : List (Option Page)). is_allocated (record { pages = g; words = mid }) x) pages_mid ∙ same_allocated midway whole page index to can place free x (λ e. ne (e ∙ sym target_is))) ∙ allocated))
 
-          headers_second : (x : ℕ) → is_held (joined after second) x ≡ true → IsHeader (get_or second (x + 1) 0)
-          unfolding is_held
-          headers_second x held =
-              let held_first : is_held (joined after first) x ≡ true = sym (ap (λ (g : List (Option Page)). is_held (record { pages = g; words = second }) x) (pages_second ∙ sym pages_first)) ∙ held in
-              let held_mid : is_held (joined after mid) x ≡ true = sym (ap (λ (g : List (Option Page)). is_held (record { pages = g; words = first }) x) (pages_first ∙ sym pages_mid)) ∙ held_first in
-              header_after (pages_in after first) first second (store_with first (ap (λ w. length w) first_is ∙ length-set mid a b) pages_first) b (size_of target_block.row.class) target_block.size target_held_then copies target_header x held_first
-              (headers_first x held_mid)
+          headers_second : (x : ℕ) → is_allocated (joined after second) x ≡ true → IsHeader (get_or second (x + 1) 0)
+          unfolding is_allocated
+          headers_second x allocated =
+              let allocated_first : is_allocated (joined after first) x ≡ true = sym (ap (λ (g : List (Option Page)). is_allocated (record { pages = g; words = second }) x) (pages_second ∙ sym pages_first)) ∙ allocated in
+              let allocated_mid : is_allocated (joined after mid) x ≡ true = sym (ap (λ (g : List (Option Page)). is_allocated (record { pages = g; words = first }) x) (pages_first ∙ sym pages_mid)) ∙ allocated_first in
+              header_after (pages_in after first) first second (store_with first (ap (λ w. length w) first_is ∙ length-set mid a b) pages_first) b (size_of target_block.row.class) target_block.size target_allocated_then copies target_header x allocated_first
+              (headers_first x allocated_mid)
 
-          pub moved_nodes : AreNodes after second
+          pub moved_nodes : AreBlockRecords after second
           moved_nodes = record {
             whole = both IsStore (moved_store midway whole page index to can place free);
             together = still_together after first second together_first b target_block copies;
@@ -225,14 +225,14 @@ module _ (rows : List (Option PageRecord)) (words : List ℕ) (t : Store) (is : 
           }
 
           pub moves_by : IfSome (page_at t.pages page) (λ p. MovesBlock t (joined after second) (address_of p.class page index) (address_of p.class to place))
-          unfolding is_held
+          unfolding is_allocated
           moves_by =
               subst (λ (x : Store). IfSome (page_at x.pages page) (λ p. MovesBlock x (joined after second) (address_of p.class page index) (address_of p.class to place))) is
               (subst (λ o. IfSome o (λ p. MovesBlock (joined rows words) (joined after second) (address_of p.class page index) (address_of p.class to place))) (sym can.from)
-              (moves_then (pages_in rows words) words mid kept (joined after second) (address_of can.source.class page index) (address_of can.source.class to place) old_held
+              (moves_then (pages_in rows words) words mid kept (joined after second) (address_of can.source.class page index) (address_of can.source.class to place) old_allocated
               (both (λ x. MovesBlock midway x (address_of can.source.class page index) (address_of can.source.class to place)) (moves midway whole page index to can place free))))
 
-          pub pages_by : IfSome (page_at t.pages to) (λ q. pages_in after second ≡ set t.pages to (Some (record (with_held q place true) { receiving = true })))
+          pub pages_by : IfSome (page_at t.pages to) (λ q. pages_in after second ≡ set t.pages to (Some (record (with_allocated q place true) { is_target = true })))
           pages_by =
-              subst (λ (x : Store). IfSome (page_at x.pages to) (λ q. pages_in after second ≡ set x.pages to (Some (record (with_held q place true) { receiving = true })))) is
-              (subst (λ o. IfSome o (λ q. pages_in after second ≡ set (pages_in rows words) to (Some (record (with_held q place true) { receiving = true })))) (sym can.into) pages_second)
+              subst (λ (x : Store). IfSome (page_at x.pages to) (λ q. pages_in after second ≡ set x.pages to (Some (record (with_allocated q place true) { is_target = true })))) is
+              (subst (λ o. IfSome o (λ q. pages_in after second ≡ set (pages_in rows words) to (Some (record (with_allocated q place true) { is_target = true })))) (sym can.into) pages_second)

@@ -11,8 +11,8 @@ use Rattle.heap_model.specs.State.{HeapState}
 use Rattle.heap_model.specs.Opening.{IsOpening}
 use Rattle.heap_model.specs.Spent.{cycle_limit}
 use Rattle.heap_model.proofs.Stood.{stands_opening}
-use Rattle.nodes.specs.declared.raw_heap.RawHeap.{RawHeap}
-use Rattle.nodes.specs.RawHeap.{state_of, IsRawHeap}
+use Rattle.nodes.specs.declared.heap_fields.HeapFields.{HeapFields}
+use Rattle.nodes.specs.HeapFields.{state_of, AreHeapFields}
 
 no_object_fits : (id : ℕ) → fits (object_of [] id).shape ≡ true
 unfolding object_of
@@ -22,7 +22,7 @@ no_object_fits id = grind arith
 small_limit : (h : HeapState) → length h.store.pages ≤ 4096 → length h.roots ≤ 16640 → h.defrag_pages ≤ 4096 → cycle_limit h < 2 ^ 31
 small_limit h p r d = let z : (h.defrag_pages + CLASSES) * length h.store.pages ≤ (4096 + CLASSES) * length h.store.pages = mul-le-mul_right (length h.store.pages) (omega (arith, d)) in omega (arith, z)
 
-pub opening_heap : (a : RawHeap) → IsOpening (state_of a) → 0 < length a.nodes.pages → length a.nodes.pages ≤ 4096 → length a.roots.cells ≤ 16640 → a.config.defrag_pages ≤ 4096 → length a.grey.buffers ≡ a.roots.limits.mutators → IsRawHeap a
+pub opening_heap : (a : HeapFields) → IsOpening (state_of a) → 0 < length a.nodes.pages → length a.nodes.pages ≤ 4096 → length a.roots.cells ≤ 16640 → a.config.defrag_pages ≤ 4096 → length a.grey.buffers ≡ a.roots.limits.mutators → AreHeapFields a
 opening_heap a o some few row most buffers = record {
   heap = record {
     present = opening a.roots.limits;

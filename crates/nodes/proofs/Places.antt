@@ -1,4 +1,4 @@
--- A held block is a whole block of its page, and two have no word in common.
+-- An allocated block is a whole block of its page, and two have no word in common.
 use Rattle.std.proofs.Common.{◌≡◌, ℕ, ◌+◌, ◌*◌, ◌/◌, ◌%◌, ◌<◌, ◌≤◌, ◌⊎◌, Bool, true, false, eqb, List, Option, Some, None, length, get_or, ap, ◌∙◌, sym, subst, arith, refl, inl, inr}
 use Rattle.std.proofs.lemmas.Bool.{eqb-true, and_parts}
 use Rattle.std.proofs.lemmas.List.{get_or_past}
@@ -6,7 +6,7 @@ use Rattle.std.proofs.lemmas.Option.{slice_get-get_or}
 use Rattle.size_classes.specs.Sizes.{size_of, blocks_in}
 use Rattle.size_classes.proofs.Table.{size_low}
 use Rattle.heap_model.specs.Pages.{Page, IsPage, page_at}
-use Rattle.heap_model.specs.Store.{Store, IsStore, size_in, held_in, size_at, is_held}
+use Rattle.heap_model.specs.Store.{Store, IsStore, size_in, allocated_in, size_at, is_allocated}
 use Rattle.nodes.specs.Place.{IsPlace}
 
 -- a flag that is set is one of the list
@@ -16,20 +16,20 @@ flag_within flags i e = let p = get_or_past flags i false in grind arith
 pub count_in : (size blocks index : ℕ) → blocks ≡ 2048 / size → 4 ≤ size → index < blocks → (index + 1) * size ≤ 2048
 count_in size blocks index e low h = grind arith
 
--- of the page in which a held block lies
-pub record HeldIn (o : Option Page) (offset : ℕ) : Type 0 where
+-- of the page in which an allocated block lies
+pub record AllocatedIn (o : Option Page) (offset : ℕ) : Type 0 where
   pub page : Page
   pub is : o ≡ Some page
   pub whole : offset ≡ (offset / size_of page.class) * size_of page.class
-  pub flag : get_or page.held (offset / size_of page.class) false ≡ true
+  pub flag : get_or page.allocated (offset / size_of page.class) false ≡ true
 
 exact : (n s : ℕ) → n % s ≡ 0 → n ≡ (n / s) * s
 exact n s e = grind arith
 
-pub held_in-page : (o : Option Page) (offset : ℕ) → held_in o offset ≡ true → HeldIn o offset
-held_in-page None offset h = absurd (cc)
-held_in-page (Some p) offset h =
-    let parts = and_parts (eqb (offset % size_of p.class) 0) (get_or p.held (offset / size_of p.class) false) h in
+pub allocated_in-page : (o : Option Page) (offset : ℕ) → allocated_in o offset ≡ true → AllocatedIn o offset
+allocated_in-page None offset h = absurd (cc)
+allocated_in-page (Some p) offset h =
+    let parts = and_parts (eqb (offset % size_of p.class) 0) (get_or p.allocated (offset / size_of p.class) false) h in
     record { page = p; is = refl; whole = exact offset (size_of p.class) (eqb-true (offset % size_of p.class) 0 parts.0); flag = parts.1 }
 
 below_or : (a b : ℕ) → (a < b) ⊎ (b ≤ a)
@@ -41,7 +41,7 @@ page_within pages k p e = elim (below_or k (length pages)) [
   | inr h ↦ let past : page_at pages k ≡ None = get_or_past pages k None h in absurd (cc)
 ]
 
--- the page of a held block is one
+-- the page of an allocated block is one
 pub page_is : (s : Store) (address : ℕ) (p : Page) → IsStore s → page_at s.pages (address / 2048) ≡ Some p → IsPage p
 page_is s address p whole e =
     let h : address / 2048 < length s.pages = page_within s.pages (address / 2048) p e in
@@ -50,14 +50,14 @@ page_is s address p whole e =
 pub placed : (address k offset s : ℕ) → k ≡ address / 2048 → offset ≡ address % 2048 → offset ≡ (offset / s) * s → address ≡ 2048 * k + (offset / s) * s
 placed address k offset s ek eo e = omega (arith, e)
 
-pub held_place : (s : Store) (address : ℕ) → IsStore s → is_held s address ≡ true → IsPlace s address
-unfolding is_held size_at blocks_in
-held_place s address whole h =
-    let f = held_in-page (page_at s.pages (address / 2048)) (address % 2048) h in
+pub allocated_place : (s : Store) (address : ℕ) → IsStore s → is_allocated s address ≡ true → IsPlace s address
+unfolding is_allocated size_at blocks_in
+allocated_place s address whole h =
+    let f = allocated_in-page (page_at s.pages (address / 2048)) (address % 2048) h in
     let p = page_is s address f.page whole f.is in
     let size : size_in (page_at s.pages (address / 2048)) ≡ size_of f.page.class = ap size_in f.is in
     let i = (address % 2048) / size_of f.page.class in
-    let below : i < length f.page.held = flag_within f.page.held i f.flag in
+    let below : i < length f.page.allocated = flag_within f.page.allocated i f.flag in
     let low : 4 ≤ size_of f.page.class = size_low f.page.class p.class in
     let count : i < 2048 / size_of f.page.class = subst (λ n. i < n) p.blocks below in
     record {
@@ -68,8 +68,8 @@ held_place s address whole h =
       whole = subst (λ n. (i + 1) * n ≤ 2048) (sym size) (count_in (size_of f.page.class) (2048 / size_of f.page.class) i refl low count);
     }
 
-pub inside : (s : Store) (address : ℕ) → IsStore s → is_held s address ≡ true → address + size_at s address ≤ length s.words
-inside s address whole h = let b = held_place s address whole h in omega (arith, b.place, b.whole, b.page, whole.words)
+pub inside : (s : Store) (address : ℕ) → IsStore s → is_allocated s address ≡ true → address + size_at s address ≤ length s.words
+inside s address whole h = let b = allocated_place s address whole h in omega (arith, b.place, b.whole, b.page, whole.words)
 
 -- places of one page
 steps : (i j s : ℕ) → i < j → (i + 1) * s ≤ j * s

@@ -4,67 +4,67 @@ use Rattle.std.specs.Prelude.{slice_get, IfSome, IsSomeAnd}
 use Rattle.heap_model.specs.declared.phase.Phase.TheVariants as phases
 use Rattle.heap_model.specs.Action.{Action, Chain, Nothing_done, Then, Frees, Relinks, Frees_block, Passes_block, goes_to}
 use Rattle.heap_model.specs.Header.{header_in}
-use Rattle.heap_model.specs.Pages.{Page, page_at, with_held}
+use Rattle.heap_model.specs.Pages.{Page, page_at, with_allocated}
 use Rattle.heap_model.specs.State.{HeapState, seen, same_colour}
-use Rattle.heap_model.specs.Store.{Store, IsStore, is_held, node_of, address_of}
+use Rattle.heap_model.specs.Store.{Store, IsStore, is_allocated, record_of, address_of}
 use Rattle.heap_model.proofs.Seen.{behind}
 use Rattle.pages.specs.Sweeping.{has_colour, LooksAt, It_stays, It_goes, Looks, No_look, Then_one}
-use Rattle.pages.specs.Together.{KeepsHeld}
+use Rattle.pages.specs.Together.{KeepsAllocated}
 use Rattle.nodes.specs.Joined.{IsHeader}
 use Rattle.nodes.specs.Sweeping.{Sweeps}
-use Rattle.nodes.proofs.Freeing.{held_at, frees_by, freed_store_by, freed_headers}
+use Rattle.nodes.proofs.Freeing.{allocated_at, frees_by, freed_store_by, freed_headers}
 use Rattle.nodes.proofs.Writing.{colour_is}
 
--- pages and words are a store, and word 1 of each held block is a header
+-- pages and words are a store, and word 1 of each allocated block is a header
 pub record IsSound (s : Store) : Type 0 where
   pub whole : IsStore s
-  pub headers : (b : ℕ) → is_held s b ≡ true → IsHeader (get_or s.words (b + 1) 0)
+  pub headers : (b : ℕ) → is_allocated s b ≡ true → IsHeader (get_or s.words (b + 1) 0)
 
--- a held block is marked where its header has the colour
-marked_by : (h : HeapState) (s : Store) (colour : Bool) → h.sense ≡ colour → IsStore s → (page block : ℕ) (p : Page) → page_at s.pages page ≡ Some p → slice_get p.held block ≡ Some true
+-- an allocated block is marked where its header has the colour
+marked_by : (h : HeapState) (s : Store) (colour : Bool) → h.mark_parity ≡ colour → IsStore s → (page block : ℕ) (p : Page) → page_at s.pages page ≡ Some p → slice_get p.allocated block ≡ Some true
     → (seen (record h { store = s })).marked (address_of p.class page block + 1) ≡ has_colour s.words colour (address_of p.class page block)
-marked_by h s colour es whole page block p there held =
+marked_by h s colour es whole page block p there allocated =
     let a = address_of p.class page block in
-    behind true (λ z. same_colour h.sense (node_of s z).colour) a
-    ∙ ap (same_colour h.sense) (sym (colour_is s whole a (held_at s whole page block p there held)))
+    behind true (λ z. same_colour h.mark_parity (record_of s z).colour) a
+    ∙ ap (same_colour h.mark_parity) (sym (colour_is s whole a (allocated_at s whole page block p there allocated)))
     ∙ ap (λ c. same_colour c (header_in (get_or s.words (a + 1) 0)).colour) es
 
-module _ (s new : Store) (page block : ℕ) (p : Page) (there : page_at s.pages page ≡ Some p) (held : slice_get p.held block ≡ Some true) (pages : new.pages ≡ set s.pages page (Some (with_held p block false))) (kept : KeepsHeld new.pages s.words new.words) (sound : IsSound s) where
-  held_there : IsSomeAnd (page_at s.pages page) (λ q. slice_get q.held block ≡ Some true)
-  held_there = subst (λ o. IsSomeAnd o (λ q. slice_get q.held block ≡ Some true)) (sym there) held
+module _ (s new : Store) (page block : ℕ) (p : Page) (there : page_at s.pages page ≡ Some p) (allocated : slice_get p.allocated block ≡ Some true) (pages : new.pages ≡ set s.pages page (Some (with_allocated p block false))) (kept : KeepsAllocated new.pages s.words new.words) (sound : IsSound s) where
+  allocated_there : IsSomeAnd (page_at s.pages page) (λ q. slice_get q.allocated block ≡ Some true)
+  allocated_there = subst (λ o. IsSomeAnd o (λ q. slice_get q.allocated block ≡ Some true)) (sym there) allocated
 
-  given : IfSome (page_at s.pages page) (λ q. new.pages ≡ set s.pages page (Some (with_held q block false)))
-  given = subst (λ o. IfSome o (λ q. new.pages ≡ set s.pages page (Some (with_held q block false)))) (sym there) pages
+  given : IfSome (page_at s.pages page) (λ q. new.pages ≡ set s.pages page (Some (with_allocated q block false)))
+  given = subst (λ o. IfSome o (λ q. new.pages ≡ set s.pages page (Some (with_allocated q block false)))) (sym there) pages
 
   freed : Frees s new (address_of p.class page block)
-  freed = subst (λ o. IfSome o (λ q. Frees s new (address_of q.class page block))) there (frees_by s s refl sound.whole page block new.pages new.words kept held_there given)
+  freed = subst (λ o. IfSome o (λ q. Frees s new (address_of q.class page block))) there (frees_by s s refl sound.whole page block new.pages new.words kept allocated_there given)
 
   freed_sound : IsSound new
   freed_sound = record {
-    whole = freed_store_by s s refl sound.whole page block new.pages new.words kept held_there given;
-    headers = freed_headers s s refl sound.whole page block new.pages new.words kept held_there given sound.headers;
+    whole = freed_store_by s s refl sound.whole page block new.pages new.words kept allocated_there given;
+    headers = freed_headers s s refl sound.whole page block new.pages new.words kept allocated_there given sound.headers;
   }
 
 look_sound : (colour : Bool) (page block : ℕ) (s after : Store) → LooksAt colour page block s after → IsSound s → IsSound after
 look_sound colour page block s after (It_stays p there below stays) sound = sound
-look_sound colour page block s after (It_goes p new there held goes pages kept) sound = freed_sound s new page block p there held pages kept sound
+look_sound colour page block s after (It_goes p new there allocated goes pages kept) sound = freed_sound s new page block p there allocated pages kept sound
 
 looks_sound : (colour : Bool) (page from : ℕ) (s : Store) (count : ℕ) (after : Store) → Looks colour page from s count after → IsSound s → IsSound after
 looks_sound colour page from s count after No_look sound = sound
 looks_sound colour page from s count after (Then_one n mid new looks look) sound = look_sound colour page (from + n) mid new look (looks_sound colour page from s n mid looks sound)
 
 -- a look is an action
-look_acts : (h : HeapState) (colour : Bool) → h.sense ≡ colour → (page block : ℕ) → h.phase ≡ phases.Sweeping page block → (s after : Store) → LooksAt colour page block s after → IsSound s
+look_acts : (h : HeapState) (colour : Bool) → h.mark_parity ≡ colour → (page block : ℕ) → h.phase ≡ phases.Sweeping page block → (s after : Store) → LooksAt colour page block s after → IsSound s
     → Action (record h { store = s }) 1 (goes_to (record h { store = after }) 1 (phases.Sweeping page (block + 1)))
 look_acts h colour es page block ep s after (It_stays p there below stays) sound = Passes_block page block p ep there below (λ t. marked_by h s colour es sound.whole page block p there t ∙ stays t)
-look_acts h colour es page block ep s after (It_goes p new there held goes pages kept) sound =
-    Frees_block page block p new ep there held (marked_by h s colour es sound.whole page block p there held ∙ goes) (freed s new page block p there held pages kept sound) pages
+look_acts h colour es page block ep s after (It_goes p new there allocated goes pages kept) sound =
+    Frees_block page block p new ep there allocated (marked_by h s colour es sound.whole page block p there allocated ∙ goes) (freed s new page block p there allocated pages kept sound) pages
 
 still : (s : Store) → Relinks s s
-still s = record { blocks = record { held = λ b. refl; nodes = λ b e. refl }; pages = refl }
+still s = record { blocks = record { allocated = λ b. refl; nodes = λ b e. refl }; pages = refl }
 
 -- and looks are a chain
-looks_chain : (h : HeapState) (colour : Bool) → h.sense ≡ colour → (page from : ℕ) → h.phase ≡ phases.Sweeping page from → (s : Store) (count : ℕ) (after : Store) → Looks colour page from s count after → IsSound s
+looks_chain : (h : HeapState) (colour : Bool) → h.mark_parity ≡ colour → (page from : ℕ) → h.phase ≡ phases.Sweeping page from → (s : Store) (count : ℕ) (after : Store) → Looks colour page from s count after → IsSound s
     → Chain (record h { store = s }) count (goes_to (record h { store = after }) count (phases.Sweeping page (from + count)))
 looks_chain h colour es page from ep s count after No_look sound =
     subst (λ p. Chain (record h { store = s }) 0 (record h { store = s; phase = p; units = h.units + 0 })) (ep ∙ ap (phases.Sweeping page) (let e : from ≡ from + 0 = omega arith in e))
@@ -77,7 +77,7 @@ looks_chain h colour es page from ep s count after (Then_one n mid new looks loo
     (Then n 1 j (goes_to (record j { store = new }) 1 (phases.Sweeping page (from + n + 1))) mid (looks_chain h colour es page from ep s n mid looks sound) (still mid) last))
 
 -- the same, of a value t as which the fields s are seen
-module _ (s t new : Store) (is : s ≡ t) (whole : IsStore s) (headers : (b : ℕ) → is_held s b ≡ true → IsHeader (get_or s.words (b + 1) 0)) (colour : Bool) (page from n : ℕ) (looks : Looks colour page from s n new) where
+module _ (s t new : Store) (is : s ≡ t) (whole : IsStore s) (headers : (b : ℕ) → is_allocated s b ≡ true → IsHeader (get_or s.words (b + 1) 0)) (colour : Bool) (page from n : ℕ) (looks : Looks colour page from s n new) where
   sound : IsSound s
   sound = record { whole = whole; headers = headers }
 

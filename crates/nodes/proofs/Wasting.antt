@@ -4,9 +4,9 @@ use Rattle.std.specs.Prelude.{IfSome, IsSomeAnd, slice_get}
 use Rattle.std.proofs.lemmas.Option.{slice_get-get_or, get_or_from_slice_get}
 use Rattle.size_classes.specs.Sizes.{size_of, blocks_in}
 use Rattle.size_classes.specs.Parts.{cells_of, run_of}
-use Rattle.heap_model.specs.Block.{Node}
+use Rattle.heap_model.specs.Block.{BlockRecord}
 use Rattle.heap_model.specs.Pages.{Page, page_at}
-use Rattle.heap_model.specs.Store.{Store, node_of, address_of}
+use Rattle.heap_model.specs.Store.{Store, record_of, address_of}
 use Rattle.heap_model.specs.Units.{total}
 use Rattle.pages.specs.View.{view_of}
 use Rattle.pages.specs.declared.view.PageView.{PageView}
@@ -20,7 +20,7 @@ unfolding total
 total_next f n = rw add-one refl
 
 -- by the cells, the part and the run that the code knows
-pub words_by : (n : Node) (cells part count : ℕ) → cells ≡ cells_of n.shape → part ≡ n.part → count ≡ (run_of cells part).count → count + 4 ≡ words_in n
+pub words_by : (n : BlockRecord) (cells part count : ℕ) → cells ≡ cells_of n.shape → part ≡ n.part → count ≡ (run_of cells part).count → count + 4 ≡ words_in n
 words_by n cells part count ec ep e = ap (λ m. m + 4) (e ∙ ap (λ m. (run_of m part).count) ec ∙ ap (λ q. (run_of (cells_of n.shape) q).count) ep)
 
 -- a page of which something can be seen is in use, and has the class that is seen
@@ -49,20 +49,20 @@ module _ (s : Store) (k : ℕ) where
   none_wasted None = tt
   none_wasted (Some p) = refl
 
-  -- inside a held block, and a free one
-  pub held_wasted : (i block size w : ℕ) (o : Option Page) (v : PageView) → Some v ≡ view_of o → size ≡ size_of v.class
-      → IsSomeAnd o (λ p. slice_get p.held i ≡ Some true) → IfSome o (λ p. block ≡ address_of p.class k i) → w ≡ size - words_in (node_of s block) → IfSome o (λ p. w ≡ wasted_in s k p i)
-  held_wasted i block size w None v told z held at e = tt
-  held_wasted i block size w (Some p) v told z held at e =
-      e ∙ ap (λ n. n - words_in (node_of s block)) (z ∙ ap size_of (sym (told_class (Some p) v told)))
-      ∙ ap (λ b. size_of p.class - words_in (node_of s b)) at
-      ∙ ap (λ (f : Bool). if f then size_of p.class - words_in (node_of s (address_of p.class k i)) else 0) (sym (get_or_from_slice_get p.held i true false held))
+  -- inside an allocated block, and a free one
+  pub allocated_wasted : (i block size w : ℕ) (o : Option Page) (v : PageView) → Some v ≡ view_of o → size ≡ size_of v.class
+      → IsSomeAnd o (λ p. slice_get p.allocated i ≡ Some true) → IfSome o (λ p. block ≡ address_of p.class k i) → w ≡ size - words_in (record_of s block) → IfSome o (λ p. w ≡ wasted_in s k p i)
+  allocated_wasted i block size w None v told z allocated at e = tt
+  allocated_wasted i block size w (Some p) v told z allocated at e =
+      e ∙ ap (λ n. n - words_in (record_of s block)) (z ∙ ap size_of (sym (told_class (Some p) v told)))
+      ∙ ap (λ b. size_of p.class - words_in (record_of s b)) at
+      ∙ ap (λ (f : Bool). if f then size_of p.class - words_in (record_of s (address_of p.class k i)) else 0) (sym (get_or_from_slice_get p.allocated i true false allocated))
 
-  pub free_wasted : (i : ℕ) (o : Option Page) → (IsSomeAnd o (λ p. slice_get p.held i ≡ Some true) → ⊥) → IfSome o (λ p. 0 ≡ wasted_in s k p i)
+  pub free_wasted : (i : ℕ) (o : Option Page) → (IsSomeAnd o (λ p. slice_get p.allocated i ≡ Some true) → ⊥) → IfSome o (λ p. 0 ≡ wasted_in s k p i)
   free_wasted i None never = tt
   free_wasted i (Some p) never =
-      let free : get_or p.held i false ≡ false = not_true (get_or p.held i false) (λ h. never (slice_get-get_or p.held i false (flag_within p.held i h) ∙ ap Some h)) in
-      sym (ap (λ (f : Bool). if f then size_of p.class - words_in (node_of s (address_of p.class k i)) else 0) free)
+      let free : get_or p.allocated i false ≡ false = not_true (get_or p.allocated i false) (λ h. never (slice_get-get_or p.allocated i false (flag_within p.allocated i h) ∙ ap Some h)) in
+      sym (ap (λ (f : Bool). if f then size_of p.class - words_in (record_of s (address_of p.class k i)) else 0) free)
 
   -- with the next block
   pub more_wasted : (i was now w : ℕ) (o : Option Page) → IfSome o (λ p. was ≡ total (wasted_in s k p) i) → now ≡ was + w → IfSome o (λ p. w ≡ wasted_in s k p i)

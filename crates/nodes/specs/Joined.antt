@@ -1,7 +1,7 @@
 -- The table and the words together, as a store.
 use Rattle.std.specs.Prelude.{◌≡◌, ℕ, ◌+◌, true, List, Option, slice_index}
 use Rattle.heap_model.specs.Header.{header_in, header_word}
-use Rattle.heap_model.specs.Store.{IsStore, is_held}
+use Rattle.heap_model.specs.Store.{IsStore, is_allocated}
 use Rattle.pages.specs.declared.page.PageRecord.{PageRecord}
 use Rattle.pages.specs.Together.{joined, Together}
 
@@ -9,8 +9,8 @@ use Rattle.pages.specs.Together.{joined, Together}
 abbrev pub IsHeader : ℕ → Type 0
 IsHeader word = header_word (header_in word) ≡ word
 
--- they are a store, and go together, and word 1 of each held block is a header
-pub record AreNodes (rows : List (Option PageRecord)) (words : List ℕ) : Type 0 where
+-- they are a store, and go together, and word 1 of each allocated block is a header
+pub record AreBlockRecords (rows : List (Option PageRecord)) (words : List ℕ) : Type 0 where
   pub whole : IsStore (joined rows words)
   pub together : Together rows words
-  pub headers : (b : ℕ) → is_held (joined rows words) b ≡ true → IsHeader (slice_index words (b + 1))
+  pub headers : (b : ℕ) → is_allocated (joined rows words) b ≡ true → IsHeader (slice_index words (b + 1))

@@ -9,5 +9,5 @@ pub mod Copies
 pub mod Wasted
 pub mod Acting
 pub mod Grey
-pub mod RawHeap
-pub mod GreyHeld
+pub mod HeapFields
+pub mod GreyAllocated

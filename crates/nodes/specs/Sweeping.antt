@@ -9,5 +9,5 @@ use Rattle.heap_model.specs.Store.{Store}
 -- actions of the collector lead to the heap with the other store, at the block as many further on.
 abbrev pub Sweeps : Store → Store → Bool → ℕ → ℕ → ℕ → Type 0
 Sweeps old new colour page block count =
-    (h : HeapState) → h.store ≡ old → h.sense ≡ colour → h.phase ≡ phases.Sweeping page block
+    (h : HeapState) → h.store ≡ old → h.mark_parity ≡ colour → h.phase ≡ phases.Sweeping page block
     → Chain h count (goes_to (record h { store = new }) count (phases.Sweeping page (block + count)))

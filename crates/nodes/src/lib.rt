@@ -3,11 +3,11 @@
 //! and what they stand for.
 #![tactic(auto)]
 
+pub mod block_store;
 pub mod grey;
-pub mod nodes;
-pub mod raw_heap;
+pub mod heap_fields;
 
+pub use block_store::counting::Copies;
+pub use block_store::{BlockStore, Referent};
 pub use grey::Grey;
-pub use nodes::counting::Copies;
-pub use nodes::{Nodes, Referent};
-pub use raw_heap::RawHeap;
+pub use heap_fields::HeapFields;

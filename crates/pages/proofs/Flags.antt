@@ -25,12 +25,12 @@ count_less flags i h =
 
 -- a flag is taken away and set again
 pub there_back : (flags : List Bool) (i : ℕ) → slice_get flags i ≡ Some true → set (set flags i false) i true ≡ flags
-there_back flags i held = set-set flags i false true ∙ ap (set flags i) (sym (get_or_from_slice_get flags i true true held)) ∙ set-get_or flags i true
+there_back flags i allocated = set-set flags i false true ∙ ap (set flags i) (sym (get_or_from_slice_get flags i true true allocated)) ∙ set-get_or flags i true
 
 -- it is false in between
 pub open_then : (flags : List Bool) (i : ℕ) → slice_get flags i ≡ Some true → slice_get (set flags i false) i ≡ Some false
-open_then flags i held =
-    let below : i < length flags = slice_get_within flags i true held in
+open_then flags i allocated =
+    let below : i < length flags = slice_get_within flags i true allocated in
     slice_get-get_or (set flags i false) i false (subst (λ n. i < n) (sym (length-set flags i false)) below) ∙ ap Some (get_or-set_same flags i false false below)
 
 -- ---- the flags

@@ -5,14 +5,14 @@ use Rattle.std.specs.Option.{option_copied_mut}
 use Rattle.std.proofs.lemmas.List.{get_or_read}
 use Rattle.size_classes.specs.declared.class.TheConstants.{CLASSES}
 use Rattle.size_classes.specs.Sizes.{size_of, blocks_in}
-use Rattle.heap_model.specs.Pages.{page_at, page_of_class, with_held, IsOpen}
+use Rattle.heap_model.specs.Pages.{page_at, page_of_class, with_allocated, IsOpen}
 use Rattle.heap_model.specs.Store.{address_of}
 use Rattle.pages.specs.declared.bits.BitRow.{BitRow}
 use Rattle.pages.specs.declared.page.PageRecord.{PageRecord}
 use Rattle.pages.specs.BitRow.{has_bit}
 use Rattle.pages.specs.FreeList.{flags_of, index_on, IsFreeList, SameOutside}
 use Rattle.pages.specs.Index.{row_at, HasFree, IsIndex}
-use Rattle.pages.specs.Together.{pages_in, Together, KeepsHeld}
+use Rattle.pages.specs.Together.{pages_in, Together, KeepsAllocated}
 use Rattle.pages.proofs.Indexing.{taken_last, taken_one, some_had}
 use Rattle.pages.proofs.Telling.{together_by, taken_by, open_by}
 use Rattle.pages.proofs.Writing.{popped_outside, popped_keeps}
@@ -47,7 +47,7 @@ module _ (rows pages : List (Option PageRecord)) (seen : rows ≡ pages) (usable
         (subst (λ n. IsIndex (set rows page (Some row)) (u n) free (set free_blocks n (f (get_or free_blocks old.class 0))) free_pages) (sym number_is) i)
 
   -- ---- a block is taken
-  module _ (class : ℕ) (has : HasFree class (row_at pages page)) (row_is : row ≡ record old { first = row.first; held = old.held + 1 }) where
+  module _ (class : ℕ) (has : HasFree class (row_at pages page)) (row_is : row ≡ record old { first = row.first; allocated = old.allocated + 1 }) where
     has_free : HasFree class (Some old)
     has_free = subst (HasFree class) there has
 
@@ -57,11 +57,11 @@ module _ (rows pages : List (Option PageRecord)) (seen : rows ≡ pages) (usable
     same : row.class ≡ old.class
     same = ap (λ (r : PageRecord). r.class) row_is
 
-    stays : row.leaving ≡ old.leaving
-    stays = ap (λ (r : PageRecord). r.leaving) row_is
+    stays : row.evacuating ≡ old.evacuating
+    stays = ap (λ (r : PageRecord). r.evacuating) row_is
 
-    more : row.held ≡ old.held + 1
-    more = ap (λ (r : PageRecord). r.held) row_is
+    more : row.allocated ≡ old.allocated + 1
+    more = ap (λ (r : PageRecord). r.allocated) row_is
 
     module _ (number : ℕ) (number_is : number ≡ class) (had : ℕ) (had_is : had ≡ get_or free_blocks number had) where
       pub had_some : 1 ≤ had
@@ -71,37 +71,37 @@ module _ (rows pages : List (Option PageRecord)) (seen : rows ≡ pages) (usable
         full_is : blocks ≡ blocks_in old.class
         full_is = blocks_is ∙ ap blocks_in (sym class_is)
 
-        pub last_taken : row.held ≡ blocks → (one new : BitRow) → one ≡ get_or usable number one → has_bit new page ≡ 0 → ((i : ℕ) → i < 4096 → i ≢ page → has_bit new i ≡ has_bit one i)
+        pub last_taken : row.allocated ≡ blocks → (one new : BitRow) → one ≡ get_or usable number one → has_bit new page ≡ 0 → ((i : ℕ) → i < 4096 → i ≢ page → has_bit new i ≡ has_bit one i)
             → IsIndex (set rows page (Some row)) (set usable number new) free (set free_blocks number (had - 1)) free_pages
         last_taken full one new read here others =
             through number (number_is ∙ sym class_is) had had_is (λ n. set usable n new) (λ h. h - 1)
             (taken_last rows usable free free_blocks free_pages b page old row inside lent_is same known has_free.1 stays more has_free.2 (full ∙ full_is) one new
             (read ∙ ap (λ n. get_or usable n one) (number_is ∙ sym class_is)) here others)
 
-        pub one_taken : row.held ≢ blocks → IsIndex (set rows page (Some row)) usable free (set free_blocks number (had - 1)) free_pages
+        pub one_taken : row.allocated ≢ blocks → IsIndex (set rows page (Some row)) usable free (set free_blocks number (had - 1)) free_pages
         one_taken left =
             through number (number_is ∙ sym class_is) had had_is (λ _. usable) (λ h. h - 1)
             (taken_one rows usable free free_blocks free_pages b page old row inside lent_is same known has_free.1 stays more has_free.2 (λ e. left (e ∙ sym full_is)))
 
     module _ (block : ℕ) (place : block ≡ 2048 * page + index_on old.class page block * size_of old.class) (was_free : slice_get (flags_of words (2048 * page) old.class) (index_on old.class page block) ≡ Some false)
-        (flags : flags_of new (2048 * page) old.class ≡ set (flags_of words (2048 * page) old.class) (index_on old.class page block) true) (chain : IsFreeList new (2048 * page) old.class row.first (old.held + 1)) (is : new ≡ set words block block) where
+        (flags : flags_of new (2048 * page) old.class ≡ set (flags_of words (2048 * page) old.class) (index_on old.class page block) true) (chain : IsFreeList new (2048 * page) old.class row.first (old.allocated + 1)) (is : new ≡ set words block block) where
       outside : SameOutside words new (2048 * page)
       outside = popped_outside pages words new together.classes page old there block place was_free is
 
-      -- the page's list runs through its other free blocks, the block was free and is held, and held blocks keep their words
+      -- the page's list runs through its other free blocks, the block was free and is allocated, and allocated blocks keep their words
       pub taken : record {
         together : Together (set rows page (Some row)) new;
         place : block ≡ address_of class page (index_on class page block);
         free : IsOpen (page_of_class class (page_at (pages_in pages words) page)) (index_on class page block);
-        held : pages_in (set rows page (Some row)) new ≡ set (pages_in pages words) page (Some (with_held (page_of_class class (page_at (pages_in pages words) page)) (index_on class page block) true));
-        words : KeepsHeld (pages_in pages words) words new;
+        allocated : pages_in (set rows page (Some row)) new ≡ set (pages_in pages words) page (Some (with_allocated (page_of_class class (page_at (pages_in pages words) page)) (index_on class page block) true));
+        words : KeepsAllocated (pages_in pages words) words new;
       }
       taken = record {
-        together = together_by pages words new together page below old row there (old.held + 1) old.receiving row_is chain outside (set rows page (Some row)) after (index_on old.class page block) true flags;
+        together = together_by pages words new together page below old row there (old.allocated + 1) old.is_target row_is chain outside (set rows page (Some row)) after (index_on old.class page block) true flags;
         place = subst (λ k. block ≡ address_of k page (index_on k page block)) class_is place;
-        free = ap (λ k. slice_get (page_of_class class (page_at (pages_in pages words) page)).held (index_on k page block)) (sym class_is) ∙ open_by pages words page old (index_on old.class page block) class below there was_free;
-        held =
-            taken_by pages words new together page below old row there (old.held + 1) old.receiving row_is chain outside (set rows page (Some row)) after (index_on old.class page block) true flags refl class
-            ∙ ap (λ k. set (pages_in pages words) page (Some (with_held (page_of_class class (page_at (pages_in pages words) page)) (index_on k page block) true))) class_is;
+        free = ap (λ k. slice_get (page_of_class class (page_at (pages_in pages words) page)).allocated (index_on k page block)) (sym class_is) ∙ open_by pages words page old (index_on old.class page block) class below there was_free;
+        allocated =
+            taken_by pages words new together page below old row there (old.allocated + 1) old.is_target row_is chain outside (set rows page (Some row)) after (index_on old.class page block) true flags refl class
+            ∙ ap (λ k. set (pages_in pages words) page (Some (with_allocated (page_of_class class (page_at (pages_in pages words) page)) (index_on k page block) true))) class_is;
         words = popped_keeps pages words new together.classes page old there block place was_free is;
       }

@@ -15,11 +15,11 @@ use Rattle.pages.proofs.Threading.{blocks_most}
 -- a page of a class counts for no other
 not_usable : (class other : ℕ) (o : Option PageRecord) → OfClass class o → other ≢ class → row_usable other o ≡ false
 not_usable class other None is ne = refl
-not_usable class other (Some r) is ne = ap (λ b. b && (not r.leaving && ltb r.held (blocks_in r.class))) (ne_eqb r.class other (λ e. ne (sym e ∙ is)))
+not_usable class other (Some r) is ne = ap (λ b. b && (not r.evacuating && ltb r.allocated (blocks_in r.class))) (ne_eqb r.class other (λ e. ne (sym e ∙ is)))
 
 not_counted : (class other : ℕ) (o : Option PageRecord) → OfClass class o → other ≢ class → row_free_on other o ≡ 0
 not_counted class other None is ne = refl
-not_counted class other (Some r) is ne = ap (λ b. cond (b && not r.leaving) (blocks_in r.class - r.held) 0) (ne_eqb r.class other (λ e. ne (sym e ∙ is)))
+not_counted class other (Some r) is ne = ap (λ b. cond (b && not r.evacuating) (blocks_in r.class - r.allocated) 0) (ne_eqb r.class other (λ e. ne (sym e ∙ is)))
 
 cond_few : (b : Bool) (n m : ℕ) → n ≤ m → cond b n 0 ≤ m
 cond_few true n m h = h
@@ -28,8 +28,8 @@ cond_few false n m h = omega arith
 row_few : (class : ℕ) → class < CLASSES → (o : Option PageRecord) → row_free_on class o ≤ 512
 row_few class known None = omega arith
 row_few class known (Some r) = elim (cases_eq r.class class) [
-  | inl e ↦ cond_few (eqb r.class class && not r.leaving) (blocks_in r.class - r.held) 512 (let f = blocks_most class known in let g = ap blocks_in e in omega (arith, f, g))
-  | inr ne ↦ (let f = ap (λ b. cond (b && not r.leaving) (blocks_in r.class - r.held) 0) (ne_eqb r.class class ne) in omega (arith, f))
+  | inl e ↦ cond_few (eqb r.class class && not r.evacuating) (blocks_in r.class - r.allocated) 512 (let f = blocks_most class known in let g = ap blocks_in e in omega (arith, f, g))
+  | inr ne ↦ (let f = ap (λ b. cond (b && not r.evacuating) (blocks_in r.class - r.allocated) 0) (ne_eqb r.class class ne) in omega (arith, f))
 ]
 
 pub rows_few : (class : ℕ) → class < CLASSES → (rows : List (Option PageRecord)) → sum_by (row_free_on class) rows ≤ 512 * length rows
@@ -173,17 +173,17 @@ module _ (rows : List (Option PageRecord)) (pages : List (Option PageRecord)) (s
       m (ap (λ c. m + bit c) (sym (none_free old gone gone_is ∙ ap row_free old_is)) ∙ counted ∙ ap (λ c. free_pages + bit c) (none_free row off off_is)))
 
 -- a page is usable exactly where it has a free block that counts
-some_left : (known stays : Bool) (blocks held : ℕ) → ltb 0 (cond (known && stays) (blocks - held) 0) ≡ (known && (stays && ltb held blocks))
-some_left true true blocks held = elim (cases_lt held blocks) [
-  | inl l ↦ lt-ltb 0 (blocks - held) (omega (arith, l)) ∙ sym (lt-ltb held blocks l)
-  | inr l ↦ le-ltb 0 (blocks - held) (omega (arith, l)) ∙ sym (le-ltb held blocks l)
+some_left : (known stays : Bool) (blocks allocated : ℕ) → ltb 0 (cond (known && stays) (blocks - allocated) 0) ≡ (known && (stays && ltb allocated blocks))
+some_left true true blocks allocated = elim (cases_lt allocated blocks) [
+  | inl l ↦ lt-ltb 0 (blocks - allocated) (omega (arith, l)) ∙ sym (lt-ltb allocated blocks l)
+  | inr l ↦ le-ltb 0 (blocks - allocated) (omega (arith, l)) ∙ sym (le-ltb allocated blocks l)
 ]
-some_left true false blocks held = refl
-some_left false stays blocks held = refl
+some_left true false blocks allocated = refl
+some_left false stays blocks allocated = refl
 
 usable_some : (class : ℕ) (o : Option PageRecord) → ltb 0 (row_free_on class o) ≡ row_usable class o
 usable_some class None = refl
-usable_some class (Some r) = some_left (eqb r.class class) (not r.leaving) (blocks_in r.class) r.held
+usable_some class (Some r) = some_left (eqb r.class class) (not r.evacuating) (blocks_in r.class) r.allocated
 
 -- a page in use
 used_class : (class : ℕ) (o : Option PageRecord) → IsSomeAnd o (λ r. r.class ≡ class) → OfClass class o
@@ -235,17 +235,17 @@ module _ (rows : List (Option PageRecord)) (pages : List (Option PageRecord)) (s
         (b.free_bits page inside ∙ ap (λ o. bit (row_free o)) there_is ∙ ap bit (used_kept class old old_of)) (used_some class row is_of) (λ i _ _. refl) (used_some class old old_of) refl
 
 -- the free blocks of a page of a class, and its bit, by its marks
-free_plain : (r : PageRecord) → r.leaving ≡ false → row_free_on r.class (Some r) ≡ blocks_in r.class - r.held
-free_plain r plain = ap (λ b. cond (b && not r.leaving) (blocks_in r.class - r.held) 0) (eq-eqb r.class r.class refl) ∙ ap (λ b. cond (not b) (blocks_in r.class - r.held) 0) plain
+free_plain : (r : PageRecord) → r.evacuating ≡ false → row_free_on r.class (Some r) ≡ blocks_in r.class - r.allocated
+free_plain r plain = ap (λ b. cond (b && not r.evacuating) (blocks_in r.class - r.allocated) 0) (eq-eqb r.class r.class refl) ∙ ap (λ b. cond (not b) (blocks_in r.class - r.allocated) 0) plain
 
-free_leaving : (r : PageRecord) → r.leaving ≡ true → row_free_on r.class (Some r) ≡ 0
-free_leaving r leaving = ap (λ b. cond (b && not r.leaving) (blocks_in r.class - r.held) 0) (eq-eqb r.class r.class refl) ∙ ap (λ b. cond (not b) (blocks_in r.class - r.held) 0) leaving
+free_evacuating : (r : PageRecord) → r.evacuating ≡ true → row_free_on r.class (Some r) ≡ 0
+free_evacuating r evacuating = ap (λ b. cond (b && not r.evacuating) (blocks_in r.class - r.allocated) 0) (eq-eqb r.class r.class refl) ∙ ap (λ b. cond (not b) (blocks_in r.class - r.allocated) 0) evacuating
 
-usable_plain : (r : PageRecord) → r.leaving ≡ false → row_usable r.class (Some r) ≡ ltb r.held (blocks_in r.class)
-usable_plain r plain = ap (λ b. b && (not r.leaving && ltb r.held (blocks_in r.class))) (eq-eqb r.class r.class refl) ∙ ap (λ b. not b && ltb r.held (blocks_in r.class)) plain
+usable_plain : (r : PageRecord) → r.evacuating ≡ false → row_usable r.class (Some r) ≡ ltb r.allocated (blocks_in r.class)
+usable_plain r plain = ap (λ b. b && (not r.evacuating && ltb r.allocated (blocks_in r.class))) (eq-eqb r.class r.class refl) ∙ ap (λ b. not b && ltb r.allocated (blocks_in r.class)) plain
 
-usable_leaving : (r : PageRecord) → r.leaving ≡ true → row_usable r.class (Some r) ≡ false
-usable_leaving r leaving = ap (λ b. b && (not r.leaving && ltb r.held (blocks_in r.class))) (eq-eqb r.class r.class refl) ∙ ap (λ b. not b && ltb r.held (blocks_in r.class)) leaving
+usable_evacuating : (r : PageRecord) → r.evacuating ≡ true → row_usable r.class (Some r) ≡ false
+usable_evacuating r evacuating = ap (λ b. b && (not r.evacuating && ltb r.allocated (blocks_in r.class))) (eq-eqb r.class r.class refl) ∙ ap (λ b. not b && ltb r.allocated (blocks_in r.class)) evacuating
 
 -- a page in use has another record of its class in the same place
 module _ (rows : List (Option PageRecord)) (usable : List BitRow) (free : BitRow) (free_blocks : List ℕ) (free_pages : ℕ) (b : IsIndex rows usable free free_blocks free_pages)
@@ -278,16 +278,16 @@ module _ (rows : List (Option PageRecord)) (usable : List BitRow) (free : BitRow
         subst (λ (u : List BitRow). IsIndex (set rows page (Some row)) u free (set free_blocks old.class n) free_pages) (set-get_or usable old.class free)
         (bit_changed one one (get_or_default usable old.class free one inside) now (λ i _ _. refl))
 
-  -- one more block is held
-  module _ (plain : old.leaving ≡ false) (stays : row.leaving ≡ old.leaving) (more : row.held ≡ old.held + 1) (some : old.held < blocks_in old.class) where
-    row_plain : row.leaving ≡ false
+  -- one more block is allocated
+  module _ (plain : old.evacuating ≡ false) (stays : row.evacuating ≡ old.evacuating) (more : row.allocated ≡ old.allocated + 1) (some : old.allocated < blocks_in old.class) where
+    row_plain : row.evacuating ≡ false
     row_plain = stays ∙ plain
 
-    free_now : row_free_on old.class (Some row) ≡ blocks_in old.class - row.held
-    free_now = subst (λ k. row_free_on k (Some row) ≡ blocks_in k - row.held) same (free_plain row row_plain)
+    free_now : row_free_on old.class (Some row) ≡ blocks_in old.class - row.allocated
+    free_now = subst (λ k. row_free_on k (Some row) ≡ blocks_in k - row.allocated) same (free_plain row row_plain)
 
-    usable_now : row_usable old.class (Some row) ≡ ltb row.held (blocks_in old.class)
-    usable_now = subst (λ k. row_usable k (Some row) ≡ ltb row.held (blocks_in k)) same (usable_plain row row_plain)
+    usable_now : row_usable old.class (Some row) ≡ ltb row.allocated (blocks_in old.class)
+    usable_now = subst (λ k. row_usable k (Some row) ≡ ltb row.allocated (blocks_in k)) same (usable_plain row row_plain)
 
     pub some_had : 0 < get_or free_blocks old.class 0
     some_had = omega (arith, old_some, free_plain old plain, some)
@@ -295,15 +295,15 @@ module _ (rows : List (Option PageRecord)) (usable : List BitRow) (free : BitRow
     fewer_counted : get_or free_blocks old.class 0 - 1 + row_free_on old.class (Some old) ≡ get_or free_blocks old.class 0 + row_free_on old.class (Some row)
     fewer_counted = omega (arith, some_had, free_plain old plain, free_now, more, some)
 
-    pub taken_last : row.held ≡ blocks_in old.class → (one new : BitRow) → one ≡ get_or usable old.class one → has_bit new page ≡ 0 → ((i : ℕ) → i < 4096 → i ≢ page → has_bit new i ≡ has_bit one i)
+    pub taken_last : row.allocated ≡ blocks_in old.class → (one new : BitRow) → one ≡ get_or usable old.class one → has_bit new page ≡ 0 → ((i : ℕ) → i < 4096 → i ≢ page → has_bit new i ≡ has_bit one i)
         → IsIndex (set rows page (Some row)) (set usable old.class new) free (set free_blocks old.class (get_or free_blocks old.class 0 - 1)) free_pages
     taken_last full one new read here others =
-        bit_changed (get_or free_blocks old.class 0 - 1) fewer_counted one new read (here ∙ ap bit (sym (usable_now ∙ le-ltb row.held (blocks_in old.class) (omega (arith, full))))) others
+        bit_changed (get_or free_blocks old.class 0 - 1) fewer_counted one new read (here ∙ ap bit (sym (usable_now ∙ le-ltb row.allocated (blocks_in old.class) (omega (arith, full))))) others
 
-    pub taken_one : row.held ≢ blocks_in old.class → IsIndex (set rows page (Some row)) usable free (set free_blocks old.class (get_or free_blocks old.class 0 - 1)) free_pages
+    pub taken_one : row.allocated ≢ blocks_in old.class → IsIndex (set rows page (Some row)) usable free (set free_blocks old.class (get_or free_blocks old.class 0 - 1)) free_pages
     taken_one left =
         bit_kept (get_or free_blocks old.class 0 - 1) fewer_counted
-        (usable_now ∙ lt-ltb row.held (blocks_in old.class) (omega (arith, left, more, some)) ∙ sym (usable_plain old plain ∙ lt-ltb old.held (blocks_in old.class) some))
+        (usable_now ∙ lt-ltb row.allocated (blocks_in old.class) (omega (arith, left, more, some)) ∙ sym (usable_plain old plain ∙ lt-ltb old.allocated (blocks_in old.class) some))
 
 pub usable_is : (rows : List (Option PageRecord)) (usable : List BitRow) (free : BitRow) (free_blocks : List ℕ) (free_pages : ℕ) (b : IsIndex rows usable free free_blocks free_pages) (class number : ℕ) → class < CLASSES → number ≡ class
     → (one : BitRow) → one ≡ get_or usable number one → (r : Option ℕ) → IfSome r (λ k. k < 4096) → IfSome r (λ k. has_bit one k ≡ 1) → IfSome r (λ k. (i : ℕ) → i < k → has_bit one i ≡ 0) → (IsNone r → (i : ℕ) → i < 4096 → has_bit one i ≡ 0)

@@ -7,14 +7,14 @@ use Rattle.std.proofs.lemmas.Option.{slice_get_within, none-some}
 use Rattle.size_classes.specs.declared.class.TheConstants.{CLASSES}
 use Rattle.size_classes.specs.Sizes.{size_of, blocks_in}
 use Rattle.heap_model.specs.Header.{header_in}
-use Rattle.heap_model.specs.Pages.{Page, page_at, with_held}
+use Rattle.heap_model.specs.Pages.{Page, page_at, with_allocated}
 use Rattle.heap_model.specs.State.{same_colour}
 use Rattle.heap_model.specs.Store.{address_of}
 use Rattle.pages.specs.declared.page.PageRecord.{PageRecord}
 use Rattle.pages.specs.FreeList.{flags_of, free_mark, IsFreeList, SameOutside}
 use Rattle.pages.specs.Index.{row_at}
 use Rattle.pages.specs.Sweeping.{has_colour, LooksAt, It_stays, It_goes, Looks, No_look, Then_one}
-use Rattle.pages.specs.Together.{joined, pages_in, Together, KeepsHeld}
+use Rattle.pages.specs.Together.{joined, pages_in, Together, KeepsAllocated}
 use Rattle.pages.proofs.Flags.{length-flags}
 use Rattle.pages.proofs.Telling.{together_by, given_by, inside_page, outside_two, page_read}
 use Rattle.pages.proofs.Writing.{keeps_freed, freed_flag}
@@ -28,9 +28,9 @@ pub row_same : (rows : List (Option PageRecord)) (page : ℕ) (row : PageRecord)
 row_same rows page row there = ap (set rows page) (sym there) ∙ set-get_or rows page None
 
 -- the record says how many blocks there are
-pub blocks_told : (rows : List (Option PageRecord)) (words : List ℕ) (page : ℕ) (row : PageRecord) → row_at rows page ≡ Some row → (n : ℕ) → IsSomeAnd (page_at (pages_in rows words) page) (λ p. n ≤ length p.held) → n ≤ blocks_in row.class
+pub blocks_told : (rows : List (Option PageRecord)) (words : List ℕ) (page : ℕ) (row : PageRecord) → row_at rows page ≡ Some row → (n : ℕ) → IsSomeAnd (page_at (pages_in rows words) page) (λ p. n ≤ length p.allocated) → n ≤ blocks_in row.class
 blocks_told rows words page row there n told =
-    let few : n ≤ length (flags_of words (2048 * page) row.class) = subst (λ o. IsSomeAnd o (λ p. n ≤ length p.held)) (page_read rows words page row (page_below rows page row there) there) told in
+    let few : n ≤ length (flags_of words (2048 * page) row.class) = subst (λ o. IsSomeAnd o (λ p. n ≤ length p.allocated)) (page_read rows words page row (page_below rows page row there) there) told in
     omega (arith, few, length-flags words (2048 * page) (size_of row.class) (blocks_in row.class))
 
 -- the colour of a block, by the size that the code knows
@@ -42,13 +42,13 @@ colour_there words colour page class index size b e is = sym (is ∙ ap (λ n. h
 pub stays_there : (rows : List (Option PageRecord)) (words : List ℕ) (page : ℕ) (row : PageRecord) (index : ℕ) (colour : Bool) → row_at rows page ≡ Some row → index < blocks_in row.class
     → (slice_get (flags_of words (2048 * page) row.class) index ≡ Some true → has_colour words colour (address_of row.class page index) ≡ true) → LooksAt colour page index (joined rows words) (joined (set rows page (Some row)) words)
 stays_there rows words page row index colour there below stays =
-    let p : Page = record { class = row.class; leaving = row.leaving; receiving = row.receiving; held = flags_of words (2048 * page) row.class } in
+    let p : Page = record { class = row.class; evacuating = row.evacuating; is_target = row.is_target; allocated = flags_of words (2048 * page) row.class } in
     subst (λ l. LooksAt colour page index (joined rows words) (joined l words)) (sym (row_same rows page row there))
     (It_stays p (page_read rows words page row (page_below rows page row there) there) (let l : index < length (flags_of words (2048 * page) row.class) = omega (arith, below, length-flags words (2048 * page) (size_of row.class) (blocks_in row.class)) in l) stays)
 
 -- a block is given back
-module _ (rows : List (Option PageRecord)) (words new : List ℕ) (t : Together rows words) (page : ℕ) (old row : PageRecord) (there : row_at rows page ≡ Some old) (index : ℕ) (held : slice_get (flags_of words (2048 * page) old.class) index ≡ Some true)
-    (row_is : row ≡ record old { first = row.first; held = old.held - 1 }) (flags : flags_of new (2048 * page) old.class ≡ set (flags_of words (2048 * page) old.class) index false) (chain : IsFreeList new (2048 * page) old.class row.first (old.held - 1))
+module _ (rows : List (Option PageRecord)) (words new : List ℕ) (t : Together rows words) (page : ℕ) (old row : PageRecord) (there : row_at rows page ≡ Some old) (index : ℕ) (allocated : slice_get (flags_of words (2048 * page) old.class) index ≡ Some true)
+    (row_is : row ≡ record old { first = row.first; allocated = old.allocated - 1 }) (flags : flags_of new (2048 * page) old.class ≡ set (flags_of words (2048 * page) old.class) index false) (chain : IsFreeList new (2048 * page) old.class row.first (old.allocated - 1))
     (is : new ≡ set (set words (2048 * page + index * size_of old.class) free_mark) (2048 * page + index * size_of old.class + 3) old.first) where
   below : page < length rows
   below = page_below rows page old there
@@ -58,25 +58,25 @@ module _ (rows : List (Option PageRecord)) (words new : List ℕ) (t : Together 
 
   outside : SameOutside words new (2048 * page)
   outside =
-      let w = inside_page words page old.class index true (subst (λ o. IfSome o (λ r. r.class < CLASSES)) there (t.classes page)) held in
+      let w = inside_page words page old.class index true (subst (λ o. IfSome o (λ r. r.class < CLASSES)) there (t.classes page)) allocated in
       outside_two words new (2048 * page) _ _ _ _ is (omega arith) (omega (arith, w)) (omega arith) (omega (arith, w))
 
   pub goes_together : Together (set rows page (Some row)) new
-  goes_together = together_by rows words new t page below old row there (old.held - 1) old.receiving row_is chain outside (set rows page (Some row)) refl index false flags
+  goes_together = together_by rows words new t page below old row there (old.allocated - 1) old.is_target row_is chain outside (set rows page (Some row)) refl index false flags
 
-  keeps : KeepsHeld (pages_in (set rows page (Some row)) new) words new
+  keeps : KeepsAllocated (pages_in (set rows page (Some row)) new) words new
   keeps =
       keeps_freed (set rows page (Some row)) words new page row index free_mark old.first goes_together.classes (get_or-set_same rows page (Some row) None below)
-      (ap (λ n. slice_get (flags_of new (2048 * page) n) index) class_stays ∙ ap (λ l. slice_get l index) flags ∙ freed_flag (flags_of words (2048 * page) old.class) index (slice_get_within (flags_of words (2048 * page) old.class) index true held))
+      (ap (λ n. slice_get (flags_of new (2048 * page) n) index) class_stays ∙ ap (λ l. slice_get l index) flags ∙ freed_flag (flags_of words (2048 * page) old.class) index (slice_get_within (flags_of words (2048 * page) old.class) index true allocated))
       (is ∙ ap (λ n. set (set words (2048 * page + index * size_of n) free_mark) (2048 * page + index * size_of n + 3) old.first) (sym class_stays))
 
   pub goes_there : (colour : Bool) → has_colour words colour (address_of old.class page index) ≡ false → LooksAt colour page index (joined rows words) (joined (set rows page (Some row)) new)
   goes_there colour goes =
-      let p : Page = record { class = old.class; leaving = old.leaving; receiving = old.receiving; held = flags_of words (2048 * page) old.class } in
+      let p : Page = record { class = old.class; evacuating = old.evacuating; is_target = old.is_target; allocated = flags_of words (2048 * page) old.class } in
       let read : page_at (pages_in rows words) page ≡ Some p = page_read rows words page old below there in
-      It_goes p (joined (set rows page (Some row)) new) read held goes
-      (subst (λ o. IfSome o (λ q. pages_in (set rows page (Some row)) new ≡ set (pages_in rows words) page (Some (with_held q index false)))) read
-      (given_by rows words new t page below old row there (old.held - 1) old.receiving row_is chain outside (set rows page (Some row)) refl index false flags refl))
+      It_goes p (joined (set rows page (Some row)) new) read allocated goes
+      (subst (λ o. IfSome o (λ q. pages_in (set rows page (Some row)) new ≡ set (pages_in rows words) page (Some (with_allocated q index false)))) read
+      (given_by rows words new t page below old row there (old.allocated - 1) old.is_target row_is chain outside (set rows page (Some row)) refl index false flags refl))
       keeps
 
 -- this many blocks were looked at, and then one more

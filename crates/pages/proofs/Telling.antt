@@ -11,7 +11,7 @@ use Rattle.std.proofs.lemmas.List.Quantifiers.{position-Some}
 use Rattle.size_classes.specs.declared.class.TheConstants.{CLASSES}
 use Rattle.size_classes.proofs.Table.{size_low, blocks_some}
 use Rattle.size_classes.specs.Sizes.{size_of, blocks_in}
-use Rattle.heap_model.specs.Pages.{Page, page_at, is_usable, is_free, free_on, with_held, page_of_class, fresh_page, first_of, page_for}
+use Rattle.heap_model.specs.Pages.{Page, page_at, is_usable, is_free, free_on, with_allocated, page_of_class, fresh_page, first_of, page_for}
 use Rattle.pages.specs.declared.page.PageRecord.{PageRecord}
 use Rattle.pages.specs.FreeList.{flags_of, RunsFree, IsFreeList, SameOutside}
 use Rattle.pages.specs.Index.{row_at, row_usable, row_free, row_free_on, HasFree}
@@ -52,7 +52,7 @@ pages_set rows words new page row below same =
 pub page_same : (words new : List ℕ) (at : ℕ) (o : Option PageRecord) → ((i : ℕ) → i < 2048 → get_or new (at + i) 0 ≡ get_or words (at + i) 0) → IfSome o (λ r. r.class < CLASSES) → page_by new at o ≡ page_by words at o
 page_same words new at None same low = refl
 page_same words new at (Some r) same low =
-    ap (λ (f : List Bool). let p : Page = record { class = r.class; leaving = r.leaving; receiving = r.receiving; held = f } in Some p)
+    ap (λ (f : List Bool). let p : Page = record { class = r.class; evacuating = r.evacuating; is_target = r.is_target; allocated = f } in Some p)
     (flags_same words new at (size_of r.class) (blocks_in r.class) (λ i h. same (i * size_of r.class) (let f = block_fits r.class i h in omega (arith, f, size_low r.class low))))
 
 -- ---- what the records say is what the pages say
@@ -84,14 +84,14 @@ counts_add (b ∷ fs) = elim b as (λ b. count_by not (b ∷ fs) + count_by (λ 
 ]
 
 abbrev pub IsRow : List ℕ → ℕ → Option PageRecord → Type 0
-IsRow words at o = IfSome o (λ r. IsFreeList words at r.class r.first r.held)
+IsRow words at o = IfSome o (λ r. IsFreeList words at r.class r.first r.allocated)
 
 pub usable_page : (class : ℕ) (words : List ℕ) (at : ℕ) (o : Option PageRecord) → IsRow words at o → row_usable class o ≡ is_usable class (page_by words at o)
 usable_page class words at None h = refl
 usable_page class words at (Some r) h =
     let flags = flags_of words at r.class in
     let n = runs_count words at (size_of r.class) h.free flags r.first h.runs in
-    ap (λ b. eqb r.class class && (not r.leaving && b)) (same_test r.held (blocks_in r.class) 0 (count_by not flags) (λ l. omega (arith, l, n, h.counted)) (λ l. omega (arith, l, n, h.counted)) ∙ sym (place_open flags))
+    ap (λ b. eqb r.class class && (not r.evacuating && b)) (same_test r.allocated (blocks_in r.class) 0 (count_by not flags) (λ l. omega (arith, l, n, h.counted)) (λ l. omega (arith, l, n, h.counted)) ∙ sym (place_open flags))
 
 pub free_page : (words : List ℕ) (at : ℕ) (o : Option PageRecord) → row_free o ≡ is_free (page_by words at o)
 free_page words at None = refl
@@ -102,7 +102,7 @@ free_on_page class words at None h = refl
 free_on_page class words at (Some r) h =
     let flags = flags_of words at r.class in
     let n = runs_count words at (size_of r.class) h.free flags r.first h.runs in
-    ap (λ m. cond (eqb r.class class && not r.leaving) m 0) (let e : blocks_in r.class - r.held ≡ count_by not flags = omega (arith, n, h.counted) in e)
+    ap (λ m. cond (eqb r.class class && not r.evacuating) m 0) (let e : blocks_in r.class - r.allocated ≡ count_by not flags = omega (arith, n, h.counted) in e)
 
 -- ---- and so the places, counts and sums
 prefix_len-map : {A B : Type 0} (f : A → B) (p : B → Bool) (xs : List A) → prefix_len p (map f xs) ≡ prefix_len (λ x. p (f x)) xs
@@ -147,7 +147,7 @@ module _ (rows : List (Option PageRecord)) (words : List ℕ) (t : Together rows
 
 -- ---- a page's record and words are changed
 module _ (rows : List (Option PageRecord)) (words new : List ℕ) (t : Together rows words) (page : ℕ) (row : PageRecord) (below : page < length rows) (known : row.class < CLASSES)
-    (chain : IsFreeList new (2048 * page) row.class row.first row.held) (outside : SameOutside words new (2048 * page)) where
+    (chain : IsFreeList new (2048 * page) row.class row.first row.allocated) (outside : SameOutside words new (2048 * page)) where
   elsewhere : (k : ℕ) → k ≢ page → (i : ℕ) → i < 2048 → get_or new (2048 * k + i) 0 ≡ get_or words (2048 * k + i) 0
   elsewhere k ne i h = elim (cases_lt k page) [
     | inl l ↦ outside.below (2048 * k + i) (omega (arith, l, h))
@@ -190,10 +190,10 @@ module _ (rows : List (Option PageRecord)) (words new : List ℕ) (t : Together 
   }
 
   pub pages_changed : (flags : List Bool) → flags_of new (2048 * page) row.class ≡ flags
-      → pages_in (set rows page (Some row)) new ≡ set (pages_in rows words) page (Some (record { class = row.class; leaving = row.leaving; receiving = row.receiving; held = flags }))
+      → pages_in (set rows page (Some row)) new ≡ set (pages_in rows words) page (Some (record { class = row.class; evacuating = row.evacuating; is_target = row.is_target; allocated = flags }))
   pages_changed flags e =
       pages_set rows words new page (Some row) below (λ k ne h. page_same words new (2048 * k) (row_at rows k) (elsewhere k ne) (t.classes k))
-      ∙ ap (λ (f : List Bool). let p : Page = record { class = row.class; leaving = row.leaving; receiving = row.receiving; held = f } in set (pages_in rows words) page (Some p)) e
+      ∙ ap (λ (f : List Bool). let p : Page = record { class = row.class; evacuating = row.evacuating; is_target = row.is_target; allocated = f } in set (pages_in rows words) page (Some p)) e
 
 -- ---- a place of a page
 pub outside_one : (words new : List ℕ) (at a v : ℕ) → new ≡ set words a v → at ≤ a → a < at + 2048 → SameOutside words new at
@@ -211,12 +211,12 @@ outside_two words new at a v b w is from to from' to' = record {
 }
 
 pub page_read : (rows : List (Option PageRecord)) (words : List ℕ) (page : ℕ) (r : PageRecord) → page < length rows → row_at rows page ≡ Some r
-    → page_at (pages_in rows words) page ≡ Some (record { class = r.class; leaving = r.leaving; receiving = r.receiving; held = flags_of words (2048 * page) r.class })
+    → page_at (pages_in rows words) page ≡ Some (record { class = r.class; evacuating = r.evacuating; is_target = r.is_target; allocated = flags_of words (2048 * page) r.class })
 page_read rows words page r below there = page_is rows words page None below ∙ ap (page_by words (2048 * page)) there
 
 -- the list of a page in use has changed, and perhaps its mark receiving
 module _ (rows : List (Option PageRecord)) (words new : List ℕ) (t : Together rows words) (page : ℕ) (below : page < length rows) (old row : PageRecord) (there : row_at rows page ≡ Some old)
-    (held : ℕ) (mark : Bool) (row_is : row ≡ record old { first = row.first; held = held; receiving = mark }) (chain : IsFreeList new (2048 * page) old.class row.first held) (outside : SameOutside words new (2048 * page))
+    (allocated : ℕ) (mark : Bool) (row_is : row ≡ record old { first = row.first; allocated = allocated; is_target = mark }) (chain : IsFreeList new (2048 * page) old.class row.first allocated) (outside : SameOutside words new (2048 * page))
     (after : List (Option PageRecord)) (after_is : after ≡ set rows page (Some row)) (index : ℕ) (b : Bool) (flags : flags_of new (2048 * page) old.class ≡ set (flags_of words (2048 * page) old.class) index b) where
   same_class : row.class ≡ old.class
   same_class = ap (λ (r : PageRecord). r.class) row_is
@@ -224,46 +224,46 @@ module _ (rows : List (Option PageRecord)) (words new : List ℕ) (t : Together 
   known : row.class < CLASSES
   known = let k : old.class < CLASSES = subst (λ o. IfSome o (λ r. r.class < CLASSES)) there (t.classes page) in omega (arith, k, same_class)
 
-  own_chain : IsFreeList new (2048 * page) row.class row.first row.held
-  own_chain = subst (λ c. IsFreeList new (2048 * page) c row.first row.held) (sym same_class) (subst (IsFreeList new (2048 * page) old.class row.first) (sym (ap (λ (r : PageRecord). r.held) row_is)) chain)
+  own_chain : IsFreeList new (2048 * page) row.class row.first row.allocated
+  own_chain = subst (λ c. IsFreeList new (2048 * page) c row.first row.allocated) (sym same_class) (subst (IsFreeList new (2048 * page) old.class row.first) (sym (ap (λ (r : PageRecord). r.allocated) row_is)) chain)
 
   pub together_by : Together after new
   together_by = subst (λ l. Together l new) (sym after_is) (together_changed rows words new t page row below known own_chain outside)
 
   page_then : Page
-  page_then = record { class = old.class; leaving = old.leaving; receiving = old.receiving; held = flags_of words (2048 * page) old.class }
+  page_then = record { class = old.class; evacuating = old.evacuating; is_target = old.is_target; allocated = flags_of words (2048 * page) old.class }
 
-  pages_are : pages_in after new ≡ set (pages_in rows words) page (Some (record (with_held page_then index b) { receiving = mark }))
+  pages_are : pages_in after new ≡ set (pages_in rows words) page (Some (record (with_allocated page_then index b) { is_target = mark }))
   unfolding page_then
   pages_are =
       ap (λ l. pages_in l new) after_is ∙ pages_changed rows words new t page row below known own_chain outside (flags_of new (2048 * page) row.class) refl
-      ∙ ap (λ (r : PageRecord). let p : Page = record { class = r.class; leaving = r.leaving; receiving = r.receiving; held = flags_of new (2048 * page) r.class } in set (pages_in rows words) page (Some p)) row_is
-      ∙ ap (λ (f : List Bool). let p : Page = record { class = old.class; leaving = old.leaving; receiving = mark; held = f } in set (pages_in rows words) page (Some p)) flags
+      ∙ ap (λ (r : PageRecord). let p : Page = record { class = r.class; evacuating = r.evacuating; is_target = r.is_target; allocated = flags_of new (2048 * page) r.class } in set (pages_in rows words) page (Some p)) row_is
+      ∙ ap (λ (f : List Bool). let p : Page = record { class = old.class; evacuating = old.evacuating; is_target = mark; allocated = f } in set (pages_in rows words) page (Some p)) flags
 
   read : page_at (pages_in rows words) page ≡ Some page_then
   unfolding page_then
   read = page_read rows words page old below there
 
-  pub received_by : IfSome (page_at (pages_in rows words) page) (λ p. pages_in after new ≡ set (pages_in rows words) page (Some (record (with_held p index b) { receiving = mark })))
-  received_by = subst (λ o. IfSome o (λ p. pages_in after new ≡ set (pages_in rows words) page (Some (record (with_held p index b) { receiving = mark })))) (sym read) pages_are
+  pub received_by : IfSome (page_at (pages_in rows words) page) (λ p. pages_in after new ≡ set (pages_in rows words) page (Some (record (with_allocated p index b) { is_target = mark })))
+  received_by = subst (λ o. IfSome o (λ p. pages_in after new ≡ set (pages_in rows words) page (Some (record (with_allocated p index b) { is_target = mark })))) (sym read) pages_are
 
-  plain : mark ≡ old.receiving → pages_in after new ≡ set (pages_in rows words) page (Some (with_held page_then index b))
+  plain : mark ≡ old.is_target → pages_in after new ≡ set (pages_in rows words) page (Some (with_allocated page_then index b))
   unfolding page_then
-  plain same = pages_are ∙ ap (λ (m : Bool). let p : Page = record (with_held page_then index b) { receiving = m } in set (pages_in rows words) page (Some p)) same
+  plain same = pages_are ∙ ap (λ (m : Bool). let p : Page = record (with_allocated page_then index b) { is_target = m } in set (pages_in rows words) page (Some p)) same
 
-  pub taken_by : mark ≡ old.receiving → (class : ℕ) → pages_in after new ≡ set (pages_in rows words) page (Some (with_held (page_of_class class (page_at (pages_in rows words) page)) index b))
-  taken_by same class = plain same ∙ ap (λ o. set (pages_in rows words) page (Some (with_held (page_of_class class o) index b))) (sym read)
+  pub taken_by : mark ≡ old.is_target → (class : ℕ) → pages_in after new ≡ set (pages_in rows words) page (Some (with_allocated (page_of_class class (page_at (pages_in rows words) page)) index b))
+  taken_by same class = plain same ∙ ap (λ o. set (pages_in rows words) page (Some (with_allocated (page_of_class class o) index b))) (sym read)
 
-  pub given_by : mark ≡ old.receiving → IfSome (page_at (pages_in rows words) page) (λ p. pages_in after new ≡ set (pages_in rows words) page (Some (with_held p index b)))
-  given_by same = subst (λ o. IfSome o (λ p. pages_in after new ≡ set (pages_in rows words) page (Some (with_held p index b)))) (sym read) (plain same)
+  pub given_by : mark ≡ old.is_target → IfSome (page_at (pages_in rows words) page) (λ p. pages_in after new ≡ set (pages_in rows words) page (Some (with_allocated p index b)))
+  given_by same = subst (λ o. IfSome o (λ p. pages_in after new ≡ set (pages_in rows words) page (Some (with_allocated p index b)))) (sym read) (plain same)
 
 pub open_by : (rows : List (Option PageRecord)) (words : List ℕ) (page : ℕ) (old : PageRecord) (index class : ℕ) → page < length rows → row_at rows page ≡ Some old → slice_get (flags_of words (2048 * page) old.class) index ≡ Some false
-    → slice_get (page_of_class class (page_at (pages_in rows words) page)).held index ≡ Some false
-open_by rows words page old index class below there h = subst (λ o. slice_get (page_of_class class o).held index ≡ Some false) (sym (page_read rows words page old below there)) h
+    → slice_get (page_of_class class (page_at (pages_in rows words) page)).allocated index ≡ Some false
+open_by rows words page old index class below there h = subst (λ o. slice_get (page_of_class class o).allocated index ≡ Some false) (sym (page_read rows words page old below there)) h
 
-pub held_by : (rows : List (Option PageRecord)) (words : List ℕ) (page : ℕ) (old : PageRecord) (index : ℕ) → page < length rows → row_at rows page ≡ Some old → IsSomeAnd (page_at (pages_in rows words) page) (λ p. slice_get p.held index ≡ Some true)
+pub allocated_by : (rows : List (Option PageRecord)) (words : List ℕ) (page : ℕ) (old : PageRecord) (index : ℕ) → page < length rows → row_at rows page ≡ Some old → IsSomeAnd (page_at (pages_in rows words) page) (λ p. slice_get p.allocated index ≡ Some true)
     → slice_get (flags_of words (2048 * page) old.class) index ≡ Some true
-held_by rows words page old index below there h = subst (λ o. IsSomeAnd o (λ p. slice_get p.held index ≡ Some true)) (page_read rows words page old below there) h
+allocated_by rows words page old index below there h = subst (λ o. IsSomeAnd o (λ p. slice_get p.allocated index ≡ Some true)) (page_read rows words page old below there) h
 
 -- the words of a block lie on its page
 pub inside_page : (words : List ℕ) (page class index : ℕ) (b : Bool) → class < CLASSES → slice_get (flags_of words (2048 * page) class) index ≡ Some b → 2048 * page + index * size_of class + 3 < 2048 * page + 2048
@@ -274,19 +274,19 @@ inside_page words page class index b known h =
 
 -- a free page has got a class
 module _ (rows : List (Option PageRecord)) (words new : List ℕ) (t : Together rows words) (page class : ℕ) (below : page < length rows) (known : class < CLASSES) (row : PageRecord)
-    (row_is : row ≡ record { class = class; first = row.first; held = 0; leaving = false; receiving = false }) (chain : IsFreeList new (2048 * page) class row.first 0) (outside : SameOutside words new (2048 * page))
+    (row_is : row ≡ record { class = class; first = row.first; allocated = 0; evacuating = false; is_target = false }) (chain : IsFreeList new (2048 * page) class row.first 0) (outside : SameOutside words new (2048 * page))
     (flags : flags_of new (2048 * page) class ≡ replicate (blocks_in class) false) (after : List (Option PageRecord)) (after_is : after ≡ set rows page (Some row)) where
   class_is : row.class ≡ class
   class_is = ap (λ (r : PageRecord). r.class) row_is
 
-  held_is : row.held ≡ 0
-  held_is = ap (λ (r : PageRecord). r.held) row_is
+  allocated_is : row.allocated ≡ 0
+  allocated_is = ap (λ (r : PageRecord). r.allocated) row_is
 
   row_known : row.class < CLASSES
   row_known = subst (λ c. c < CLASSES) (sym class_is) known
 
-  row_chain : IsFreeList new (2048 * page) row.class row.first row.held
-  row_chain = subst (λ c. IsFreeList new (2048 * page) c row.first row.held) (sym class_is) (subst (IsFreeList new (2048 * page) class row.first) (sym held_is) chain)
+  row_chain : IsFreeList new (2048 * page) row.class row.first row.allocated
+  row_chain = subst (λ c. IsFreeList new (2048 * page) c row.first row.allocated) (sym class_is) (subst (IsFreeList new (2048 * page) class row.first) (sym allocated_is) chain)
 
   pub together_used : Together after new
   together_used = subst (λ l. Together l new) (sym after_is) (together_changed rows words new t page row below row_known row_chain outside)
@@ -294,21 +294,21 @@ module _ (rows : List (Option PageRecord)) (words new : List ℕ) (t : Together 
   pub pages_used : pages_in after new ≡ set (pages_in rows words) page (Some (fresh_page class))
   pages_used =
       ap (λ l. pages_in l new) after_is ∙ pages_changed rows words new t page row below row_known row_chain outside (flags_of new (2048 * page) row.class) refl
-      ∙ ap (λ (r : PageRecord). let p : Page = record { class = r.class; leaving = r.leaving; receiving = r.receiving; held = flags_of new (2048 * page) r.class } in set (pages_in rows words) page (Some p)) row_is
-      ∙ ap (λ (f : List Bool). let p : Page = record { class = class; leaving = false; receiving = false; held = f } in set (pages_in rows words) page (Some p)) flags
+      ∙ ap (λ (r : PageRecord). let p : Page = record { class = r.class; evacuating = r.evacuating; is_target = r.is_target; allocated = flags_of new (2048 * page) r.class } in set (pages_in rows words) page (Some p)) row_is
+      ∙ ap (λ (f : List Bool). let p : Page = record { class = class; evacuating = false; is_target = false; allocated = f } in set (pages_in rows words) page (Some p)) flags
 
   pub has_free : HasFree class (row_at after page)
   has_free = subst (HasFree class) (sym (ap (λ l. row_at l page) after_is ∙ get_or-set_same rows page (Some row) None below))
-      (class_is, ap (λ (r : PageRecord). r.leaving) row_is, let s = blocks_some class known in let e = ap blocks_in class_is in omega (arith, s, e, held_is))
+      (class_is, ap (λ (r : PageRecord). r.evacuating) row_is, let s = blocks_some class known in let e = ap blocks_in class_is in omega (arith, s, e, allocated_is))
 
 -- a page of which something holds is in use
-none_held : (words : List ℕ) (at : ℕ) (P : Page → Type 0) (o : Option PageRecord) → IsSomeAnd (page_by words at o) P → is_some o ≡ true
-none_held words at P None h = absurd h
-none_held words at P (Some r) h = refl
+none_allocated : (words : List ℕ) (at : ℕ) (P : Page → Type 0) (o : Option PageRecord) → IsSomeAnd (page_by words at o) P → is_some o ≡ true
+none_allocated words at P None h = absurd h
+none_allocated words at P (Some r) h = refl
 
 pub some_there : (rows : List (Option PageRecord)) (words : List ℕ) (page : ℕ) → page < length rows → (P : Page → Type 0) → IsSomeAnd (page_at (pages_in rows words) page) P → (o : Option PageRecord) → o ≡ row_at rows page → is_some o ≡ true
 some_there rows words page below P h o read =
-    ap is_some read ∙ none_held words (2048 * page) P (row_at rows page) (subst (λ o. IsSomeAnd o P) (page_is rows words page None below) h)
+    ap is_some read ∙ none_allocated words (2048 * page) P (row_at rows page) (subst (λ o. IsSomeAnd o P) (page_is rows words page None below) h)
 
 -- ---- the page of the next block
 both_true : (a b : Bool) → (a && b) ≡ true → (a ≡ true) × (b ≡ true)
@@ -328,9 +328,9 @@ unmarked false h = refl
 usable_has : (class : ℕ) (o : Option PageRecord) → row_usable class o ≡ true → HasFree class o
 usable_has class None h = absurd (cc)
 usable_has class (Some r) h =
-    let a = both_true (eqb r.class class) (not r.leaving && ltb r.held (blocks_in r.class)) h in
-    let b = both_true (not r.leaving) (ltb r.held (blocks_in r.class)) a.1 in
-    (eqb-true r.class class a.0, unmarked r.leaving b.0, ltb-true r.held (blocks_in r.class) b.1)
+    let a = both_true (eqb r.class class) (not r.evacuating && ltb r.allocated (blocks_in r.class)) h in
+    let b = both_true (not r.evacuating) (ltb r.allocated (blocks_in r.class)) a.1 in
+    (eqb-true r.class class a.0, unmarked r.evacuating b.0, ltb-true r.allocated (blocks_in r.class) b.1)
 
 free_none : (o : Option PageRecord) → row_free o ≡ true → o ≡ None
 free_none None h = refl
@@ -357,12 +357,12 @@ module _ (rows : List (Option PageRecord)) (words : List ℕ) (page class : ℕ)
       ∙ ap (page_of_class class) (get_or-set_same (pages_in rows words) page (Some (fresh_page class)) None (subst (λ n. page < n) (sym (length-pages rows words)) below))
       ∙ sym (ap (page_of_class class) (page_is rows words page None below ∙ ap (page_by words (2048 * page)) free))
 
-  pub open_fresh : (index : ℕ) → slice_get (page_of_class class (page_at mid page)).held index ≡ Some false → slice_get (page_of_class class (page_at (pages_in rows words) page)).held index ≡ Some false
-  open_fresh index h = subst (λ (p : Page). slice_get p.held index ≡ Some false) was_fresh h
+  pub open_fresh : (index : ℕ) → slice_get (page_of_class class (page_at mid page)).allocated index ≡ Some false → slice_get (page_of_class class (page_at (pages_in rows words) page)).allocated index ≡ Some false
+  open_fresh index h = subst (λ (p : Page). slice_get p.allocated index ≡ Some false) was_fresh h
 
-  pub held_fresh : (index : ℕ) (new : List (Option Page)) → new ≡ set mid page (Some (with_held (page_of_class class (page_at mid page)) index true))
-      → new ≡ set (pages_in rows words) page (Some (with_held (page_of_class class (page_at (pages_in rows words) page)) index true))
-  held_fresh index new e =
-      e ∙ ap (λ p. set mid page (Some (with_held p index true))) was_fresh
-      ∙ ap (λ l. set l page (Some (with_held (page_of_class class (page_at (pages_in rows words) page)) index true))) mid_is
-      ∙ set-set (pages_in rows words) page (Some (fresh_page class)) (Some (with_held (page_of_class class (page_at (pages_in rows words) page)) index true))
+  pub allocated_fresh : (index : ℕ) (new : List (Option Page)) → new ≡ set mid page (Some (with_allocated (page_of_class class (page_at mid page)) index true))
+      → new ≡ set (pages_in rows words) page (Some (with_allocated (page_of_class class (page_at (pages_in rows words) page)) index true))
+  allocated_fresh index new e =
+      e ∙ ap (λ p. set mid page (Some (with_allocated p index true))) was_fresh
+      ∙ ap (λ l. set l page (Some (with_allocated (page_of_class class (page_at (pages_in rows words) page)) index true))) mid_is
+      ∙ set-set (pages_in rows words) page (Some (fresh_page class)) (Some (with_allocated (page_of_class class (page_at (pages_in rows words) page)) index true))

@@ -42,32 +42,32 @@ runs_same words new at size (suc n) flags link same (i, free, is, rest) = (
       (runs_same words new at size n (set flags i true) (slice_index words (at + i * size + 3)) (λ j h. same j (was_false flags i j h)) rest),
 )
 
--- a block that is held goes to the front
+-- a block that is allocated goes to the front
 pub runs_given : (words new : List ℕ) (at size n : ℕ) (flags : List Bool) (link i : ℕ) → slice_get flags i ≡ Some true
     → ((j : ℕ) → slice_get flags j ≡ Some false → slice_index new (at + j * size + 3) ≡ slice_index words (at + j * size + 3))
     → slice_index new (at + i * size + 3) ≡ link → RunsFree words at size n flags link → RunsFree new at size (suc n) (set flags i false) (at + i * size + 1)
-runs_given words new at size n flags link i held same linked r = (
+runs_given words new at size n flags link i allocated same linked r = (
   i,
-  open_then flags i held,
+  open_then flags i allocated,
   refl,
-  subst (λ f. RunsFree new at size n f (slice_index new (at + i * size + 3))) (sym (there_back flags i held))
+  subst (λ f. RunsFree new at size n f (slice_index new (at + i * size + 3))) (sym (there_back flags i allocated))
       (subst (RunsFree new at size n flags) (sym linked) (runs_same words new at size n flags link same r)),
 )
 
 -- ---- a block is taken
-pub record Head (words : List ℕ) (at class first held : ℕ) : Type 0 where
+pub record Head (words : List ℕ) (at class first allocated : ℕ) : Type 0 where
   pub index : ℕ
   pub rest : ℕ
   pub open_there : slice_get (flags_of words at class) index ≡ Some false
   pub link : first ≡ at + index * size_of class + 1
-  pub counted : (held + 1) + rest ≡ blocks_in class
+  pub counted : (allocated + 1) + rest ≡ blocks_in class
   pub runs : RunsFree words at (size_of class) rest (set (flags_of words at class) index true) (get_or words (at + index * size_of class + 3) 0)
   pub below : index < blocks_in class
 
-pub head_of : (words : List ℕ) (at class first held : ℕ) → IsFreeList words at class first held → held < blocks_in class → Head words at class first held
-head_of words at class first held c h = by_count c.free c.counted c.runs
+pub head_of : (words : List ℕ) (at class first allocated : ℕ) → IsFreeList words at class first allocated → allocated < blocks_in class → Head words at class first allocated
+head_of words at class first allocated c h = by_count c.free c.counted c.runs
   where
-    by_count : (n : ℕ) → held + n ≡ blocks_in class → RunsFree words at (size_of class) n (flags_of words at class) first → Head words at class first held
+    by_count : (n : ℕ) → allocated + n ≡ blocks_in class → RunsFree words at (size_of class) n (flags_of words at class) first → Head words at class first allocated
     by_count zero e r = absurd (omega (arith, e, h))
     by_count (suc n) e (i, free, is, rest) = record {
       index = i;
@@ -79,10 +79,10 @@ head_of words at class first held c h = by_count c.free c.counted c.runs
       below = (let w = slice_get_within (flags_of words at class) i false free in omega (arith, w, length-flags words at (size_of class) (blocks_in class)));
     }
 
-pub popped : (words new : List ℕ) (at class first held : ℕ) (h : Head words at class first held) → 4 ≤ size_of class
+pub popped : (words new : List ℕ) (at class first allocated : ℕ) (h : Head words at class first allocated) → 4 ≤ size_of class
     → new ≡ set words (at + h.index * size_of class) (at + h.index * size_of class) → at + 2048 ≤ length words → at + 2048 ≤ 8388608
-    → (flags_of new at class ≡ set (flags_of words at class) h.index true) × IsFreeList new at class (get_or words (at + h.index * size_of class + 3) 0) (held + 1)
-popped words new at class first held h low is long small =
+    → (flags_of new at class ≡ set (flags_of words at class) h.index true) × IsFreeList new at class (get_or words (at + h.index * size_of class + 3) 0) (allocated + 1)
+popped words new at class first allocated h low is long small =
     let size = size_of class in
     let block = at + h.index * size in
     let fit = block_fits class h.index h.below in
@@ -105,8 +105,8 @@ popped words new at class first held h low is long small =
     )
 
 -- ---- a block is given back
-pub some_held : (words : List ℕ) (at class first held i : ℕ) → IsFreeList words at class first held → slice_get (flags_of words at class) i ≡ Some true → 0 < held
-some_held words at class first held i c h =
+pub some_allocated : (words : List ℕ) (at class first allocated i : ℕ) → IsFreeList words at class first allocated → slice_get (flags_of words at class) i ≡ Some true → 0 < allocated
+some_allocated words at class first allocated i c h =
     let flags = flags_of words at class in
     let free = runs_count words at (size_of class) c.free flags first c.runs in
     let more = count_less (set flags i false) i (open_then flags i h) in
@@ -114,10 +114,10 @@ some_held words at class first held i c h =
     let most = count_by-le-length not (set flags i false) in
     omega (arith, c.counted, free, more, back, most, length-set flags i false, length-flags words at (size_of class) (blocks_in class))
 
-pub given : (words new : List ℕ) (at class first held i : ℕ) → IsFreeList words at class first held → slice_get (flags_of words at class) i ≡ Some true → 4 ≤ size_of class
+pub given : (words new : List ℕ) (at class first allocated i : ℕ) → IsFreeList words at class first allocated → slice_get (flags_of words at class) i ≡ Some true → 4 ≤ size_of class
     → new ≡ set (set words (at + i * size_of class) free_mark) (at + i * size_of class + 3) first → at + 2048 ≤ length words
-    → (flags_of new at class ≡ set (flags_of words at class) i false) × IsFreeList new at class (at + i * size_of class + 1) (held - 1)
-given words new at class first held i c h low is long =
+    → (flags_of new at class ≡ set (flags_of words at class) i false) × IsFreeList new at class (at + i * size_of class + 1) (allocated - 1)
+given words new at class first allocated i c h low is long =
     let size = size_of class in
     let flags = flags_of words at class in
     let block = at + i * size in
@@ -138,11 +138,11 @@ given words new at class first held i c h low is long =
     λ j f. other (at + j * size + 3) (link_apart at size j i low)
     (let ne : j ≢ i = λ e. absurd (let t : slice_get flags i ≡ Some false = subst (λ k. slice_get flags k ≡ Some false) e f in cc) in
     let p = apart at size j i 3 3 (omega (arith, low)) (omega (arith, low)) ne in omega (arith, p)) in
-    let held_some = some_held words at class first held i c h in (
+    let allocated_some = some_allocated words at class first allocated i c h in (
       new_flags,
       record {
         free = suc c.free;
-        counted = omega (arith, c.counted, held_some);
+        counted = omega (arith, c.counted, allocated_some);
         runs =
             subst (λ f. RunsFree new at size (suc c.free) f (block + 1)) (sym new_flags) (runs_given words new at size c.free flags first i h links link c.runs);
       },
@@ -153,9 +153,9 @@ ends_step : (i m : ℕ) → set (replicate (suc i) true ++ replicate m false) i 
 ends_step zero m = refl
 ends_step (suc i) m = ap (λ f. true ∷ f) (ends_step i m)
 
-ends_held : (i m : ℕ) → slice_get (replicate (suc i) true ++ replicate m false) i ≡ Some true
-ends_held zero m = refl
-ends_held (suc i) m = ends_held i m
+ends_allocated : (i m : ℕ) → slice_get (replicate (suc i) true ++ replicate m false) i ≡ Some true
+ends_allocated zero m = refl
+ends_allocated (suc i) m = ends_allocated i m
 
 ends_open : (i m j : ℕ) → slice_get (replicate i true ++ replicate m false) j ≡ Some false → i ≤ j
 ends_open zero m j h = omega arith
@@ -204,7 +204,7 @@ threads_more old words new at class i first t low is long =
       rest = suc t.rest;
       counted = omega (arith, t.counted);
       runs = subst (λ f. RunsFree new at size (suc t.rest) f (block + 1)) (ends_step i t.rest)
-          (runs_given words new at size t.rest (replicate (suc i) true ++ replicate t.rest false) first i (ends_held i t.rest) links link runs);
+          (runs_given words new at size t.rest (replicate (suc i) true ++ replicate t.rest false) first i (ends_allocated i t.rest) links link runs);
       marked = λ k l h. elim (cases_eq k i) [
         | inl e ↦ ap (λ n. get_or new (at + n * size) 0) e ∙ mark
         | inr ne ↦ other (at + k * size) (let p = apart at size k i 0 0 (omega (arith, low)) (omega (arith, low)) ne in omega (arith, p)) (let p = apart at size k i 0 3 (omega (arith, low)) (omega (arith, low)) ne in omega (arith, p))
@@ -242,13 +242,13 @@ blocks_most class known =
     omega (arith, all, four, turned)
 
 -- as the code computes it
-module _ (words : List ℕ) (page class first held size : ℕ) (low_page : page < 4096) (within : 2048 * page + 2048 ≤ length words) (chain : IsFreeList words (2048 * page) class first held) (size_is : size ≡ size_of class) (low : 4 ≤ size) where
+module _ (words : List ℕ) (page class first allocated size : ℕ) (low_page : page < 4096) (within : 2048 * page + 2048 ≤ length words) (chain : IsFreeList words (2048 * page) class first allocated) (size_is : size ≡ size_of class) (low : 4 ≤ size) where
   low_size : 4 ≤ size_of class
   low_size = subst (λ n. 4 ≤ n) size_is low
 
-  module _ (some : held < blocks_in class) where
-    head : Head words (2048 * page) class first held
-    head = head_of words (2048 * page) class first held chain some
+  module _ (some : allocated < blocks_in class) where
+    head : Head words (2048 * page) class first allocated
+    head = head_of words (2048 * page) class first allocated chain some
 
     block_is : first - 1 ≡ 2048 * page + head.index * size_of class
     block_is = omega (arith, head.link)
@@ -263,7 +263,7 @@ module _ (words : List ℕ) (page class first held size : ℕ) (low_page : page 
     pub pop_within : (first - 1) + 3 < length words
     pop_within = let f = block_fits class head.index head.below in omega (arith, block_is, f, within, low_size)
 
-    pub pop_room : held + 1 < 2 ^ 64
+    pub pop_room : allocated + 1 < 2 ^ 64
     pop_room = let f = blocks_few class in omega (arith, some, f)
 
     pub pop_positive : 0 < first
@@ -273,14 +273,14 @@ module _ (words : List ℕ) (page class first held size : ℕ) (low_page : page 
     pop_free = ap (slice_get (flags_of words (2048 * page) class)) index_is ∙ head.open_there
 
     module _ (new : List ℕ) (is : new ≡ set words (first - 1) (first - 1)) where
-      both : (flags_of new (2048 * page) class ≡ set (flags_of words (2048 * page) class) head.index true) × IsFreeList new (2048 * page) class (get_or words (2048 * page + head.index * size_of class + 3) 0) (held + 1)
-      both = popped words new (2048 * page) class first held head low_size (is ∙ ap (λ n. set words n n) block_is) within (omega (arith, low_page))
+      both : (flags_of new (2048 * page) class ≡ set (flags_of words (2048 * page) class) head.index true) × IsFreeList new (2048 * page) class (get_or words (2048 * page + head.index * size_of class + 3) 0) (allocated + 1)
+      both = popped words new (2048 * page) class first allocated head low_size (is ∙ ap (λ n. set words n n) block_is) within (omega (arith, low_page))
 
       pub pop_flags : flags_of new (2048 * page) class ≡ set (flags_of words (2048 * page) class) ((first - 1 - 2048 * page) / size) true
       pop_flags = both.0 ∙ ap (λ n. set (flags_of words (2048 * page) class) n true) (sym index_is)
 
-      pub pop_chain : (link : ℕ) → link ≡ get_or words (first - 1 + 3) 0 → IsFreeList new (2048 * page) class link (held + 1)
-      pop_chain link e = subst (λ l. IsFreeList new (2048 * page) class l (held + 1)) (sym (e ∙ ap (λ n. get_or words (n + 3) 0) block_is)) both.1
+      pub pop_chain : (link : ℕ) → link ≡ get_or words (first - 1 + 3) 0 → IsFreeList new (2048 * page) class link (allocated + 1)
+      pop_chain link e = subst (λ l. IsFreeList new (2048 * page) class l (allocated + 1)) (sym (e ∙ ap (λ n. get_or words (n + 3) 0) block_is)) both.1
 
   module _ (index : ℕ) (was : slice_get (flags_of words (2048 * page) class) index ≡ Some true) where
     below : index < blocks_in class
@@ -292,22 +292,22 @@ module _ (words : List ℕ) (page class first held size : ℕ) (low_page : page 
     pub push_within : 2048 * page + index * size + 3 < 2048 * page + 2048
     push_within = let f = block_fits class index below in omega (arith, same_block, f, low_size)
 
-    pub push_some : 0 < held
-    push_some = some_held words (2048 * page) class first held index chain was
+    pub push_some : 0 < allocated
+    push_some = some_allocated words (2048 * page) class first allocated index chain was
 
     module _ (new : List ℕ) (is : new ≡ set (set words (2048 * page + index * size) free_mark) (2048 * page + index * size + 3) first) where
       pub push_words : new ≡ set (set words (2048 * page + index * size_of class) free_mark) (2048 * page + index * size_of class + 3) first
       unfolding free_mark
       push_words = is ∙ ap (λ n. set (set words n free_mark) (n + 3) first) same_block
 
-      both_given : (flags_of new (2048 * page) class ≡ set (flags_of words (2048 * page) class) index false) × IsFreeList new (2048 * page) class (2048 * page + index * size_of class + 1) (held - 1)
-      both_given = given words new (2048 * page) class first held index chain was low_size push_words within
+      both_given : (flags_of new (2048 * page) class ≡ set (flags_of words (2048 * page) class) index false) × IsFreeList new (2048 * page) class (2048 * page + index * size_of class + 1) (allocated - 1)
+      both_given = given words new (2048 * page) class first allocated index chain was low_size push_words within
 
       pub push_flags : flags_of new (2048 * page) class ≡ set (flags_of words (2048 * page) class) index false
       push_flags = both_given.0
 
-      pub push_chain : IsFreeList new (2048 * page) class (2048 * page + index * size + 1) (held - 1)
-      push_chain = subst (λ b. IsFreeList new (2048 * page) class (b + 1) (held - 1)) (sym same_block) both_given.1
+      pub push_chain : IsFreeList new (2048 * page) class (2048 * page + index * size + 1) (allocated - 1)
+      push_chain = subst (λ b. IsFreeList new (2048 * page) class (b + 1) (allocated - 1)) (sym same_block) both_given.1
 
 pub thread_within : (page class i size : ℕ) → size ≡ size_of class → 4 ≤ size → i < blocks_in class → 2048 * page + i * size + 3 < 2048 * page + 2048
 thread_within page class i size e low h = let f : i * size + size ≤ 2048 = subst (λ n. i * n + n ≤ 2048) (sym e) (block_fits class i h) in omega (arith, f, low)

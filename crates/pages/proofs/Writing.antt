@@ -11,41 +11,41 @@ use Rattle.heap_model.specs.Pages.{Page, page_at}
 use Rattle.pages.specs.declared.page.PageRecord.{PageRecord}
 use Rattle.pages.specs.FreeList.{flags_of, index_on, free_mark, RunsFree, IsFreeList, SameOutside}
 use Rattle.pages.specs.Index.{row_at}
-use Rattle.pages.specs.Together.{page_by, pages_in, Together, KeepsHeld}
+use Rattle.pages.specs.Together.{page_by, pages_in, Together, KeepsAllocated}
 use Rattle.pages.proofs.Indexing.{row_none}
 use Rattle.pages.proofs.Threading.{runs_same}
 use Rattle.pages.proofs.Flags.{flags_set, apart, spaced, block_fits, length-flags}
 use Rattle.pages.proofs.Telling.{length-pages, page_is, IsRow, together_changed, pages_changed, page_read, inside_page, outside_one}
 
--- ---- words of held blocks
-pub record HeldPlace (rows : List (Option PageRecord)) (words : List ℕ) (k : ℕ) (p : Page) (i : ℕ) : Type 0 where
+-- ---- words of allocated blocks
+pub record AllocatedPlace (rows : List (Option PageRecord)) (words : List ℕ) (k : ℕ) (p : Page) (i : ℕ) : Type 0 where
   pub row : PageRecord
   pub row_is : row_at rows k ≡ Some row
   pub class_is : p.class ≡ row.class
   pub flag : slice_get (flags_of words (2048 * k) row.class) i ≡ Some true
   pub below : k < length rows
 
-pub held_place : (rows : List (Option PageRecord)) (words : List ℕ) (k : ℕ) (p : Page) (i : ℕ) → page_at (pages_in rows words) k ≡ Some p → slice_get p.held i ≡ Some true → HeldPlace rows words k p i
-held_place rows words k p i at h =
+pub allocated_place : (rows : List (Option PageRecord)) (words : List ℕ) (k : ℕ) (p : Page) (i : ℕ) → page_at (pages_in rows words) k ≡ Some p → slice_get p.allocated i ≡ Some true → AllocatedPlace rows words k p i
+allocated_place rows words k p i at h =
     let below : k < length rows = elim (cases_lt k (length rows)) [ inl l ↦ l | inr l ↦ absurd (let e = get_or_past (pages_in rows words) k None (omega (arith, l, length-pages rows words)) in none-some p (sym e ∙ at)) ] in
     by_row (row_at rows k) refl below (sym (page_is rows words k None below) ∙ at)
   where
-    by_row : (o : Option PageRecord) → row_at rows k ≡ o → k < length rows → page_by words (2048 * k) (row_at rows k) ≡ Some p → HeldPlace rows words k p i
+    by_row : (o : Option PageRecord) → row_at rows k ≡ o → k < length rows → page_by words (2048 * k) (row_at rows k) ≡ Some p → AllocatedPlace rows words k p i
     by_row None e l is = absurd (none-some p (ap (page_by words (2048 * k)) (sym e) ∙ is))
     by_row (Some r) e l is =
-        let q : Page = record { class = r.class; leaving = r.leaving; receiving = r.receiving; held = flags_of words (2048 * k) r.class } in
+        let q : Page = record { class = r.class; evacuating = r.evacuating; is_target = r.is_target; allocated = flags_of words (2048 * k) r.class } in
         let same : q ≡ p = same_Some q p (ap (page_by words (2048 * k)) (sym e) ∙ is) in
-        record { row = r; row_is = e; class_is = sym (ap (λ (x : Page). x.class) same); flag = subst (λ (x : Page). slice_get x.held i ≡ Some true) (sym same) h; below = l }
+        record { row = r; row_is = e; class_is = sym (ap (λ (x : Page). x.class) same); flag = subst (λ (x : Page). slice_get x.allocated i ≡ Some true) (sym same) h; below = l }
 
 -- only words of a free block are written
 pub keeps_but : (rows : List (Option PageRecord)) (flagged words new : List ℕ) (page : ℕ) (old : PageRecord) (index : ℕ) → ((k : ℕ) → IfSome (row_at rows k) (λ r. r.class < CLASSES)) → row_at rows page ≡ Some old
     → slice_get (flags_of flagged (2048 * page) old.class) index ≡ Some false → length new ≡ length words
-    → ((n : ℕ) → ((d : ℕ) → d < size_of old.class → n ≢ 2048 * page + index * size_of old.class + d) → get_or new n 0 ≡ get_or words n 0) → KeepsHeld (pages_in rows flagged) words new
+    → ((n : ℕ) → ((d : ℕ) → d < size_of old.class → n ≢ 2048 * page + index * size_of old.class + d) → get_or new n 0 ≡ get_or words n 0) → KeepsAllocated (pages_in rows flagged) words new
 keeps_but rows flagged words new page old index classes there free len same = record {
   len = len;
-  each = λ k p i j at h l. by_place k p i j (held_place rows flagged k p i at h) l;
+  each = λ k p i j at h l. by_place k p i j (allocated_place rows flagged k p i at h) l;
 } where
-  by_place : (k : ℕ) (p : Page) (i j : ℕ) → HeldPlace rows flagged k p i → j < size_of p.class → get_or new (2048 * k + i * size_of p.class + j) 0 ≡ get_or words (2048 * k + i * size_of p.class + j) 0
+  by_place : (k : ℕ) (p : Page) (i j : ℕ) → AllocatedPlace rows flagged k p i → j < size_of p.class → get_or new (2048 * k + i * size_of p.class + j) 0 ≡ get_or words (2048 * k + i * size_of p.class + j) 0
   by_place k p i j q l =
       let known : q.row.class < CLASSES = subst (λ o. IfSome o (λ r. r.class < CLASSES)) q.row_is (classes k) in
       let w = slice_get_within (flags_of flagged (2048 * k) q.row.class) i true q.flag in
@@ -69,7 +69,7 @@ keeps_but rows flagged words new page old index classes there free len same = re
 
 -- a free block's first word is written
 pub keeps_one : (rows : List (Option PageRecord)) (words new : List ℕ) (page : ℕ) (old : PageRecord) (index v : ℕ) → ((k : ℕ) → IfSome (row_at rows k) (λ r. r.class < CLASSES)) → row_at rows page ≡ Some old
-    → slice_get (flags_of words (2048 * page) old.class) index ≡ Some false → new ≡ set words (2048 * page + index * size_of old.class) v → KeepsHeld (pages_in rows words) words new
+    → slice_get (flags_of words (2048 * page) old.class) index ≡ Some false → new ≡ set words (2048 * page + index * size_of old.class) v → KeepsAllocated (pages_in rows words) words new
 keeps_one rows words new page old index v classes there free is =
     let a = 2048 * page + index * size_of old.class in
     let low : 4 ≤ size_of old.class = size_low old.class (subst (λ o. IfSome o (λ r. r.class < CLASSES)) there (classes page)) in
@@ -88,7 +88,7 @@ module _ (rows : List (Option PageRecord)) (words new : List ℕ) (classes : (k 
       let w = inside_page words page old.class (index_on old.class page block) false known free in
       outside_one words new (2048 * page) _ _ written (omega arith) (omega (arith, w))
 
-  pub popped_keeps : KeepsHeld (pages_in rows words) words new
+  pub popped_keeps : KeepsAllocated (pages_in rows words) words new
   popped_keeps = keeps_one rows words new page old (index_on old.class page block) block classes there free written
 
 pub freed_flag : (flags : List Bool) (i : ℕ) → i < length flags → slice_get (set flags i false) i ≡ Some false
@@ -96,22 +96,22 @@ freed_flag flags i h = slice_get-get_or (set flags i false) i false (omega (arit
 
 -- a block is freed: its first word and its link are written
 pub keeps_freed : (rows : List (Option PageRecord)) (words new : List ℕ) (page : ℕ) (old : PageRecord) (index v link : ℕ) → ((k : ℕ) → IfSome (row_at rows k) (λ r. r.class < CLASSES)) → row_at rows page ≡ Some old
-    → slice_get (flags_of new (2048 * page) old.class) index ≡ Some false → new ≡ set (set words (2048 * page + index * size_of old.class) v) (2048 * page + index * size_of old.class + 3) link → KeepsHeld (pages_in rows new) words new
+    → slice_get (flags_of new (2048 * page) old.class) index ≡ Some false → new ≡ set (set words (2048 * page + index * size_of old.class) v) (2048 * page + index * size_of old.class + 3) link → KeepsAllocated (pages_in rows new) words new
 keeps_freed rows words new page old index v link classes there free is =
     let a = 2048 * page + index * size_of old.class in
     let low : 4 ≤ size_of old.class = size_low old.class (subst (λ o. IfSome o (λ r. r.class < CLASSES)) there (classes page)) in
     keeps_but rows new words new page old index classes there free (ap (λ w. length w) is ∙ length-set (set words a v) (a + 3) link ∙ length-set words a v)
     (λ n other. ap (λ x. get_or x n 0) is ∙ get_or-set_other (set words a v) (a + 3) n link 0 (other 3 (omega (arith, low))) ∙ get_or-set_other words a n v 0 (λ e. other 0 (omega (arith, low)) (omega (arith, e))))
 
--- ---- a held block is written
+-- ---- an allocated block is written
 pub record WritesBlock (words new : List ℕ) (block size : ℕ) : Type 0 where
   pub len : length new ≡ length words
   pub below : (k : ℕ) → k < block → get_or new k 0 ≡ get_or words k 0
   pub above : (k : ℕ) → block + size ≤ k → get_or new k 0 ≡ get_or words k 0
-  pub held : not (eqb (get_or new block 0) free_mark) ≡ true
+  pub allocated : not (eqb (get_or new block 0) free_mark) ≡ true
 
 module _ (rows : List (Option PageRecord)) (words new : List ℕ) (t : Together rows words) (page : ℕ) (below : page < length rows) (row : PageRecord) (there : row_at rows page ≡ Some row) (index : ℕ)
-    (held : slice_get (flags_of words (2048 * page) row.class) index ≡ Some true) (w : WritesBlock words new (2048 * page + index * size_of row.class) (size_of row.class)) where
+    (allocated : slice_get (flags_of words (2048 * page) row.class) index ≡ Some true) (w : WritesBlock words new (2048 * page + index * size_of row.class) (size_of row.class)) where
   row_known' : row.class < CLASSES
   row_known' = subst (λ o. IfSome o (λ r. r.class < CLASSES)) there (t.classes page)
 
@@ -119,7 +119,7 @@ module _ (rows : List (Option PageRecord)) (words new : List ℕ) (t : Together 
   low' = size_low row.class row_known'
 
   within' : index < blocks_in row.class
-  within' = let x = slice_get_within (flags_of words (2048 * page) row.class) index true held in omega (arith, x, length-flags words (2048 * page) (size_of row.class) (blocks_in row.class))
+  within' = let x = slice_get_within (flags_of words (2048 * page) row.class) index true allocated in omega (arith, x, length-flags words (2048 * page) (size_of row.class) (blocks_in row.class))
 
   -- a word of another block stays
   other_word : (i a : ℕ) → i ≢ index → a < size_of row.class → get_or new (2048 * page + i * size_of row.class + a) 0 ≡ get_or words (2048 * page + i * size_of row.class + a) 0
@@ -130,12 +130,12 @@ module _ (rows : List (Option PageRecord)) (words new : List ℕ) (t : Together 
 
   same_flags : flags_of new (2048 * page) row.class ≡ flags_of words (2048 * page) row.class
   same_flags =
-      flags_set words new (2048 * page) (size_of row.class) (blocks_in row.class) index true within' (λ j l ne. ap (λ n. get_or new n 0) (omega arith) ∙ other_word j 0 ne (omega (arith, low')) ∙ ap (λ n. get_or words n 0) (omega arith)) w.held
-      ∙ ap (set (flags_of words (2048 * page) row.class) index) (sym (get_or_from_slice_get (flags_of words (2048 * page) row.class) index true true held)) ∙ set-get_or (flags_of words (2048 * page) row.class) index true
+      flags_set words new (2048 * page) (size_of row.class) (blocks_in row.class) index true within' (λ j l ne. ap (λ n. get_or new n 0) (omega arith) ∙ other_word j 0 ne (omega (arith, low')) ∙ ap (λ n. get_or words n 0) (omega arith)) w.allocated
+      ∙ ap (set (flags_of words (2048 * page) row.class) index) (sym (get_or_from_slice_get (flags_of words (2048 * page) row.class) index true true allocated)) ∙ set-get_or (flags_of words (2048 * page) row.class) index true
 
-  chain' : IsFreeList new (2048 * page) row.class row.first row.held
+  chain' : IsFreeList new (2048 * page) row.class row.first row.allocated
   chain' =
-      let c : IsFreeList words (2048 * page) row.class row.first row.held = subst (λ o. IsRow words (2048 * page) o) there (t.each page) in
+      let c : IsFreeList words (2048 * page) row.class row.first row.allocated = subst (λ o. IsRow words (2048 * page) o) there (t.each page) in
       record {
         free = c.free;
         counted = c.counted;
@@ -163,19 +163,19 @@ module _ (rows : List (Option PageRecord)) (words new : List ℕ) (t : Together 
       ∙ ap (set (pages_in rows words) page) (sym (page_read rows words page row below there)) ∙ set-get_or (pages_in rows words) page None
 
 -- ---- the mark leaving, with no word written
-pub leave_keeps : (rows : List (Option PageRecord)) (words : List ℕ) → Together rows words → (page : ℕ) (row : PageRecord) → page < length rows → row_at rows page ≡ Some row
-    → Together (set rows page (Some (record row { leaving = true }))) words
-leave_keeps rows words t page row below there =
-    together_changed rows words words t page (record row { leaving = true }) below (subst (λ o. IfSome o (λ r. r.class < CLASSES)) there (t.classes page)) (subst (λ o. IsRow words (2048 * page) o) there (t.each page))
+pub marking_keeps : (rows : List (Option PageRecord)) (words : List ℕ) → Together rows words → (page : ℕ) (row : PageRecord) → page < length rows → row_at rows page ≡ Some row
+    → Together (set rows page (Some (record row { evacuating = true }))) words
+marking_keeps rows words t page row below there =
+    together_changed rows words words t page (record row { evacuating = true }) below (subst (λ o. IfSome o (λ r. r.class < CLASSES)) there (t.classes page)) (subst (λ o. IsRow words (2048 * page) o) there (t.each page))
     (record { len = refl; below = λ _ _. refl; above = λ _ _. refl })
 
 -- the words of a free page are written
-pub keeps_outside : (rows : List (Option PageRecord)) (words new : List ℕ) (page : ℕ) → ((k : ℕ) → IfSome (row_at rows k) (λ r. r.class < CLASSES)) → row_at rows page ≡ None → SameOutside words new (2048 * page) → KeepsHeld (pages_in rows words) words new
+pub keeps_outside : (rows : List (Option PageRecord)) (words new : List ℕ) (page : ℕ) → ((k : ℕ) → IfSome (row_at rows k) (λ r. r.class < CLASSES)) → row_at rows page ≡ None → SameOutside words new (2048 * page) → KeepsAllocated (pages_in rows words) words new
 keeps_outside rows words new page classes none out = record {
   len = out.len;
-  each = λ k p i j at h l. by_place k p i j (held_place rows words k p i at h) l;
+  each = λ k p i j at h l. by_place k p i j (allocated_place rows words k p i at h) l;
 } where
-  by_place : (k : ℕ) (p : Page) (i j : ℕ) → HeldPlace rows words k p i → j < size_of p.class → get_or new (2048 * k + i * size_of p.class + j) 0 ≡ get_or words (2048 * k + i * size_of p.class + j) 0
+  by_place : (k : ℕ) (p : Page) (i j : ℕ) → AllocatedPlace rows words k p i → j < size_of p.class → get_or new (2048 * k + i * size_of p.class + j) 0 ≡ get_or words (2048 * k + i * size_of p.class + j) 0
   by_place k p i j q l =
       let w = slice_get_within (flags_of words (2048 * k) q.row.class) i true q.flag in
       let f = block_fits q.row.class i (omega (arith, w, length-flags words (2048 * k) (size_of q.row.class) (blocks_in q.row.class))) in
@@ -188,7 +188,7 @@ keeps_outside rows words new page classes none out = record {
       ])
 
 pub keeps_both : (rows : List (Option PageRecord)) (words mid new : List ℕ) (page : ℕ) (pages : List (Option Page)) (p' : Option Page) → page < length rows → row_at rows page ≡ None → pages ≡ set (pages_in rows words) page p'
-    → KeepsHeld (pages_in rows words) words mid → KeepsHeld pages mid new → KeepsHeld (pages_in rows words) words new
+    → KeepsAllocated (pages_in rows words) words mid → KeepsAllocated pages mid new → KeepsAllocated (pages_in rows words) words new
 keeps_both rows words mid new page pages p' below none is one two = record {
   len = two.len ∙ one.len;
   each = λ k p i j at h l.

@@ -8,7 +8,7 @@ use Rattle.size_classes.specs.Sizes.{size_of, blocks_in}
 unfoldable pub free_mark : ℕ
 free_mark = 18446744073709551615
 
--- which blocks are held, of this many of a size from a place on
+-- which blocks are allocated, of this many of a size from a place on
 unfoldable pub flags_at : List ℕ → ℕ → ℕ → ℕ → List Bool
 flags_at words at size blocks =
     map (λ i. not (slice_index words (at + i * size) == free_mark)) (range_with_len 0 blocks)
@@ -22,7 +22,7 @@ RunsFree words at size (suc n) flags link =
     (i : ℕ) × (slice_get flags i ≡ Some false) × (link ≡ at + i * size + 1)
     × RunsFree words at size n (slice_set flags i true) (slice_index words (at + i * size + 3))
 
--- which blocks of a page of a class are held, by the words from its first on
+-- which blocks of a page of a class are allocated, by the words from its first on
 abbrev pub flags_of : List ℕ → ℕ → ℕ → List Bool
 flags_of words at class = flags_at words at (size_of class) (blocks_in class)
 
@@ -30,10 +30,10 @@ flags_of words at class = flags_at words at (size_of class) (blocks_in class)
 abbrev pub index_on : ℕ → ℕ → ℕ → ℕ
 index_on class page block = (block - PAGE_WORDS * page) / size_of class
 
--- A page's list: this many blocks are held, and the list from the first runs through just the others.
-pub record IsFreeList (words : List ℕ) (at class first held : ℕ) : Type 0 where
+-- A page's list: this many blocks are allocated, and the list from the first runs through just the others.
+pub record IsFreeList (words : List ℕ) (at class first allocated : ℕ) : Type 0 where
   pub free : ℕ
-  pub counted : held + free ≡ blocks_in class
+  pub counted : allocated + free ≡ blocks_in class
   pub runs : RunsFree words at (size_of class) free (flags_of words at class) first
 
 -- the words outside a page are as they were

@@ -19,26 +19,26 @@ OfClass class (Some r) = r.class ≡ class
 -- of the class, not leaving, with a free block
 abbrev pub row_usable : ℕ → Option PageRecord → Bool
 row_usable class None = false
-row_usable class (Some r) = (r.class == class) && (not r.leaving && nat_lt r.held (blocks_in r.class))
+row_usable class (Some r) = (r.class == class) && (not r.evacuating && nat_lt r.allocated (blocks_in r.class))
 
 -- whether a page is free
 abbrev pub row_free : Option PageRecord → Bool
 row_free None = true
 row_free (Some r) = false
 
--- how many free blocks of the class, none if it is leaving
+-- how many free blocks of the class, none if it is evacuating
 abbrev pub row_free_on : ℕ → Option PageRecord → ℕ
 row_free_on class None = 0
-row_free_on class (Some r) = if (r.class == class) && not r.leaving then blocks_in r.class - r.held else 0
+row_free_on class (Some r) = if (r.class == class) && not r.evacuating then blocks_in r.class - r.allocated else 0
 
--- of the class, and neither leaving nor receiving
+-- of the class, and neither evacuating nor a target
 abbrev pub row_choosable : ℕ → Option PageRecord → Bool
 row_choosable class None = false
-row_choosable class (Some r) = (r.class == class) && (not r.leaving && not r.receiving)
+row_choosable class (Some r) = (r.class == class) && (not r.evacuating && not r.is_target)
 
 -- in use by the class, not leaving, with a free block
 abbrev pub HasFree : ℕ → Option PageRecord → Type 0
-HasFree class o = IsSomeAnd o (λ r. (r.class ≡ class) × (r.leaving ≡ false) × (r.held < blocks_in r.class))
+HasFree class o = IsSomeAnd o (λ r. (r.class ≡ class) × (r.evacuating ≡ false) × (r.allocated < blocks_in r.class))
 
 -- a truth value as a bit
 abbrev pub bit : Bool → ℕ
@@ -61,7 +61,7 @@ pub record IsIndex (rows : List (Option PageRecord)) (usable : List BitRow) (fre
   pub blocks_are : (class : ℕ) → class < CLASSES → slice_index free_blocks class ≡ sum_by (row_free_on class) rows
   pub pages_are : free_pages ≡ count_by row_free rows
 
--- the page closed: its marks go, and if no block is held it becomes free
+-- the page closed: its marks go, and if no block is allocated it becomes free
 abbrev pub row_closed : Option PageRecord → Option PageRecord
 row_closed None = None
-row_closed (Some r) = if r.held == 0 then None else Some (record r { leaving = false; receiving = false })
+row_closed (Some r) = if r.allocated == 0 then None else Some (record r { evacuating = false; is_target = false })

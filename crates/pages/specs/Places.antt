@@ -4,18 +4,18 @@ use Rattle.heap_model.specs.Pages.{Page, IsOpen, TakesBlock}
 use Rattle.heap_model.specs.Store.{address_of}
 use Rattle.heap_model.specs.Action.{IsNext}
 
--- a page in use that isn't leaving and has a free block
+-- a page in use that isn't evacuating and has a free block
 abbrev pub CanReceive : Option Page → Type 0
-CanReceive o = IsSomeAnd o (λ p. (p.leaving ≡ false) × ((i : ℕ) × IsOpen p i))
+CanReceive o = IsSomeAnd o (λ p. (p.evacuating ≡ false) × ((i : ℕ) × IsOpen p i))
 
--- the page has no held block from a place on
-abbrev pub NoneHeld : ℕ → Option Page → Type 0
-NoneHeld from o = IfSome o (λ p. (k : ℕ) → from ≤ k → slice_get p.held k ≢ Some true)
+-- the page has no allocated block from a place on
+abbrev pub NoneAllocated : ℕ → Option Page → Type 0
+NoneAllocated from o = IfSome o (λ p. (k : ℕ) → from ≤ k → slice_get p.allocated k ≢ Some true)
 
--- the first held block from a place on, and None exactly where there is none
-abbrev pub FindsHeld : Option Page → ℕ → Option ℕ → Type 0
-FindsHeld o from None = NoneHeld from o
-FindsHeld o from (Some i) = IsSomeAnd o (λ p. IsNext p from i)
+-- the first allocated block from a place on, and None exactly where there is none
+abbrev pub FindsAllocated : Option Page → ℕ → Option ℕ → Type 0
+FindsAllocated o from None = NoneAllocated from o
+FindsAllocated o from (Some i) = IsSomeAnd o (λ p. IsNext p from i)
 
 -- the block at an address was taken for a class
 pub record TakesAt (old : List (Option Page)) (class address : ℕ) (new : List (Option Page)) : Type 0 where

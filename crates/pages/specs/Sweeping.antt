@@ -1,24 +1,25 @@
 -- What the sweeper does with blocks of a page in use, where it knows the colour of marked ones.
 use Rattle.std.specs.Prelude.{◌≡◌, ℕ, ◌+◌, ◌<◌, Bool, true, false, List, length, Some, slice_get, slice_index, slice_set}
 use Rattle.heap_model.specs.Header.{header_in}
-use Rattle.heap_model.specs.Pages.{Page, page_at, with_held}
+use Rattle.heap_model.specs.Pages.{Page, page_at, with_allocated}
 use Rattle.heap_model.specs.State.{same_colour}
 use Rattle.heap_model.specs.Store.{Store, address_of}
-use Rattle.pages.specs.Together.{KeepsHeld}
+use Rattle.pages.specs.Together.{KeepsAllocated}
 
 -- whether the header of the block at an address has a colour
 abbrev pub has_colour : List ℕ → Bool → ℕ → Bool
 has_colour words colour address = same_colour colour (header_in (slice_index words (address + 1))).colour
 
--- A look at a block of a page: it stays, where it isn't held or has the colour; else it is given back, and the words of
--- the blocks that are held then stay.
+-- A look at a block of a page: it stays, where it isn't allocated or has the colour; else it is given back, and the
+-- words of the blocks that are allocated then stay.
 pub data LooksAt (colour : Bool) (page index : ℕ) (s : Store) : Store → Type 0 where
-  It_stays : (p : Page) → page_at s.pages page ≡ Some p → index < length p.held
-      → (slice_get p.held index ≡ Some true → has_colour s.words colour (address_of p.class page index) ≡ true)
+  It_stays : (p : Page) → page_at s.pages page ≡ Some p → index < length p.allocated
+      → (slice_get p.allocated index ≡ Some true → has_colour s.words colour (address_of p.class page index) ≡ true)
       → LooksAt colour page index s s
-  It_goes : (p : Page) (new : Store) → page_at s.pages page ≡ Some p → slice_get p.held index ≡ Some true
+  It_goes : (p : Page) (new : Store) → page_at s.pages page ≡ Some p → slice_get p.allocated index ≡ Some true
       → has_colour s.words colour (address_of p.class page index) ≡ false
-      → new.pages ≡ slice_set s.pages page (Some (with_held p index false)) → KeepsHeld new.pages s.words new.words
+      → new.pages ≡ slice_set s.pages page (Some (with_allocated p index false))
+      → KeepsAllocated new.pages s.words new.words
       → LooksAt colour page index s new
 
 -- looks at this many blocks of a page in a row, from one of them on

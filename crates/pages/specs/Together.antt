@@ -13,9 +13,9 @@ use Rattle.pages.specs.Index.{row_at}
 abbrev pub page_by : List ℕ → ℕ → Option PageRecord → Option Page
 page_by words at = option_map (λ r. record {
   class = r.class;
-  leaving = r.leaving;
-  receiving = r.receiving;
-  held = flags_of words at r.class;
+  evacuating = r.evacuating;
+  is_target = r.is_target;
+  allocated = flags_of words at r.class;
 })
 
 -- the pages, by their records and the words
@@ -31,12 +31,12 @@ joined rows words = record { pages = pages_in rows words; words = words }
 pub record Together (rows : List (Option PageRecord)) (words : List ℕ) : Type 0 where
   pub len : length words ≡ PAGE_WORDS * length rows
   pub classes : (k : ℕ) → IfSome (row_at rows k) (λ r. r.class < CLASSES)
-  pub each : (k : ℕ) → IfSome (row_at rows k) (λ r. IsFreeList words (PAGE_WORDS * k) r.class r.first r.held)
+  pub each : (k : ℕ) → IfSome (row_at rows k) (λ r. IsFreeList words (PAGE_WORDS * k) r.class r.first r.allocated)
 
--- the words of the blocks that are held stay
-pub record KeepsHeld (pages : List (Option Page)) (old new : List ℕ) : Type 0 where
+-- the words of the blocks that are allocated stay
+pub record KeepsAllocated (pages : List (Option Page)) (old new : List ℕ) : Type 0 where
   pub len : length new ≡ length old
-  pub each : (k : ℕ) (p : Page) (i j : ℕ) → page_at pages k ≡ Some p → slice_get p.held i ≡ Some true
+  pub each : (k : ℕ) (p : Page) (i j : ℕ) → page_at pages k ≡ Some p → slice_get p.allocated i ≡ Some true
       → j < size_of p.class
       → slice_index new (PAGE_WORDS * k + i * size_of p.class + j)
       ≡ slice_index old (PAGE_WORDS * k + i * size_of p.class + j)

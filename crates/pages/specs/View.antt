@@ -3,11 +3,11 @@ use Rattle.std.specs.Prelude.{Option, option_map, count_by}
 use Rattle.heap_model.specs.Pages.{Page}
 use Rattle.pages.specs.declared.view.PageView.{PageView}
 
--- of a page in use its class, how many of its blocks are held, and its marks; of a free page nothing
+-- of a page in use its class, how many of its blocks are allocated, and its marks; of a free page nothing
 abbrev pub view_of : Option Page → Option PageView
 view_of = option_map (λ p. record {
   class = p.class;
-  held = count_by (λ b. b) p.held;
-  leaving = p.leaving;
-  receiving = p.receiving;
+  allocated = count_by (λ b. b) p.allocated;
+  evacuating = p.evacuating;
+  is_target = p.is_target;
 })

@@ -13,26 +13,26 @@ use crate::page::PageRecord;
 use headers::Arena;
 use size_classes::Class;
 
-/// Takes the first free block off a page's list, and answers its address: it is held, and forwards to
+/// Takes the first free block off a page's list, and answers its address: it is allocated, and forwards to
 /// itself.
 #[inline(always)]
 pub fn pop(arena: &mut Arena, page: usize, row: &mut PageRecord) -> usize
     requires page { page < 4096 }
     requires within { 2048 * page + 2048 ≤ length arena.old }
-    requires chain { IsFreeList arena.old (2048 * page) row.old.class row.old.first row.old.held }
-    requires some { row.old.held < blocks_in row.old.class }
+    requires chain { IsFreeList arena.old (2048 * page) row.old.class row.old.first row.old.allocated }
+    requires some { row.old.allocated < blocks_in row.old.class }
     ensures place { result ≡ 2048 * page + index_on row.old.class page result * size_of row.old.class }
     ensures free { slice_get (flags_of arena.old (2048 * page) row.old.class) (index_on row.old.class page result)
         ≡ Some false }
     ensures flags { flags_of arena.new (2048 * page) row.old.class
         ≡ slice_set (flags_of arena.old (2048 * page) row.old.class) (index_on row.old.class page result) true }
-    ensures chain { IsFreeList arena.new (2048 * page) row.old.class row.new.first (row.old.held + 1) }
-    ensures row { row.new ≡ record row.old { first = row.new.first; held = row.old.held + 1 } }
+    ensures chain { IsFreeList arena.new (2048 * page) row.old.class row.new.first (row.old.allocated + 1) }
+    ensures row { row.new ≡ record row.old { first = row.new.first; allocated = row.old.allocated + 1 } }
     ensures words { arena.new ≡ slice_set arena.old result result }
 {
     let block = row.first as usize - 1;
     row.first = arena.link(block);
-    row.held += 1;
+    row.allocated += 1;
     arena.set_forward(block, block as u64);
     block
 }
@@ -47,29 +47,29 @@ fn link_free(arena: &mut Arena, block: usize, next: u64)
     arena.set_link(block, next);
 }
 
-/// Puts a held block on a page's list: it is free.
+/// Puts an allocated block on a page's list: it is free.
 #[inline(always)]
 fn push(arena: &mut Arena, page: usize, row: &mut PageRecord, index: usize)
     requires page { page < 4096 }
     requires within { 2048 * page + 2048 ≤ length arena.old }
-    requires chain { IsFreeList arena.old (2048 * page) row.old.class row.old.first row.old.held }
-    requires held { slice_get (flags_of arena.old (2048 * page) row.old.class) index ≡ Some true }
+    requires chain { IsFreeList arena.old (2048 * page) row.old.class row.old.first row.old.allocated }
+    requires allocated { slice_get (flags_of arena.old (2048 * page) row.old.class) index ≡ Some true }
     ensures flags { flags_of arena.new (2048 * page) row.old.class
         ≡ slice_set (flags_of arena.old (2048 * page) row.old.class) index false }
-    ensures chain { IsFreeList arena.new (2048 * page) row.old.class row.new.first (row.old.held - 1) }
-    ensures some { 0 < row.old.held }
-    ensures row { row.new ≡ record row.old { first = row.new.first; held = row.old.held - 1 } }
+    ensures chain { IsFreeList arena.new (2048 * page) row.old.class row.new.first (row.old.allocated - 1) }
+    ensures some { 0 < row.old.allocated }
+    ensures row { row.new ≡ record row.old { first = row.new.first; allocated = row.old.allocated - 1 } }
     ensures words { arena.new ≡ slice_set (slice_set arena.old (2048 * page + index * size_of row.old.class) free_mark)
         (2048 * page + index * size_of row.old.class + 3) row.old.first }
 {
     let block = 2048 * page + index * row.class.size() as usize;
     link_free(arena, block, row.first);
     row.first = block as u64 + 1;
-    row.held -= 1;
+    row.allocated -= 1;
 }
 
 /// Puts all blocks of a page that gets a class on its list.
-pub fn thread(arena: &mut Arena, page: usize, class: Class) -> PageRecord
+pub fn link_blocks(arena: &mut Arena, page: usize, class: Class) -> PageRecord
     requires page { page < 4096 }
     requires within { 2048 * page + 2048 ≤ length arena.old }
     ensures flags { flags_of arena.new (2048 * page) class ≡ replicate (blocks_in class) false }
@@ -77,9 +77,9 @@ pub fn thread(arena: &mut Arena, page: usize, class: Class) -> PageRecord
     ensures row { result ≡ record {
       class = class;
       first = result.first;
-      held = 0;
-      leaving = false;
-      receiving = false;
+      allocated = 0;
+      evacuating = false;
+      is_target = false;
     } }
     ensures words { SameOutside arena.old arena.new (2048 * page) }
     ensures known { class < CLASSES }
@@ -96,13 +96,13 @@ pub fn thread(arena: &mut Arena, page: usize, class: Class) -> PageRecord
     PageRecord {
         class,
         first,
-        held: 0,
-        leaving: false,
-        receiving: false,
+        allocated: 0,
+        evacuating: false,
+        is_target: false,
     }
 }
 
-/// Whether a block of a page of a class is held.
+/// Whether a block of a page of a class is allocated.
 pub fn is_taken(arena: &Arena, page: usize, class: Class, index: usize) -> bool
     requires page { page < 4096 }
     requires within { 2048 * page + 2048 ≤ length arena.now }
@@ -113,7 +113,7 @@ pub fn is_taken(arena: &Arena, page: usize, class: Class, index: usize) -> bool
     arena.forward_of(block) != u64::MAX
 }
 
-/// Whether a block of a page of a class isn't held, or has a colour.
+/// Whether a block of a page of a class isn't allocated, or has a colour.
 #[inline(always)]
 fn stays(arena: &Arena, page: usize, class: Class, index: usize, colour: bool) -> bool
     requires page { page < 4096 }
@@ -131,17 +131,17 @@ fn stays(arena: &Arena, page: usize, class: Class, index: usize, colour: bool) -
     true
 }
 
-/// Looks at a block of a page: where it is held and hasn't the colour, it goes on the page's list. Whatever records
-/// of other pages the page's record and the words go together with, they still do.
+/// Looks at a block of a page: where it is allocated and hasn't the colour, it goes on the page's list. Whatever
+/// records of other pages the page's record and the words go together with, they still do.
 #[inline(always)]
 fn look(arena: &mut Arena, page: usize, row: &mut PageRecord, index: usize, colour: bool)
     requires page { page < 4096 }
     requires within { 2048 * page + 2048 ≤ length arena.old }
-    requires chain { IsFreeList arena.old (2048 * page) row.old.class row.old.first row.old.held }
+    requires chain { IsFreeList arena.old (2048 * page) row.old.class row.old.first row.old.allocated }
     requires block { index < blocks_in row.old.class }
     ensures len { length arena.new ≡ length arena.old }
-    ensures chain { IsFreeList arena.new (2048 * page) row.old.class row.new.first row.new.held }
-    ensures row { row.new ≡ record row.old { first = row.new.first; held = row.new.held } }
+    ensures chain { IsFreeList arena.new (2048 * page) row.old.class row.new.first row.new.allocated }
+    ensures row { row.new ≡ record row.old { first = row.new.first; allocated = row.new.allocated } }
     ensures together { (rows : List (Option Row)) → Together rows arena.old → row_at rows page ≡ Some row.old
         → Together (slice_set rows page (Some row.new)) arena.new }
     ensures looks { (rows : List (Option Row)) → Together rows arena.old → row_at rows page ≡ Some row.old
@@ -164,9 +164,9 @@ pub fn sweep(
 )
     requires page { page < 4096 }
     requires within { 2048 * page + 2048 ≤ length arena.old }
-    requires chain { IsFreeList arena.old (2048 * page) row.old.class row.old.first row.old.held }
+    requires chain { IsFreeList arena.old (2048 * page) row.old.class row.old.first row.old.allocated }
     requires blocks { from + count ≤ blocks_in row.old.class }
-    ensures row { row.new ≡ record row.old { first = row.new.first; held = row.new.held } }
+    ensures row { row.new ≡ record row.old { first = row.new.first; allocated = row.new.allocated } }
     ensures together { (rows : List (Option Row)) → Together rows arena.old → row_at rows page ≡ Some row.old
         → Together (slice_set rows page (Some row.new)) arena.new }
     ensures looks { (rows : List (Option Row)) → Together rows arena.old → row_at rows page ≡ Some row.old
@@ -179,8 +179,8 @@ pub fn sweep(
     }
 }
 
-/// The first held block of a page of a class from a place on.
-pub fn next_held(arena: &Arena, page: usize, class: Class, from: usize) -> Option<usize>
+/// The first allocated block of a page of a class from a place on.
+pub fn next_allocated(arena: &Arena, page: usize, class: Class, from: usize) -> Option<usize>
     requires page { page < 4096 }
     requires within { 2048 * page + 2048 ≤ length arena.now }
     ensures some { IfSome result (λ i. (from ≤ i) × (slice_get (flags_of arena.now (2048 * page) class) i ≡ Some true)

@@ -1,4 +1,4 @@
-//! The table of pages: which page is in use by which class, and which of its blocks are held. The free
+//! The table of pages: which page is in use by which class, and which of its blocks are allocated. The free
 //! blocks of a page are threaded through their headers, and rows of bits find the page of the next block
 //! at once.
 #![tactic(auto)]

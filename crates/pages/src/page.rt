@@ -5,14 +5,14 @@ ghost use Rattle.pages.specs.Index.{OfClass, row_usable, row_free_on, row_choosa
 use size_classes::Class;
 
 /// A page in use: its class, its first free block (the address plus one, 0 for none), how many of its
-/// blocks are held, and its marks.
+/// blocks are allocated, and its marks.
 #[derive(Clone, Copy)]
 pub struct PageRecord {
     pub class: Class,
     pub first: u64,
-    pub held: usize,
-    pub leaving: bool,
-    pub receiving: bool,
+    pub allocated: usize,
+    pub evacuating: bool,
+    pub is_target: bool,
 }
 
 /// Whether a page is of its class, not leaving, and has a free block.
@@ -22,30 +22,30 @@ pub fn is_usable(class: Class, row: Option<PageRecord>) -> bool
 {
     match row {
         None => false,
-        Some(r) => !r.leaving && r.held < class.blocks_per_page() as usize,
+        Some(r) => !r.evacuating && r.allocated < class.blocks_per_page() as usize,
     }
 }
 
-/// How many free blocks of a class a page has, none if it is leaving.
+/// How many free blocks of a class a page has, none if it is evacuating.
 #[inline(always)]
 pub fn free_on(class: Class, row: Option<PageRecord>) -> usize
     ensures free { result ≡ row_free_on class row }
     ensures within { result ≤ 512 }
 {
     match row {
-        Some(r) if r.class == class && !r.leaving => {
-            (class.blocks_per_page() as usize).saturating_sub(r.held)
+        Some(r) if r.class == class && !r.evacuating => {
+            (class.blocks_per_page() as usize).saturating_sub(r.allocated)
         }
         _ => 0,
     }
 }
 
-/// Whether a page is of the class, and neither leaving nor receiving.
+/// Whether a page is of the class, and neither evacuating nor a target.
 pub fn is_choosable(class: Class, row: Option<PageRecord>) -> bool
     ensures { result ≡ row_choosable class row }
 {
     match row {
         None => false,
-        Some(r) => r.class == class && !r.leaving && !r.receiving,
+        Some(r) => r.class == class && !r.evacuating && !r.is_target,
     }
 }

@@ -1,16 +1,16 @@
 //! All pages.
 ghost use Rattle.std.specs.Prelude.{◌≡◌, ◌+◌, ◌*◌, ◌<◌, ◌≤◌, ◌↔◌, slice_set, position, length, replicate, List, ℕ, IsNone, IfSome, IsSomeAnd, Some, None, true, false, IfOk};
-ghost use Rattle.heap_model.specs.Pages.{page_for, page_at, page_of_class, fresh_page, with_held, IsOpen};
+ghost use Rattle.heap_model.specs.Pages.{page_for, page_at, page_of_class, fresh_page, with_allocated, IsOpen};
 ghost use Rattle.heap_model.specs.Action.{closed};
 ghost use Rattle.pages.specs.Index.{row_at, OfClass, row_usable, row_free, bit, HasFree};
 ghost use Rattle.heap_model.specs.Store.{address_of};
 ghost use Rattle.pages.specs.FreeList.{index_on};
 ghost use Rattle.pages.specs.Places.{CanReceive, TakesAt};
 ghost use Rattle.pages.specs.Sweeping.{Looks};
-ghost use Rattle.pages.specs.Together.{joined, pages_in, Together, KeepsHeld};
+ghost use Rattle.pages.specs.Together.{joined, pages_in, Together, KeepsAllocated};
 
 use crate::bits::BitRow;
-use crate::free_list::{pop, sweep, thread};
+use crate::free_list::{link_blocks, pop, sweep};
 use crate::page::{PageRecord, free_on, is_usable};
 use graph_heap::NoMemory;
 use headers::Arena;
@@ -89,7 +89,7 @@ impl PageTable {
         })
     }
 
-    /// The first page of the class that isn't leaving and has a free block.
+    /// The first page of the class that isn't evacuating and has a free block.
     #[inline(always)]
     fn first_usable(&self, class: Class) -> Option<usize>
         ensures place { result ≡ position (row_usable class) self.now }
@@ -168,17 +168,17 @@ impl PageTable {
         ensures page { pages_in self.new arena.new
             ≡ slice_set (pages_in self.old arena.old) page (Some (fresh_page class)) }
         ensures len { length self.new ≡ length self.old }
-        ensures words { KeepsHeld (pages_in self.old arena.old) arena.old arena.new }
+        ensures words { KeepsAllocated (pages_in self.old arena.old) arena.old arena.new }
         ensures usable { HasFree class (row_at self.new page) }
     {
-        let row = thread(arena, page, class);
+        let row = link_blocks(arena, page, class);
         self.put(page, class, Some(row));
     }
 
-    /// Takes the first free block of a page that isn't leaving, and answers its address. A bit is written
+    /// Takes the first free block of a page that isn't evacuating, and answers its address. A bit is written
     /// only where the page has no other free block.
     #[inline(always)]
-    fn take_on(&mut self, arena: &mut Arena, page: usize, class: Class) -> usize
+    fn allocate_on(&mut self, arena: &mut Arena, page: usize, class: Class) -> usize
         requires page { page < length self.old }
         requires together { Together self.old arena.old }
         requires usable { HasFree class (row_at self.old page) }
@@ -186,16 +186,16 @@ impl PageTable {
         ensures place { result ≡ address_of class page (index_on class page result) }
         ensures free { IsOpen (page_of_class class (page_at (pages_in self.old arena.old) page))
             (index_on class page result) }
-        ensures held { pages_in self.new arena.new
+        ensures allocated { pages_in self.new arena.new
             ≡ slice_set (pages_in self.old arena.old) page
-            (Some (with_held (page_of_class class (page_at (pages_in self.old arena.old) page))
+            (Some (with_allocated (page_of_class class (page_at (pages_in self.old arena.old) page))
             (index_on class page result) true)) }
-        ensures words { KeepsHeld (pages_in self.old arena.old) arena.old arena.new }
+        ensures words { KeepsAllocated (pages_in self.old arena.old) arena.old arena.new }
     {
         let number = class.number();
         let row = self.rows[page].as_mut().unwrap();
         let block = pop(arena, page, row);
-        let is_full = row.held == class.blocks_per_page() as usize;
+        let is_full = row.allocated == class.blocks_per_page() as usize;
         self.free_blocks[number] -= 1;
         if is_full {
             self.usable[number].set(page, false);
@@ -204,38 +204,38 @@ impl PageTable {
     }
 
     /// Takes a block of a class, and answers its address: a free one of the first page of the class that
-    /// isn't leaving and has one, else of the first free page, which gets the class. None where there is
-    /// no such page, and then nothing changes. The words of held blocks stay.
+    /// isn't evacuating and has one, else of the first free page, which gets the class. None where there is
+    /// no such page, and then nothing changes. The words of allocated blocks stay.
     #[inline(always)]
-    pub fn take(&mut self, arena: &mut Arena, class: Class) -> Option<usize>
+    pub fn allocate(&mut self, arena: &mut Arena, class: Class) -> Option<usize>
         requires { Together self.old arena.old }
         ensures together { Together self.new arena.new }
         ensures none { IsNone result ↔ IsNone (page_for (pages_in self.old arena.old) class) }
         ensures taken { IfSome result (λ block. TakesAt (pages_in self.old arena.old) class block
             (pages_in self.new arena.new)) }
-        ensures words { IfSome result (λ _. KeepsHeld (pages_in self.old arena.old) arena.old arena.new) }
+        ensures words { IfSome result (λ _. KeepsAllocated (pages_in self.old arena.old) arena.old arena.new) }
         ensures kept { IsNone result → (self.new ≡ self.old) × (arena.new ≡ arena.old) }
     {
         match self.first_usable(class) {
-            Some(page) => Some(self.take_on(arena, page, class)),
+            Some(page) => Some(self.allocate_on(arena, page, class)),
             None => match self.first_free() {
                 Some(page) => {
                     self.use_page(arena, page, class);
-                    Some(self.take_on(arena, page, class))
+                    Some(self.allocate_on(arena, page, class))
                 }
                 None => None,
             },
         }
     }
 
-    /// Looks at `count` blocks of a page in use, from one on: each that is held and hasn't the colour is given
-    /// back. Every other block, and every other page, stays, and so do the words of the blocks that are held
+    /// Looks at `count` blocks of a page in use, from one on: each that is allocated and hasn't the colour is given
+    /// back. Every other block, and every other page, stays, and so do the words of the blocks that are allocated
     /// then.
     pub fn sweep(&mut self, arena: &mut Arena, block: Block, count: usize, colour: bool)
         requires together { Together self.old arena.old }
         requires page { block.page < length self.old }
         requires blocks { IsSomeAnd (page_at (pages_in self.old arena.old) block.page)
-            (λ p. block.index + count ≤ length p.held) }
+            (λ p. block.index + count ≤ length p.allocated) }
         ensures together { Together self.new arena.new }
         ensures looks { Looks colour block.page block.index (joined self.old arena.old) count
             (joined self.new arena.new) }
@@ -245,45 +245,45 @@ impl PageTable {
         self.update(block.page, row.class, Some(row));
     }
 
-    /// Takes the first free block of a page that isn't leaving, for one that is moved there: it is held,
-    /// and the page receiving. The words of held blocks stay.
-    pub fn receive(&mut self, arena: &mut Arena, page: usize) -> usize
+    /// Takes the first free block of a page that isn't evacuating, for one that is moved there: it is allocated,
+    /// and the page a target. The words of allocated blocks stay.
+    pub fn allocate_on_target(&mut self, arena: &mut Arena, page: usize) -> usize
         requires together { Together self.old arena.old }
         requires page { page < length self.old }
         requires free { CanReceive (page_at (pages_in self.old arena.old) page) }
         ensures together { Together self.new arena.new }
         ensures open { IsSomeAnd (page_at (pages_in self.old arena.old) page) (λ p. IsOpen p result) }
-        ensures held { IfSome (page_at (pages_in self.old arena.old) page)
+        ensures allocated { IfSome (page_at (pages_in self.old arena.old) page)
             (λ p. pages_in self.new arena.new
             ≡ slice_set (pages_in self.old arena.old) page
-            (Some (record (with_held p result true) { receiving = true }))) }
-        ensures words { KeepsHeld (pages_in self.old arena.old) arena.old arena.new }
+            (Some (record (with_allocated p result true) { is_target = true }))) }
+        ensures words { KeepsAllocated (pages_in self.old arena.old) arena.old arena.new }
     {
         let mut row = self.row(page).unwrap();
         let block = pop(arena, page, &mut row);
-        row.receiving = true;
+        row.is_target = true;
         self.update(page, row.class, Some(row));
         (block - 2048 * page) / row.class.size() as usize
     }
 
-    /// Marks a page in use as leaving: it gets no block from then on. Whatever words the table goes
+    /// Marks a page in use as evacuating: it gets no block from then on. Whatever words the table goes
     /// together with, it still does.
-    pub fn leave(&mut self, page: usize)
+    pub fn mark_evacuating(&mut self, page: usize)
         requires page { page < length self.old }
-        requires receiving { IsSomeAnd (row_at self.old page) (λ r. r.receiving ≡ false) }
+        requires is_target { IsSomeAnd (row_at self.old page) (λ r. r.is_target ≡ false) }
         ensures together { (words : List ℕ) → Together self.old words → Together self.new words }
         ensures mark { (words : List ℕ) → Together self.old words
             → IfSome (page_at (pages_in self.old words) page)
             (λ p. pages_in self.new words ≡ slice_set (pages_in self.old words) page
-            (Some (record p { leaving = true }))) }
+            (Some (record p { evacuating = true }))) }
     {
         let mut row = self.row(page).unwrap();
-        row.leaving = true;
+        row.evacuating = true;
         self.update(page, row.class, Some(row));
     }
 
     /// Closes a page, as the sweeper does when it has looked at all its blocks: the marks leaving and
-    /// receiving go, and if no block is held the page becomes free. Whatever words the table goes together
+    /// receiving go, and if no block is allocated the page becomes free. Whatever words the table goes together
     /// with, it still does.
     pub fn close_page(&mut self, page: usize)
         requires { page < length self.old }
@@ -293,11 +293,11 @@ impl PageTable {
             (closed (page_at (pages_in self.old words) page)) }
     {
         if let Some(mut row) = self.row(page) {
-            if row.held == 0 {
+            if row.allocated == 0 {
                 self.put(page, row.class, None);
             } else {
-                row.leaving = false;
-                row.receiving = false;
+                row.evacuating = false;
+                row.is_target = false;
                 self.update(page, row.class, Some(row));
             }
         }

@@ -13,10 +13,10 @@ use Rattle.pictures.specs.declared.caption.Caption.TheVariants as captions
 abbrev pub words_text : Words → List ℕ
 words_text words.PagesOfTheHeap = codes "Pages of the heap"
 words_text words.PageInUse = codes "page in use"
-words_text words.LeavingPage = codes "leaving page"
-words_text words.ReceivingPage = codes "receiving page"
+words_text words.EvacuatingPage = codes "leaving page"
+words_text words.TargetPage = codes "receiving page"
 words_text words.FreePage = codes "free page"
-words_text words.HeldBlocks = codes "held blocks"
+words_text words.AllocatedBlocks = codes "held blocks"
 words_text words.FreeBlocks = codes "free blocks"
 words_text words.NumberOfWords = codes "number: words of a block"
 words_text words.LeastUtilisation = codes "Least share of the mutators"
@@ -49,12 +49,12 @@ phase_words phase = by_phase words.Idle words.Roots words.Marking words.Sweeping
 
 -- the marks of a page in use
 abbrev pub marks_text : PageView → List ℕ
-marks_text v = (if v.leaving then codes " leaving" else []) ++ (if v.receiving then codes " receiving" else [])
+marks_text v = (if v.evacuating then codes " leaving" else []) ++ (if v.is_target then codes " receiving" else [])
 
--- the words of a block of a page in use, how many of its blocks are held, of how many, and its marks
+-- the words of a block of a page in use, how many of its blocks are allocated, of how many, and its marks
 abbrev pub used_text : PageView → List ℕ
 used_text v =
-    codes " size " ++ decimal (size_of v.class) ++ codes " held " ++ decimal v.held
+    codes " size " ++ decimal (size_of v.class) ++ codes " held " ++ decimal v.allocated
     ++ codes " of " ++ decimal (blocks_in v.class) ++ marks_text v
 
 -- a page by its number: free, or in use

@@ -9,7 +9,7 @@ use Rattle.pages.specs.View.{view_of}
 use Rattle.pages.specs.declared.view.PageView.{PageView}
 use Rattle.pictures.specs.declared.colour.Colour.{Colour}
 use Rattle.pictures.specs.declared.colour.Colour.TheVariants.{Grey, Sky, Pale, Blue, Yellow, Orange}
-use Rattle.pictures.specs.declared.caption.Words.TheVariants.{PagesOfTheHeap, PageInUse, LeavingPage, ReceivingPage, FreePage, HeldBlocks, FreeBlocks, NumberOfWords}
+use Rattle.pictures.specs.declared.caption.Words.TheVariants.{PagesOfTheHeap, PageInUse, EvacuatingPage, TargetPage, FreePage, AllocatedBlocks, FreeBlocks, NumberOfWords}
 use Rattle.pictures.specs.declared.caption.Caption.TheVariants.{Number, OldCopies, Heap, Page as Page_caption}
 use Rattle.pictures.specs.declared.element.Anchor.TheVariants.{Start, End}
 use Rattle.pictures.specs.declared.element.Element.{Element}
@@ -30,11 +30,11 @@ abbrev pub free_square : ℕ → ℕ → ℕ → ℕ → List Element
 free_square x y scale number =
     Group (Page_caption number None) ∷ Rectangle x y (18 * scale - 1) (11 * scale - 1) Pale ∷ GroupEnd ∷ []
 
--- the colour of a page in use: leaving pages have one of their own, and receiving ones
+-- the colour of a page in use: evacuating pages have one of their own, and target ones
 abbrev pub paper_of : PageView → Colour
-paper_of v = if v.leaving then Orange else if v.receiving then Yellow else Sky
+paper_of v = if v.evacuating then Orange else if v.is_target then Yellow else Sky
 
--- the square of a page in use: the words of a block, and a bar of all blocks with the held ones at its left, in
+-- the square of a page in use: the words of a block, and a bar of all blocks with the allocated ones at its left, in
 -- sixteenths of its width, rounded up
 abbrev pub used_square : ℕ → ℕ → ℕ → ℕ → PageView → List Element
 used_square x y scale number v =
@@ -42,7 +42,7 @@ used_square x y scale number v =
     ∷ Rectangle x y (18 * scale - 1) (11 * scale - 1) (paper_of v)
     ∷ Text (x + scale) (y + 7 * scale) (4 + 4 * scale) Start (Number (size_of v.class))
     ∷ Rectangle (x + scale) (y + 8 * scale) (16 * scale) (2 * scale) Grey
-    ∷ Rectangle (x + scale) (y + 8 * scale) (div_ceil (16 * v.held) (blocks_in v.class) * scale) (2 * scale) Blue
+    ∷ Rectangle (x + scale) (y + 8 * scale) (div_ceil (16 * v.allocated) (blocks_in v.class) * scale) (2 * scale) Blue
     ∷ GroupEnd ∷ []
 
 -- the square of a page at a place
@@ -66,8 +66,9 @@ map_frame h = frame 1200 (map_height (length h.store.pages)) PagesOfTheHeap
 abbrev pub map_told : HeapState → List Element
 map_told h =
     Text 1180 30 13 End (Heap (phase_words h.phase) h.units (length h.store.pages) (free_pages h.store.pages))
-    ∷ swatch 0 Pale ∷ meaning 0 FreePage ∷ swatch 1 Sky ∷ meaning 1 PageInUse ∷ swatch 2 Orange ∷ meaning 2 LeavingPage
-    ∷ swatch 3 Yellow ∷ meaning 3 ReceivingPage ∷ swatch 4 Blue ∷ meaning 4 HeldBlocks
+    ∷ swatch 0 Pale ∷ meaning 0 FreePage ∷ swatch 1 Sky ∷ meaning 1 PageInUse ∷ swatch 2 Orange
+    ∷ meaning 2 EvacuatingPage
+    ∷ swatch 3 Yellow ∷ meaning 3 TargetPage ∷ swatch 4 Blue ∷ meaning 4 AllocatedBlocks
     ∷ swatch 5 Grey ∷ meaning 5 FreeBlocks ∷ meaning 6 NumberOfWords
     ∷ Text 1180 60 12 End (OldCopies (copies_in h.store).old) ∷ []
 

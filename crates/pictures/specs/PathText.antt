@@ -37,13 +37,14 @@ abbrev pub IsRooted : Limits → Standing → Type 0
 IsRooted l (Reached r) = r.root < root_cells l
 IsRooted l standing = Unit {0}
 
--- the report of an object, some of whose blocks are held or not: the lines of the path to it, or one line
+-- the report of an object, some of whose blocks are allocated or not: the lines of the path to it, or one line
 abbrev pub TellsStanding : Limits → Bool → Standing → List ℕ → Type 0
-TellsStanding l held (Reached r) text = IsPathText l r text
+TellsStanding l allocated (Reached r) text = IsPathText l r text
 TellsStanding l true Unreachable text = text ≡ codes "unreachable held\n"
 TellsStanding l false Unreachable text = text ≡ codes "unreachable freed\n"
-TellsStanding l held NeverMade text = text ≡ codes "never made\n"
+TellsStanding l allocated NeverMade text = text ≡ codes "never made\n"
 
 -- the report of the object of an identity
 abbrev pub PathTold : Graph → ℕ → Bool → List ℕ → Type 0
-PathTold g id held text = (standing : Standing) × StandsAs g id standing × TellsStanding g.limits held standing text
+PathTold g id allocated text = (standing : Standing) × StandsAs g id standing
+    × TellsStanding g.limits allocated standing text

@@ -6,10 +6,10 @@ use Rattle.heap_model.specs.declared.phase.Phase.TheVariants as phases
 use Rattle.heap_model.specs.Event.{Event}
 use Rattle.heap_model.specs.State.{HeapState}
 use Rattle.trace.specs.declared.version.Version.{Version}
-use Rattle.trace.specs.GoneOver.{LinesDone}
+use Rattle.trace.specs.LinesProcessed.{LinesDone}
 use Rattle.trace.specs.TextLine.{Text}
 use Rattle.player.specs.declared.style.Style.TheVariants.{Nothing}
-use Rattle.player.specs.Playing.{Stage, PlaysLine, is_event}
+use Rattle.player.specs.Playing.{Session, PlaysLine, is_event}
 use Rattle.player.specs.Alongside.{brought}
 use Rattle.pictures.specs.declared.sample.Sample.{Sample}
 use Rattle.pictures.specs.declared.over_time.TheConstants.{MOST_SAMPLES}
@@ -38,12 +38,12 @@ abbrev pub moment_after : Text → HeapState → List Moment
 moment_after text heap = if is_event text.bytes then moment text.number heap ∷ [] else []
 
 -- the moments of a line that was played
-abbrev pub moments_in : (text : Text) (old : Stage) (events : List Event) (new : Stage)
+abbrev pub moments_in : (text : Text) (old : Session) (events : List Event) (new : Session)
     → PlaysLine Nothing text old events new → List Moment
 moments_in text old events new goes = moment_after text new.player.course.heap
 
 -- The moments of lines that were played: the one before them, and the one after each line of an event.
-abbrev pub moments_along : {old new : Stage} {lines : List (List ℕ)} {version : Version} {events : List Event}
+abbrev pub moments_along : {old new : Session} {lines : List (List ℕ)} {version : Version} {events : List Event}
     → LinesDone (PlaysLine Nothing) old lines version events new → List Moment
 moments_along {old} done = moment 0 old.player.course.heap ∷ brought moments_in done
 

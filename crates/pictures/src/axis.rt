@@ -20,13 +20,13 @@ pub enum Axis {
 }
 
 /// The step between the numbers of an axis up to a greatest one.
-fn step(greatest: u64) -> u64
-    ensures step { result ≡ step_of greatest }
+fn tick_spacing(greatest: u64) -> u64
+    ensures tick_spacing { result ≡ step_of greatest }
     ensures some { 0 < result }
 {
     let round = WINDOWS
         .iter()
-        .find(|step| u128::from(greatest) <= 10 * u128::from(**step))
+        .find(|tick_spacing| u128::from(greatest) <= 10 * u128::from(**tick_spacing))
         .copied();
     round.unwrap_or(greatest).max(1)
 }
@@ -87,9 +87,9 @@ pub(crate) fn write_axis<K: Sink>(
         (svg_text (axis_numbers axis greatest))) }
     ensures cause { K.failures sink.new ≡ K.failures sink.old + failed result }
 {
-    let step = step(greatest);
-    for place in 0..=greatest / step {
-        write_lines(sink, &number(axis, greatest, place * step))?;
+    let tick_spacing = tick_spacing(greatest);
+    for place in 0..=greatest / tick_spacing {
+        write_lines(sink, &number(axis, greatest, place * tick_spacing))?;
     }
     Ok(())
 }

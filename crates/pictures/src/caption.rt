@@ -10,10 +10,10 @@ use trace::{put, put_named};
 pub enum Words {
     PagesOfTheHeap,
     PageInUse,
-    LeavingPage,
-    ReceivingPage,
+    EvacuatingPage,
+    TargetPage,
     FreePage,
-    HeldBlocks,
+    AllocatedBlocks,
     FreeBlocks,
     NumberOfWords,
     LeastUtilisation,
@@ -42,10 +42,10 @@ impl Words {
         match self {
             Words::PagesOfTheHeap => b"Pages of the heap",
             Words::PageInUse => b"page in use",
-            Words::LeavingPage => b"leaving page",
-            Words::ReceivingPage => b"receiving page",
+            Words::EvacuatingPage => b"leaving page",
+            Words::TargetPage => b"receiving page",
             Words::FreePage => b"free page",
-            Words::HeldBlocks => b"held blocks",
+            Words::AllocatedBlocks => b"held blocks",
             Words::FreeBlocks => b"free blocks",
             Words::NumberOfWords => b"number: words of a block",
             Words::LeastUtilisation => b"Least share of the mutators",
@@ -96,12 +96,12 @@ fn put_marks(out: &mut [u8], at: usize, page: PageView) -> usize
     ensures text { take result out.new ≡ take at out.old ++ marks_text page }
     ensures place { result ≤ at + 18 }
 {
-    let end = if page.leaving {
+    let end = if page.evacuating {
         put(out, at, b" leaving")
     } else {
         at
     };
-    if page.receiving {
+    if page.is_target {
         put(out, end, b" receiving")
     } else {
         end
@@ -119,7 +119,7 @@ fn put_page(out: &mut [u8], at: usize, number: u32, page: Option<PageView>) -> u
         None => put(out, end, b" free"),
         Some(page) => {
             let end = put_named(out, end, b" size ", u64::from(page.class.size()));
-            let end = put_named(out, end, b" held ", page.held as u64);
+            let end = put_named(out, end, b" held ", page.allocated as u64);
             let end = put_named(out, end, b" of ", u64::from(page.class.blocks_per_page()));
             put_marks(out, end, page)
         }

@@ -57,9 +57,9 @@ fn free_page(x: u32, y: u32, scale: u32, number: u32) -> [Element; 3]
 fn paper(page: &PageView) -> Colour
     ensures { result ≡ paper_of page.now }
 {
-    if page.leaving {
+    if page.evacuating {
         Colour::Orange
-    } else if page.receiving {
+    } else if page.is_target {
         Colour::Yellow
     } else {
         Colour::Sky
@@ -69,15 +69,15 @@ fn paper(page: &PageView) -> Colour
 /// The square of a page in use.
 fn used_page(x: u32, y: u32, scale: u32, number: u32, page: PageView) -> [Element; 6]
     requires within { (x ≤ 65536) × (y ≤ 65536) × (1 ≤ scale) × (scale ≤ 4) }
-    requires held { page.held ≤ 512 }
+    requires allocated { page.allocated ≤ 512 }
     ensures { result ≡ used_square x y scale number page }
 {
     let paper = paper(&page);
-    let held = page.held as u32;
+    let allocated = page.allocated as u32;
     let blocks = page.class.blocks_per_page();
     let size = Caption::Number(u64::from(page.class.size()));
     let (left, bar) = (x + scale, y + 8 * scale);
-    let part = (16 * held).div_ceil(blocks);
+    let part = (16 * allocated).div_ceil(blocks);
     [
         Element::Group(Caption::Page(number, Some(page))),
         Element::Rectangle(x, y, 18 * scale - 1, 11 * scale - 1, paper),
@@ -98,7 +98,7 @@ fn write_page<K: Sink>(
     sink: &mut K,
 ) -> Result<(), WriteFailed>
     requires within { (x ≤ 65536) × (y ≤ 65536) × (1 ≤ scale) × (scale ≤ 4) }
-    requires held { IfSome page (λ v. v.held ≤ 512) }
+    requires allocated { IfSome page (λ v. v.allocated ≤ 512) }
     ensures ok { OnOk result (K.taken sink.new ≡ K.taken sink.old ++ svg_text (page_square x y scale number page)) }
     ensures err { OnErr result (GrowsByPart (K.taken sink.old) (K.taken sink.new)
         (svg_text (page_square x y scale number page))) }
@@ -143,7 +143,7 @@ fn write_squares<K: Sink>(heap: &Heap, sink: &mut K) -> Result<(), WriteFailed>
 }
 
 /// What is said of the heap as a whole, and what the colours mean.
-fn told(heap: &Heap) -> [Element; 15]
+fn legend(heap: &Heap) -> [Element; 15]
     ensures { result ≡ map_told heap.now }
 {
     let (phase, _) = look_of(heap.phase());
@@ -161,11 +161,11 @@ fn told(heap: &Heap) -> [Element; 15]
         swatch(1, Colour::Sky),
         meaning(1, Words::PageInUse),
         swatch(2, Colour::Orange),
-        meaning(2, Words::LeavingPage),
+        meaning(2, Words::EvacuatingPage),
         swatch(3, Colour::Yellow),
-        meaning(3, Words::ReceivingPage),
+        meaning(3, Words::TargetPage),
         swatch(4, Colour::Blue),
-        meaning(4, Words::HeldBlocks),
+        meaning(4, Words::AllocatedBlocks),
         swatch(5, Colour::Grey),
         meaning(5, Words::FreeBlocks),
         meaning(6, Words::NumberOfWords),
@@ -177,17 +177,17 @@ fn told(heap: &Heap) -> [Element; 15]
 /// phase, the units of work since the last cycle began, how many pages there are and how many are free,
 /// a legend with the number of old copies, and a square for each page. Up to 256 pages stand 16 in a row, up to 1024
 /// 32, and more 64, so all pages that a heap may have fit on 1200 by 800 units; the number of the first stands before
-/// each row. The square of a page in use tells the words of a block, and a bar shows how many of its blocks are held;
-/// it has a colour of its own where the page is leaving, and another where it is receiving. Under the pointer a
-/// square shows its page's number, the words of a block, the held blocks of all, and its marks. It takes no memory.
-/// After an error, which comes only where the sink failed, the sink has taken a beginning of the document.
+/// each row. The square of a page in use tells the words of a block, and a bar shows how many of its blocks are
+/// allocated; it has a colour of its own where the page is evacuating, and another where it is a target. Under the
+/// pointer a square shows its page's number, the words of a block, the allocated blocks of all, and its marks. It takes
+/// no memory. After an error, which comes only where the sink failed, the sink has taken a beginning of the document.
 pub fn draw_pages<K: Sink>(heap: &Heap, sink: &mut K) -> Result<(), WriteFailed>
     ensures ok { OnOk result (K.taken sink.new ≡ K.taken sink.old ++ pages_picture heap.now) }
     ensures err { OnErr result (GrowsByPart (K.taken sink.old) (K.taken sink.new) (pages_picture heap.now)) }
     ensures cause { K.failures sink.new ≡ K.failures sink.old + failed result }
 {
     let height = height(heap.pages());
-    write_head(1200, height, Words::PagesOfTheHeap, &told(heap), sink)?;
+    write_head(1200, height, Words::PagesOfTheHeap, &legend(heap), sink)?;
     write_squares(heap, sink)?;
     write_line(sink, Element::Close)
 }

@@ -19,7 +19,7 @@ pub struct Sample {
 impl Sample {
     /// What a heap is like now, after this many lines. Its objects are counted where `counted` says so, which takes
     /// time that is linear in the words of the arena.
-    pub fn of(heap: &Heap, line: u64, counted: bool) -> Sample
+    pub fn from_heap(heap: &Heap, line: u64, counted: bool) -> Sample
         ensures { result ≡ sample_of heap.now line counted }
     {
         let objects = if counted {

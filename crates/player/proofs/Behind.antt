@@ -3,18 +3,18 @@ use Rattle.std.proofs.Common.{◌≡◌, ℕ, ◌+◌, ◌≤◌, ◌⊎◌, inl
 use Rattle.heap_model.specs.Event.{Event}
 use Rattle.trace.specs.declared.version.Version.{Version}
 use Rattle.trace.specs.declared.version.Version.TheVariants.{First}
-use Rattle.trace.specs.GoneOver.{LinesDone, No_lines}
-use Rattle.trace.specs.LineReader.{Lines, Hands}
+use Rattle.trace.specs.LinesProcessed.{LinesDone, No_lines}
+use Rattle.trace.specs.LineReader.{Lines, ReadsLine}
 use Rattle.trace.specs.Streams.{Given, Comes, text_of}
 use Rattle.player.specs.declared.style.Style.{Style}
-use Rattle.player.specs.Playing.{Stage, PlaysLine, IsWrittenUpTo}
+use Rattle.player.specs.Playing.{Session, PlaysLine, IsWrittenUpTo}
 
 text_one : (lines : List (List ℕ)) (line : List ℕ) → length (text_of (lines ++ line ∷ [])) ≡ length (text_of lines) + (length line + 1)
 text_one [] line = omega (arith, length-append (line ++ 10 ∷ []) [], length-append line (10 ∷ []))
 text_one (l ∷ lines) line = omega (arith, text_one lines line, length-append (l ++ 10 ∷ []) (text_of (lines ++ line ∷ [])), length-append (l ++ 10 ∷ []) (text_of lines))
 
 -- before the first line
-pub behind_first : (style : Style) (old : Stage) → IsWrittenUpTo style old [] [] [] old.taken
+pub behind_first : (style : Style) (old : Session) → IsWrittenUpTo style old [] [] [] old.taken
 behind_first style old = record {
   before = [];
   behind = [];
@@ -29,7 +29,7 @@ behind_first style old = record {
   few = omega arith;
 }
 
-module _ (style : Style) (old : Stage) (lines : List (List ℕ)) (events : List Event) where
+module _ (style : Style) (old : Session) (lines : List (List ℕ)) (events : List Event) where
   -- more was taken, and no more is left
   pub behind_fewer : (rest rest' taken taken' : List ℕ) → length taken ≤ length taken' → length rest' ≤ length rest → IsWrittenUpTo style old lines events rest taken → IsWrittenUpTo style old lines events rest' taken'
   behind_fewer rest rest' taken taken' l m w = record {
@@ -64,7 +64,7 @@ module _ (style : Style) (old : Stage) (lines : List (List ℕ)) (events : List 
     }
 
     -- a line more, after those that are all written
-    behind_written : (version : Version) (mid : Stage) → LinesDone (PlaysLine style) old lines version events mid → length mid.taken ≤ length taken' → length (line ++ 10 ∷ rest) ≤ 65536 → IsWrittenUpTo style old (lines ++ line ∷ []) (events ++ more) rest taken'
+    behind_written : (version : Version) (mid : Session) → LinesDone (PlaysLine style) old lines version events mid → length mid.taken ≤ length taken' → length (line ++ 10 ∷ rest) ≤ 65536 → IsWrittenUpTo style old (lines ++ line ∷ []) (events ++ more) rest taken'
     behind_written version mid done l small = record {
       before = lines;
       behind = line ∷ [];
@@ -80,7 +80,7 @@ module _ (style : Style) (old : Stage) (lines : List (List ℕ)) (events : List 
     }
 
     -- the next line: it waited, or nothing waits to be written before it is done
-    pub behind_on : (version : Version) (mid : Stage) (kept taken waiting : List ℕ) → IsWrittenUpTo style old lines events kept taken → length taken ≤ length taken' → LinesDone (PlaysLine style) old lines version events mid → mid.taken ≡ taken' ++ waiting
+    pub behind_on : (version : Version) (mid : Session) (kept taken waiting : List ℕ) → IsWrittenUpTo style old lines events kept taken → length taken ≤ length taken' → LinesDone (PlaysLine style) old lines version events mid → mid.taken ≡ taken' ++ waiting
         → length (line ++ 10 ∷ rest) ≤ 65536 → (kept ≡ line ++ 10 ∷ rest) ⊎ (waiting ≡ []) → IsWrittenUpTo style old (lines ++ line ∷ []) (events ++ more) rest taken'
     behind_on version mid kept taken waiting w l done is small (inl e) = behind_waited kept taken l e w
     behind_on version mid kept taken waiting w l done is small (inr none) = behind_written version mid done (omega (arith, ap length is, length-append taken' waiting, ap length none)) small
@@ -100,5 +100,5 @@ waited_or_written given old new kept text waiting c (inl same) = inl (nothing_ca
 waited_or_written given old new kept text waiting c (inr none) = inr none
 
 -- a line was handed out, or none was
-pub handed : (given : Given) (reader next : Lines) (a b : Bool) → a ≡ b → Hands given reader next (Ok a) → Hands given reader next (Ok b)
-handed given reader next a b e h = subst (λ t. Hands given reader next (Ok t)) e h
+pub handed : (given : Given) (reader next : Lines) (a b : Bool) → a ≡ b → ReadsLine given reader next (Ok a) → ReadsLine given reader next (Ok b)
+handed given reader next a b e h = subst (λ t. ReadsLine given reader next (Ok t)) e h

@@ -9,14 +9,14 @@ use Rattle.trace.specs.declared.fault.LineFault.TheVariants.{TooLong, NotEnded, 
 use Rattle.trace.specs.declared.fault.TextFault.{TextFault}
 use Rattle.trace.specs.declared.fault.TextFault.TheVariants.{Line as At_line, Read, Write, NoMemory}
 use Rattle.trace.specs.declared.version.Version.{Version}
-use Rattle.trace.specs.GoneOver.{Reached, NextThere, LinesDone, GoneOver, Ends, writes_failed}
+use Rattle.trace.specs.LinesProcessed.{Reached, NextThere, LinesDone, LinesProcessed, ProcessingEnds, writes_failed}
 use Rattle.trace.specs.LineReader.{Lines}
 use Rattle.trace.specs.Streams.{Given, GrowsByPart}
 use Rattle.trace.specs.TextLine.{Text}
 use Rattle.trace.proofs.GoingOver.{SoFar, reached_by}
 use Rattle.player.specs.declared.style.Style.{Style}
 use Rattle.player.specs.Player.{PlayerState, entries_in}
-use Rattle.player.specs.Playing.{Stage, stage, PlaysLine, Stops, StopsText, IsWrittenUpTo, Played, PlayedUpTo, text_written}
+use Rattle.player.specs.Playing.{Session, session, PlaysLine, Stops, StopsText, IsWrittenUpTo, Played, PlayedUpTo, text_written}
 use Rattle.player.specs.Closing.{Closes}
 use Rattle.player.proofs.Lines.{played, lines_written}
 
@@ -47,10 +47,10 @@ either Write p q = q refl
 either NoMemory p q = p refl
 
 -- what a line in fault leaves: no text, and what is done of it where memory is refused
-abbrev pub Left : Style → Line → ℕ → Stage → Stage → Type 0
-Left style line number mid new = (new.taken ≡ mid.taken) × ((new.player ≡ mid.player) ⊎ Stops style NoMemory line number mid (stage new.player mid.taken))
+abbrev pub Left : Style → Line → ℕ → Session → Session → Type 0
+Left style line number mid new = (new.taken ≡ mid.taken) × ((new.player ≡ mid.player) ⊎ Stops style NoMemory line number mid (session new.player mid.taken))
 
-left : (style : Style) (fault : TextFault) (line : Line) (number : ℕ) (mid new : Stage) → Stops style fault line number mid new → Left style line number mid new
+left : (style : Style) (fault : TextFault) (line : Line) (number : ℕ) (mid new : Session) → Stops style fault line number mid new → Left style line number mid new
 left style (At_line k ClockSpent) lines.Skip number mid new s = elim s [ ]
 left style (At_line k ClockSpent) (lines.Command m c) number mid new s = elim s [ ]
 left style (At_line k ClockSpent) lines.Begin number mid new s = elim s [ ]
@@ -71,26 +71,26 @@ left style NoMemory (lines.Quantum b) number mid new s = elim s [ ]
 left style NoMemory (lines.Tick n) number mid new s = (s.1, inr (s.0, refl))
 
 -- and of its text
-pub stops_taken : (style : Style) (fault : TextFault) (text : Text) (mid new : Stage) → StopsText style fault text mid new → new.taken ≡ mid.taken
-stops_taken style fault text mid new (inl none) = ap (λ (s : Stage). s.taken) none.1
+pub stops_taken : (style : Style) (fault : TextFault) (text : Text) (mid new : Session) → StopsText style fault text mid new → new.taken ≡ mid.taken
+stops_taken style fault text mid new (inl none) = ap (λ (s : Session). s.taken) none.1
 stops_taken style fault text mid new (inr (line, spells, stops)) = (left style fault line text.number mid new stops).0
 
 -- the next line, for which memory is refused
-abbrev Refused : Style → Reached Stage Event → Stage → Type 0
-Refused style reached new = NextThere reached (λ text. StopsText style NoMemory text reached.state (stage new.player reached.state.taken))
+abbrev Refused : Style → Reached Session Event → Session → Type 0
+Refused style reached new = NextThere reached (λ text. StopsText style NoMemory text reached.state (session new.player reached.state.taken))
 
 -- the same of an end
-abbrev pub LeftBehind : Style → Reached Stage Event → Stage → Type 0
+abbrev pub LeftBehind : Style → Reached Session Event → Session → Type 0
 LeftBehind style reached new = (new.taken ≡ reached.state.taken) × ((new.player ≡ reached.state.player) ⊎ Refused style reached new)
 
-same_left : (style : Style) (reached : Reached Stage Event) (new : Stage) → new ≡ reached.state → LeftBehind style reached new
-same_left style reached new e = (ap (λ (s : Stage). s.taken) e, inl (ap (λ (s : Stage). s.player) e))
+same_left : (style : Style) (reached : Reached Session Event) (new : Session) → new ≡ reached.state → LeftBehind style reached new
+same_left style reached new e = (ap (λ (s : Session). s.taken) e, inl (ap (λ (s : Session). s.player) e))
 
-at_line : (style : Style) (reached : Reached Stage Event) (line : Line) (number : ℕ) (new : Stage) → (Stops style NoMemory line number reached.state (stage new.player reached.state.taken) → Refused style reached new) → Left style line number reached.state new → LeftBehind style reached new
+at_line : (style : Style) (reached : Reached Session Event) (line : Line) (number : ℕ) (new : Session) → (Stops style NoMemory line number reached.state (session new.player reached.state.taken) → Refused style reached new) → Left style line number reached.state new → LeftBehind style reached new
 at_line style reached line number new next (e, inl same) = (e, inl same)
 at_line style reached line number new next (e, inr stops) = (e, inr (next stops))
 
-pub left_behind : (style : Style) (reached : Reached Stage Event) (ended : Bool) (new : Stage) (result : Result (Unit {0}) TextFault) → Ends (StopsText style) reached ended new result → LeftBehind style reached new
+pub left_behind : (style : Style) (reached : Reached Session Event) (ended : Bool) (new : Session) (result : Result (Unit {0}) TextFault) → ProcessingEnds (StopsText style) reached ended new result → LeftBehind style reached new
 left_behind style reached ended new (Ok all) e = same_left style reached new e.2
 left_behind style reached ended new (Err fault) (inl e) = same_left style reached new e.1
 left_behind style reached ended new (Err fault) (inr (text, more, whole, is, inl none)) = same_left style reached new none.1
@@ -98,13 +98,13 @@ left_behind style reached ended new (Err fault) (inr (text, more, whole, is, inr
     at_line style reached line (length reached.lines + 1) new (λ s. (text, more, whole, is, inr (line, spells, s))) (left style fault line (length reached.lines + 1) reached.state new stops)
 
 -- a write of what waits failed after the end
-module _ (style : Style) (given : Given) (old : Stage) (player : PlayerState) (taken taken' waiting : List ℕ) (ended : Result (Unit {0}) TextFault) (low : length old.taken ≤ length taken) (grows : GrowsByPart taken taken' waiting) where
-  abbrev pub cut : (over : GoneOver (PlaysLine style) given old (λ reached. Ends (StopsText style) reached given.ended (stage player (taken ++ waiting)) ended)) → IsWrittenUpTo style old over.lines over.events over.rest taken'
-      → Played style given old (stage player taken') (Err Write)
+module _ (style : Style) (given : Given) (old : Session) (player : PlayerState) (taken taken' waiting : List ℕ) (ended : Result (Unit {0}) TextFault) (low : length old.taken ≤ length taken) (grows : GrowsByPart taken taken' waiting) where
+  abbrev pub cut : (over : LinesProcessed (PlaysLine style) given old (λ reached. ProcessingEnds (StopsText style) reached given.ended (session player (taken ++ waiting)) ended)) → IsWrittenUpTo style old over.lines over.events over.rest taken'
+      → Played style given old (session player taken') (Err Write)
   cut over behind =
-      let l = left_behind style (reached_by over) given.ended (stage player (taken ++ waiting)) ended over.ends in
+      let l = left_behind style (reached_by over) given.ended (session player (taken ++ waiting)) ended over.ends in
       let text = lines_written style old over.mid over.lines over.version over.events over.done in
-      played style given old (stage player taken') (Err Write) (record {
+      played style given old (session player taken') (Err Write) (record {
         lines = over.lines;
         version = over.version;
         events = over.events;
@@ -116,17 +116,17 @@ module _ (style : Style) (given : Given) (old : Stage) (player : PlayerState) (t
       }) (λ _. behind)
 
 -- all is written at the end, or a write failed
-pub closed_up_to : (most : Option ℕ) (style : Style) (given : Given) (old : Stage) (player : PlayerState) (taken taken' waiting : List ℕ) (ended result : Result (Unit {0}) TextFault) → Closes taken taken' waiting ended result → PlayedUpTo most style given old (stage player (taken ++ waiting)) ended
-    → (GrowsByPart taken taken' waiting → PlayedUpTo most style given old (stage player taken') (Err Write)) → PlayedUpTo most style given old (stage player taken') result
+pub closed_up_to : (most : Option ℕ) (style : Style) (given : Given) (old : Session) (player : PlayerState) (taken taken' waiting : List ℕ) (ended result : Result (Unit {0}) TextFault) → Closes taken taken' waiting ended result → PlayedUpTo most style given old (session player (taken ++ waiting)) ended
+    → (GrowsByPart taken taken' waiting → PlayedUpTo most style given old (session player taken') (Err Write)) → PlayedUpTo most style given old (session player taken') result
 closed_up_to most style given old player taken taken' waiting ended result (inl (e, same)) p short = rw (e, same) p
 closed_up_to most style given old player taken taken' waiting ended result (inr (grows, is)) p short = rw is (short grows)
 
 -- the lines so far, of whose text a part is written
-abbrev pub cut_after : (style : Style) (given : Given) (old : Stage) (player : PlayerState) (taken waiting : List ℕ) (reader : Lines) (so : SoFar (PlaysLine style) given old (stage player (taken ++ waiting)) reader) (taken' : List ℕ) → length old.taken ≤ length taken
-    → GrowsByPart taken taken' waiting → IsWrittenUpTo style old so.lines so.events reader.kept taken' → Played style given old (stage player taken') (Err Write)
+abbrev pub cut_after : (style : Style) (given : Given) (old : Session) (player : PlayerState) (taken waiting : List ℕ) (reader : Lines) (so : SoFar (PlaysLine style) given old (session player (taken ++ waiting)) reader) (taken' : List ℕ) → length old.taken ≤ length taken
+    → GrowsByPart taken taken' waiting → IsWrittenUpTo style old so.lines so.events reader.kept taken' → Played style given old (session player taken') (Err Write)
 cut_after style given old player taken waiting reader so taken' low g behind =
-    let mid = stage player (taken ++ waiting) in
-    played style given old (stage player taken') (Err Write) (record {
+    let mid = session player (taken ++ waiting) in
+    played style given old (session player taken') (Err Write) (record {
       lines = so.lines;
       version = reader.next;
       events = so.events;
@@ -138,12 +138,12 @@ cut_after style given old player taken waiting reader so taken' low g behind =
     }) (λ _. behind)
 
 -- the lines so far, where the same text is written or waits
-abbrev pub moved : (style : Style) {given : Given} {old : Stage} {player : PlayerState} {reader : Lines} (taken taken' : List ℕ) (so : SoFar (PlaysLine style) given old (stage player taken) reader) → taken' ≡ taken
-    → SoFar (PlaysLine style) given old (stage player taken') reader
+abbrev pub moved : (style : Style) {given : Given} {old : Session} {player : PlayerState} {reader : Lines} (taken taken' : List ℕ) (so : SoFar (PlaysLine style) given old (session player taken) reader) → taken' ≡ taken
+    → SoFar (PlaysLine style) given old (session player taken') reader
 moved style {given} {old} {player} {reader} taken taken' so e = record {
   lines = so.lines;
   events = so.events;
   read = so.read;
-  done = subst (λ t. LinesDone (PlaysLine style) old so.lines reader.next so.events (stage player t)) (sym e) so.done;
+  done = subst (λ t. LinesDone (PlaysLine style) old so.lines reader.next so.events (session player t)) (sym e) so.done;
   counted = so.counted;
 }

@@ -11,7 +11,7 @@ use Rattle.machine.specs.declared.recorded.Receipt.{Receipt}
 use Rattle.machine.specs.declared.collector.Busy.{Busy}
 use Rattle.machine.specs.declared.collector.BudgetOutOfRange.{BudgetOutOfRange}
 use Rattle.machine.specs.declared.collector.Spent.{Spent as Answer}
-use Rattle.machine.specs.Recorded.{begin_done, quantum_done}
+use Rattle.machine.specs.HeapWithHistory.{begin_done, quantum_done}
 use Rattle.trace.specs.declared.line.Line.TheVariants as lines
 use Rattle.player.specs.Player.{PlayerState, started, behind_quantum, placed, DoesLine, Commands, Begins, Goes_on}
 use Rattle.player.specs.Ticking.{Begun, Spent, DueDone}

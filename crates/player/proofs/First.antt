@@ -8,7 +8,7 @@ use Rattle.std.proofs.lemmas.List.Sums.{sum_by_push}
 use Rattle.trace.specs.declared.line.Line.{Line}
 use Rattle.trace.specs.declared.line.Line.TheVariants as lines
 use Rattle.trace.specs.LineReader.{Lines}
-use Rattle.trace.specs.GoneOver.{GoneOver, Ends}
+use Rattle.trace.specs.LinesProcessed.{LinesProcessed, ProcessingEnds}
 use Rattle.trace.specs.declared.version.Version.{Version}
 use Rattle.graph_heap.specs.declared.command.Command.{Command}
 use Rattle.machine.specs.declared.recorded.Receipt.{Receipt}
@@ -23,7 +23,7 @@ use Rattle.trace.proofs.ReadLines.{unread}
 use Rattle.trace.proofs.GoingOver.{SoFar}
 use Rattle.player.specs.declared.style.Style.{Style}
 use Rattle.player.specs.Player.{PlayerState}
-use Rattle.player.specs.Playing.{Stage, stage, PlaysLine, StopsText, Played, PlayedFirst, PlayedUpTo, is_event, says_event, EndAtEvent, entry_of, LineDone, LinePlayed, written_of, IsWrittenUpTo}
+use Rattle.player.specs.Playing.{Session, session, PlaysLine, StopsText, Played, PlayedFirst, PlayedUpTo, is_event, says_event, EndAtEvent, entry_of, LineDone, LinePlayed, written_of, IsWrittenUpTo}
 use Rattle.player.proofs.Behind.{behind_fewer}
 use Rattle.player.proofs.Closing.{cut, no_part, grows_longer}
 use Rattle.player.proofs.Lines.{enters_nothing, played}
@@ -57,13 +57,13 @@ line_read text version (lines.Tick n) spells only = event_read text version (lin
 
 -- the outcome of the text of a line that was read and done
 pub went : (style : Style) (text : Text) (taken taken' : List ℕ) (line : Line) (old new : PlayerState) (receipt : Option Receipt) (event : Bool) → LineRead text (Ok (Some line)) → LineDone line text.number old new (Ok receipt)
-    → taken' ≡ taken ++ written_of style (entry_of receipt) → event ≡ says_event line → LinePlayed style text (stage old taken) (stage new taken') (Ok event)
+    → taken' ≡ taken ++ written_of style (entry_of receipt) → event ≡ says_event line → LinePlayed style text (session old taken) (session new taken') (Ok event)
 went style text taken taken' line old new receipt event read done written is =
     (done.0, inr (read.0, (line, read.1, (done.1, written ∙ ap (λ t. taken ++ written_of style t) (sym done.2)))), is ∙ line_read text.bytes text.version line read.1 read.2)
 
 -- the same of a line that is no command, of which nothing is written
 pub went_on : (style : Style) (text : Text) (taken : List ℕ) (line : Line) (old new : PlayerState) (receipt : Option Receipt) (event : Bool) → LineRead text (Ok (Some line)) → LineDone line text.number old new (Ok receipt)
-    → ((m : ℕ) (c : Command) → line ≢ lines.Command m c) → event ≡ says_event line → LinePlayed style text (stage old taken) (stage new taken) (Ok event)
+    → ((m : ℕ) (c : Command) → line ≢ lines.Command m c) → event ≡ says_event line → LinePlayed style text (session old taken) (session new taken) (Ok event)
 went_on style text taken line old new receipt event read done other is =
     let none = sym (enters_nothing old line done.0 new done.1 other) ∙ done.2 in
     went style text taken taken line old new receipt event read done (sym (append-nil taken) ∙ ap (λ t. taken ++ written_of style t) none) is
@@ -75,7 +75,7 @@ pub count_more : (ls : List (List ℕ)) (line : List ℕ) (event : Bool) → eve
 count_more ls line event e = sum_by_push (λ (l : List ℕ). cond (is_event l) 1 0) ls line ∙ ap (λ b. count_by is_event ls + cond b 1 0) (sym e)
 
 -- none is left: the input is cut after the lines
-pub first_done : {style : Style} {given : Given} {old new : Stage} {reader : Lines} (so : SoFar (PlaysLine style) given old new reader) (n : ℕ) → count_by is_event so.lines ≡ n → EndAtEvent so.lines → PlayedFirst n style given old new (Ok tt)
+pub first_done : {style : Style} {given : Given} {old new : Session} {reader : Lines} (so : SoFar (PlaysLine style) given old new reader) (n : ℕ) → count_by is_event so.lines ≡ n → EndAtEvent so.lines → PlayedFirst n style given old new (Ok tt)
 first_done {style} {given} {old} {new} {reader} so n count end = inr (
   given.before ++ text_of so.lines,
   reader.kept,
@@ -131,28 +131,28 @@ last_left None false lines line some is e = absurd (cc)
 last_left (Some k) false lines line some is e = let none : k ≡ 0 = (let same = same_Some (k - 0) 0 e in omega (arith, same)) in absurd (some (ap Some none))
 
 -- what is played of the input, while some are left
-abbrev pub up_to : {style : Style} {given : Given} {old new : Stage} {result : Result (Unit {0}) TextFault} (most : Option ℕ) (p : Played style given old new result) → ((n : ℕ) → most ≡ Some n → count_by is_event p.over.lines < n) → PlayedUpTo most style given old new result
+abbrev pub up_to : {style : Style} {given : Given} {old new : Session} {result : Result (Unit {0}) TextFault} (most : Option ℕ) (p : Played style given old new result) → ((n : ℕ) → most ≡ Some n → count_by is_event p.over.lines < n) → PlayedUpTo most style given old new result
 up_to None p few = p
 up_to (Some n) p few = inl (p, few n refl)
 
 -- the same where a write of what waits fails at the end: what was kept before the last call waited, or nothing waits
-pub cut_waited : (most : Option ℕ) (style : Style) (given : Given) (old : Stage) (player : PlayerState) (before taken taken' waiting kept : List ℕ) (ended : Result (Unit {0}) TextFault) → length old.taken ≤ length before → length before ≤ length taken → GrowsByPart taken taken' waiting
-    → (over : GoneOver (PlaysLine style) given old (λ reached. Ends (StopsText style) reached given.ended (stage player (taken ++ waiting)) ended)) → IsWrittenUpTo style old over.lines over.events kept before → (kept ≡ over.rest) ⊎ (waiting ≡ [])
-    → ((n : ℕ) → most ≡ Some n → count_by is_event over.lines < n) → PlayedUpTo most style given old (stage player taken') (Err Write)
+pub cut_waited : (most : Option ℕ) (style : Style) (given : Given) (old : Session) (player : PlayerState) (before taken taken' waiting kept : List ℕ) (ended : Result (Unit {0}) TextFault) → length old.taken ≤ length before → length before ≤ length taken → GrowsByPart taken taken' waiting
+    → (over : LinesProcessed (PlaysLine style) given old (λ reached. ProcessingEnds (StopsText style) reached given.ended (session player (taken ++ waiting)) ended)) → IsWrittenUpTo style old over.lines over.events kept before → (kept ≡ over.rest) ⊎ (waiting ≡ [])
+    → ((n : ℕ) → most ≡ Some n → count_by is_event over.lines < n) → PlayedUpTo most style given old (session player taken') (Err Write)
 cut_waited most style given old player before taken taken' waiting kept ended low more grows over behind (inl same) few =
     let longer = grows_longer taken taken' waiting grows in
     up_to most (cut style given old player taken taken' waiting ended (omega (arith, low, more)) grows over (behind_fewer style old over.lines over.events kept over.rest before taken' (omega (arith, more, longer)) (omega (arith, ap length same)) behind)) few
 cut_waited most style given old player before taken taken' waiting kept ended low more grows over behind (inr none) few = absurd (no_part taken taken' waiting none grows)
 
 -- and once none is
-pub none_left : (style : Style) {given : Given} {old new : Stage} {reader : Lines} (so : SoFar (PlaysLine style) given old new reader) (most left : Option ℕ) → AreLeft most (count_by is_event so.lines) left → left ≡ Some 0 → EndAtEvent so.lines
+pub none_left : (style : Style) {given : Given} {old new : Session} {reader : Lines} (so : SoFar (PlaysLine style) given old new reader) (most left : Option ℕ) → AreLeft most (count_by is_event so.lines) left → left ≡ Some 0 → EndAtEvent so.lines
     → PlayedUpTo most style given old new (Ok tt)
 none_left style so None left are none end = absurd (cc)
 none_left style so (Some n) left are none end = first_done so n (let sum = are.2 in omega (arith, sum, same_Some are.0 0 (sym are.1 ∙ none))) end
 
 -- the same where a write of what waits then fails
-pub first_cut : {style : Style} {given : Given} {old : Stage} {player : PlayerState} {reader : Lines} (taken taken' waiting : List ℕ) (so : SoFar (PlaysLine style) given old (stage player (taken ++ waiting)) reader) (n : ℕ) → count_by is_event so.lines ≡ n → EndAtEvent so.lines
-    → length old.taken ≤ length taken → GrowsByPart taken taken' waiting → IsWrittenUpTo style old so.lines so.events [] taken' → PlayedFirst n style given old (stage player taken') (Err Write)
+pub first_cut : {style : Style} {given : Given} {old : Session} {player : PlayerState} {reader : Lines} (taken taken' waiting : List ℕ) (so : SoFar (PlaysLine style) given old (session player (taken ++ waiting)) reader) (n : ℕ) → count_by is_event so.lines ≡ n → EndAtEvent so.lines
+    → length old.taken ≤ length taken → GrowsByPart taken taken' waiting → IsWrittenUpTo style old so.lines so.events [] taken' → PlayedFirst n style given old (session player taken') (Err Write)
 first_cut {style} {given} {old} {player} {reader} taken taken' waiting so n count end low grows behind = inr (
   given.before ++ text_of so.lines,
   reader.kept,
@@ -161,7 +161,7 @@ first_cut {style} {given} {old} {player} {reader} taken taken' waiting so n coun
         lines = so.lines;
         version = reader.next;
         events = so.events;
-        mid = stage player (taken ++ waiting);
+        mid = session player (taken ++ waiting);
         rest = [];
         read = record { text = text_of so.lines; came = refl; splits = record { whole = sym (append-nil (text_of so.lines)); each = so.read.splits.each }; small = omega arith };
         done = so.done;
@@ -176,7 +176,7 @@ first_cut {style} {given} {old} {player} {reader} taken taken' waiting so n coun
   inr refl,
 )
 
-pub none_cut : {style : Style} {given : Given} {old : Stage} {player : PlayerState} {reader : Lines} (taken taken' waiting : List ℕ) (so : SoFar (PlaysLine style) given old (stage player (taken ++ waiting)) reader) (most left : Option ℕ) → AreLeft most (count_by is_event so.lines) left → left ≡ Some 0 → EndAtEvent so.lines
-    → length old.taken ≤ length taken → GrowsByPart taken taken' waiting → IsWrittenUpTo style old so.lines so.events [] taken' → PlayedUpTo most style given old (stage player taken') (Err Write)
+pub none_cut : {style : Style} {given : Given} {old : Session} {player : PlayerState} {reader : Lines} (taken taken' waiting : List ℕ) (so : SoFar (PlaysLine style) given old (session player (taken ++ waiting)) reader) (most left : Option ℕ) → AreLeft most (count_by is_event so.lines) left → left ≡ Some 0 → EndAtEvent so.lines
+    → length old.taken ≤ length taken → GrowsByPart taken taken' waiting → IsWrittenUpTo style old so.lines so.events [] taken' → PlayedUpTo most style given old (session player taken') (Err Write)
 none_cut taken taken' waiting so None left are none end low grows behind = absurd (cc)
 none_cut taken taken' waiting so (Some n) left are none end low grows behind = first_cut taken taken' waiting so n (let sum = are.2 in omega (arith, sum, same_Some are.0 0 (sym are.1 ∙ none))) end low grows behind

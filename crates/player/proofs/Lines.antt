@@ -12,13 +12,13 @@ use Rattle.trace.specs.declared.fault.TextFault.{TextFault}
 use Rattle.trace.specs.declared.fault.TextFault.TheVariants.{Line as At_line, Read, Write, NoMemory}
 use Rattle.trace.specs.declared.version.Version.{Version}
 use Rattle.trace.specs.declared.version.Version.TheVariants.{Second}
-use Rattle.trace.specs.GoneOver.{Reached, LinesDone, No_lines, One_line_more, GoneOver, Ends}
+use Rattle.trace.specs.LinesProcessed.{Reached, LinesDone, No_lines, One_line_more, LinesProcessed, ProcessingEnds}
 use Rattle.trace.proofs.GoingOver.{next_told, next_same, reached_by}
 use Rattle.trace.specs.Streams.{Given}
 use Rattle.player.specs.Player.{PlayerState, QuantaDue, None_yet, One_more, DoesLine, Skips, Commands, Begins, Goes_on, Spends, Ticks, entries_in}
 use Rattle.player.specs.declared.style.Style.{Style}
 use Rattle.player.specs.declared.style.Style.TheVariants.{Nothing}
-use Rattle.player.specs.Playing.{Stage, PlaysLine, StopsText, CutShort, IsWrittenUpTo, Played, written_line, written_of, written_version, text_written}
+use Rattle.player.specs.Playing.{Session, PlaysLine, StopsText, CutShort, IsWrittenUpTo, Played, written_line, written_of, written_version, text_written}
 
 -- the entries of more events, and what is written of them
 pub entries_more : (es fs : List Event) → entries_in (es ++ fs) ≡ entries_in es ++ entries_in fs
@@ -50,7 +50,7 @@ line_runs p line es q (Goes_on d) = (p.course, d, refl)
 line_runs p line es q (Spends budget units phase course d) = (course, d, refl)
 line_runs p line es q (Ticks n fs r small w none) = due_runs (p.timetable.clock + n) p es r w
 
-pub lines_run : (style : Style) (old new : Stage) (ls : List (List ℕ)) (version : Version) (es : List Event) → LinesDone (PlaysLine style) old ls version es new → Runs old.player.course es new.player.course
+pub lines_run : (style : Style) (old new : Session) (ls : List (List ℕ)) (version : Version) (es : List Event) → LinesDone (PlaysLine style) old ls version es new → Runs old.player.course es new.player.course
 lines_run style old new ls version es No_lines = refl
 lines_run style old new ls version es (One_line_more ls' before version' es' more text mid new' d (inl told) next) =
     let e : es' ≡ es' ++ more = sym (append-nil es') ∙ ap (λ l. es' ++ l) (sym told.1) in
@@ -76,7 +76,7 @@ written_more style version taken taken' taken'' es fs old new =
     ∙ ap (λ t. taken ++ t) (append_assoc told (written_of style (entries_in es)) (written_of style (entries_in fs)) ∙ ap (λ t. told ++ t) (sym (text_more style (entries_in es) (entries_in fs)) ∙ ap (written_of style) (sym (entries_more es fs))))
 
 -- before the first line nothing is done
-none_done : (style : Style) (old new : Stage) (ls : List (List ℕ)) (version : Version) (es : List Event) → LinesDone (PlaysLine style) old ls version es new → length ls ≡ 0 → (es ≡ []) × (new.taken ≡ old.taken)
+none_done : (style : Style) (old new : Session) (ls : List (List ℕ)) (version : Version) (es : List Event) → LinesDone (PlaysLine style) old ls version es new → length ls ≡ 0 → (es ≡ []) × (new.taken ≡ old.taken)
 none_done style old new ls version es No_lines none = (refl, refl)
 none_done style old new ls version es (One_line_more ls' before version' es' more text mid new' d goes next) none = absurd (omega (arith, none, length-append ls' (text ∷ [])))
 
@@ -87,7 +87,7 @@ told_written style version taken taken' taken'' es is none same new =
     new ∙ ap (λ t. t ++ told) same ∙ ap (λ t. taken ++ t) (sym (append-nil told)) ∙ ap (λ l. taken ++ text_written style Second (entries_in l)) (sym none) ∙ ap (λ v. taken ++ text_written style v (entries_in es)) (sym is)
 
 -- what is written of the lines
-pub lines_written : (style : Style) (old new : Stage) (ls : List (List ℕ)) (version : Version) (es : List Event) → LinesDone (PlaysLine style) old ls version es new → new.taken ≡ old.taken ++ text_written style version (entries_in es)
+pub lines_written : (style : Style) (old new : Session) (ls : List (List ℕ)) (version : Version) (es : List Event) → LinesDone (PlaysLine style) old ls version es new → new.taken ≡ old.taken ++ text_written style version (entries_in es)
 lines_written style old new ls version es No_lines = sym (append-nil old.taken)
 lines_written style old new ls version es (One_line_more ls' before version' es' more text mid new' d (inl told) next) =
     let n = none_done style old mid ls' before es' d (omega (arith, told.0.0)) in
@@ -97,14 +97,14 @@ lines_written style old new ls version es (One_line_more ls' before version' es'
     (written_more style before old.taken mid.taken new'.taken es' more (lines_written style old mid ls' before es' d) does.1.2.1)
 
 -- what is played
-abbrev pub played : (style : Style) (given : Given) (old new : Stage) (result : Result (Unit {0}) TextFault) (over : GoneOver (PlaysLine style) given old (λ reached. Ends (StopsText style) reached given.ended new result ⊎ ((result ≡ Err Write) × CutShort style reached old new)))
+abbrev pub played : (style : Style) (given : Given) (old new : Session) (result : Result (Unit {0}) TextFault) (over : LinesProcessed (PlaysLine style) given old (λ reached. ProcessingEnds (StopsText style) reached given.ended new result ⊎ ((result ≡ Err Write) × CutShort style reached old new)))
     → (result ≡ Err Write → IsWrittenUpTo style old over.lines over.events over.rest new.taken) → Played style given old new result
 played style given old new result over behind =
     let runs = lines_run style old over.mid over.lines over.version over.events over.done in
     record { over = over; runs = runs; grows = history_grows over.events old.player.course over.mid.player.course runs; written = lines_written style old over.mid over.lines over.version over.events over.done; behind = behind }
 
 -- no line ends in a failed write
-pub ends_otherwise : (style : Style) (reached : Reached Stage Event) (ended : Bool) (new : Stage) (result : Result (Unit {0}) TextFault) → Ends (StopsText style) reached ended new result → result ≡ Err Write → ⊥
+pub ends_otherwise : (style : Style) (reached : Reached Session Event) (ended : Bool) (new : Session) (result : Result (Unit {0}) TextFault) → ProcessingEnds (StopsText style) reached ended new result → result ≡ Err Write → ⊥
 ends_otherwise style reached ended new (Ok all) e is = cc
 ends_otherwise style reached ended new (Err (At_line k f)) e is = cc
 ends_otherwise style reached ended new (Err Read) e is = cc
@@ -130,7 +130,7 @@ pub ticks_enter_nothing : (p q : PlayerState) (n : ℕ) (es : List Event) → Do
 ticks_enter_nothing p q n es d = enters_nothing p (lines.Tick n) es q d (λ m c e. cc)
 
 -- an end is an end where no write fails
-abbrev pub ends_so : {style : Style} {given : Given} {old new : Stage} {result : Result (Unit {0}) TextFault} → GoneOver (PlaysLine style) given old (λ reached. Ends (StopsText style) reached given.ended new result) → Played style given old new result
+abbrev pub ends_so : {style : Style} {given : Given} {old new : Session} {result : Result (Unit {0}) TextFault} → LinesProcessed (PlaysLine style) given old (λ reached. ProcessingEnds (StopsText style) reached given.ended new result) → Played style given old new result
 ends_so {style} {given} {old} {new} {result} over =
     played style given old new result (record { lines = over.lines; version = over.version; events = over.events; mid = over.mid; rest = over.rest; read = over.read; done = over.done; ends = inl over.ends })
     (λ is. absurd (ends_otherwise style (reached_by over) given.ended new result over.ends is))

@@ -6,7 +6,7 @@ use Rattle.size_classes.specs.declared.config.Config.{Config}
 use Rattle.heap_model.specs.State.{HeapState}
 use Rattle.heap_model.specs.Settings.{HeapSettings}
 use Rattle.heap_model.specs.Event.{Course, Event, Runs, IsCourse}
-use Rattle.heap_model.specs.Led.{opened}
+use Rattle.heap_model.specs.ReachedFrom.{opened}
 use Rattle.heap_model.proofs.Course.{opening_course}
 use Rattle.machine.specs.Headline.{Holds, Follows, AlwaysHolds}
 use Rattle.machine.specs.Space.{SpaceSuffices}
@@ -17,12 +17,12 @@ use Rattle.trace.specs.declared.fault.TextFault.{TextFault}
 use Rattle.trace.specs.declared.fault.TextFault.TheVariants.{NoMemory}
 use Rattle.trace.specs.declared.line.Line.{Line}
 use Rattle.trace.specs.declared.line.Line.TheVariants as lines
-use Rattle.trace.specs.GoneOver.{Reached}
+use Rattle.trace.specs.LinesProcessed.{Reached}
 use Rattle.trace.specs.Streams.{Given}
 use Rattle.player.specs.declared.style.Style.{Style}
 use Rattle.player.specs.New.{IsNew, StartsWithSpace}
 use Rattle.player.specs.Player.{PlayerState}
-use Rattle.player.specs.Playing.{Stage, stage, Stops, Played, PlayedFirst, PlayedUpTo}
+use Rattle.player.specs.Playing.{Session, session, Stops, Played, PlayedFirst, PlayedUpTo}
 use Rattle.player.proofs.Closing.{LeftBehind, left_behind}
 use Rattle.player.proofs.Lines.{due_runs}
 
@@ -34,36 +34,36 @@ same_reached : (old new : PlayerState) → new ≡ old → Reaches old new
 same_reached old new e = ([], ap (λ (p : PlayerState). p.course) e)
 
 -- quanta that are due are done also where memory is refused for the next
-stop_reached : (style : Style) (line : Line) (number : ℕ) (mid new : Stage) → Stops style NoMemory line number mid new → Reaches mid.player new.player
+stop_reached : (style : Style) (line : Line) (number : ℕ) (mid new : Session) → Stops style NoMemory line number mid new → Reaches mid.player new.player
 stop_reached style lines.Skip number mid new s = elim s [ ]
 stop_reached style (lines.Command m c) number mid new s = same_reached mid.player new.player s.0
 stop_reached style lines.Begin number mid new s = elim s [ ]
 stop_reached style (lines.Quantum b) number mid new s = elim s [ ]
 stop_reached style (lines.Tick n) number mid new s = (s.0.0, due_runs (mid.player.timetable.clock + n) mid.player s.0.0 new.player s.0.2)
 
-left_reached : (style : Style) (reached : Reached Stage Event) (new : Stage) → LeftBehind style reached new → Reaches reached.state.player new.player
+left_reached : (style : Style) (reached : Reached Session Event) (new : Session) → LeftBehind style reached new → Reaches reached.state.player new.player
 left_reached style reached new (e, inl same) = same_reached reached.state.player new.player same
-left_reached style reached new (e, inr (text, more, whole, is, inl none)) = same_reached reached.state.player new.player (ap (λ (s : Stage). s.player) none.1)
-left_reached style reached new (e, inr (text, more, whole, is, inr (line, spells, stops))) = stop_reached style line (length reached.lines + 1) reached.state (stage new.player reached.state.taken) stops
+left_reached style reached new (e, inr (text, more, whole, is, inl none)) = same_reached reached.state.player new.player (ap (λ (s : Session). s.player) none.1)
+left_reached style reached new (e, inr (text, more, whole, is, inr (line, spells, stops))) = stop_reached style line (length reached.lines + 1) reached.state (session new.player reached.state.taken) stops
 
 -- where a write failed, what is left is the same
-play_reaches : (style : Style) (given : Given) (old new : Stage) (result : Result (Unit {0}) TextFault) → Played style given old new result → Reaches old.player new.player
+play_reaches : (style : Style) (given : Given) (old new : Session) (result : Result (Unit {0}) TextFault) → Played style given old new result → Reaches old.player new.player
 play_reaches style given old new result p =
     let o = p.over in
-    let here : Reached Stage Event = record { lines = o.lines; version = o.version; events = o.events; state = o.mid; rest = o.rest } in
-    let behind : LeftBehind style here (stage new.player o.mid.taken) = elim o.ends [
+    let here : Reached Session Event = record { lines = o.lines; version = o.version; events = o.events; state = o.mid; rest = o.rest } in
+    let behind : LeftBehind style here (session new.player o.mid.taken) = elim o.ends [
       | inl e ↦ (refl, (left_behind style here given.ended new result e).1)
       | inr w ↦ (refl, w.1.1)
     ] in
-    let last = left_reached style here (stage new.player o.mid.taken) behind in
+    let last = left_reached style here (session new.player o.mid.taken) behind in
     (o.events ++ last.0, runs_then o.events last.0 old.player.course o.mid.player.course new.player.course p.runs last.1)
 
-up_to_reaches : (most : Option ℕ) (style : Style) (given : Given) (old new : Stage) (result : Result (Unit {0}) TextFault) → PlayedUpTo most style given old new result → Reaches old.player new.player
+up_to_reaches : (most : Option ℕ) (style : Style) (given : Given) (old new : Session) (result : Result (Unit {0}) TextFault) → PlayedUpTo most style given old new result → Reaches old.player new.player
 up_to_reaches None style given old new result p = play_reaches style given old new result p
 up_to_reaches (Some n) style given old new result (inl (all, few)) = play_reaches style given old new result all
 up_to_reaches (Some n) style given old new result (inr w) = play_reaches style (record given { after = w.0; ended = true }) old new result w.2
 
-pub promised : (most : Option ℕ) (style : Style) (given : Given) (old new : Stage) (result : Result (Unit {0}) TextFault) → PlayedUpTo most style given old new result → AlwaysHolds old.player.course → Holds new.player.course × Follows old.player.course new.player.course
+pub promised : (most : Option ℕ) (style : Style) (given : Given) (old new : Session) (result : Result (Unit {0}) TextFault) → PlayedUpTo most style given old new result → AlwaysHolds old.player.course → Holds new.player.course × Follows old.player.course new.player.course
 promised most style given old new result p always = let w = up_to_reaches most style given old new result p in always w.0 new.player.course w.1
 
 -- a new player's heap is one that was just made
@@ -82,7 +82,7 @@ new_course config p n =
     subst IsCourse (sym (new_opened config p n)) (opening_course p.course.heap n.heap some)
 
 -- of what is played on a new player
-pub play_promised : (config : Config) (style : Style) (given : Given) (old new : Stage) (result : Result (Unit {0}) TextFault) (p : Played style given old new result) → IsNew config old.player → Holds new.player.course × SpaceSuffices config p.over.events
+pub play_promised : (config : Config) (style : Style) (given : Given) (old new : Session) (result : Result (Unit {0}) TextFault) (p : Played style given old new result) → IsNew config old.player → Holds new.player.course × SpaceSuffices config p.over.events
 play_promised config style given old new result p n =
     let w = play_reaches style given old new result p in
     ((always_holds old.player.course (new_course config old.player n) w.0 new.player.course w.1).0, starts_with_space old.player config p.over.events p.over.mid.player.course n p.runs)

@@ -10,7 +10,7 @@ use Rattle.trace.specs.declared.fault.TextFault.{TextFault}
 use Rattle.trace.specs.declared.fault.TextFault.TheVariants.{Line as At_line, Write, NoMemory}
 use Rattle.trace.specs.declared.version.Version.{Version}
 use Rattle.trace.specs.declared.version.Version.TheVariants.{Second}
-use Rattle.trace.specs.GoneOver.{Reached, NextThere, Goes, LinesDone, GoneOver, Ends}
+use Rattle.trace.specs.LinesProcessed.{Reached, NextThere, LineEffect, LinesDone, LinesProcessed, ProcessingEnds}
 use Rattle.trace.specs.Numbered.{IsNoEvent}
 use Rattle.trace.specs.Spelling.{version_line, Spells, is_skipped, reply_text, entry_line}
 use Rattle.trace.specs.Streams.{Given, GrowsByPart, text_of}
@@ -23,13 +23,13 @@ use Rattle.player.specs.declared.style.Style.{Style}
 use Rattle.player.specs.declared.style.Style.TheVariants.{Replies, Entries, Nothing}
 
 -- a player, and the text that its sink has taken
-pub record Stage : Type 0 where
+pub record Session : Type 0 where
   pub player : PlayerState
   pub taken : List ℕ
 
 -- a player with the text that its sink has taken
-abbrev pub stage : PlayerState → List ℕ → Stage
-stage player taken = record { player = player; taken = taken }
+abbrev pub session : PlayerState → List ℕ → Session
+session player taken = record { player = player; taken = taken }
 
 -- what is written of an entry: the line of its reply, its own line, each with LF (byte 10) after it, or
 -- nothing
@@ -52,24 +52,24 @@ abbrev pub text_written : Style → Version → List Entry → List ℕ
 text_written style version entries = written_version version style ++ written_of style entries
 
 -- the line that tells the version is written, and does nothing else
-abbrev pub TellsVersionOf : Style → Stage → Stage → Type 0
+abbrev pub TellsVersionOf : Style → Session → Session → Type 0
 TellsVersionOf style old new = (new.player ≡ old.player) × (new.taken ≡ old.taken ++ written_version Second style)
 
 -- What a line does: its events, and what is written of their entries.
-abbrev pub Plays : Style → Line → Stage → List Event → Stage → Type 0
+abbrev pub Plays : Style → Line → Session → List Event → Session → Type 0
 Plays style line old events new = DoesLine old.player line events new.player
     × (new.taken ≡ old.taken ++ written_of style (entries_in events))
 
 -- the text of a line spells a line that does so
-abbrev pub PlaysText : Style → Version → List ℕ → Stage → List Event → Stage → Type 0
+abbrev pub PlaysText : Style → Version → List ℕ → Session → List Event → Session → Type 0
 PlaysText style version text old events new = (line : Line) × Spells version text line × Plays style line old events new
 
 -- the same of a line that may tell the version
-abbrev pub PlaysLine : Style → Text → Stage → List Event → Stage → Type 0
-PlaysLine style = Goes (TellsVersionOf style) (PlaysText style)
+abbrev pub PlaysLine : Style → Text → Session → List Event → Session → Type 0
+PlaysLine style = LineEffect (TellsVersionOf style) (PlaysText style)
 
 -- What a fault at a line of this number is.
-abbrev pub Stops : Style → TextFault → Line → ℕ → Stage → Stage → Type 0
+abbrev pub Stops : Style → TextFault → Line → ℕ → Session → Session → Type 0
 -- its ticks would pass the clock's limit
 Stops style (At_line k ClockSpent) (lines.Tick n) number old new = (k ≡ number)
     × (CLOCK_LIMIT < old.player.timetable.clock + n) × (new.player ≡ old.player) × (new.taken ≡ old.taken)
@@ -82,29 +82,29 @@ Stops style NoMemory (lines.Tick n) number old new =
 Stops style fault line number old new = ⊥
 
 -- the same of its text, which may spell no event, and then doesn't tell the version
-abbrev pub StopsText : Style → TextFault → Text → Stage → Stage → Type 0
+abbrev pub StopsText : Style → TextFault → Text → Session → Session → Type 0
 StopsText style fault text old new =
     (IsNoEvent fault text × (new ≡ old))
     ⊎ ((line : Line) × Spells text.version text.bytes line × Stops style fault line text.number old new)
 
 -- A write failed: after the lines done no further one was, or memory was refused for the next, too. Of their
 -- text, which ends with that of the last command, a beginning was written, and not all of it.
-abbrev pub CutShort : Style → Reached Stage Event → Stage → Stage → Type 0
+abbrev pub CutShort : Style → Reached Session Event → Session → Session → Type 0
 CutShort style reached old new =
     GrowsByPart old.taken new.taken (text_written style reached.version (entries_in reached.events))
     × ((new.player ≡ reached.state.player) ⊎ NextThere reached
-    (λ text. StopsText style NoMemory text reached.state (stage new.player reached.state.taken)))
+    (λ text. StopsText style NoMemory text reached.state (session new.player reached.state.taken)))
 
 -- All that the first of these lines wrote is within the text that was taken. The lines after these, with the rest, are
 -- at most a buffer of the input: none but those that waited there were done.
-pub record IsWrittenUpTo (style : Style) (old : Stage) (lines : List (List ℕ)) (events : List Event)
+pub record IsWrittenUpTo (style : Style) (old : Session) (lines : List (List ℕ)) (events : List Event)
     (rest taken : List ℕ) : Type 0 where
   pub before : List (List ℕ)
   pub behind : List (List ℕ)
   pub version : Version
   pub first : List Event
   pub more : List Event
-  pub mid : Stage
+  pub mid : Session
   pub lines_are : lines ≡ before ++ behind
   pub events_are : events ≡ first ++ more
   pub done : LinesDone (PlaysLine style) old before version first mid
@@ -114,10 +114,10 @@ pub record IsWrittenUpTo (style : Style) (old : Stage) (lines : List (List ℕ))
 -- What was played of an input: the lines that were done did these events, one after the other, what is
 -- written of their entries is written, and it ended so. Where a write failed, mid has all of that text, and the lines
 -- that weren't all written were waiting in a buffer of the input.
-pub record Played (style : Style) (given : Given) (old new : Stage)
+pub record Played (style : Style) (given : Given) (old new : Session)
     (result : Result (Unit {0}) TextFault) : Type 0 where
-  pub over : GoneOver (PlaysLine style) given old
-      (λ reached. Ends (StopsText style) reached given.ended new result
+  pub over : LinesProcessed (PlaysLine style) given old
+      (λ reached. ProcessingEnds (StopsText style) reached given.ended new result
       ⊎ ((result ≡ Err Write) × CutShort style reached old new))
   pub runs : Runs old.player.course over.events over.mid.player.course
   pub grows : over.mid.player.course.history ≡ old.player.course.history ++ entries_in over.events
@@ -139,7 +139,7 @@ EndAtEvent lines = (lines ≡ [])
     ⊎ ((before : List (List ℕ)) × (last : List ℕ) × (lines ≡ before ++ last ∷ []) × IsTrue (is_event last))
 
 -- What was played of an input up to the line of its nth event.
-abbrev pub PlayedFirst : ℕ → Style → Given → Stage → Stage → Result (Unit {0}) TextFault → Type 0
+abbrev pub PlayedFirst : ℕ → Style → Given → Session → Session → Result (Unit {0}) TextFault → Type 0
 PlayedFirst n style given old new result =
     -- fewer events were done: what is played of the whole input
     ((all : Played style given old new result) × (count_by is_event all.over.lines < n))
@@ -152,7 +152,7 @@ PlayedFirst n style given old new result =
     × ((result ≡ Ok tt) ⊎ (result ≡ Err Write)))
 
 -- the same, where n may be none: then the whole input is played
-abbrev pub PlayedUpTo : Option ℕ → Style → Given → Stage → Stage → Result (Unit {0}) TextFault → Type 0
+abbrev pub PlayedUpTo : Option ℕ → Style → Given → Session → Session → Result (Unit {0}) TextFault → Type 0
 PlayedUpTo None = Played
 PlayedUpTo (Some n) = PlayedFirst n
 
@@ -166,9 +166,9 @@ abbrev pub LineDone : Line → ℕ → PlayerState → PlayerState → Result (O
 LineDone line number old new (Ok receipt) = (es : List Event) × DoesLine old line es new
     × (entries_in es ≡ entry_of receipt)
 LineDone line number old new (Err fault) = (style : Style) (taken : List ℕ)
-    → Stops style fault line number (stage old taken) (stage new taken)
+    → Stops style fault line number (session old taken) (session new taken)
 
-abbrev pub LinePlayed : Style → Text → Stage → Stage → Result Bool TextFault → Type 0
+abbrev pub LinePlayed : Style → Text → Session → Session → Result Bool TextFault → Type 0
 LinePlayed style text old new (Ok event) =
     (es : List Event) × PlaysLine style text old es new × (event ≡ is_event text.bytes)
 LinePlayed style text old new (Err fault) = StopsText style fault text old new

@@ -7,12 +7,13 @@ ghost use Rattle.trace.specs.Streams.{Given};
 ghost use Rattle.trace.specs.declared.fault.TextFault.{TextFault};
 ghost use Rattle.player.specs.declared.style.Style.{Style};
 ghost use Rattle.player.specs.New.{IsNew};
-ghost use Rattle.player.specs.Playing.{Stage, Played};
+ghost use Rattle.player.specs.Playing.{Session, Played};
 
 /// What is played on a new player leaves a heap for which all that is promised holds, and space suffices for its
 /// events.
 pub fn plays_are_promised()
-    ensures { (config : Config) (style : Style) (given : Given) (old new : Stage) (result : Result (Unit {0}) TextFault)
+    ensures { (config : Config) (style : Style) (given : Given) (old new : Session)
+        (result : Result (Unit {0}) TextFault)
         (p : Played style given old new result) → IsNew config old.player → Holds new.player.course
         × SpaceSuffices config p.over.events }
 {}

@@ -1,11 +1,11 @@
 //! One line of a trace.
 ghost use Rattle.std.specs.Prelude.{◌≡◌, ℕ, ◌+◌, ◌≤◌, ◌++◌, List, length};
-ghost use Rattle.trace.specs.GoneOver.{reads_failed, writes_failed};
+ghost use Rattle.trace.specs.LinesProcessed.{reads_failed, writes_failed};
 ghost use Rattle.trace.specs.TextLine.{text_in};
 ghost use Rattle.trace.specs.declared.version.Version.TheVariants as versions;
 ghost use Rattle.player.specs.Player.{HasBudget};
 ghost use Rattle.player.specs.declared.style.Style.TheVariants as styles;
-ghost use Rattle.player.specs.Playing.{stage, written_line, written_version, says_event, LineDone, LinePlayed};
+ghost use Rattle.player.specs.Playing.{session, written_line, written_version, says_event, LineDone, LinePlayed};
 
 use crate::player::Player;
 use crate::style::Style;
@@ -98,8 +98,8 @@ pub fn play_line(
     requires { length waiting.old + 256 ≤ 65536 }
     // This is so after whatever was written before.
     ensures played { (before : List ℕ)
-        → LinePlayed style (text_in text.entry) (stage player.old (before ++ waiting.old))
-        (stage player.new (before ++ waiting.new)) result }
+        → LinePlayed style (text_in text.entry) (session player.old (before ++ waiting.old))
+        (session player.new (before ++ waiting.new)) result }
     // No write is in it that could fail, and no read.
     ensures calls { (writes_failed result ≡ 0) × (reads_failed result ≡ 0) }
 {

@@ -10,7 +10,7 @@ ghost use Rattle.player.specs.Ticking.{DueDone, Ticked, Begun, Spent};
 
 use graph_heap::{Command, NoMemory};
 use heap_model::phase::Phase;
-use machine::{Receipt, Recorded};
+use machine::{HeapWithHistory, Receipt};
 use quanta::{CLOCK_LIMIT, Schedule};
 use size_classes::Config;
 use std::alloc::Global;
@@ -20,7 +20,7 @@ use trace::{LineFault, TextFault};
 /// A heap with its history, and the schedule of its collector: when quanta are due, and the intervals
 /// that they took. Contracts see the course of the heap, the timetable, and the budget of a quantum.
 pub struct Player {
-    recorded: Recorded,
+    recorded: HeapWithHistory,
     schedule: Schedule,
     budget: u32,
 }
@@ -97,14 +97,14 @@ impl Player {
         ensures { IfOk result (IsNew config.now) }
     {
         Ok(Player {
-            recorded: Recorded::new(alloc, config)?,
+            recorded: HeapWithHistory::new(alloc, config)?,
             schedule: Schedule::new(alloc, config),
             budget: config.collector_ticks * config.rate,
         })
     }
 
     /// The heap with its history.
-    pub fn recorded(&self) -> &Recorded
+    pub fn recorded(&self) -> &HeapWithHistory
         ensures { result.now.course ≡ self.now.course }
     {
         &self.recorded

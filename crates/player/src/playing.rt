@@ -1,10 +1,10 @@
 //! Playing a trace.
 ghost use Rattle.std.specs.Prelude.{◌≡◌, ◌≢◌, ℕ, ◌+◌, ◌-◌, ◌<◌, ◌≤◌, ◌++◌, List, [], length, false, Some, Err, IsTrue, option_map, if◌then◌else◌};
-ghost use Rattle.trace.specs.GoneOver.{reads_failed, writes_failed};
+ghost use Rattle.trace.specs.LinesProcessed.{reads_failed, writes_failed};
 ghost use Rattle.trace.specs.Streams.{Stays, GrowsByPart, given_by};
 ghost use Rattle.machine.specs.Headline.{Holds, Follows};
 ghost use Rattle.player.specs.New.{StartsWithSpace};
-ghost use Rattle.player.specs.Playing.{stage, Played, PlayedFirst, PlayedUpTo};
+ghost use Rattle.player.specs.Playing.{session, Played, PlayedFirst, PlayedUpTo};
 ghost use Rattle.player.specs.Closing.{Closes};
 
 use crate::line::play_line;
@@ -60,11 +60,11 @@ fn play_lines<S: Source, K: Sink>(
 ) -> Result<(), TextFault>
     requires { waiting.old ≡ [] }
     ensures played { PlayedUpTo n style (given_by S.given S.ended source.old source.new)
-        (stage player.old (K.taken sink.old)) (stage player.new (K.taken sink.new ++ waiting.new)) result }
+        (session player.old (K.taken sink.old)) (session player.new (K.taken sink.new ++ waiting.new)) result }
     // The same where a write of what waits then fails.
     ensures cut { (taken : List ℕ) → GrowsByPart (K.taken sink.new) taken waiting.new
-        → PlayedUpTo n style (given_by S.given S.ended source.old source.new) (stage player.old (K.taken sink.old))
-        (stage player.new taken) (Err TextFault.Write) }
+        → PlayedUpTo n style (given_by S.given S.ended source.old source.new) (session player.old (K.taken sink.old))
+        (session player.new taken) (Err TextFault.Write) }
     ensures none { n ≡ Some 0 → source.new ≡ source.old }
     ensures nothing { 0 < reads_failed result + writes_failed result → waiting.new ≡ [] }
     ensures reads { S.failures source.new ≡ S.failures source.old + reads_failed result }
@@ -89,7 +89,7 @@ fn play_up_to<S: Source, K: Sink>(
     style: Style,
 ) -> Result<(), TextFault>
     ensures played { PlayedUpTo n style (given_by S.given S.ended source.old source.new)
-        (stage player.old (K.taken sink.old)) (stage player.new (K.taken sink.new)) result }
+        (session player.old (K.taken sink.old)) (session player.new (K.taken sink.new)) result }
     ensures none { n ≡ Some 0 → source.new ≡ source.old }
     ensures reads { S.failures source.new ≡ S.failures source.old + reads_failed result }
     ensures writes { K.failures sink.new ≡ K.failures sink.old + writes_failed result }
@@ -111,8 +111,9 @@ pub fn play<S: Source, K: Sink>(
     player: &mut Player,
     style: Style,
 ) -> Result<(), TextFault>
-    ensures played { Played style (given_by S.given S.ended source.old source.new) (stage player.old (K.taken sink.old))
-        (stage player.new (K.taken sink.new)) result }
+    ensures played { Played style (given_by S.given S.ended source.old source.new)
+        (session player.old (K.taken sink.old))
+        (session player.new (K.taken sink.new)) result }
     ensures reads { S.failures source.new ≡ S.failures source.old + reads_failed result }
     ensures writes { K.failures sink.new ≡ K.failures sink.old + writes_failed result }
     ensures input { reads_failed result ≡ 0 → Stays (S.input source.old) (S.input source.new) }
@@ -134,7 +135,7 @@ pub fn play_first<S: Source, K: Sink>(
     style: Style,
 ) -> Result<(), TextFault>
     ensures played { PlayedFirst n style (given_by S.given S.ended source.old source.new)
-        (stage player.old (K.taken sink.old)) (stage player.new (K.taken sink.new)) result }
+        (session player.old (K.taken sink.old)) (session player.new (K.taken sink.new)) result }
     ensures none { n ≡ 0 → source.new ≡ source.old }
     ensures reads { S.failures source.new ≡ S.failures source.old + reads_failed result }
     ensures writes { K.failures sink.new ≡ K.failures sink.old + writes_failed result }

@@ -1,2 +1,2 @@
-pub mod Row
+pub mod RootTable
 pub mod Used

@@ -21,13 +21,13 @@ pub struct Roots {
 }
 
 impl Model for Roots {
-    ghost use Rattle.roots.specs.Row.{Row, IsRow};
+    ghost use Rattle.roots.specs.RootTable.{RootTable, IsRootTable};
 
-    ghost Value = { Row };
+    ghost Value = { RootTable };
 
     ghost view = { λ r. record { limits = r.limits; cells = r.cells.items; live = r.live.items } };
 
-    ghost invariant = { λ r. IsRow (record { limits = r.limits; cells = r.cells.items; live = r.live.items }) };
+    ghost invariant = { λ r. IsRootTable (record { limits = r.limits; cells = r.cells.items; live = r.live.items }) };
 }
 
 impl Roots {

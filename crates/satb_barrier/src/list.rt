@@ -3,19 +3,19 @@ ghost use Rattle.std.specs.Prelude.{◌≡◌, ◌≢◌, ◌<◌, ◌-◌, ◌*
 ghost use Rattle.heap_model.specs.Action.{Relinks};
 ghost use Rattle.heap_model.specs.Collector.{contains};
 ghost use Rattle.heap_model.specs.Grey.{AreGrey};
-ghost use Rattle.heap_model.specs.Store.{is_held};
+ghost use Rattle.heap_model.specs.Store.{is_allocated};
 ghost use Rattle.heap_model.specs.Written as written;
 ghost use Rattle.nodes.specs.Grey.{grey_in, in_buffers, buffer_of, inserted, with_buffer};
-ghost use Rattle.nodes.specs.RawHeap.{state_of, IsRawHeap};
+ghost use Rattle.nodes.specs.HeapFields.{state_of, AreHeapFields};
 ghost use Rattle.satb_barrier.specs.Recording.{with_room};
 
 use crate::shading::records;
-use nodes::RawHeap;
+use nodes::HeapFields;
 
-/// Puts a held part that isn't grey into the list, as its first.
-pub fn thread(heap: &mut RawHeap, part: u64)
+/// Puts an allocated part that isn't grey into the list, as its first.
+pub fn push_grey(heap: &mut HeapFields, part: u64)
     requires some { part ≢ 0 }
-    requires held { is_held heap.old.nodes (part - 1) ≡ true }
+    requires allocated { is_allocated heap.old.nodes (part - 1) ≡ true }
     requires fresh { contains (grey_in heap.old.nodes heap.old.grey) part ≡ false }
     requires few { length (grey_in heap.old.nodes heap.old.grey) < 2048 * length heap.old.nodes.pages }
     ensures grey { grey_in heap.new.nodes heap.new.grey ≡ inserted part (grey_in heap.old.nodes heap.old.grey) }
@@ -27,10 +27,10 @@ pub fn thread(heap: &mut RawHeap, part: u64)
 }
 
 /// Takes a grey part out of the list, the one that came last. The buffers are empty.
-pub fn take(heap: &mut RawHeap) -> Option<u64>
+pub fn pop_grey(heap: &mut HeapFields) -> Option<u64>
     requires grey { AreGrey (state_of heap.old) }
     requires buffers { in_buffers heap.old.grey.buffers ≡ [] }
-    ensures held { IfSome result (λ part. is_held heap.old.nodes (part - 1) ≡ true) }
+    ensures allocated { IfSome result (λ part. is_allocated heap.old.nodes (part - 1) ≡ true) }
     ensures none { IsNone result → ((state_of heap.old).grey ≡ []) × (heap.new ≡ heap.old) }
     ensures taken { IfSome result (λ part. (front : List ℕ) × (back : List ℕ)
         × ((state_of heap.old).grey ≡ front ++ part ∷ back) × ((state_of heap.new).grey ≡ front ++ back)) }
@@ -46,7 +46,7 @@ pub fn take(heap: &mut RawHeap) -> Option<u64>
 }
 
 /// Puts the records of a mutator's buffer into the list. The same parts are grey.
-pub fn flush(heap: &mut RawHeap, mutator: u32)
+pub fn flush(heap: &mut HeapFields, mutator: u32)
     requires grey { AreGrey (state_of heap.old) }
     requires mutator { mutator < length heap.old.grey.buffers }
     ensures grey { grey_in heap.new.nodes heap.new.grey ≡ grey_in heap.old.nodes heap.old.grey }
@@ -57,12 +57,12 @@ pub fn flush(heap: &mut RawHeap, mutator: u32)
     } }
 {
     while let Some(part) = heap.grey.pop(mutator) {
-        thread(heap, part);
+        push_grey(heap, part);
     }
 }
 
 /// Makes room for a record in a mutator's buffer: a full one goes into the list. The same parts are grey.
-pub fn make_room(heap: &mut RawHeap, mutator: u32)
+pub fn make_room(heap: &mut HeapFields, mutator: u32)
     requires grey { AreGrey (state_of heap.old) }
     requires mutator { mutator < length heap.old.grey.buffers }
     ensures grey { grey_in heap.new.nodes heap.new.grey ≡ grey_in heap.old.nodes heap.old.grey }
@@ -83,8 +83,8 @@ pub fn make_room(heap: &mut RawHeap, mutator: u32)
 
 /// Puts the records of all buffers into the list, as each quantum begins. The same parts are grey. Outside
 /// roots and marking the buffers are empty, and nothing changes.
-pub fn flush_all(heap: &mut RawHeap)
-    requires { IsRawHeap heap.old }
+pub fn flush_all(heap: &mut HeapFields)
+    requires { AreHeapFields heap.old }
     ensures grey { grey_in heap.new.nodes heap.new.grey ≡ grey_in heap.old.nodes heap.old.grey }
     ensures links { Relinks heap.old.nodes heap.new.nodes }
     ensures buffers { in_buffers heap.new.grey.buffers ≡ [] }

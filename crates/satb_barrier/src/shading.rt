@@ -4,23 +4,26 @@ ghost use Rattle.heap_model.specs.Action.{Shades};
 ghost use Rattle.heap_model.specs.Change.{Records};
 ghost use Rattle.heap_model.specs.Grey.{AreGrey};
 ghost use Rattle.heap_model.specs.State.{seen};
-ghost use Rattle.heap_model.specs.Store.{is_held};
+ghost use Rattle.heap_model.specs.Store.{is_allocated};
 ghost use Rattle.heap_model.specs.Written as written;
 ghost use Rattle.nodes.specs.Referent.{CanFollow};
-ghost use Rattle.nodes.specs.RawHeap.{state_of, IsRawHeap};
-ghost use Rattle.nodes.specs.GreyHeld.{AreHeld};
+ghost use Rattle.nodes.specs.HeapFields.{state_of, AreHeapFields};
+ghost use Rattle.nodes.specs.GreyAllocated.{AreAllocated};
 ghost use Rattle.satb_barrier.specs.Recording.{buffers_after};
 
-use crate::list::{make_room, thread};
+use crate::list::{make_room, push_grey};
 use heap_model::phase::Phase;
-use nodes::RawHeap;
+use nodes::HeapFields;
 
 /// Whether a part is marked, by reference: whether its colour is the one that means so. Null always is.
-pub fn is_marked(heap: &RawHeap, reference: u64) -> bool
-    requires { reference ≢ 0 → is_held heap.now.nodes (reference - 1) ≡ true }
+pub fn is_marked(heap: &HeapFields, reference: u64) -> bool
+    requires { reference ≢ 0 → is_allocated heap.now.nodes (reference - 1) ≡ true }
     ensures { result ≡ (seen (state_of heap.now)).marked reference }
 {
-    reference == 0 || heap.nodes.has_colour(reference as usize - 1, heap.sense)
+    reference == 0
+        || heap
+            .nodes
+            .has_colour(reference as usize - 1, heap.mark_parity)
 }
 
 /// Whether a phase is one in which what is overwritten is recorded: roots and marking.
@@ -32,9 +35,9 @@ pub fn records(phase: Phase) -> bool
 
 /// Shades a main copy, or null: if it isn't marked yet, it gets the colour that means marked, and goes
 /// into the list of grey parts.
-pub fn shade(heap: &mut RawHeap, reference: u64)
+pub fn shade(heap: &mut HeapFields, reference: u64)
     requires grey { AreGrey (state_of heap.old) }
-    requires held { reference ≢ 0 → is_held heap.old.nodes (reference - 1) ≡ true }
+    requires allocated { reference ≢ 0 → is_allocated heap.old.nodes (reference - 1) ≡ true }
     ensures shades { Shades (state_of heap.old) reference (state_of heap.new) }
     ensures same { heap.new ≡ record heap.old {
       nodes = heap.new.nodes;
@@ -44,20 +47,21 @@ pub fn shade(heap: &mut RawHeap, reference: u64)
     if is_marked(heap, reference) {
         return;
     }
-    heap.nodes.set_colour(reference as usize - 1, heap.sense);
-    thread(heap, reference);
+    heap.nodes
+        .set_colour(reference as usize - 1, heap.mark_parity);
+    push_grey(heap, reference);
 }
 
 /// What a command of a mutator overwrites, in a phase that records: its main copy is shaded (Yuasa,
 /// 1990), and goes into the mutator's buffer, whose 64 records went into the list if it was full. In
 /// other phases nothing is done.
-pub fn record(heap: &mut RawHeap, mutator: u32, reference: u64)
-    requires heap { IsRawHeap heap.old }
+pub fn record(heap: &mut HeapFields, mutator: u32, reference: u64)
+    requires heap { AreHeapFields heap.old }
     requires mutator { mutator < heap.old.roots.limits.mutators }
     requires leads { CanFollow heap.old.nodes reference }
     ensures records { Records (state_of heap.old) reference (state_of heap.new) }
     ensures buffers { heap.new.grey.buffers ≡ buffers_after heap.old mutator reference }
-    ensures held { AreHeld heap.new }
+    ensures allocated { AreAllocated heap.new }
     ensures same { heap.new ≡ record heap.old { nodes = heap.new.nodes; grey = heap.new.grey } }
 {
     if !records(heap.phase) {
@@ -68,6 +72,6 @@ pub fn record(heap: &mut RawHeap, mutator: u32, reference: u64)
         return;
     }
     make_room(heap, mutator);
-    heap.nodes.set_colour(main as usize - 1, heap.sense);
+    heap.nodes.set_colour(main as usize - 1, heap.mark_parity);
     heap.grey.push(mutator, main);
 }

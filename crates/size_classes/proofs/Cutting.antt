@@ -27,8 +27,8 @@ module _ (n k s : ℕ) (a : Pieces n k) (b : Spines k s) where
   count_small p l = grind arith
 
   -- a part but part 0 is referred to by an earlier spine
-  pub held_by : (p : ℕ) → 0 < p → p < s + k → (holder_by k s p < s) × (holder_by k s p < p) × (seat_by k s p < count_by n k s (holder_by k s p)) × (first_by s (holder_by k s p) + seat_by k s p ≡ p)
-  held_by p l m = (grind arith, grind arith, grind arith, grind arith)
+  pub referrers_are : (p : ℕ) → 0 < p → p < s + k → (holder_by k s p < s) × (holder_by k s p < p) × (seat_by k s p < count_by n k s (holder_by k s p)) × (first_by s (holder_by k s p) + seat_by k s p ≡ p)
+  referrers_are p l m = (grind arith, grind arith, grind arith, grind arith)
 
   -- a cell of a spine refers to a later part, and no other does
   pub holds : (q c : ℕ) → q < s → c < count_by n k s q → (q < first_by s q + c) × (first_by s q + c < s + k) × (holder_by k s (first_by s q + c) ≡ q) × (seat_by k s (first_by s q + c) ≡ c)

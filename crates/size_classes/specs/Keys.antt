@@ -20,13 +20,13 @@ name_of Live = codes "live"
 
 -- what a file may say of a key: the range, and the value where it doesn't name the key (None where
 -- it has to)
-pub record Row : Type 0 where
+pub record KeyRange : Type 0 where
   pub least : ℕ
   pub greatest : ℤ
   pub default : Option ℤ
 
 -- the row of a key, in a file with this number of mutators
-abbrev pub row_of : ℤ → Key → Row
+abbrev pub row_of : ℤ → Key → KeyRange
 row_of mutators Pages = record { least = 1; greatest = pos MOST_PAGES; default = None }
 row_of mutators Mutators = record { least = 1; greatest = pos 64; default = None }
 row_of mutators Slots = record { least = 1; greatest = pos 256; default = None }

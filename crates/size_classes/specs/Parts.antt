@@ -25,7 +25,7 @@ abbrev pub parts_in : ℕ → ℕ
 parts_in n = spines_of n + pieces_of n
 
 -- what a part holds: `count` parts from part `first` on, or as many cells from cell `first` on
-pub record Run : Type 0 where
+pub record PartContents : Type 0 where
   pub spine : Bool
   pub first : ℕ
   pub count : ℕ
@@ -46,7 +46,7 @@ count_by n k s part = if nat_lt part s
     else min PART_CELLS (n - PART_CELLS * (part - s))
 
 -- what a part of an object with n cells holds
-abbrev pub run_of : ℕ → ℕ → Run
+abbrev pub run_of : ℕ → ℕ → PartContents
 run_of n part = record {
   spine = nat_lt part (spines_of n);
   first = first_by (spines_of n) part;

@@ -25,18 +25,18 @@ pub enum Key {
 
 /// What a file may say of a key.
 #[derive(Clone, Copy)]
-pub struct Row {
+pub struct KeyRange {
     pub least: i64,
     pub greatest: i64,
     /// Its value in a file that doesn't name it, or None where a file has to.
     pub default: Option<i64>,
 }
 
-impl Row {
-    fn new(least: i64, greatest: i64, default: Option<i64>) -> Row
+impl KeyRange {
+    fn new(least: i64, greatest: i64, default: Option<i64>) -> KeyRange
         ensures { result ≡ record { least = least; greatest = greatest; default = default } }
     {
-        Row {
+        KeyRange {
             least,
             greatest,
             default,
@@ -80,7 +80,7 @@ impl Key {
     }
 
     /// What a file may say of it, where `mutators` is the file's number of mutators.
-    pub fn row(self, mutators: i64) -> Row
+    pub fn row(self, mutators: i64) -> KeyRange
         ensures least { result.least ≡ pos (row_of mutators self).least }
         ensures greatest { result.greatest ≡ (row_of mutators self).greatest }
         ensures default { result.default ≡ (row_of mutators self).default }
@@ -89,17 +89,17 @@ impl Key {
         let most = 1000000;
         let base = Settings::DEFAULTS;
         match self {
-            Key::Pages => Row::new(1, pages, None),
-            Key::Mutators => Row::new(1, 64, None),
-            Key::Slots => Row::new(1, 256, None),
-            Key::Statics => Row::new(0, 256, Some(base.statics)),
-            Key::Identities => Row::new(1, i64::MAX, Some(base.identities)),
-            Key::DefragBelow => Row::new(0, pages + 1, Some(base.defrag_below)),
-            Key::DefragPages => Row::new(0, pages, Some(base.defrag_pages)),
-            Key::CollectorTicks => Row::new(1, most, Some(base.collector_ticks)),
-            Key::MutatorTicks => Row::new(1, most, Some(base.mutator_ticks)),
-            Key::Rate => Row::new(1, most, Some(base.rate)),
-            Key::Live => Row::new(0, mutators, Some(mutators)),
+            Key::Pages => KeyRange::new(1, pages, None),
+            Key::Mutators => KeyRange::new(1, 64, None),
+            Key::Slots => KeyRange::new(1, 256, None),
+            Key::Statics => KeyRange::new(0, 256, Some(base.statics)),
+            Key::Identities => KeyRange::new(1, i64::MAX, Some(base.identities)),
+            Key::DefragBelow => KeyRange::new(0, pages + 1, Some(base.defrag_below)),
+            Key::DefragPages => KeyRange::new(0, pages, Some(base.defrag_pages)),
+            Key::CollectorTicks => KeyRange::new(1, most, Some(base.collector_ticks)),
+            Key::MutatorTicks => KeyRange::new(1, most, Some(base.mutator_ticks)),
+            Key::Rate => KeyRange::new(1, most, Some(base.rate)),
+            Key::Live => KeyRange::new(0, mutators, Some(mutators)),
         }
     }
 

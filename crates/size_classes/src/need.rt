@@ -46,7 +46,7 @@ impl Need {
 
     /// What the parts of an object need, one block for each: all pieces but the last and all middle
     /// spines but the last have 256 words.
-    pub fn of(parts: &Parts) -> Need
+    pub fn from_parts(parts: &Parts) -> Need
         ensures { (class : ℕ) → class < CLASSES
             → slice_index result class ≡ blocks_needed parts.now (parts_in parts.now) class }
     {

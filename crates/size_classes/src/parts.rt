@@ -32,15 +32,15 @@ pub fn spines_in(cells: usize) -> usize
 /// What a part holds: references to `count` parts from part `first` on, or as many cells of the object
 /// from cell `first` on.
 #[derive(Clone, Copy, Debug, PartialEq, Eq)]
-pub struct Run {
+pub struct PartContents {
     pub spine: bool,
     pub first: usize,
     pub count: usize,
 }
 
-impl Run {
+impl PartContents {
     /// What a part of an object with this many cells holds.
-    pub fn of(cells: usize, part: u32) -> Run
+    pub fn of_part(cells: usize, part: u32) -> PartContents
         requires few { cells < 2 ^ 34 }
         ensures spine { result.spine ≡ (run_of cells part).spine }
         ensures first { result.first ≡ (run_of cells part).first }
@@ -51,7 +51,7 @@ impl Run {
         let spines = spines_in(cells);
         if part >= spines {
             let first = PART_CELLS * (part - spines);
-            return Run {
+            return PartContents {
                 spine: false,
                 first,
                 count: cells.saturating_sub(first).min(PART_CELLS),
@@ -60,13 +60,13 @@ impl Run {
         let pieces = pieces_in(cells);
         if part > 0 {
             let before = PART_CELLS * (part - 1);
-            return Run {
+            return PartContents {
                 spine: true,
                 first: spines + before,
                 count: pieces.saturating_sub(before).min(PART_CELLS),
             };
         }
-        Run {
+        PartContents {
             spine: true,
             first: 1,
             count: if spines <= 1 { pieces } else { spines - 1 },
@@ -84,7 +84,7 @@ pub struct Position {
 impl Position {
     /// The cell that refers to a part other than part 0, of an object with this many cells: a middle spine is
     /// referred to by the root spine, in order.
-    pub fn of(cells: usize, part: u32) -> Position
+    pub fn of_part(cells: usize, part: u32) -> Position
         requires few { cells ≤ ARRAY_CELLS }
         requires some { 0 < part }
         requires part { part < parts_in cells }
@@ -165,7 +165,7 @@ impl Parts {
         ensures spine { result.spine ≡ holder_of self.now part }
         ensures cell { result.cell ≡ seat_of self.now part }
     {
-        Position::of(self.cells as usize, part)
+        Position::of_part(self.cells as usize, part)
     }
 
     /// How many words a part has, its header of four words included.
@@ -178,7 +178,7 @@ impl Parts {
         if self.cells <= PART_CELLS as u32 {
             return self.cells + 4;
         }
-        Run::of(self.cells as usize, part).count as u32 + 4
+        PartContents::of_part(self.cells as usize, part).count as u32 + 4
     }
 }
 

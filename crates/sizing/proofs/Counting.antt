@@ -1,4 +1,4 @@
--- Counts that stop at the greatest number that can be held.
+-- Counts that stop at the greatest number that can be allocated.
 use Rattle.std.proofs.Common.{◌≡◌, ℕ, ◌+◌, ◌<◌, ◌≤◌, ◌⊎◌, inl, inr, zero, suc, replicate, set, get_or, length, List, min, max, arith, refl, ap, ◌∙◌, sym, subst}
 use Rattle.std.specs.Prelude.{slice_index}
 use Rattle.std.proofs.lemmas.List.{get_or-set_same, get_or-set_other}
@@ -11,15 +11,15 @@ sum_at m a b x y z e f g = omega arith
 max_at : (m a b x y z : ℕ) → x ≡ min a m → y ≡ min b m → z ≡ max x y → z ≡ min (max a b) m
 max_at m a b x y z e f g = omega arith
 
-pub are_sum : (held more new : List ℕ) (a b : ℕ → ℕ) → AreBlocks held a → AreBlocks more b → ((class : ℕ) → class < CLASSES → slice_index new class ≡ min (slice_index held class + slice_index more class) MOST) → AreBlocks new (λ class. a class + b class)
-are_sum held more new a b v w e = λ class l. sum_at MOST (a class) (b class) (slice_index held class) (slice_index more class) (slice_index new class) (v class l) (w class l) (e class l)
+pub are_sum : (allocated more new : List ℕ) (a b : ℕ → ℕ) → AreBlocks allocated a → AreBlocks more b → ((class : ℕ) → class < CLASSES → slice_index new class ≡ min (slice_index allocated class + slice_index more class) MOST) → AreBlocks new (λ class. a class + b class)
+are_sum allocated more new a b v w e = λ class l. sum_at MOST (a class) (b class) (slice_index allocated class) (slice_index more class) (slice_index new class) (v class l) (w class l) (e class l)
 
-pub are_max : (held more new : List ℕ) (a b : ℕ → ℕ) → AreBlocks held a → AreBlocks more b → ((class : ℕ) → class < CLASSES → slice_index new class ≡ max (slice_index held class) (slice_index more class)) → AreBlocks new (λ class. max (a class) (b class))
-are_max held more new a b v w e = λ class l. max_at MOST (a class) (b class) (slice_index held class) (slice_index more class) (slice_index new class) (v class l) (w class l) (e class l)
+pub are_max : (allocated more new : List ℕ) (a b : ℕ → ℕ) → AreBlocks allocated a → AreBlocks more b → ((class : ℕ) → class < CLASSES → slice_index new class ≡ max (slice_index allocated class) (slice_index more class)) → AreBlocks new (λ class. max (a class) (b class))
+are_max allocated more new a b v w e = λ class l. max_at MOST (a class) (b class) (slice_index allocated class) (slice_index more class) (slice_index new class) (v class l) (w class l) (e class l)
 
 -- the same numbers
-pub are_same : (held : List ℕ) (a b : ℕ → ℕ) → ((class : ℕ) → class < CLASSES → b class ≡ a class) → AreBlocks held a → AreBlocks held b
-are_same held a b same v = λ class l. v class l ∙ ap (λ n. min n MOST) (sym (same class l))
+pub are_same : (allocated : List ℕ) (a b : ℕ → ℕ) → ((class : ℕ) → class < CLASSES → b class ≡ a class) → AreBlocks allocated a → AreBlocks allocated b
+are_same allocated a b same v = λ class l. v class l ∙ ap (λ n. min n MOST) (sym (same class l))
 
 pub high_at : (m n x limit : ℕ) → x ≡ min n m → limit ≤ x → limit ≤ n
 high_at m n x limit e l = omega arith

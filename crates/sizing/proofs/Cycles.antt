@@ -12,7 +12,7 @@ use Rattle.heap_model.specs.Event.{Course, Event, Cycle_begun, Begins, IsCourse,
 use Rattle.heap_model.proofs.Course.{begins_present}
 use Rattle.heap_model.proofs.Agreements.{consistent_agrees}
 use Rattle.space.specs.Demand.{LiveWithin, blocks_of, blocks_by}
-use Rattle.space.specs.Tally.{is_tracing}
+use Rattle.space.specs.Tally.{awaits_sweep_end}
 use Rattle.space.specs.Pace.{Pace, Beat, opening_beat, in_cycle}
 use Rattle.fragmentation.specs.Season.{Season, Lives, opening_season, season_after, season_swept, made_since, AllKeep}
 use Rattle.sizing.specs.declared.meter.Meter.{Meter}
@@ -65,7 +65,7 @@ module _ (l : Limits) (es : List Event) (r new : Course) (old fin : Meter) (v : 
         graph = v.are.graph ∙ sym (begins_present r new e);
         same = v.are.same ∙ sym (begins_present r new e);
         on = sym (ap (λ (h : HeapState). in_cycle h.phase) e.heap);
-        tracing = sym (ap (λ (h : HeapState). is_tracing h.phase) e.heap);
+        tracing = sym (ap (λ (h : HeapState). awaits_sweep_end h.phase) e.heap);
         last = (let x : length begin_season.graph.objects ≡ length (present_of new).objects = ap (λ (z : Graph). length z.objects) (v.are.graph ∙ sym (begins_present r new e)) in omega (arith, x));
         base = (let q = v.are.base in let x : length (present_of new).objects ≡ length (present_of r).objects = ap (λ (z : Graph). length z.objects) (begins_present r new e) in omega (arith, q, x));
         swept = (let q = v.are.swept in let x : length (present_of new).objects ≡ length (present_of r).objects = ap (λ (z : Graph). length z.objects) (begins_present r new e) in omega (arith, q, x));
@@ -109,18 +109,18 @@ module _ (l : Limits) (es qs : List Event) (r new : Course) (old fin : Meter) (b
   present = quanta_present budget qs r new works.each w works.runs
 
   -- each season, whatever is said to be live, traces as the heap does
-  season_is : (live : Lives) → (season_at live (season_at live (opening_season l) es) qs ≡ rested live (is_tracing new.heap.phase) (season_at live (opening_season l) es)) × ((rested live (is_tracing new.heap.phase) (season_at live (opening_season l) es)).tracing ≡ is_tracing new.heap.phase)
+  season_is : (live : Lives) → (season_at live (season_at live (opening_season l) es) qs ≡ rested live (awaits_sweep_end new.heap.phase) (season_at live (opening_season l) es)) × ((rested live (awaits_sweep_end new.heap.phase) (season_at live (opening_season l) es)).tracing ≡ awaits_sweep_end new.heap.phase)
   season_is live = quanta_season live budget qs (season_at live (opening_season l) es) r new works.each works.runs ((alike live (opening_season l) es).tracing ∙ v.are.tracing)
 
   beat_is : (beat_after work_beat qs ≡ (if work_beat.on then record work_beat { on = in_cycle new.heap.phase; asked = λ class. 0 } else work_beat)) × ((beat_after work_beat qs).on ≡ in_cycle new.heap.phase)
   beat_is = quanta_beat budget qs work_beat r new works.each works.some works.runs v.are.on
 
   -- in tracing, and where there was none, a season stays; else its sweep has ended
-  season_by : (P : Season → Type 0) → (is_tracing new.heap.phase ≡ true → P work_season) → (is_tracing new.heap.phase ≡ false → work_season.tracing ≡ false → P work_season)
-      → (is_tracing new.heap.phase ≡ false → work_season.tracing ≡ true → P (season_swept none_live work_season)) → P (season_at none_live work_season qs)
-  season_by P on off ends = subst P (sym (season_is none_live).0) (by (is_tracing new.heap.phase) refl work_season.tracing refl)
+  season_by : (P : Season → Type 0) → (awaits_sweep_end new.heap.phase ≡ true → P work_season) → (awaits_sweep_end new.heap.phase ≡ false → work_season.tracing ≡ false → P work_season)
+      → (awaits_sweep_end new.heap.phase ≡ false → work_season.tracing ≡ true → P (season_swept none_live work_season)) → P (season_at none_live work_season qs)
+  season_by P on off ends = subst P (sym (season_is none_live).0) (by (awaits_sweep_end new.heap.phase) refl work_season.tracing refl)
     where
-      by : (o : Bool) → is_tracing new.heap.phase ≡ o → (t : Bool) → work_season.tracing ≡ t → P (if o then work_season else (if t then season_swept none_live work_season else work_season))
+      by : (o : Bool) → awaits_sweep_end new.heap.phase ≡ o → (t : Bool) → work_season.tracing ≡ t → P (if o then work_season else (if t then season_swept none_live work_season else work_season))
       by true e t f = on e
       by false e true f = ends e f
       by false e false f = off e f
@@ -154,29 +154,29 @@ module _ (l : Limits) (es qs : List Event) (r new : Course) (old fin : Meter) (b
 
   -- what the counts of a season add up to
   record Rests : Type 0 where
-    traces : is_tracing new.heap.phase ≡ true → fin.season ≡ old.season
+    traces : awaits_sweep_end new.heap.phase ≡ true → fin.season ≡ old.season
     stays : old.season.tracing ≡ false → fin.season ≡ old.season
-    ends : is_tracing new.heap.phase ≡ false → old.season.tracing ≡ true → IsSwept old.season fin.season
+    ends : awaits_sweep_end new.heap.phase ≡ false → old.season.tracing ≡ true → IsSwept old.season fin.season
 
-  held_by : (n : Season → ℕ) (list : Counted → List ℕ) → Rests → AreBlocks (list old.season) (made_since (n work_season) work_season) → (is_tracing new.heap.phase ≡ false → work_season.tracing ≡ true → AreBlocks (list fin.season) (made_since (n (season_swept none_live work_season)) (season_swept none_live work_season)))
+  carried_by : (n : Season → ℕ) (list : Counted → List ℕ) → Rests → AreBlocks (list old.season) (made_since (n work_season) work_season) → (awaits_sweep_end new.heap.phase ≡ false → work_season.tracing ≡ true → AreBlocks (list fin.season) (made_since (n (season_swept none_live work_season)) (season_swept none_live work_season)))
       → AreBlocks (list fin.season) (made_since (n (season_at none_live work_season qs)) (season_at none_live work_season qs))
-  held_by n list rests held ended = season_by (λ s. AreBlocks (list fin.season) (made_since (n s) s))
-      (λ on. subst (λ (y : Counted). AreBlocks (list y) (made_since (n work_season) work_season)) (sym (rests.traces on)) held)
-      (λ off still. subst (λ (y : Counted). AreBlocks (list y) (made_since (n work_season) work_season)) (sym (rests.stays (v.holds.tracing ∙ still))) held)
+  carried_by n list rests allocated ended = season_by (λ s. AreBlocks (list fin.season) (made_since (n s) s))
+      (λ on. subst (λ (y : Counted). AreBlocks (list y) (made_since (n work_season) work_season)) (sym (rests.traces on)) allocated)
+      (λ off still. subst (λ (y : Counted). AreBlocks (list y) (made_since (n work_season) work_season)) (sym (rests.stays (v.holds.tracing ∙ still))) allocated)
       ended
 
   free : (Bound : Season → (ℕ → ℕ) → Type 0) (live : Lives) → AllKeep Bound live (season_at live (opening_season l) es) qs
   free Bound live = quanta_keep Bound live (season_at live (opening_season l) es) budget qs works.each
 
   shifts_worked : Rests → fin.most ≡ old.most → Shifts l (es ++ qs) fin
-  shifts_worked rests most = by (is_tracing new.heap.phase) refl work_season.tracing refl
+  shifts_worked rests most = by (awaits_sweep_end new.heap.phase) refl work_season.tracing refl
     where
-      stays_so : (o t : Bool) → is_tracing new.heap.phase ≡ o → work_season.tracing ≡ t → ((s : Season) (live : Lives) → s.tracing ≡ t → (if o then s else (if s.tracing then season_swept live s else s)) ≡ s)
+      stays_so : (o t : Bool) → awaits_sweep_end new.heap.phase ≡ o → work_season.tracing ≡ t → ((s : Season) (live : Lives) → s.tracing ≡ t → (if o then s else (if s.tracing then season_swept live s else s)) ≡ s)
           → fin.season ≡ old.season → Shifts l (es ++ qs) fin
       stays_so o t e f still same = shifts_still l es qs old fin v.shifts free
           (λ live. (season_is live).0 ∙ ap (λ b. rested live b (season_at live (opening_season l) es)) e ∙ still (season_at live (opening_season l) es) live ((alike live (opening_season l) es).tracing ∙ f)) same most
 
-      by : (o : Bool) → is_tracing new.heap.phase ≡ o → (t : Bool) → work_season.tracing ≡ t → Shifts l (es ++ qs) fin
+      by : (o : Bool) → awaits_sweep_end new.heap.phase ≡ o → (t : Bool) → work_season.tracing ≡ t → Shifts l (es ++ qs) fin
       by true e t f = stays_so true t e f (λ s live g. refl) (rests.traces e)
       by false e false f = stays_so false false e f (λ s live g. ap (λ b. if b then season_swept live s else s) g) (rests.stays (v.holds.tracing ∙ f))
       by false e true f = shifts_swept l es qs old fin v.shifts free
@@ -186,7 +186,7 @@ module _ (l : Limits) (es qs : List Event) (r new : Course) (old fin : Meter) (b
           )) v.are.number v.holds.base (rests.ends e (v.holds.tracing ∙ f)) most
 
   pub quanta_measure : fin ≡ record old { on = fin.on; season = fin.season; asked = fin.asked; budget = fin.budget }
-      → (is_tracing new.heap.phase ≡ true → fin.season ≡ old.season) → (old.season.tracing ≡ false → fin.season ≡ old.season) → (is_tracing new.heap.phase ≡ false → old.season.tracing ≡ true → IsSwept old.season fin.season)
+      → (awaits_sweep_end new.heap.phase ≡ true → fin.season ≡ old.season) → (old.season.tracing ≡ false → fin.season ≡ old.season) → (awaits_sweep_end new.heap.phase ≡ false → old.season.tracing ≡ true → IsSwept old.season fin.season)
       → (old.on ≡ true → (fin.on ≡ in_cycle new.heap.phase) × AreBlocks fin.asked (λ class. 0)) → (old.on ≡ false → (fin.on ≡ old.on) × (fin.asked ≡ old.asked))
       → ((k : ℕ) → IfSome fin.budget (λ n. k ≤ n) ↔ (IfSome old.budget (λ n. k ≤ n) × (k ≤ budget))) → Measures l (es ++ qs) new fin
   quanta_measure same traces stays ends on off least = record {
@@ -196,9 +196,9 @@ module _ (l : Limits) (es qs : List Event) (r new : Course) (old fin : Meter) (b
       on = beat_by (λ b. fin.on ≡ b.on) (λ z. (on (v.holds.on ∙ z)).0) (λ z. (off (v.holds.on ∙ z)).0 ∙ v.holds.on);
       tracing = season_by (λ s. fin.season.tracing ≡ s.tracing) (λ z. ap (λ (y : Counted). y.tracing) (traces z) ∙ v.holds.tracing) (λ z y. ap (λ (y : Counted). y.tracing) (stays (v.holds.tracing ∙ y)) ∙ v.holds.tracing)
           (λ z y. ap (λ (y : Counted). y.tracing) (ends z (v.holds.tracing ∙ y)).same);
-      last = held_by (λ s. s.last) (λ (y : Counted). y.since_last) rests v.holds.last (λ z y. subst (λ x. AreBlocks x (made_since work_season.last work_season)) (sym (ap (λ (y : Counted). y.since_last) (ends z (v.holds.tracing ∙ y)).same)) v.holds.last);
-      base = held_by (λ s. s.base) (λ (y : Counted). y.since_base) rests v.holds.base (λ z y. subst (λ x. AreBlocks x (made_since work_season.last work_season)) (sym (ap (λ (y : Counted). y.since_base) (ends z (v.holds.tracing ∙ y)).same)) v.holds.last);
-      swept = held_by (λ s. s.swept) (λ (y : Counted). y.since_swept) rests v.holds.swept (λ z y. are_same fin.season.since_swept _ _ (λ class low. ap (λ xs. blocks_of xs class) (drop-length work_season.graph.objects)) (ends z (v.holds.tracing ∙ y)).none);
+      last = carried_by (λ s. s.last) (λ (y : Counted). y.since_last) rests v.holds.last (λ z y. subst (λ x. AreBlocks x (made_since work_season.last work_season)) (sym (ap (λ (y : Counted). y.since_last) (ends z (v.holds.tracing ∙ y)).same)) v.holds.last);
+      base = carried_by (λ s. s.base) (λ (y : Counted). y.since_base) rests v.holds.base (λ z y. subst (λ x. AreBlocks x (made_since work_season.last work_season)) (sym (ap (λ (y : Counted). y.since_base) (ends z (v.holds.tracing ∙ y)).same)) v.holds.last);
+      swept = carried_by (λ s. s.swept) (λ (y : Counted). y.since_swept) rests v.holds.swept (λ z y. are_same fin.season.since_swept _ _ (λ class low. ap (λ xs. blocks_of xs class) (drop-length work_season.graph.objects)) (ends z (v.holds.tracing ∙ y)).none);
       asked = beat_by (λ b. AreBlocks fin.asked b.asked) (λ z. (on (v.holds.on ∙ z)).1) (λ z. subst (λ y. AreBlocks y work_beat.asked) (sym (off (v.holds.on ∙ z)).1) v.holds.asked);
     }));
     needs = subst (Needs l (es ++ qs)) (sym same) (record {

@@ -11,13 +11,13 @@ use Rattle.graph_heap.specs.Effect.{next_of}
 use Rattle.graph_heap.specs.History.{after_entry, IsEntryOf}
 use Rattle.heap_model.specs.State.{HeapState}
 use Rattle.heap_model.specs.Opening.{IsOpening}
-use Rattle.heap_model.specs.Led.{opened}
+use Rattle.heap_model.specs.ReachedFrom.{opened}
 use Rattle.heap_model.specs.Event.{Course, Event, Command_done, Cycle_on, Enters, IsCourse, HaveBudgets, present_of, snapshot_of, room_for, change_by}
 use Rattle.heap_model.proofs.Left.{change_left}
 use Rattle.heap_model.proofs.Freed.{objects_stay}
 use Rattle.heap_model.proofs.Course.{founded, present_row, enters_step, enters_present}
 use Rattle.space.specs.Demand.{blocks_of, asked_by, asked_for}
-use Rattle.space.specs.Tally.{is_tracing}
+use Rattle.space.specs.Tally.{awaits_sweep_end}
 use Rattle.space.specs.Pace.{Pace, Beat, AllKeepPace, opening_beat, next_beat, in_cycle}
 use Rattle.space.proofs.Pacing.{more_since}
 use Rattle.fragmentation.specs.Season.{Season, opening_season, season_after, made_since}
@@ -41,22 +41,22 @@ opening_shifts l m last base before n = record {
   lives = none_live;
   before = λ class. 0;
   lived = record { least = λ live k n class low. omega arith; sooner = λ live k class low. omega arith; exact = λ live a class low. refl };
-  last_held = last;
-  base_held = base;
-  before_held = before;
+  last_allocated = last;
+  base_allocated = base;
+  before_allocated = before;
   together = λ class. 0;
   together_least = record { above = λ live q k class low. omega arith; below = λ live q a k. tt };
-  together_held = n.together;
+  together_allocated = n.together;
   gathered = 0;
   gathered_least = record { above = λ live q k. omega arith; below = λ live q a k. tt };
-  gathered_held = (let e = n.gathered in omega (arith, e));
+  gathered_allocated = (let e = n.gathered in omega (arith, e));
   made = 0;
   made_least = record { above = λ live q k. omega arith; below = λ live q a k. tt };
-  made_held = (let e = n.made in omega (arith, e));
+  made_allocated = (let e = n.made in omega (arith, e));
   live = 0;
   live_least = λ live pages k most. omega arith;
   live_most = λ n. subst (λ z. z ≤ 0) (sym pages_none) (omega arith);
-  live_held = (let e = n.live in omega (arith, e));
+  live_allocated = (let e = n.live in omega (arith, e));
 }
 
 pub opening_measures : (h : HeapState) (m : Meter) → IsOpening h → m.graph ≡ opening h.limits → m.on ≡ false → m.budget ≡ None → m.season.tracing ≡ false
@@ -68,7 +68,7 @@ opening_measures h m o graph off none still lives since nothing asked live busy 
     graph = refl;
     same = refl;
     on = sym (ap in_cycle o.phase);
-    tracing = sym (ap is_tracing o.phase);
+    tracing = sym (ap awaits_sweep_end o.phase);
     last = omega arith;
     base = omega arith;
     swept = omega arith;
@@ -146,7 +146,7 @@ module _ (l : Limits) (es : List Event) (r new : Course) (m : ℕ) (c : Command)
     graph = into t.graph v.are.graph;
     same = into b.graph v.are.same;
     on = v.are.on ∙ ap in_cycle (sym phase_stays);
-    tracing = v.are.tracing ∙ ap is_tracing (sym phase_stays);
+    tracing = v.are.tracing ∙ ap awaits_sweep_end (sym phase_stays);
     last = (let q = v.are.last in let o = longer in omega (arith, q, o));
     base = (let q = v.are.base in let o = longer in omega (arith, q, o));
     swept = (let q = v.are.swept in let o = longer in omega (arith, q, o));
@@ -178,8 +178,8 @@ module _ (l : Limits) (es : List Event) (r new : Course) (m : ℕ) (c : Command)
     abbrev now : ℕ → ℕ
     now class = b.asked class + asked_for b.graph m c class
 
-    now_held : AreBlocks mid.asked now
-    now_held = are_sum old.asked asked mid.asked b.asked (asked_for b.graph m c) v.holds.asked asked_beat s.sum
+    now_allocated : AreBlocks mid.asked now
+    now_allocated = are_sum old.asked asked mid.asked b.asked (asked_for b.graph m c) v.holds.asked asked_beat s.sum
 
     budgets : (k : ℕ) → HaveBudgets k (es ++ event ∷ []) ↔ IfSome mid.budget (λ budget. k ≤ budget)
     budgets k =
@@ -210,12 +210,12 @@ module _ (l : Limits) (es : List Event) (r new : Course) (m : ℕ) (c : Command)
     needs_by : (o : Bool) → b.on ≡ o → Needs l (es ++ event ∷ []) mid
     needs_by true on =
         needs_with true on (λ class. max (v.needs.pace.busy class) (now class)) v.needs.pace.idle (pace_busy v.needs.pace now)
-        (are_max old.busy mid.asked mid.busy v.needs.pace.busy now v.needs.busy now_held (s.busy (v.holds.on ∙ on)))
+        (are_max old.busy mid.asked mid.busy v.needs.pace.busy now v.needs.busy now_allocated (s.busy (v.holds.on ∙ on)))
         (subst (λ z. AreBlocks z v.needs.pace.idle) (sym (s.not_idle (v.holds.on ∙ on))) v.needs.idle)
     needs_by false off =
         needs_with false off v.needs.pace.busy (λ class. max (v.needs.pace.idle class) (now class)) (pace_idle v.needs.pace now)
         (subst (λ z. AreBlocks z v.needs.pace.busy) (sym (s.not_busy (v.holds.on ∙ off))) v.needs.busy)
-        (are_max old.idle mid.asked mid.idle v.needs.pace.idle now v.needs.idle now_held (s.idle (v.holds.on ∙ off)))
+        (are_max old.idle mid.asked mid.idle v.needs.pace.idle now v.needs.idle now_allocated (s.idle (v.holds.on ∙ off)))
 
     needs_now : Needs l (es ++ event ∷ []) mid
     needs_now = needs_by b.on refl
@@ -267,8 +267,8 @@ module _ (l : Limits) (es : List Event) (r new : Course) (m : ℕ) (c : Command)
           shifts_command l es m c reply old fin v.shifts v.are.number asked asked_is v.holds.base v.holds.swept (subst (AsksMost old.season asked old.most) to s.most)
           (last ∙ ap (λ (x : Counted). x.live_last) season_stays) (base ∙ ap (λ (x : Counted). x.live_base) season_stays) (before ∙ ap (λ (x : Counted). x.before) season_stays)
 
-      held_before : (n : ℕ) (list : Counted → List ℕ) → AreBlocks (list old.season) (made_since n t) → AreBlocks (list step.season) (made_since n t)
-      held_before n list h = subst (λ y. AreBlocks (list y) (made_since n t)) (sym season_stays) h
+      allocated_before : (n : ℕ) (list : Counted → List ℕ) → AreBlocks (list old.season) (made_since n t) → AreBlocks (list step.season) (made_since n t)
+      allocated_before n list h = subst (λ y. AreBlocks (list y) (made_since n t)) (sym season_stays) h
 
       -- an object was allocated
       pub allocated_measures : (fin : Meter) → length mid.graph.objects < length step.graph.objects → Allocates asked step fin → Measures l (es ++ event ∷ []) new fin
@@ -276,10 +276,10 @@ module _ (l : Limits) (es : List Event) (r new : Course) (m : ℕ) (c : Command)
         graph = ap (λ (x : Meter). x.graph) al.same ∙ step_graph;
         on = ap (λ (x : Meter). x.on) (al.same) ∙ ap (λ (x : Meter). x.on) z ∙ s.on ∙ v.holds.on;
         tracing = ap (λ (x : Counted). x.tracing) (al.season.same) ∙ ap (λ (x : Counted). x.tracing) season_stays ∙ v.holds.tracing;
-        last = counts t.last fin.season.since_last v.are.last (are_sum step.season.since_last asked fin.season.since_last (made_since t.last t) (asked_for t.graph m c) (held_before t.last (λ (x : Counted). x.since_last) v.holds.last) asked_is al.season.last);
-        base = counts t.base fin.season.since_base v.are.base (are_sum step.season.since_base asked fin.season.since_base (made_since t.base t) (asked_for t.graph m c) (held_before t.base (λ (x : Counted). x.since_base) v.holds.base) asked_is al.season.base);
-        swept = counts t.swept fin.season.since_swept v.are.swept (are_sum step.season.since_swept asked fin.season.since_swept (made_since t.swept t) (asked_for t.graph m c) (held_before t.swept (λ (x : Counted). x.since_swept) v.holds.swept) asked_is al.season.swept);
-        asked = subst (λ y. AreBlocks y now) (sym (ap (λ (x : Meter). x.asked) al.same ∙ ap (λ (x : Meter). x.asked) z)) now_held;
+        last = counts t.last fin.season.since_last v.are.last (are_sum step.season.since_last asked fin.season.since_last (made_since t.last t) (asked_for t.graph m c) (allocated_before t.last (λ (x : Counted). x.since_last) v.holds.last) asked_is al.season.last);
+        base = counts t.base fin.season.since_base v.are.base (are_sum step.season.since_base asked fin.season.since_base (made_since t.base t) (asked_for t.graph m c) (allocated_before t.base (λ (x : Counted). x.since_base) v.holds.base) asked_is al.season.base);
+        swept = counts t.swept fin.season.since_swept v.are.swept (are_sum step.season.since_swept asked fin.season.since_swept (made_since t.swept t) (asked_for t.graph m c) (allocated_before t.swept (λ (x : Counted). x.since_swept) v.holds.swept) asked_is al.season.swept);
+        asked = subst (λ y. AreBlocks y now) (sym (ap (λ (x : Meter). x.asked) al.same ∙ ap (λ (x : Meter). x.asked) z)) now_allocated;
       }) (subst (Needs l (es ++ event ∷ [])) (sym al.same) (record {
         pace = needs_step.pace;
         paces = needs_step.paces;
@@ -289,8 +289,8 @@ module _ (l : Limits) (es : List Event) (r new : Course) (m : ℕ) (c : Command)
         budget = needs_step.budget;
       })) (shifts_by fin (ap (λ (x : Meter). x.most) al.same) (ap (λ (x : Counted). x.live_last) al.season.same) (ap (λ (x : Counted). x.live_base) al.season.same) (ap (λ (x : Counted). x.before) al.season.same))
         where
-          counts : (n : ℕ) (held : List ℕ) → n ≤ length (present_of r).objects → AreBlocks held (λ class. made_since n t class + asked_for t.graph m c class) → AreBlocks held (blocks_of (drop n (after_entry t.graph entry).objects))
-          counts n held low h = are_same held _ _ (λ class small. since n class low ∙ ap (λ x. blocks_of (drop n t.graph.objects) class + x) (grown (room_for r.heap c) g m c class (grows_by more) ∙ sym (asked_same t.graph v.are.graph class))) h
+          counts : (n : ℕ) (allocated : List ℕ) → n ≤ length (present_of r).objects → AreBlocks allocated (λ class. made_since n t class + asked_for t.graph m c class) → AreBlocks allocated (blocks_of (drop n (after_entry t.graph entry).objects))
+          counts n allocated low h = are_same allocated _ _ (λ class small. since n class low ∙ ap (λ x. blocks_of (drop n t.graph.objects) class + x) (grown (room_for r.heap c) g m c class (grows_by more) ∙ sym (asked_same t.graph v.are.graph class))) h
 
       -- none was
       pub kept_measures : length step.graph.objects ≤ length mid.graph.objects → Measures l (es ++ event ∷ []) new step
@@ -298,14 +298,14 @@ module _ (l : Limits) (es : List Event) (r new : Course) (m : ℕ) (c : Command)
         graph = step_graph;
         on = ap (λ (x : Meter). x.on) z ∙ s.on ∙ v.holds.on;
         tracing = ap (λ (x : Counted). x.tracing) season_stays ∙ v.holds.tracing;
-        last = counts t.last step.season.since_last v.are.last (held_before t.last (λ (x : Counted). x.since_last) v.holds.last);
-        base = counts t.base step.season.since_base v.are.base (held_before t.base (λ (x : Counted). x.since_base) v.holds.base);
-        swept = counts t.swept step.season.since_swept v.are.swept (held_before t.swept (λ (x : Counted). x.since_swept) v.holds.swept);
-        asked = subst (λ y. AreBlocks y now) (sym (ap (λ (x : Meter). x.asked) z)) now_held;
+        last = counts t.last step.season.since_last v.are.last (allocated_before t.last (λ (x : Counted). x.since_last) v.holds.last);
+        base = counts t.base step.season.since_base v.are.base (allocated_before t.base (λ (x : Counted). x.since_base) v.holds.base);
+        swept = counts t.swept step.season.since_swept v.are.swept (allocated_before t.swept (λ (x : Counted). x.since_swept) v.holds.swept);
+        asked = subst (λ y. AreBlocks y now) (sym (ap (λ (x : Meter). x.asked) z)) now_allocated;
       }) needs_step (shifts_by step refl refl refl refl)
         where
-          counts : (n : ℕ) (held : List ℕ) → n ≤ length (present_of r).objects → AreBlocks held (made_since n t) → AreBlocks held (blocks_of (drop n (after_entry t.graph entry).objects))
-          counts n held low h = are_same held _ _ (λ class small. (let x = since n class low in let y = not_grown (room_for r.heap c) g m c class (stays_by less) in omega (arith, x, y))) h
+          counts : (n : ℕ) (allocated : List ℕ) → n ≤ length (present_of r).objects → AreBlocks allocated (made_since n t) → AreBlocks allocated (blocks_of (drop n (after_entry t.graph entry).objects))
+          counts n allocated low h = are_same allocated _ _ (λ class small. (let x = since n class low in let y = not_grown (room_for r.heap c) g m c class (stays_by less) in omega (arith, x, y))) h
 
 -- where nothing is done
 pub skip_measures : (l : Limits) (es : List Event) (r : Course) (m : Meter) → Measures l es r m → Measures l (es ++ []) r m

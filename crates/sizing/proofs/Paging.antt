@@ -59,22 +59,22 @@ many_pages class n small l =
     le-div TOO_MANY (n + (blocks_in class - 1)) (blocks_in class) (omega (arith, b.0, e)) (omega (arith, b.1, e, l))
 
 -- of a class, the pages of blocks that are counted up to the most
-told : (class n held : ℕ) → class < CLASSES → held ≡ min n MOST → IsPages (whole_pages class (min held MOST_BLOCKS)) (whole_pages class n)
-told class n held small e = elim (cases_lt MOST_BLOCKS n) [
+told : (class n allocated : ℕ) → class < CLASSES → allocated ≡ min n MOST → IsPages (whole_pages class (min allocated MOST_BLOCKS)) (whole_pages class n)
+told class n allocated small e = elim (cases_lt MOST_BLOCKS n) [
   | inl more ↦ (
-      let x = many_pages class (min held MOST_BLOCKS) small (omega (arith, e, more)) in
+      let x = many_pages class (min allocated MOST_BLOCKS) small (omega (arith, e, more)) in
       let y = many_pages class n small (omega (arith, more)) in
       omega (arith, x, y)
       )
   | inr few ↦ ap (λ k. min (whole_pages class k) TOO_MANY) (omega (arith, e, few))
 ]
 
-told_gathered : (class n held : ℕ) → class < CLASSES → held ≡ min n MOST → IsPages (gathered_pages class (min held MOST_BLOCKS)) (gathered_pages class n)
-told_gathered class n held small e = elim (cases_lt MOST_BLOCKS n) [
+told_gathered : (class n allocated : ℕ) → class < CLASSES → allocated ≡ min n MOST → IsPages (gathered_pages class (min allocated MOST_BLOCKS)) (gathered_pages class n)
+told_gathered class n allocated small e = elim (cases_lt MOST_BLOCKS n) [
   | inl more ↦ (
-      let x = many_pages class (min held MOST_BLOCKS) small (omega (arith, e, more)) in
+      let x = many_pages class (min allocated MOST_BLOCKS) small (omega (arith, e, more)) in
       let y = many_pages class n small (omega (arith, more)) in
-      let u = gathered_least class (min held MOST_BLOCKS) in
+      let u = gathered_least class (min allocated MOST_BLOCKS) in
       let v = gathered_least class n in
       omega (arith, x, y, u, v)
       )
@@ -88,8 +88,8 @@ sums_told : (f g : ℕ → ℕ) (k : ℕ) → ((class : ℕ) → class < k → I
 sums_told f g zero each = refl
 sums_told f g (suc k) each = are_pages_sum (class_sum f k) (f k) (class_sum g k) (g k) (sums_told f g k (λ class l. each class (omega (arith, l)))) (each k (omega arith))
 
-pub counted_pages : (pages : ℕ) (held : List ℕ) (n : ℕ → ℕ) → AreBlocks held n → pages ≡ class_sum (λ class. whole_pages class (min (slice_index held class) MOST_BLOCKS)) CLASSES → IsPages pages (pages_of n)
-counted_pages pages held n are e = ap (λ k. min k TOO_MANY) e ∙ sums_told (λ class. whole_pages class (min (slice_index held class) MOST_BLOCKS)) (λ class. whole_pages class (n class)) CLASSES (λ class l. told class (n class) (slice_index held class) l (are class l))
+pub counted_pages : (pages : ℕ) (allocated : List ℕ) (n : ℕ → ℕ) → AreBlocks allocated n → pages ≡ class_sum (λ class. whole_pages class (min (slice_index allocated class) MOST_BLOCKS)) CLASSES → IsPages pages (pages_of n)
+counted_pages pages allocated n are e = ap (λ k. min k TOO_MANY) e ∙ sums_told (λ class. whole_pages class (min (slice_index allocated class) MOST_BLOCKS)) (λ class. whole_pages class (n class)) CLASSES (λ class l. told class (n class) (slice_index allocated class) l (are class l))
 
 pub counted_gathered : (pages : ℕ) (before made : List ℕ) (b m : ℕ → ℕ) → AreBlocks before b → AreBlocks made m
     → pages ≡ class_sum (λ class. gathered_pages class (min (slice_index before class) MOST_BLOCKS) + whole_pages class (min (slice_index made class) MOST_BLOCKS)) CLASSES → IsPages pages (pages_gathered b m)

@@ -13,7 +13,7 @@ use Rattle.size_classes.specs.Config.{limits_of}
 use Rattle.heap_model.specs.State.{HeapState}
 use Rattle.heap_model.specs.Opening.{IsOpening}
 use Rattle.heap_model.specs.Settings.{HeapSettings, settings_of, settings_by}
-use Rattle.heap_model.specs.Led.{opened}
+use Rattle.heap_model.specs.ReachedFrom.{opened}
 use Rattle.heap_model.specs.Event.{Course, Event, Command_done, Cycle_begun, Cycle_on, Quantum_done, Quantum_refused, Does, Runs, Enters, Begins, IsCourse}
 use Rattle.heap_model.proofs.Course.{runs_course, opening_course}
 use Rattle.machine.proofs.Courses.{runs_then}
@@ -24,7 +24,7 @@ use Rattle.quanta.specs.Timetable.{Timetable}
 use Rattle.player.specs.Player.{PlayerState, QuantaDue, None_yet, One_more, quantum_behind, behind_quantum, placed, DoesLine, Skips, Commands, Goes_on, Spends, Ticks}
 use Rattle.player.specs.Player as players
 use Rattle.player.specs.Ticking.{Spent}
-use Rattle.sizing.specs.declared.run.Run.{Run}
+use Rattle.sizing.specs.declared.run.MeteredPlayer.{MeteredPlayer}
 use Rattle.sizing.specs.declared.meter.Meter.{Meter}
 use Rattle.sizing.specs.Meter.{Measures, AreQuanta, Works}
 use Rattle.sizing.specs.Measuring.{IsAt, LineMeasured}
@@ -33,14 +33,14 @@ use Rattle.space.proofs.Pacing.{idle_phase}
 use Rattle.sizing.proofs.Metering.{skip_measures, goes_on_measures}
 
 -- what has been done so far is a course
-pub at_course : (h : HeapState) (es : List Event) (run : Run) → IsAt h es run → IsCourse run.player.course
+pub at_course : (h : HeapState) (es : List Event) (run : MeteredPlayer) → IsAt h es run → IsCourse run.player.course
 at_course h es run a = runs_course es (opened h) run.player.course (opening_course h a.opening a.pages) a.runs
 
 -- nothing is done yet
 new_course : (r : Course) → r.history ≡ [] → r.place ≡ 0 → r ≡ opened r.heap
 new_course r history place = ap (λ l. record r { history = l }) history ∙ ap (λ n. record r { history = []; place = n }) place
 
-pub new_at : (config : Config) (limits : Limits) (run : Run) → 1 ≤ config.pages → IsOpening run.player.course.heap → settings_of run.player.course.heap ≡ settings_by config → run.player.course.history ≡ [] → run.player.course.place ≡ 0 → limits ≡ limits_of config
+pub new_at : (config : Config) (limits : Limits) (run : MeteredPlayer) → 1 ≤ config.pages → IsOpening run.player.course.heap → settings_of run.player.course.heap ≡ settings_by config → run.player.course.history ≡ [] → run.player.course.place ≡ 0 → limits ≡ limits_of config
     → ((h : HeapState) → IsOpening h → h.limits ≡ limits → Measures h.limits [] (opened h) run.meter) → IsAt run.player.course.heap [] run
 new_at config limits run pages opening settings history place bounds measured =
     let h = run.player.course.heap in
@@ -54,7 +54,7 @@ new_at config limits run pages opening settings history place bounds measured =
     }
 
 -- more events are done, and measured
-abbrev pub at_more : (h : HeapState) (es more : List Event) (old new : Run) → IsAt h es old → Runs old.player.course more new.player.course → Measures h.limits (es ++ more) new.player.course new.meter → IsAt h (es ++ more) new
+abbrev pub at_more : (h : HeapState) (es more : List Event) (old new : MeteredPlayer) → IsAt h es old → Runs old.player.course more new.player.course → Measures h.limits (es ++ more) new.player.course new.meter → IsAt h (es ++ more) new
 at_more h es more old new a runs measures = record { opening = a.opening; pages = a.pages; runs = runs_then es more (opened h) old.player.course new.player.course a.runs runs; measures = measures }
 
 -- a command's line
@@ -132,7 +132,7 @@ tick_quanta p q line es n (Spends budget units phase course d) e = absurd (cc)
 tick_quanta p q line es n (Ticks k fs r small w none) e = due_quanta (p.timetable.clock + k) p fs r w
 
 -- a command is done, and measured unless memory is refused
-pub command_measured : (old new : Run) (m : ℕ) (c : Command) (reply : Reply) (r : Result (Unit {0}) NoMemory) → DoesLine old.player (lines.Command m c) (Command_done m c reply ∷ []) new.player
+pub command_measured : (old new : MeteredPlayer) (m : ℕ) (c : Command) (reply : Reply) (r : Result (Unit {0}) NoMemory) → DoesLine old.player (lines.Command m c) (Command_done m c reply ∷ []) new.player
     → OnOk r ((l : Limits) (es : List Event) (x y : Course) → Measures l es x old.meter → IsCourse x → Enters x m c reply y → Measures l (es ++ Command_done m c reply ∷ []) y new.meter) → LineMeasured (lines.Command m c) old new r
 command_measured old new m c reply (Ok done) d measured = λ h es a.
     let e = command_enters old.player new.player (lines.Command m c) (Command_done m c reply ∷ []) m c reply d refl in
@@ -140,11 +140,11 @@ command_measured old new m c reply (Ok done) d measured = λ h es a.
 command_measured old new m c reply (Err why) d measured = tt
 
 -- what the meter says of the entry of a command
-abbrev pub Counted : Run → Run → Result (Unit {0}) NoMemory → Entry → Type 0
+abbrev pub Counted : MeteredPlayer → MeteredPlayer → Result (Unit {0}) NoMemory → Entry → Type 0
 Counted old new r x =
     OnOk r ((l : Limits) (es : List Event) (p q : Course) → Measures l es p old.meter → IsCourse p → Enters p x.mutator x.command x.reply q → Measures l (es ++ Command_done x.mutator x.command x.reply ∷ []) q new.meter)
 
-pub entry_measured : (old new : Run) (m : ℕ) (c : Command) (x y : Entry) (r : Result (Unit {0}) NoMemory) → y ≡ x → x.mutator ≡ m → x.command ≡ c → DoesLine old.player (lines.Command m c) (Command_done m c x.reply ∷ []) new.player → Counted old new r y
+pub entry_measured : (old new : MeteredPlayer) (m : ℕ) (c : Command) (x y : Entry) (r : Result (Unit {0}) NoMemory) → y ≡ x → x.mutator ≡ m → x.command ≡ c → DoesLine old.player (lines.Command m c) (Command_done m c x.reply ∷ []) new.player → Counted old new r y
     → LineMeasured (lines.Command m c) old new r
 entry_measured old new m c x y r same e f d counted =
     let d1 = subst (λ k. DoesLine old.player (lines.Command m k) (Command_done m k x.reply ∷ []) new.player) (sym f) d in
@@ -153,11 +153,11 @@ entry_measured old new m c x y r same e f d counted =
     (subst (λ k. LineMeasured (lines.Command k x.command) old new r) e (command_measured old new x.mutator x.command x.reply r d2 (subst (Counted old new r) same counted)))
 
 -- whether a cycle is running
-pub at_on : (h : HeapState) (es : List Event) (run : Run) → IsAt h es run → run.meter.on ≡ in_cycle run.player.course.heap.phase
+pub at_on : (h : HeapState) (es : List Event) (run : MeteredPlayer) → IsAt h es run → run.meter.on ≡ in_cycle run.player.course.heap.phase
 at_on h es run a = a.measures.holds.on ∙ a.measures.are.on
 
 -- a beginning, where none is running, and where one is
-pub begin_measured : (old new : Run) (r : Result (Unit {0}) NoMemory) (more : List Event) → DoesLine old.player lines.Begin more new.player → old.meter.on ≡ false
+pub begin_measured : (old new : MeteredPlayer) (r : Result (Unit {0}) NoMemory) (more : List Event) → DoesLine old.player lines.Begin more new.player → old.meter.on ≡ false
     → OnOk r ((l : Limits) (es : List Event) (x y : Course) → Measures l es x old.meter → IsCourse x → Begins x y → Measures l (es ++ Cycle_begun ∷ []) y new.meter) → LineMeasured lines.Begin old new r
 begin_measured old new (Ok done) more d off measured = λ h es a.
     let b = begins_new old.player new.player lines.Begin more d refl (sym (at_on h es old a) ∙ off) in
@@ -165,7 +165,7 @@ begin_measured old new (Ok done) more d off measured = λ h es a.
     (Cycle_begun ∷ [], does, at_more h es (Cycle_begun ∷ []) old new a (new.player.course, b.1, refl) (measured h.limits es old.player.course new.player.course a.measures (at_course h es old a) b.1))
 begin_measured old new (Err why) more d off measured = tt
 
-pub on_measured : (old new : Run) (more : List Event) → DoesLine old.player lines.Begin more new.player → old.meter.on ≡ true → new.meter ≡ old.meter → LineMeasured lines.Begin old new (Ok tt)
+pub on_measured : (old new : MeteredPlayer) (more : List Event) → DoesLine old.player lines.Begin more new.player → old.meter.on ≡ true → new.meter ≡ old.meter → LineMeasured lines.Begin old new (Ok tt)
 on_measured old new more d on same = λ h es a.
     let b = begins_on old.player new.player lines.Begin more d refl (sym (at_on h es old a) ∙ on) in
     let does : DoesLine old.player lines.Begin (Cycle_on ∷ []) new.player = subst (λ k. DoesLine old.player lines.Begin k new.player) b.0 d in
@@ -181,7 +181,7 @@ Quanta budget phase old new =
     (l : Limits) (es quanta : List Event) (x y : Course) → Measures l es x old → IsCourse x → Works budget quanta x y → y.heap.phase ≡ phase → Measures l (es ++ quanta) y new
 
 -- units of a budget are spent
-pub quantum_measured : (old new : Run) (budget : ℕ) (ends : Phase) → Spent old.player budget new.player → ends ≡ new.player.course.heap.phase → Quanta budget ends old.meter new.meter → LineMeasured (lines.Quantum budget) old new (Ok tt)
+pub quantum_measured : (old new : MeteredPlayer) (budget : ℕ) (ends : Phase) → Spent old.player budget new.player → ends ≡ new.player.course.heap.phase → Quanta budget ends old.meter new.meter → LineMeasured (lines.Quantum budget) old new (Ok tt)
 quantum_measured old new budget ends s phase measured = λ h es a.
     let does = Quantum_done budget s.0 s.1 ∷ [] in
     let course : new.player.course ≡ s.2 = ap (λ (p : PlayerState). p.course) s.4 in
@@ -194,7 +194,7 @@ quantum_measured old new budget ends s phase measured = λ h es a.
     )
 
 -- ticks in which quanta were due, and ticks in which none was
-pub ticks_measured : (old new : Run) (n : ℕ) (more : List Event) (budget : ℕ) (ends : Phase) → DoesLine old.player (lines.Tick n) more new.player → length old.player.timetable.intervals < length new.player.timetable.intervals
+pub ticks_measured : (old new : MeteredPlayer) (n : ℕ) (more : List Event) (budget : ℕ) (ends : Phase) → DoesLine old.player (lines.Tick n) more new.player → length old.player.timetable.intervals < length new.player.timetable.intervals
     → budget ≡ new.player.budget → ends ≡ new.player.course.heap.phase → Quanta budget ends old.meter new.meter → LineMeasured (lines.Tick n) old new (Ok tt)
 ticks_measured old new n more budget ends d grows same phase measured = λ h es a.
     let q = tick_quanta old.player new.player (lines.Tick n) more n d refl in
@@ -206,7 +206,7 @@ no_event : (es : List Event) → length es ≤ 0 → es ≡ []
 no_event [] e = refl
 no_event (x ∷ es) e = absurd (omega (arith, e))
 
-pub no_ticks_measured : (old new : Run) (n : ℕ) (more : List Event) → DoesLine old.player (lines.Tick n) more new.player → length new.player.timetable.intervals ≤ length old.player.timetable.intervals → new.meter ≡ old.meter
+pub no_ticks_measured : (old new : MeteredPlayer) (n : ℕ) (more : List Event) → DoesLine old.player (lines.Tick n) more new.player → length new.player.timetable.intervals ≤ length old.player.timetable.intervals → new.meter ≡ old.meter
     → LineMeasured (lines.Tick n) old new (Ok tt)
 no_ticks_measured old new n more d stays same = λ h es a.
     let q = tick_quanta old.player new.player (lines.Tick n) more n d refl in

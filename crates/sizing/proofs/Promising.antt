@@ -9,7 +9,7 @@ use Rattle.heap_model.specs.State.{HeapState}
 use Rattle.heap_model.specs.Settings.{HeapSettings, settings_of, settings_by}
 use Rattle.heap_model.specs.Opening.{IsOpening}
 use Rattle.heap_model.specs.Event.{Course, Event, Command_done, Cycle_begun, Cycle_on, Quantum_done, Quantum_refused, Runs, HaveBudgets}
-use Rattle.heap_model.specs.Led.{opened}
+use Rattle.heap_model.specs.ReachedFrom.{opened}
 use Rattle.size_classes.specs.declared.class.TheConstants.{CLASSES}
 use Rattle.space.specs.declared.pace.Pace.{Pace as PaceTable}
 use Rattle.space.specs.Pace.{Pace, opening_beat, AllKeepPace}

@@ -5,7 +5,7 @@ use Rattle.graph_heap.specs.History.{after_entry}
 use Rattle.heap_model.specs.declared.phase.Phase.{Phase}
 use Rattle.heap_model.specs.Event.{Course, Event, Command_done, Cycle_begun, Cycle_on, Quantum_done, Quantum_refused, Runs}
 use Rattle.space.specs.Demand.{blocks_of}
-use Rattle.space.specs.Tally.{is_tracing}
+use Rattle.space.specs.Tally.{awaits_sweep_end}
 use Rattle.space.proofs.Moved.{chain_tracing}
 use Rattle.fragmentation.specs.Season.{Season, Lives, made_since, season_swept, season_after, Keeps, AllKeep}
 use Rattle.sizing.specs.Meter.{season_at, none_live, Anything, AreQuanta}
@@ -85,7 +85,7 @@ alike_after live other s t k Cycle_begun = record {
   number = k.number;
 }
 alike_after live other s t k Cycle_on = k
-alike_after live other s t k (Quantum_done budget units phase) = alike_rested live other s t k (is_tracing phase)
+alike_after live other s t k (Quantum_done budget units phase) = alike_rested live other s t k (awaits_sweep_end phase)
 alike_after live other s t k (Quantum_refused budget) = k
 
 alike_at : (live other : Lives) (s t : Season) (es : List Event) → Alike s t → Alike (season_at live s es) (season_at other t es)
@@ -121,18 +121,18 @@ rested_still : (live : Lives) (a : Bool) (s : Season) → s.tracing ≡ a → s 
 rested_still live true s e = refl
 rested_still live false s e = sym (ap (λ z. if z then season_swept live s else s) e)
 
-pub quanta_season : (live : Lives) (budget : ℕ) (qs : List Event) (s : Season) (r new : Course) → AreQuanta budget qs → Runs r qs new → s.tracing ≡ is_tracing r.heap.phase
-    → (season_at live s qs ≡ rested live (is_tracing new.heap.phase) s) × ((rested live (is_tracing new.heap.phase) s).tracing ≡ is_tracing new.heap.phase)
+pub quanta_season : (live : Lives) (budget : ℕ) (qs : List Event) (s : Season) (r new : Course) → AreQuanta budget qs → Runs r qs new → s.tracing ≡ awaits_sweep_end r.heap.phase
+    → (season_at live s qs ≡ rested live (awaits_sweep_end new.heap.phase) s) × ((rested live (awaits_sweep_end new.heap.phase) s).tracing ≡ awaits_sweep_end new.heap.phase)
 quanta_season live budget [] s r new each runs e =
-    let f : s.tracing ≡ is_tracing new.heap.phase = e ∙ ap (λ (x : Course). is_tracing x.heap.phase) (sym runs) in
-    (rested_still live (is_tracing new.heap.phase) s f, rested_traces live (is_tracing new.heap.phase) (is_tracing new.heap.phase) s f (λ z. z))
+    let f : s.tracing ≡ awaits_sweep_end new.heap.phase = e ∙ ap (λ (x : Course). awaits_sweep_end x.heap.phase) (sym runs) in
+    (rested_still live (awaits_sweep_end new.heap.phase) s f, rested_traces live (awaits_sweep_end new.heap.phase) (awaits_sweep_end new.heap.phase) s f (λ z. z))
 quanta_season live budget (Quantum_done b units phase ∷ qs) s r new each runs e =
     let is : runs.0.heap.phase ≡ phase = runs.1.ends in
-    let first : (is_tracing phase ≡ true → is_tracing r.heap.phase ≡ true) = λ z. chain_tracing r.heap runs.0.heap units runs.1.turn.chain (ap is_tracing is ∙ z) in
-    let traces : (rested live (is_tracing phase) s).tracing ≡ is_tracing runs.0.heap.phase = rested_traces live (is_tracing r.heap.phase) (is_tracing phase) s e first ∙ ap is_tracing (sym is) in
-    let back : (is_tracing new.heap.phase ≡ true → is_tracing phase ≡ true) = λ z. ap is_tracing (sym is) ∙ runs_trace budget qs runs.0 new each.1 runs.2 z in
-    let rest = quanta_season live budget qs (rested live (is_tracing phase) s) runs.0 new each.1 runs.2 traces in
-    let twice = rested_twice live (is_tracing phase) (is_tracing new.heap.phase) s back in
+    let first : (awaits_sweep_end phase ≡ true → awaits_sweep_end r.heap.phase ≡ true) = λ z. chain_tracing r.heap runs.0.heap units runs.1.turn.chain (ap awaits_sweep_end is ∙ z) in
+    let traces : (rested live (awaits_sweep_end phase) s).tracing ≡ awaits_sweep_end runs.0.heap.phase = rested_traces live (awaits_sweep_end r.heap.phase) (awaits_sweep_end phase) s e first ∙ ap awaits_sweep_end (sym is) in
+    let back : (awaits_sweep_end new.heap.phase ≡ true → awaits_sweep_end phase ≡ true) = λ z. ap awaits_sweep_end (sym is) ∙ runs_trace budget qs runs.0 new each.1 runs.2 z in
+    let rest = quanta_season live budget qs (rested live (awaits_sweep_end phase) s) runs.0 new each.1 runs.2 traces in
+    let twice = rested_twice live (awaits_sweep_end phase) (awaits_sweep_end new.heap.phase) s back in
     (rest.0 ∙ twice, ap (λ (z : Season). z.tracing) (sym twice) ∙ rest.1)
 quanta_season live budget (Command_done m c reply ∷ qs) s r new each runs e = elim each [ ]
 quanta_season live budget (Cycle_begun ∷ qs) s r new each runs e = elim each [ ]

@@ -19,13 +19,13 @@ use Rattle.sizing.proofs.Counting.{equal_at, high_at}
 use Rattle.sizing.proofs.Seasons.{stated as said}
 
 -- a table below a limit states the numbers that were counted
-stated : (limit : ℕ) (table held : List ℕ) (n : ℕ → ℕ) → limit ≤ MOST → IsTable limit table held → AreBlocks held n → (class : ℕ) → class < CLASSES → n class ≡ slice_index table class
-stated limit table held n low t a class l = equal_at MOST (n class) (slice_index table class) limit ((t class l).0 ∙ a class l) low (t class l).1
+stated : (limit : ℕ) (table allocated : List ℕ) (n : ℕ → ℕ) → limit ≤ MOST → IsTable limit table allocated → AreBlocks allocated n → (class : ℕ) → class < CLASSES → n class ≡ slice_index table class
+stated limit table allocated n low t a class l = equal_at MOST (n class) (slice_index table class) limit ((t class l).0 ∙ a class l) low (t class l).1
 
 -- a number that can't be stated
-over : (limit : ℕ) (held : List ℕ) (n most : ℕ → ℕ) → HasOver limit held → AreBlocks held n → ((class : ℕ) → class < CLASSES → n class ≤ most class) → ((class : ℕ) → class < CLASSES → most class < limit) → ⊥
-over limit held n most o a within small =
-    let h = high_at MOST (n o.0) (slice_index held o.0) limit (a o.0 o.1) o.2 in
+over : (limit : ℕ) (allocated : List ℕ) (n most : ℕ → ℕ) → HasOver limit allocated → AreBlocks allocated n → ((class : ℕ) → class < CLASSES → n class ≤ most class) → ((class : ℕ) → class < CLASSES → most class < limit) → ⊥
+over limit allocated n most o a within small =
+    let h = high_at MOST (n o.0) (slice_index allocated o.0) limit (a o.0 o.1) o.2 in
     let x = within o.0 o.1 in
     let y = small o.0 o.1 in
     omega (arith, h, x, y)
@@ -60,11 +60,11 @@ module _ (l : Limits) (es : List Event) (m : Meter) (n : Needs l es m) where
   budget_measured (Some b) e = λ k. subst (λ z. HaveBudgets k es ↔ IfSome z (λ b. k ≤ b)) e (n.budget k)
 
 -- pages that can be told, and pages that can't
-same_pages : (held pages : ℕ) → IsPages held pages → held < TOO_MANY → pages ≡ held
-same_pages held pages e l = omega (arith, e, l)
+same_pages : (allocated pages : ℕ) → IsPages allocated pages → allocated < TOO_MANY → pages ≡ allocated
+same_pages allocated pages e l = omega (arith, e, l)
 
-more_pages : (held pages : ℕ) → IsPages held pages → TOO_MANY ≤ held → TOO_MANY ≤ pages
-more_pages held pages e l = omega (arith, e, l)
+more_pages : (allocated pages : ℕ) → IsPages allocated pages → TOO_MANY ≤ allocated → TOO_MANY ≤ pages
+more_pages allocated pages e l = omega (arith, e, l)
 
 module _ (l : Limits) (es : List Event) (m : Meter) (w : Shifts l es m) where
   same : (n : ℕ) → n ≤ (season_at none_live (opening_season l) es).cycles → w.lives n ≡ w.lives n
@@ -93,19 +93,19 @@ module _ (l : Limits) (es : List Event) (m : Meter) (w : Shifts l es m) where
   }
     where
       together : (class : ℕ) → class < CLASSES → w.together class ≡ slice_index n.together class
-      together = stated (2 ^ 64) n.together m.most.together w.together (omega arith) some.together w.together_held
+      together = stated (2 ^ 64) n.together m.most.together w.together (omega arith) some.together w.together_allocated
 
       gathered : w.gathered ≡ n.gathered
-      gathered = same_pages m.most.gathered w.gathered w.gathered_held (let e = some.gathered.0 in let b = some.gathered.1 in omega (arith, e, b)) ∙ sym some.gathered.0
+      gathered = same_pages m.most.gathered w.gathered w.gathered_allocated (let e = some.gathered.0 in let b = some.gathered.1 in omega (arith, e, b)) ∙ sym some.gathered.0
 
       live : w.live ≡ n.live
-      live = same_pages m.most.live w.live w.live_held (let e = some.live.0 in let b = some.live.1 in omega (arith, e, b)) ∙ sym some.live.0
+      live = same_pages m.most.live w.live w.live_allocated (let e = some.live.0 in let b = some.live.1 in omega (arith, e, b)) ∙ sym some.live.0
 
       made : w.made ≡ n.made
-      made = same_pages m.most.made w.made w.made_held (let e = some.made.0 in let b = some.made.1 in omega (arith, e, b)) ∙ sym some.made.0
+      made = same_pages m.most.made w.made w.made_allocated (let e = some.made.0 in let b = some.made.1 in omega (arith, e, b)) ∙ sym some.made.0
   needed_measured None some none = λ s. elim (none refl) [
-    | inl o ↦ over (2 ^ 64) m.most.together w.together s.blocks o w.together_held ((keep_together s.blocks).0 s.together) s.small_blocks
-    | inr (inl o) ↦ (let x = more_pages m.most.gathered w.gathered w.gathered_held o in let y = (keep_gathered s.pages).0 s.gathered in let z = s.small_pages.0 in omega (arith, x, y, z))
-    | inr (inr (inl o)) ↦ (let x = more_pages m.most.live w.live w.live_held o in let y = ((keep_budget s.budget).0 s.budgeted).0 in let z = s.small_pages.1 in omega (arith, x, y, z))
-    | inr (inr (inr o)) ↦ (let x = more_pages m.most.made w.made w.made_held o in let y = ((keep_budget s.budget).0 s.budgeted).1 in let z = s.small_pages.2 in omega (arith, x, y, z))
+    | inl o ↦ over (2 ^ 64) m.most.together w.together s.blocks o w.together_allocated ((keep_together s.blocks).0 s.together) s.small_blocks
+    | inr (inl o) ↦ (let x = more_pages m.most.gathered w.gathered w.gathered_allocated o in let y = (keep_gathered s.pages).0 s.gathered in let z = s.small_pages.0 in omega (arith, x, y, z))
+    | inr (inr (inl o)) ↦ (let x = more_pages m.most.live w.live w.live_allocated o in let y = ((keep_budget s.budget).0 s.budgeted).0 in let z = s.small_pages.1 in omega (arith, x, y, z))
+    | inr (inr (inr o)) ↦ (let x = more_pages m.most.made w.made w.made_allocated o in let y = ((keep_budget s.budget).0 s.budgeted).1 in let z = s.small_pages.2 in omega (arith, x, y, z))
   ]

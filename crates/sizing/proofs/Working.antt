@@ -6,15 +6,15 @@ use Rattle.heap_model.specs.State.{HeapState}
 use Rattle.heap_model.specs.Event.{Course, Event, Command_done, Cycle_begun, Cycle_on, Quantum_done, Quantum_refused, Runs, Collects, IsCourse, present_of}
 use Rattle.heap_model.proofs.Stood.{idle_chain}
 use Rattle.heap_model.proofs.Course.{does_course, collects_present}
-use Rattle.space.specs.Tally.{is_tracing}
+use Rattle.space.specs.Tally.{awaits_sweep_end}
 use Rattle.space.specs.Pace.{Beat, next_beat, in_cycle}
 use Rattle.space.proofs.Pacing.{idle_phase}
 use Rattle.space.proofs.Moved.{chain_tracing}
 use Rattle.sizing.specs.Meter.{beat_after, AreQuanta}
 
 -- where there is tracing, there was before
-pub runs_trace : (budget : ℕ) (qs : List Event) (r new : Course) → AreQuanta budget qs → Runs r qs new → is_tracing new.heap.phase ≡ true → is_tracing r.heap.phase ≡ true
-runs_trace budget [] r new each runs t = ap (λ (x : Course). is_tracing x.heap.phase) (sym runs) ∙ t
+pub runs_trace : (budget : ℕ) (qs : List Event) (r new : Course) → AreQuanta budget qs → Runs r qs new → awaits_sweep_end new.heap.phase ≡ true → awaits_sweep_end r.heap.phase ≡ true
+runs_trace budget [] r new each runs t = ap (λ (x : Course). awaits_sweep_end x.heap.phase) (sym runs) ∙ t
 runs_trace budget (Quantum_done b units phase ∷ qs) r new each runs t = chain_tracing r.heap runs.0.heap units runs.1.turn.chain (runs_trace budget qs runs.0 new each.1 runs.2 t)
 runs_trace budget (Command_done m c reply ∷ qs) r new each runs t = elim each [ ]
 runs_trace budget (Cycle_begun ∷ qs) r new each runs t = elim each [ ]

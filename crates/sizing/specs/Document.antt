@@ -4,17 +4,17 @@ use Rattle.std.specs.Option.{unwrap_or}
 use Rattle.size_classes.specs.declared.class.TheConstants.{CLASSES}
 use Rattle.size_classes.specs.Keys.{is_between}
 use Rattle.size_classes.specs.Sizes.{size_of}
-use Rattle.sizing.specs.declared.arrivals.load.Load.{Load as LoadTable}
+use Rattle.sizing.specs.declared.arrivals.load.AllocationProfile.{AllocationProfile as LoadTable}
 use Rattle.sizing.specs.Fitting.{load_in}
-use Rattle.sizing.specs.Load.{Load}
+use Rattle.sizing.specs.AllocationProfile.{AllocationProfile}
 use Rattle.toml.specs.Data.{Data, as_integer, as_table, get_member, Members}
 use Rattle.command_line.specs.declared.toml_table.ReadFault.{ReadFault}
 use Rattle.command_line.specs.declared.toml_table.ReadFault.TheVariants.{Refused, NoMemory}
 use Rattle.command_line.specs.TomlTable.{document_of, NeedsMemory, first_some}
 use Rattle.sizing.specs.declared.load_file.fault.DocumentFault.{DocumentFault}
 use Rattle.sizing.specs.declared.load_file.fault.DocumentFault.TheVariants as faults
-use Rattle.sizing.specs.declared.load_file.fault.Place.{Place}
-use Rattle.sizing.specs.declared.load_file.fault.Place.TheVariants as places
+use Rattle.sizing.specs.declared.load_file.fault.FieldPath.{FieldPath}
+use Rattle.sizing.specs.declared.load_file.fault.FieldPath.TheVariants as places
 use Rattle.sizing.specs.declared.load_file.field.Field.{Field}
 use Rattle.sizing.specs.declared.load_file.field.Field.TheVariants.{Live, Rate, Burst}
 use Rattle.sizing.specs.declared.load_file.field.TheConstants.Field.{ALL}
@@ -35,14 +35,14 @@ number_of document class field =
     number_in (get_member (name_of field) (members_in (get_member (size_name class) document)))
 
 -- the load has the numbers of the document
-pub record States (document : Members) (load : Load) : Type 0 where
+pub record States (document : Members) (load : AllocationProfile) : Type 0 where
   pub live : (class : ℕ) → class < CLASSES → pos (load.live class) ≡ number_of document class Live
   pub rate : (class : ℕ) → class < CLASSES → pos (load.rate class) ≡ number_of document class Rate
   pub burst : (class : ℕ) → class < CLASSES → pos (load.burst class) ≡ number_of document class Burst
   pub gap : pos load.gap ≡ gap_of document
 
 -- what is wrong with a whole number at a place, or with what is none
-abbrev pub number_fault : Place → Option ℤ → Option DocumentFault
+abbrev pub number_fault : FieldPath → Option ℤ → Option DocumentFault
 number_fault place None = Some (faults.NotWhole place)
 number_fault place (Some n) = if is_between 0 (pos 4294967295) n then None else Some (faults.OutOfRange place)
 
@@ -56,7 +56,7 @@ abbrev pub gap_fault : Members → Option DocumentFault
 gap_fault document = gap_fault_in (get_member gap_name document)
 
 -- what is wrong with what stands at a key of a class's table
-abbrev pub field_fault_in : Place → Option Data → Option DocumentFault
+abbrev pub field_fault_in : FieldPath → Option Data → Option DocumentFault
 field_fault_in place None = None
 field_fault_in place (Some value) = number_fault place (as_integer value)
 
@@ -96,7 +96,7 @@ abbrev pub bytes_fault : List ℕ → Option DocumentFault
 bytes_fault bytes = if nat_lt 65536 (length bytes) then Some faults.TooLong else fault_in (document_of bytes)
 
 -- what was read of bytes is a document that states the load
-abbrev pub StatesAny : Option Members → Load → Type 0
+abbrev pub StatesAny : Option Members → AllocationProfile → Type 0
 StatesAny None load = ⊥
 StatesAny (Some document) load = States document load
 

@@ -2,11 +2,11 @@
 use Rattle.std.specs.Prelude.{◌≡◌, ℕ, ◌<◌, slice_index}
 use Rattle.size_classes.specs.declared.class.TheConstants.{CLASSES}
 use Rattle.space.specs.Pace.{Pace}
-use Rattle.sizing.specs.declared.arrivals.load.Load.{Load as Table}
-use Rattle.sizing.specs.Load.{Load}
+use Rattle.sizing.specs.declared.arrivals.load.AllocationProfile.{AllocationProfile as Table}
+use Rattle.sizing.specs.AllocationProfile.{AllocationProfile}
 
 -- the load that a table by class states
-abbrev pub load_in : Table → Load
+abbrev pub load_in : Table → AllocationProfile
 load_in t = record {
   live = slice_index t.live;
   rate = slice_index t.rate;

@@ -5,15 +5,15 @@ use Rattle.size_classes.specs.declared.class.TheConstants.{CLASSES}
 use Rattle.trace.specs.declared.line.Line.{Line}
 use Rattle.trace.specs.declared.line.Line.TheVariants as lines
 use Rattle.trace.specs.declared.fault.TextFault.{TextFault}
-use Rattle.trace.specs.GoneOver.{Reached, NextLine, NextThere, GoneOver, Ends}
+use Rattle.trace.specs.LinesProcessed.{Reached, NextLine, NextThere, LinesProcessed, ProcessingEnds}
 use Rattle.trace.specs.Spelling.{Spells}
 use Rattle.trace.specs.Streams.{Given}
 use Rattle.space.specs.Room.{asks}
-use Rattle.sizing.specs.declared.arrivals.keeping.Breach.{Breach}
-use Rattle.sizing.specs.declared.arrivals.keeping.Breach.TheVariants.{Asks, BeginsLate, SmallQuantum}
-use Rattle.sizing.specs.declared.arrivals.keeping.Kept.{Kept}
-use Rattle.sizing.specs.declared.arrivals.keeping.Kept.TheVariants.{Keeps, Breaks}
-use Rattle.sizing.specs.Load.{Load, clock_after, BeginsOften, KeepsLoad, SaysText}
+use Rattle.sizing.specs.declared.arrivals.keeping.Violation.{Violation}
+use Rattle.sizing.specs.declared.arrivals.keeping.Violation.TheVariants.{Asks, BeginsLate, SmallQuantum}
+use Rattle.sizing.specs.declared.arrivals.keeping.Conformance.{Conformance}
+use Rattle.sizing.specs.declared.arrivals.keeping.Conformance.TheVariants.{Keeps, Breaks}
+use Rattle.sizing.specs.AllocationProfile.{AllocationProfile, clock_after, BeginsOften, KeepsLoad, SaysText}
 use Rattle.sizing.specs.Metering.{NoEvent}
 
 -- how many ticks pass in lines
@@ -33,14 +33,14 @@ asked_in class (line ∷ rest) = asks_by class line + asked_in class rest
 
 -- A command asks for too much of a class after these lines: from one of them on, or by the command alone, more
 -- blocks are asked for, those of the command included, than the rate in the ticks between and the burst.
-abbrev pub AsksTooMuch : Load → List Line → Command → ℕ → Type 0
+abbrev pub AsksTooMuch : AllocationProfile → List Line → Command → ℕ → Type 0
 AsksTooMuch l said c class =
     (before : List Line) × (since : List Line) × (said ≡ before ++ since)
     × (l.rate class * ticks_in since + l.burst class < asked_in class since + asks c class)
 
 -- How a line breaks a load to which the lines before it keep. Where a command asks for too much of some classes,
 -- the first is named; one that asks for too much of none comes too late after the last line `begin`.
-abbrev pub BreaksBy : Load → ℕ → List Line → Line → Breach → Type 0
+abbrev pub BreaksBy : AllocationProfile → ℕ → List Line → Line → Violation → Type 0
 BreaksBy l k said (lines.Command m c) (Asks class) =
     (class < CLASSES) × AsksTooMuch l said c class × ((other : ℕ) → other < class → ¬ AsksTooMuch l said c other)
 BreaksBy l k said (lines.Command m c) BeginsLate =
@@ -50,7 +50,7 @@ BreaksBy l k said (lines.Quantum budget) SmallQuantum = budget < k
 BreaksBy l k said line by = ⊥
 
 -- How checking ends.
-abbrev pub CheckEnds : Load → ℕ → Bool → Result Kept TextFault → Reached (Unit {0}) Line → Type 0
+abbrev pub CheckEnds : AllocationProfile → ℕ → Bool → Result Conformance TextFault → Reached (Unit {0}) Line → Type 0
 -- all lines of the input are read
 CheckEnds l k ended (Ok Keeps) reached = (reached.rest ≡ []) × IsTrue ended
 -- the next line breaks the load
@@ -58,12 +58,13 @@ CheckEnds l k ended (Ok (Breaks number by)) reached =
     (number ≡ length reached.lines + 1)
     × NextThere reached (λ text. (line : Line) × Spells text.version text.bytes line
     × BreaksBy l k reached.events line by)
-CheckEnds l k ended (Err fault) reached = Ends NoEvent {A = Kept} reached ended tt (Err fault)
+CheckEnds l k ended (Err fault) reached = ProcessingEnds NoEvent {A = Conformance} reached ended tt (Err fault)
 
 -- What was checked of an input: the lines that are done keep to the load. These are all of its lines, or those
 -- before the line at which checking stopped; where that breaks the load, they don't keep to it with that line.
-pub record LoadChecked (l : Load) (k : ℕ) (given : Given) (result : Result Kept TextFault) : Type 0 where
-  pub over : GoneOver SaysText given tt (CheckEnds l k given.ended result)
+pub record LoadChecked (l : AllocationProfile) (k : ℕ) (given : Given)
+    (result : Result Conformance TextFault) : Type 0 where
+  pub over : LinesProcessed SaysText given tt (CheckEnds l k given.ended result)
   pub keeps : KeepsLoad l k over.lines
-  pub breaks : (number : ℕ) (by : Breach) → result ≡ Ok (Breaks number by)
+  pub breaks : (number : ℕ) (by : Violation) → result ≡ Ok (Breaks number by)
       → NextLine (λ bytes. ¬ KeepsLoad l k (over.lines ++ bytes ∷ [])) over.rest

@@ -5,7 +5,7 @@ pub mod Reckoned
 pub mod Promises
 pub mod Meter
 pub mod Measuring
-pub mod Load
+pub mod AllocationProfile
 pub mod New
 pub mod Fitting
 pub mod Metering

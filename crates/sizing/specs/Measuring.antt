@@ -4,7 +4,7 @@ use Rattle.graph_heap.specs.declared.no_memory.NoMemory.{NoMemory}
 use Rattle.size_classes.specs.declared.config.Config.{Config}
 use Rattle.heap_model.specs.State.{HeapState}
 use Rattle.heap_model.specs.Opening.{IsOpening}
-use Rattle.heap_model.specs.Led.{opened}
+use Rattle.heap_model.specs.ReachedFrom.{opened}
 use Rattle.heap_model.specs.Event.{Event, Runs}
 use Rattle.trace.specs.declared.line.Line.{Line}
 use Rattle.trace.specs.declared.line.Line.TheVariants as lines
@@ -15,10 +15,10 @@ use Rattle.player.specs.declared.player.TickFault.{TickFault}
 use Rattle.player.specs.declared.style.Style.TheVariants.{Nothing}
 use Rattle.player.specs.New.{IsNew}
 use Rattle.player.specs.Player.{PlayerState, DoesLine}
-use Rattle.player.specs.Playing.{Stage, stage, PlaysLine, Played}
+use Rattle.player.specs.Playing.{Session, session, PlaysLine, Played}
 use Rattle.player.specs.Alongside.{TicksStop, LineStops, TextStops, StopsNew}
 use Rattle.sizing.specs.declared.measured.Measured.{Measured}
-use Rattle.sizing.specs.declared.run.Run.{Run}
+use Rattle.sizing.specs.declared.run.MeteredPlayer.{MeteredPlayer}
 use Rattle.sizing.specs.Measured.{IsMeasured}
 use Rattle.sizing.specs.Promises.{Promises}
 use Rattle.sizing.specs.Meter.{Measures}
@@ -26,8 +26,8 @@ use Rattle.sizing.specs.Meter.{Measures}
 -- An input was played to its end on a new player, this was measured of its events, and what it promises holds of them.
 pub record RunMeasured (config : Config) (given : Given) (m : Measured) : Type 0 where
   pub old : PlayerState
-  pub new : Stage
-  pub played : Played Nothing given (stage old []) new (Ok tt)
+  pub new : Session
+  pub played : Played Nothing given (session old []) new (Ok tt)
   pub is_new : IsNew config old
   pub is : IsMeasured old.course.heap.limits played.over.events m
   pub promises : Promises config played.over.events m
@@ -39,32 +39,32 @@ TraceMeasured config given (Ok m) = RunMeasured config given m
 TraceMeasured config given (Err fault) = StopsNew config given fault
 
 -- the player has done these events from a new heap, and the meter holds what they add up to
-pub record IsAt (h : HeapState) (es : List Event) (run : Run) : Type 0 where
+pub record IsAt (h : HeapState) (es : List Event) (run : MeteredPlayer) : Type 0 where
   pub opening : IsOpening h
   pub pages : 0 < length h.store.pages
   pub runs : Runs (opened h) es run.player.course
   pub measures : Measures h.limits es run.player.course run.meter
 
 -- a line is done and measured, or memory was refused
-abbrev pub LineMeasured : Line → Run → Run → Result (Unit {0}) NoMemory → Type 0
+abbrev pub LineMeasured : Line → MeteredPlayer → MeteredPlayer → Result (Unit {0}) NoMemory → Type 0
 LineMeasured line old new (Ok done) = (h : HeapState) (es : List Event) → IsAt h es old → (more : List Event)
     × DoesLine old.player line more new.player × IsAt h (es ++ more) new
 LineMeasured line old new (Err refused) = Unit {0}
 
 -- the same of ticks, or they don't pass
-abbrev pub TicksMeasured : ℕ → Run → Run → Result (Unit {0}) TickFault → Type 0
+abbrev pub TicksMeasured : ℕ → MeteredPlayer → MeteredPlayer → Result (Unit {0}) TickFault → Type 0
 TicksMeasured n old new (Ok done) = LineMeasured (lines.Tick n) old new (Ok tt)
 TicksMeasured n old new (Err fault) = TicksStop fault n old.player new.player
 
 -- the same of a line of this number, which may stop with a fault
-abbrev pub EventMeasured : Line → ℕ → Run → Run → Result (Unit {0}) TextFault → Type 0
+abbrev pub EventMeasured : Line → ℕ → MeteredPlayer → MeteredPlayer → Result (Unit {0}) TextFault → Type 0
 EventMeasured line number old new (Ok done) = LineMeasured line old new (Ok tt)
 EventMeasured line number old new (Err fault) = LineStops fault line number old.player new.player
 
 -- the same of a line's text
-abbrev pub TextMeasured : Text → Run → Run → Result (Unit {0}) TextFault → Type 0
+abbrev pub TextMeasured : Text → MeteredPlayer → MeteredPlayer → Result (Unit {0}) TextFault → Type 0
 TextMeasured text old new (Ok done) =
     (h : HeapState) (es : List Event) → IsAt h es old → (more : List Event)
-    × PlaysLine Nothing text (stage old.player []) more (stage new.player [])
+    × PlaysLine Nothing text (session old.player []) more (session new.player [])
     × IsAt h (es ++ more) new
 TextMeasured text old new (Err fault) = TextStops fault text old.player new.player

@@ -5,7 +5,7 @@ use Rattle.graph_heap.specs.declared.command.Limits.{Limits}
 use Rattle.graph_heap.specs.Graph.{Graph, object_of}
 use Rattle.graph_heap.specs.Shape.{fits}
 use Rattle.heap_model.specs.Event.{Course, Event, Quantum_done, Runs, HaveBudgets, present_of}
-use Rattle.space.specs.Tally.{is_tracing}
+use Rattle.space.specs.Tally.{awaits_sweep_end}
 use Rattle.space.specs.Pace.{Pace, Beat, opening_beat, next_beat, in_cycle}
 use Rattle.fragmentation.specs.Season.{Season, Lives, opening_season, season_after, made_since, AllKeep}
 use Rattle.fragmentation.specs.Suffice.{WithinBlocks, WithinPages, pages_of, Budget, WithinBudget}
@@ -59,7 +59,7 @@ pub record AreOf (s : Season) (b : Beat) (r : Course) : Type 0 where
   pub graph : s.graph ≡ present_of r
   pub same : b.graph ≡ present_of r
   pub on : b.on ≡ in_cycle r.heap.phase
-  pub tracing : s.tracing ≡ is_tracing r.heap.phase
+  pub tracing : s.tracing ≡ awaits_sweep_end r.heap.phase
   pub last : s.last ≤ length (present_of r).objects
   pub base : s.base ≤ length (present_of r).objects
   pub swept : s.swept ≤ length (present_of r).objects
@@ -116,25 +116,25 @@ pub record Shifts (l : Limits) (es : List Event) (m : Meter) : Type 0 where
   pub lives : Lives
   pub before : ℕ → ℕ
   pub lived : Lived l es lives before
-  pub last_held : AreBlocks m.season.live_last (lives (season_at none_live (opening_season l) es).cycles)
-  pub base_held : AreBlocks m.season.live_base (lives (season_at none_live (opening_season l) es).number)
-  pub before_held : AreBlocks m.season.before before
+  pub last_allocated : AreBlocks m.season.live_last (lives (season_at none_live (opening_season l) es).cycles)
+  pub base_allocated : AreBlocks m.season.live_base (lives (season_at none_live (opening_season l) es).number)
+  pub before_allocated : AreBlocks m.season.before before
   pub together : ℕ → ℕ
   pub together_least :
       IsLeastOf (ℕ → ℕ) WithinBlocks (λ blocks. (class : ℕ) → class < CLASSES
       → together class ≤ blocks class) l es lives
-  pub together_held : AreBlocks m.most.together together
+  pub together_allocated : AreBlocks m.most.together together
   pub gathered : ℕ
   pub gathered_least : IsLeastOf ℕ (λ pages live. WithinPages pages) (λ pages. gathered ≤ pages) l es lives
-  pub gathered_held : IsPages m.most.gathered gathered
+  pub gathered_allocated : IsPages m.most.gathered gathered
   pub made : ℕ
   pub made_least : IsLeastOf Budget (λ b live. WithinBudget b) (λ b. made ≤ b.made) l es lives
-  pub made_held : IsPages m.most.made made
+  pub made_allocated : IsPages m.most.made made
   pub live : ℕ
   pub live_least : (live_at : Lives) (pages : ℕ) → AllKeep Anything live_at (opening_season l) es
       → ((n : ℕ) → pages_of (live_at n) ≤ pages) → live ≤ pages
   pub live_most : (n : ℕ) → pages_of (lives n) ≤ live
-  pub live_held : IsPages m.most.live live
+  pub live_allocated : IsPages m.most.live live
 
 -- What a meter holds once these events have led to a course.
 pub record Measures (l : Limits) (es : List Event) (r : Course) (m : Meter) : Type 0 where

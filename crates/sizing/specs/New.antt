@@ -6,25 +6,25 @@ use Rattle.size_classes.specs.declared.config.Config.{Config}
 use Rattle.size_classes.specs.Config.{limits_of}
 use Rattle.trace.specs.declared.fault.TextFault.{TextFault}
 use Rattle.trace.specs.declared.version.Version.{Version}
-use Rattle.trace.specs.GoneOver.{LinesDone}
+use Rattle.trace.specs.LinesProcessed.{LinesDone}
 use Rattle.trace.specs.Streams.{Given, Taken}
 use Rattle.player.specs.declared.style.Style.{Style}
 use Rattle.player.specs.New.{IsNew}
 use Rattle.player.specs.Player.{PlayerState}
-use Rattle.player.specs.Playing.{Stage, stage, PlaysLine, Played}
+use Rattle.player.specs.Playing.{Session, session, PlaysLine, Played}
 use Rattle.space.specs.Fitting.{FitsIn}
 use Rattle.space.specs.Room.{AllHaveRoom}
-use Rattle.sizing.specs.Load.{Load, KeepsLoad, AllLive, pace_of}
+use Rattle.sizing.specs.AllocationProfile.{AllocationProfile, KeepsLoad, AllLive, pace_of}
 
 -- the pace that a load makes fits in a configuration's pages
-abbrev pub LoadFits : Config → Load → Type 0
+abbrev pub LoadFits : Config → AllocationProfile → Type 0
 LoadFits config l = FitsIn config (pace_of l config.collector_ticks config.mutator_ticks) config.pages
 
 -- Lines that are played on a new player of a configuration, in a text that keeps to a load, while no more is live than
 -- it has where a cycle begins, get no reply that is the refusal for lack of space.
-abbrev pub LoadFindsRoom : Config → Load → Type 0
+abbrev pub LoadFindsRoom : Config → AllocationProfile → Type 0
 LoadFindsRoom config l =
-    (style : Style) (old new : Stage) (text : List (List ℕ)) (version : Version) (es : List Event)
+    (style : Style) (old new : Session) (text : List (List ℕ)) (version : Version) (es : List Event)
     → IsNew config old.player → LinesDone (PlaysLine style) old text version es new
     → KeepsLoad l (config.collector_ticks * config.rate) text → AllLive l.live (opening (limits_of config)) es
     → AllHaveRoom es
@@ -35,7 +35,7 @@ pub record PlayedNew (config : Config) (style : Style) (given : Given) (taken : 
     (result : Result (Unit {0}) TextFault) : Type 0 where
   pub old : PlayerState
   pub is_new : IsNew config old
-  pub played : Played style given (stage old taken.before) (stage new taken.after) result
-  pub room : (l : Load) → KeepsLoad l (config.collector_ticks * config.rate) played.over.lines
+  pub played : Played style given (session old taken.before) (session new taken.after) result
+  pub room : (l : AllocationProfile) → KeepsLoad l (config.collector_ticks * config.rate) played.over.lines
       → AllLive l.live (opening (limits_of config)) played.over.events
       → LoadFits config l → AllHaveRoom played.over.events

@@ -6,7 +6,7 @@ use Rattle.heap_model.specs.State.{HeapState}
 use Rattle.heap_model.specs.Settings.{settings_of, settings_by}
 use Rattle.heap_model.specs.Opening.{IsOpening}
 use Rattle.heap_model.specs.Event.{Course, Event, Runs}
-use Rattle.heap_model.specs.Led.{opened}
+use Rattle.heap_model.specs.ReachedFrom.{opened}
 use Rattle.space.specs.declared.pace.Pace.{Pace as PaceTable}
 use Rattle.space.specs.Pace.{opening_beat, AllKeepPace}
 use Rattle.space.specs.Fitting.{pace_in, FitsIn}

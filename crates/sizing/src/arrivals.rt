@@ -6,6 +6,6 @@ pub mod load;
 pub mod plays;
 
 pub use fitting::{least_pages_for, load_fits};
-pub use keeping::{Breach, Kept, keeps_load};
-pub use load::Load;
-pub use plays::{Run, play_new};
+pub use keeping::{Conformance, Violation, keeps_load};
+pub use load::AllocationProfile;
+pub use plays::{PlayedTrace, play_new};

@@ -7,7 +7,7 @@ ghost use Rattle.sizing.specs.Counts.{MOST, AreBlocks, IsTable, HasOver};
 use graph_heap::Shape;
 use size_classes::{CLASSES, Class, Need, parts_of};
 
-/// How many blocks of each class. A count stops at the greatest that can be held.
+/// How many blocks of each class. A count stops at the greatest that can be allocated.
 pub type Blocks = [u128; CLASSES];
 
 /// No block.
@@ -23,7 +23,7 @@ pub fn needed_by(shape: &Shape) -> Blocks
 {
     let mut blocks = none();
     if let Some(parts) = parts_of(shape) {
-        let need = Need::of(&parts);
+        let need = Need::from_parts(&parts);
         for number in 0..CLASSES {
             blocks[number] = u128::from(need.blocks(Class::new(number as u8)));
         }

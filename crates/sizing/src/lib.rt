@@ -15,8 +15,8 @@ mod phases;
 mod run;
 mod season;
 
-pub use load_file::{DocumentFault, Field, LoadFault, Place, fields_are_in_order, read_load};
+pub use load_file::{DocumentFault, Field, FieldPath, LoadFault, fields_are_in_order, read_load};
 pub use measured::Measured;
 pub use measuring::measure;
 pub use needed::Needed;
-pub use phases::{in_cycle, is_tracing};
+pub use phases::{awaits_sweep_end, in_cycle};

@@ -5,6 +5,6 @@ mod read;
 mod row;
 mod unknown;
 
-pub use fault::{DocumentFault, LoadFault, Place};
+pub use fault::{DocumentFault, FieldPath, LoadFault};
 pub use field::{Field, fields_are_in_order};
 pub use read::read_load;

@@ -1,11 +1,11 @@
 //! Measuring a trace.
 ghost use Rattle.std.specs.Prelude.{◌≡◌, ◌+◌};
-ghost use Rattle.trace.specs.GoneOver.{reads_failed};
+ghost use Rattle.trace.specs.LinesProcessed.{reads_failed};
 ghost use Rattle.trace.specs.Streams.{Stays, given_by};
 ghost use Rattle.sizing.specs.Measuring.{TraceMeasured};
 
 use crate::measured::Measured;
-use crate::run::Run;
+use crate::run::MeteredPlayer;
 use size_classes::Config;
 use std::alloc::Global;
 use trace::{Source, TextFault, each_line};
@@ -24,7 +24,7 @@ pub fn measure<S: Source>(
     ensures reads { S.failures source.new ≡ S.failures source.old + reads_failed result }
     ensures input { reads_failed result ≡ 0 → Stays (S.input source.old) (S.input source.new) }
 {
-    let mut run = Run::new(alloc, config)?;
+    let mut run = MeteredPlayer::new(alloc, config)?;
     each_line(source, &mut run)?;
     Ok(run.meter.measured())
 }

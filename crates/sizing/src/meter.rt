@@ -6,7 +6,7 @@ ghost use Rattle.size_classes.specs.declared.config.TheConstants.{LEAST_BUDGET};
 ghost use Rattle.graph_heap.specs.History.{IsEntryOf, after_entry};
 ghost use Rattle.graph_heap.specs.Reaching.{AreReached};
 ghost use Rattle.heap_model.specs.Event.{Course, Event, Command_done, Cycle_begun, Enters, Begins, IsCourse};
-ghost use Rattle.heap_model.specs.Led.{opened};
+ghost use Rattle.heap_model.specs.ReachedFrom.{opened};
 ghost use Rattle.heap_model.specs.Opening.{IsOpening};
 ghost use Rattle.heap_model.specs.State.{HeapState};
 ghost use Rattle.space.specs.Pace as pace;
@@ -111,7 +111,7 @@ impl Meter {
     }
 
     /// Does an entry on the graph heap. Answers whether an object was allocated.
-    fn step(&mut self, entry: &Entry) -> Result<bool, NoMemory>
+    fn record(&mut self, entry: &Entry) -> Result<bool, NoMemory>
         ensures stepped { IsEntryOf self.old.graph entry.now
             → OnOk result (self.new ≡ record self.old { graph = after_entry self.old.graph entry.now }) }
         ensures grows { IfOk result (λ more. IsTrue more ↔
@@ -130,7 +130,7 @@ impl Meter {
     {
         let asked = self.asked_by(entry);
         self.ask(&asked);
-        if self.step(entry)? {
+        if self.record(entry)? {
             self.allocate(&asked);
         }
         Ok(())

@@ -13,8 +13,8 @@ pub fn in_cycle(phase: Phase) -> bool
 }
 
 /// Whether a cycle is running, and its sweep hasn't ended.
-pub fn is_tracing(phase: Phase) -> bool
-    ensures { result ≡ tally.is_tracing phase }
+pub fn awaits_sweep_end(phase: Phase) -> bool
+    ensures { result ≡ tally.awaits_sweep_end phase }
 {
     matches!(
         phase,

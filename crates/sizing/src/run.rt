@@ -5,7 +5,7 @@ ghost use Rattle.player.specs.New.{IsNew};
 ghost use Rattle.player.specs.Player.{DoesLine, HasBudget};
 ghost use Rattle.heap_model.specs.State.{HeapState};
 ghost use Rattle.trace.specs.declared.line.Line.TheVariants as lines;
-ghost use Rattle.trace.specs.GoneOver.{reads_failed};
+ghost use Rattle.trace.specs.LinesProcessed.{reads_failed};
 ghost use Rattle.sizing.specs.Measuring.{IsAt, LineMeasured, TicksMeasured, EventMeasured, TextMeasured};
 
 use crate::meter::Meter;
@@ -18,18 +18,18 @@ use trace::{Line, LineHandler, TextFault, TextLine, read_numbered};
 
 /// A player, and the meter of what it does.
 #[derive(Drop)]
-pub struct Run {
+pub struct MeteredPlayer {
     pub player: Player,
     pub meter: Meter,
 }
 
-impl Run {
+impl MeteredPlayer {
     /// A new player, with nothing measured yet.
-    pub fn new(alloc: Global, config: &Config) -> Result<Run, NoMemory>
+    pub fn new(alloc: Global, config: &Config) -> Result<MeteredPlayer, NoMemory>
         ensures player { IfOk result (λ run. IsNew config.now run.player) }
         ensures measured { IfOk result (λ run. IsAt run.player.course.heap [] run) }
     {
-        Ok(Run {
+        Ok(MeteredPlayer {
             player: Player::new(alloc, config)?,
             meter: Meter::new(alloc, &config.limits())?,
         })
@@ -87,7 +87,7 @@ impl Run {
 }
 
 /// Does a line of this number, and measures it.
-fn measure_event(line: Line, number: u64, run: &mut Run) -> Result<(), TextFault>
+fn measure_event(line: Line, number: u64, run: &mut MeteredPlayer) -> Result<(), TextFault>
     requires { HasBudget line }
     ensures measured { EventMeasured line number run.old run.new result }
     ensures reads { reads_failed result ≡ 0 }
@@ -106,7 +106,7 @@ fn measure_event(line: Line, number: u64, run: &mut Run) -> Result<(), TextFault
     Ok(())
 }
 
-impl LineHandler for Run {
+impl LineHandler for MeteredPlayer {
     ghost is_ready = { λ number run. Unit {0} };
 
     ghost handles = { TextMeasured };

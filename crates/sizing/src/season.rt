@@ -5,7 +5,7 @@ ghost use Rattle.sizing.specs.Counts.{AreNone};
 ghost use Rattle.sizing.specs.Season.{AreAllocated, IsBegun, IsSwept};
 
 use crate::blocks::{Blocks, add, none};
-use crate::phases::is_tracing;
+use crate::phases::awaits_sweep_end;
 use heap_model::phase::Phase;
 
 /// The blocks of each class that objects need: those live where a cycle began, and those allocated since.
@@ -78,11 +78,11 @@ impl Season {
 
     /// Quanta are done, which end in this phase: where it isn't tracing, the sweep of the last cycle has ended.
     pub fn rest(&mut self, phase: Phase)
-        ensures tracing { tally.is_tracing phase ≡ true → self.new ≡ self.old }
+        ensures tracing { tally.awaits_sweep_end phase ≡ true → self.new ≡ self.old }
         ensures rested { self.old.tracing ≡ false → self.new ≡ self.old }
-        ensures swept { tally.is_tracing phase ≡ false → self.old.tracing ≡ true → IsSwept self.old self.new }
+        ensures swept { tally.awaits_sweep_end phase ≡ false → self.old.tracing ≡ true → IsSwept self.old self.new }
     {
-        if self.tracing && !is_tracing(phase) {
+        if self.tracing && !awaits_sweep_end(phase) {
             self.swept();
         }
     }

@@ -1,4 +1,4 @@
--- The held blocks of a class are no more than the parts of the class that what is kept has.
+-- The allocated blocks of a class are no more than the parts of the class that what is kept has.
 use Rattle.std.proofs.Common.{◌≡◌, ◌≢◌, ℕ, zero, suc, ◌+◌, ◌-◌, ◌*◌, ◌/◌, ◌<◌, ◌≤◌, ◌⊎◌, inl, inr, Bool, true, false, not, ◌&&◌, ◌||◌, ◌==◌, if◌then◌else◌, List, [], ◌∷◌, ◌++◌, Option, Some, None, length, get_or, drop, map, ap, ◌∙◌, sym, subst, arith, refl, length-append}
 use Rattle.std.specs.Prelude.{nat_eq, count_by, sum_by, slice_get}
 use Rattle.std.specs.List.{IsDistinct, AllByRecursion, list_any}
@@ -17,11 +17,11 @@ use Rattle.size_classes.specs.Sizes.{size_of, class_for}
 use Rattle.size_classes.specs.Parts.{cells_of, parts_in, part_words}
 use Rattle.size_classes.specs.Need.{blocks_needed, needed, is_class}
 use Rattle.heap_model.specs.Pages.{Page, ArePages, page_at}
-use Rattle.heap_model.specs.Store.{Store, is_held, node_of}
+use Rattle.heap_model.specs.Store.{Store, is_allocated, record_of}
 use Rattle.heap_model.specs.Core.{Name}
 use Rattle.heap_model.specs.Collector.{contains}
-use Rattle.heap_model.specs.State.{is_leaving}
-use Rattle.heap_model.proofs.Held.{held_at, size_some, block_within}
+use Rattle.heap_model.specs.State.{is_evacuating}
+use Rattle.heap_model.proofs.Allocated.{allocated_at, size_some, block_within}
 use Rattle.space.specs.Demand.{blocks_of}
 use Rattle.space.specs.Counts.{main_on, main_blocks}
 use Rattle.space.specs.Placement.{class_in, IsTidy, KeepsOnly, KeepsShapes}
@@ -154,7 +154,7 @@ names_member_from base (o ∷ os) class zero i p within same l e =
     (subst (λ z. is_member name_eq (object_names z o class) (name i p) ≡ true) (sym f) (parts_member i (cells_of o.shape) (parts_in (cells_of o.shape)) class p l e))
 names_member_from base (o ∷ os) class (suc j) i p within same l e = member_right (object_names (base + 1) o class) (object_names_from (base + 1) os class) (name i p) (names_member_from (base + 1) os class j i p (omega arith) (omega arith) l e)
 
--- the held blocks of a class, on pages that stay, in rising order
+-- the allocated blocks of a class, on pages that stay, in rising order
 flags_at : ℕ → ℕ → List Bool → List ℕ
 flags_at size a [] = []
 flags_at size a (true ∷ fs) = a ∷ flags_at size (a + size) fs
@@ -162,7 +162,7 @@ flags_at size a (false ∷ fs) = flags_at size (a + size) fs
 
 on_page : ℕ → ℕ → Option Page → List ℕ
 on_page class a None = []
-on_page class a (Some p) = if (p.class == class) && not p.leaving then flags_at (size_of p.class) a p.held else []
+on_page class a (Some p) = if (p.class == class) && not p.evacuating then flags_at (size_of p.class) a p.allocated else []
 
 on_pages : ℕ → ℕ → List (Option Page) → List ℕ
 on_pages class k [] = []
@@ -177,10 +177,10 @@ flags_length size a (false ∷ fs) = let r = flags_length size (a + size) fs in 
 page_length : (class a : ℕ) (o : Option Page) → length (on_page class a o) ≡ main_on class o
 unfolding on_page
 page_length class a None = refl
-page_length class a (Some p) = by_stay ((p.class == class) && not p.leaving)
+page_length class a (Some p) = by_stay ((p.class == class) && not p.evacuating)
   where
-    by_stay : (b : Bool) → length (if b then flags_at (size_of p.class) a p.held else []) ≡ (if b then count_by (λ b. b) p.held else 0)
-    by_stay true = flags_length (size_of p.class) a p.held
+    by_stay : (b : Bool) → length (if b then flags_at (size_of p.class) a p.allocated else []) ≡ (if b then count_by (λ b. b) p.allocated else 0)
+    by_stay true = flags_length (size_of p.class) a p.allocated
     by_stay false = refl
 
 pages_length : (class k : ℕ) (pages : List (Option Page)) → length (on_pages class k pages) ≡ main_blocks pages class
@@ -216,25 +216,25 @@ rises_append P a m n [] ys r s = rises_from P m a n ys r s
 rises_append P a m n (x ∷ xs) ys r s = (r.0, r.1, rises_append P (x + 1) m n xs ys r.2 s)
 
 record IsThere (s : Store) (class b : ℕ) : Type 0 where
-  held : is_held s b ≡ true
+  allocated : is_allocated s b ≡ true
   of : class_in (page_at s.pages (b / 2048)) ≡ Some class
-  stays : is_leaving (page_at s.pages (b / 2048)) ≡ false
+  stays : is_evacuating (page_at s.pages (b / 2048)) ≡ false
 
 module _ (s : Store) (w : ArePages s.pages) (class : ℕ) where
-  module _ (k : ℕ) (p : Page) (at : page_at s.pages k ≡ Some p) (same : p.class ≡ class) (stays : p.leaving ≡ false) where
+  module _ (k : ℕ) (p : Page) (at : page_at s.pages k ≡ Some p) (same : p.class ≡ class) (stays : p.evacuating ≡ false) where
     place : ℕ → ℕ
     place i = 2048 * k + i * size_of p.class
 
-    place_low : (i : ℕ) → i < length p.held → place i < 2048 * (k + 1)
+    place_low : (i : ℕ) → i < length p.allocated → place i < 2048 * (k + 1)
     unfolding place
     place_low i l = let f = place_page s k i p w at l in omega (arith, f)
 
-    there : (i : ℕ) → slice_get p.held i ≡ Some true → IsThere s class (place i)
+    there : (i : ℕ) → slice_get p.allocated i ≡ Some true → IsThere s class (place i)
     unfolding place
-    there i e = let f = place_page s k i p w at (slice_get_within p.held i true e) in record {
-      held = held_at s k i p w at e;
+    there i e = let f = place_page s k i p w at (slice_get_within p.allocated i true e) in record {
+      allocated = allocated_at s k i p w at e;
       of = ap (λ z. class_in (page_at s.pages z)) f ∙ ap class_in at ∙ ap Some same;
-      stays = ap (λ z. is_leaving (page_at s.pages z)) f ∙ ap is_leaving at ∙ stays;
+      stays = ap (λ z. is_evacuating (page_at s.pages z)) f ∙ ap is_evacuating at ∙ stays;
     }
 
     place_next : (i : ℕ) → (place i + size_of p.class ≡ place (i + 1)) × (place i + 1 ≤ place (i + 1))
@@ -251,33 +251,33 @@ module _ (s : Store) (w : ArePages s.pages) (class : ℕ) where
     unfolding place
     place_end i l = omega (arith, l)
 
-    flags_rise : (fs : List Bool) (i : ℕ) → ((j : ℕ) (b : Bool) → slice_get fs j ≡ Some b → slice_get p.held (i + j) ≡ Some b) → place i ≤ 2048 * (k + 1) → Rises (IsThere s class) (place i) (2048 * (k + 1)) (flags_at (size_of p.class) (place i) fs)
+    flags_rise : (fs : List Bool) (i : ℕ) → ((j : ℕ) (b : Bool) → slice_get fs j ≡ Some b → slice_get p.allocated (i + j) ≡ Some b) → place i ≤ 2048 * (k + 1) → Rises (IsThere s class) (place i) (2048 * (k + 1)) (flags_at (size_of p.class) (place i) fs)
     unfolding Rises flags_at
     flags_rise [] i sub low = low
-    flags_rise (f ∷ fs) i sub low = by_flag f here (flags_rise fs (i + 1) (λ j b e. ap (slice_get p.held) (let z : i + 1 + j ≡ i + suc j = omega arith in z) ∙ sub (suc j) b e) end)
+    flags_rise (f ∷ fs) i sub low = by_flag f here (flags_rise fs (i + 1) (λ j b e. ap (slice_get p.allocated) (let z : i + 1 + j ≡ i + suc j = omega arith in z) ∙ sub (suc j) b e) end)
       where
-        here : slice_get p.held i ≡ Some f
-        here = ap (slice_get p.held) (let z : i ≡ i + 0 = omega arith in z) ∙ sub 0 f refl
+        here : slice_get p.allocated i ≡ Some f
+        here = ap (slice_get p.allocated) (let z : i ≡ i + 0 = omega arith in z) ∙ sub 0 f refl
 
         end : place (i + 1) ≤ 2048 * (k + 1)
-        end = let b = block_within p i (w.each k p at) (slice_get_within p.held i f here) in place_end i b
+        end = let b = block_within p i (w.each k p at) (slice_get_within p.allocated i f here) in place_end i b
 
-        by_flag : (f : Bool) → slice_get p.held i ≡ Some f → Rises (IsThere s class) (place (i + 1)) (2048 * (k + 1)) (flags_at (size_of p.class) (place (i + 1)) fs) → Rises (IsThere s class) (place i) (2048 * (k + 1)) (flags_at (size_of p.class) (place i) (f ∷ fs))
+        by_flag : (f : Bool) → slice_get p.allocated i ≡ Some f → Rises (IsThere s class) (place (i + 1)) (2048 * (k + 1)) (flags_at (size_of p.class) (place (i + 1)) fs) → Rises (IsThere s class) (place i) (2048 * (k + 1)) (flags_at (size_of p.class) (place i) (f ∷ fs))
         by_flag true e r = (omega arith, there i e, rises_from (IsThere s class) (place (i + 1)) (place i + 1) (2048 * (k + 1)) _ (place_next i).1 (subst (λ z. Rises (IsThere s class) (place (i + 1)) (2048 * (k + 1)) (flags_at (size_of p.class) z fs)) (sym (place_next i).0) r))
         by_flag false e r = rises_from (IsThere s class) (place (i + 1)) (place i) (2048 * (k + 1)) _ (let z = (place_next i).1 in omega (arith, z)) (subst (λ z. Rises (IsThere s class) (place (i + 1)) (2048 * (k + 1)) (flags_at (size_of p.class) z fs)) (sym (place_next i).0) r)
 
   page_rises : (k : ℕ) (o : Option Page) → page_at s.pages k ≡ o → Rises (IsThere s class) (2048 * k) (2048 * (k + 1)) (on_page class (2048 * k) o)
   unfolding Rises on_page place
   page_rises k None at = omega arith
-  page_rises k (Some p) at = by_stay ((p.class == class) && not p.leaving) refl
+  page_rises k (Some p) at = by_stay ((p.class == class) && not p.evacuating) refl
     where
-      by_stay : (b : Bool) → ((p.class == class) && not p.leaving) ≡ b → Rises (IsThere s class) (2048 * k) (2048 * (k + 1)) (if b then flags_at (size_of p.class) (2048 * k) p.held else [])
+      by_stay : (b : Bool) → ((p.class == class) && not p.evacuating) ≡ b → Rises (IsThere s class) (2048 * k) (2048 * (k + 1)) (if b then flags_at (size_of p.class) (2048 * k) p.allocated else [])
       by_stay false e = omega arith
       by_stay true e =
-          let q = both_true (p.class == class) (not p.leaving) e in
+          let q = both_true (p.class == class) (not p.evacuating) e in
           let none : 2048 * k + 0 * size_of p.class ≡ 2048 * k = omega arith in
-          subst (λ z. Rises (IsThere s class) z (2048 * (k + 1)) (flags_at (size_of p.class) z p.held)) none
-          (flags_rise k p at (eqb-true p.class class q.0) (off p.leaving q.1) p.held 0 (λ j b e. ap (slice_get p.held) (let z : 0 + j ≡ j = omega arith in z) ∙ e) (omega (arith, none)))
+          subst (λ z. Rises (IsThere s class) z (2048 * (k + 1)) (flags_at (size_of p.class) z p.allocated)) none
+          (flags_rise k p at (eqb-true p.class class q.0) (off p.evacuating q.1) p.allocated 0 (λ j b e. ap (slice_get p.allocated) (let z : 0 + j ≡ j = omega arith in z) ∙ e) (omega (arith, none)))
         where
           off : (b : Bool) → not b ≡ true → b ≡ false
           off true e = absurd (cc)
@@ -296,17 +296,17 @@ module _ (s : Store) (w : ArePages s.pages) (class : ℕ) where
   -- their names are distinct
   module _ (objects : List Object) (tidy : IsTidy s objects) where
     name_of_block : ℕ → Name
-    name_of_block b = name (node_of s b).identity (node_of s b).part
+    name_of_block b = name (record_of s b).identity (record_of s b).part
 
-    main : (b : ℕ) → IsThere s class b → (node_of s b).forward ≡ b
-    main b t = elim (tidy.old b t.held) [ inl e ↦ e | inr e ↦ absurd (let st = t.stays in let z : true ≡ false = sym e ∙ st in cc) ]
+    main : (b : ℕ) → IsThere s class b → (record_of s b).forward ≡ b
+    main b t = elim (tidy.old b t.allocated) [ inl e ↦ e | inr e ↦ absurd (let st = t.stays in let z : true ≡ false = sym e ∙ st in cc) ]
 
     apart : (a b : ℕ) → IsThere s class a → IsThere s class b → a ≢ b → name_eq (name_of_block a) (name_of_block b) ≡ false
     unfolding name_of_block
-    apart a b t u ne = by_same (name_eq (name (node_of s a).identity (node_of s a).part) (name (node_of s b).identity (node_of s b).part)) refl
+    apart a b t u ne = by_same (name_eq (name (record_of s a).identity (record_of s a).part) (name (record_of s b).identity (record_of s b).part)) refl
       where
-        by_same : (z : Bool) → name_eq (name (node_of s a).identity (node_of s a).part) (name (node_of s b).identity (node_of s b).part) ≡ z → z ≡ false
-        by_same true e = let q = name_same _ _ e in absurd (ne (tidy.one a b t.held u.held (main a t) (main b u) q.0 q.1))
+        by_same : (z : Bool) → name_eq (name (record_of s a).identity (record_of s a).part) (name (record_of s b).identity (record_of s b).part) ≡ z → z ≡ false
+        by_same true e = let q = name_same _ _ e in absurd (ne (tidy.one a b t.allocated u.allocated (main a t) (main b u) q.0 q.1))
         by_same false e = refl
 
     all_apart : (a x m : ℕ) (xs : List ℕ) → IsThere s class x → x < a → Rises (IsThere s class) a m xs → AllByRecursion (λ y. name_eq (name_of_block x) y ≡ false) (map name_of_block xs)
@@ -326,29 +326,29 @@ module _ (s : Store) (w : ArePages s.pages) (class : ℕ) where
       block_member : (b : ℕ) → IsThere s class b → is_member name_eq allowed (name_of_block b) ≡ true
       unfolding allowed name_of_block
       block_member b t = elim low [
-        | inl l ↦ member_left (ids_names first class ids) _ (name i p) (ids_member first class ids i p (only b t.held (main b t) l)
-            (subst (λ z. p < parts_in (cells_of z)) (tidy.shape b t.held ∙ kept.shape i l) (tidy.part b t.held))
-            (ap (λ z. class_for (part_words (cells_of z) p)) (sym (tidy.shape b t.held ∙ kept.shape i l)) ∙ is_of))
+        | inl l ↦ member_left (ids_names first class ids) _ (name i p) (ids_member first class ids i p (only b t.allocated (main b t) l)
+            (subst (λ z. p < parts_in (cells_of z)) (tidy.shape b t.allocated ∙ kept.shape i l) (tidy.part b t.allocated))
+            (ap (λ z. class_for (part_words (cells_of z) p)) (sym (tidy.shape b t.allocated ∙ kept.shape i l)) ∙ is_of))
         | inr l ↦ member_right (ids_names first class ids) _ (name i p) (names_member_from (length first) (drop (length first) objects) class (i - length first - 1) i p
-            (let d = length-drop (length first) objects in let g = tidy.given b t.held in omega (arith, d, g, l)) (omega arith)
-            (subst (λ z. p < parts_in (cells_of z)) (shape_there l) (tidy.part b t.held))
+            (let d = length-drop (length first) objects in let g = tidy.given b t.allocated in omega (arith, d, g, l)) (omega arith)
+            (subst (λ z. p < parts_in (cells_of z)) (shape_there l) (tidy.part b t.allocated))
             (ap (λ z. class_for (part_words (cells_of z) p)) (sym (shape_there l)) ∙ is_of))
       ]
         where
           i : ℕ
-          i = (node_of s b).identity
+          i = (record_of s b).identity
 
           p : ℕ
-          p = (node_of s b).part
+          p = (record_of s b).part
 
           low : (i ≤ length first) ⊎ (length first < i)
           low = grind arith
 
-          is_of : class_for (part_words (cells_of (node_of s b).shape) p) ≡ Some class
-          is_of = tidy.class b t.held ∙ t.of
+          is_of : class_for (part_words (cells_of (record_of s b).shape) p) ≡ Some class
+          is_of = tidy.class b t.allocated ∙ t.of
 
-          shape_there : length first < i → (node_of s b).shape ≡ (get_or (drop (length first) objects) (i - length first - 1) no_object).shape
-          shape_there l = tidy.shape b t.held ∙ ap (λ (o : Object). o.shape) (there_is objects (length first) i l ∙ sym (get_or-drop (length first) objects (i - length first - 1) no_object))
+          shape_there : length first < i → (record_of s b).shape ≡ (get_or (drop (length first) objects) (i - length first - 1) no_object).shape
+          shape_there l = tidy.shape b t.allocated ∙ ap (λ (o : Object). o.shape) (there_is objects (length first) i l ∙ sym (get_or-drop (length first) objects (i - length first - 1) no_object))
 
       all_members : (a m : ℕ) (xs : List ℕ) → Rises (IsThere s class) a m xs → (q : Name) → is_member name_eq (map name_of_block xs) q ≡ true → is_member name_eq allowed q ≡ true
       unfolding Rises

@@ -11,25 +11,25 @@ use Rattle.graph_heap.specs.Graph.{Object, Graph, object_of, put_object, new_obj
 use Rattle.graph_heap.proofs.Edits.{put_object-past}
 use Rattle.size_classes.specs.Sizes.{class_for}
 use Rattle.size_classes.specs.Parts.{cells_of, parts_in, part_words}
-use Rattle.heap_model.specs.Block.{Node, new_node}
+use Rattle.heap_model.specs.Block.{BlockRecord, new_record}
 use Rattle.heap_model.specs.Pages.{Page, ArePages, page_at, first_of, is_usable, is_free, page_of_class, TakesBlock}
-use Rattle.heap_model.specs.Store.{Store, is_held, node_of}
+use Rattle.heap_model.specs.Store.{Store, is_allocated, record_of}
 use Rattle.heap_model.specs.Collector.{contains}
-use Rattle.heap_model.specs.State.{HeapState, is_leaving}
+use Rattle.heap_model.specs.State.{HeapState, is_evacuating}
 use Rattle.heap_model.specs.Making.{made, Making, Nothing_made, Part_made, MakesObject}
 use Rattle.heap_model.specs.Taking.{Takes, Nothing_taken, Part_taken}
 use Rattle.heap_model.specs.Placed.{KeepsPages}
 use Rattle.heap_model.specs.Change.{Records, Records_nothing, Records_main, Clears, Clears_none, Clears_next, DoesChange, Does_nothing, Does_root, Does_ref, Does_word, Does_new, Does_join, Does_leave}
-use Rattle.heap_model.proofs.Held.{set_page_here, held_block}
+use Rattle.heap_model.proofs.Allocated.{set_page_here, allocated_block}
 use Rattle.heap_model.proofs.Moved.{same_number, usable_fits}
 use Rattle.heap_model.proofs.Changes.{put_each, object-append}
 use Rattle.heap_model.proofs.Placed.{page_for_within, takes_keeps}
 use Rattle.heap_model.proofs.Taken.{takes_keep}
 use Rattle.heap_model.proofs.Freed.{objects_stay}
-use Rattle.heap_model.proofs.Recorded.{records_stay}
+use Rattle.heap_model.proofs.Recording.{records_stay}
 use Rattle.space.specs.Demand.{asked_by}
-use Rattle.space.specs.Counts.{main_blocks, leaving_pages, IsBounded}
-use Rattle.space.specs.Placement.{class_in, IsTidy, KeepsOnly, HasBoundedPages, KeepsShapes, MayLeave}
+use Rattle.space.specs.Counts.{main_blocks, evacuating_pages, IsBounded}
+use Rattle.space.specs.Placement.{class_in, IsTidy, KeepsOnly, HasBoundedPages, KeepsShapes, MayEvacuate}
 use Rattle.space.proofs.Counts.{takes_bounded, zero_or}
 use Rattle.heap_model.specs.Settings.{HeapSettings}
 use Rattle.heap_model.proofs.Settings.{change_settings}
@@ -73,47 +73,47 @@ tidy_objects s old new k w = record {
   class = w.class;
   part = w.part;
   given = λ b l. (let x = w.given b l in let y = k.more in omega arith);
-  shape = λ b l. w.shape b l ∙ sym (k.shape (node_of s b).identity (w.given b l));
+  shape = λ b l. w.shape b l ∙ sym (k.shape (record_of s b).identity (w.given b l));
   one = w.one;
   old = w.old;
 }
 
 -- a block of a new object
-pub record IsMade (n : Node) (at : ℕ → ℕ) (p id : ℕ) (s : Shape) : Type 0 where
+pub record IsMade (n : BlockRecord) (at : ℕ → ℕ) (p id : ℕ) (s : Shape) : Type 0 where
   pub identity : n.identity ≡ id
   pub part : n.part ≡ p
   pub shape : n.shape ≡ s
   pub forward : n.forward ≡ at p
 
-made_head : (m n : Node) (at : ℕ → ℕ) (p id : ℕ) (shape : Shape) → SameHead m n → IsMade n at p id shape → IsMade m at p id shape
+made_head : (m n : BlockRecord) (at : ℕ → ℕ) (p id : ℕ) (shape : Shape) → SameHead m n → IsMade n at p id shape → IsMade m at p id shape
 made_head m n at p id shape h w = record { identity = h.identity ∙ w.identity; part = h.part ∙ w.part; shape = h.shape ∙ w.shape; forward = h.forward ∙ w.forward }
 
-made_is : (n : Node) (shape : Shape) (colour : Bool) (at : ℕ → ℕ) (p id : ℕ) → n ≡ new_node (at p) (record { shape = shape; part = p; colour = colour }) id → IsMade n at p id shape
-made_is n shape colour at p id e = record { identity = ap (λ (z : Node). z.identity) e; part = ap (λ (z : Node). z.part) e; shape = ap (λ (z : Node). z.shape) e; forward = ap (λ (z : Node). z.forward) e }
+made_is : (n : BlockRecord) (shape : Shape) (colour : Bool) (at : ℕ → ℕ) (p id : ℕ) → n ≡ new_record (at p) (record { shape = shape; part = p; colour = colour }) id → IsMade n at p id shape
+made_is n shape colour at p id e = record { identity = ap (λ (z : BlockRecord). z.identity) e; part = ap (λ (z : BlockRecord). z.part) e; shape = ap (λ (z : BlockRecord). z.shape) e; forward = ap (λ (z : BlockRecord). z.forward) e }
 
 abbrev pub WasOrMade : Store → Store → (ℕ → ℕ) → ℕ → ℕ → Shape → ℕ → Type 0
-WasOrMade old new at k id shape b = ((is_held old b ≡ true) × SameHead (node_of new b) (node_of old b)) ⊎ ((p : ℕ) × (p < k) × (b ≡ at p) × IsMade (node_of new b) at p id shape)
+WasOrMade old new at k id shape b = ((is_allocated old b ≡ true) × SameHead (record_of new b) (record_of old b)) ⊎ ((p : ℕ) × (p < k) × (b ≡ at p) × IsMade (record_of new b) at p id shape)
 
-was_more : (old s t : Store) (at : ℕ → ℕ) (k n id : ℕ) (shape : Shape) (b : ℕ) → k ≤ n → SameHead (node_of t b) (node_of s b) → WasOrMade old s at k id shape b → WasOrMade old t at n id shape b
-was_more old s t at k n id shape b l h (inl w) = inl (w.0, head_then (node_of t b) (node_of s b) (node_of old b) h w.1)
-was_more old s t at k n id shape b l h (inr w) = inr (w.0, (let x = w.1 in omega arith), w.2, made_head (node_of t b) (node_of s b) at w.0 id shape h w.3)
+was_more : (old s t : Store) (at : ℕ → ℕ) (k n id : ℕ) (shape : Shape) (b : ℕ) → k ≤ n → SameHead (record_of t b) (record_of s b) → WasOrMade old s at k id shape b → WasOrMade old t at n id shape b
+was_more old s t at k n id shape b l h (inl w) = inl (w.0, head_then (record_of t b) (record_of s b) (record_of old b) h w.1)
+was_more old s t at k n id shape b l h (inr w) = inr (w.0, (let x = w.1 in omega arith), w.2, made_head (record_of t b) (record_of s b) at w.0 id shape h w.3)
 
-pub made_blocks : (old : Store) (shape : Shape) (colour : Bool) (id : ℕ) (at : ℕ → ℕ) (k : ℕ) (new : Store) → Making old (made shape colour id) at k new → (b : ℕ) → is_held new b ≡ true → WasOrMade old new at k id shape b
-made_blocks old shape colour id at k new Nothing_made b held = inl (held, same_head (node_of old b))
-made_blocks old shape colour id at k new (Part_made part s t u m a first linked) b held = by_part (zero_or part) (λ l. by_here (b == at part) refl (λ x. made_blocks old shape colour id at part s m b x) l)
+pub made_blocks : (old : Store) (shape : Shape) (colour : Bool) (id : ℕ) (at : ℕ → ℕ) (k : ℕ) (new : Store) → Making old (made shape colour id) at k new → (b : ℕ) → is_allocated new b ≡ true → WasOrMade old new at k id shape b
+made_blocks old shape colour id at k new Nothing_made b allocated = inl (allocated, same_head (record_of old b))
+made_blocks old shape colour id at k new (Part_made part s t u m a first linked) b allocated = by_part (zero_or part) (λ l. by_here (b == at part) refl (λ x. made_blocks old shape colour id at part s m b x) l)
   where
-    by_here : (w : Bool) → (b == at part) ≡ w → (is_held s b ≡ true → WasOrMade old s at part id shape b) → is_held t b ≡ true → WasOrMade old t at (part + 1) id shape b
-    by_here true e rec l = let here = same_number b (at part) e in inr (part, omega arith, here, made_is (node_of t b) shape colour at part id (ap (node_of t) here ∙ a.here))
+    by_here : (w : Bool) → (b == at part) ≡ w → (is_allocated s b ≡ true → WasOrMade old s at part id shape b) → is_allocated t b ≡ true → WasOrMade old t at (part + 1) id shape b
+    by_here true e rec l = let here = same_number b (at part) e in inr (part, omega arith, here, made_is (record_of t b) shape colour at part id (ap (record_of t) here ∙ a.here))
     by_here false e rec l =
         let ne = not_same b (at part) e in
-        let before : is_held s b ≡ true = sym (a.same b ne) ∙ l in
-        was_more old s t at part (part + 1) id shape b (omega arith) (head_is (node_of t b) (node_of s b) (a.others b before)) (rec before)
+        let before : is_allocated s b ≡ true = sym (a.same b ne) ∙ l in
+        was_more old s t at part (part + 1) id shape b (omega arith) (head_is (record_of t b) (record_of s b) (a.others b before)) (rec before)
 
-    by_part : (part ≡ 0) ⊎ (0 < part) → (is_held t b ≡ true → WasOrMade old t at (part + 1) id shape b) → WasOrMade old u at (part + 1) id shape b
-    by_part (inl none) rec = let same = first none in subst (λ z. WasOrMade old z at (part + 1) id shape b) (sym same) (rec (sym (ap (λ z. is_held z b) same) ∙ held))
+    by_part : (part ≡ 0) ⊎ (0 < part) → (is_allocated t b ≡ true → WasOrMade old t at (part + 1) id shape b) → WasOrMade old u at (part + 1) id shape b
+    by_part (inl none) rec = let same = first none in subst (λ z. WasOrMade old z at (part + 1) id shape b) (sym same) (rec (sym (ap (λ z. is_allocated z b) same) ∙ allocated))
     by_part (inr some) rec =
         let f = shrinks_writes t u _ _ (linked some) (record { identity = refl; part = refl; shape = refl; forward = refl }) in
-        was_more old t u at (part + 1) (part + 1) id shape b (omega arith) (f.head b held) (rec (f.held b held))
+        was_more old t u at (part + 1) (part + 1) id shape b (omega arith) (f.head b allocated) (rec (f.allocated b allocated))
 
 -- on which pages
 keeps_class : (old new : List (Option Page)) → KeepsPages old new → (k class : ℕ) → class_in (page_at old k) ≡ Some class → class_in (page_at new k) ≡ Some class
@@ -123,12 +123,12 @@ keeps_class old new w k class e = by_page (page_at old k) refl e
     by_page None f e = absurd (cc)
     by_page (Some p) f e = let r = w.used k p f in ap class_in r.1 ∙ ap Some r.2.class ∙ e
 
-keeps_leaving : (old new : List (Option Page)) → KeepsPages old new → (k : ℕ) → is_leaving (page_at old k) ≡ true → is_leaving (page_at new k) ≡ true
-keeps_leaving old new w k e = by_page (page_at old k) refl e
+keeps_evacuating : (old new : List (Option Page)) → KeepsPages old new → (k : ℕ) → is_evacuating (page_at old k) ≡ true → is_evacuating (page_at new k) ≡ true
+keeps_evacuating old new w k e = by_page (page_at old k) refl e
   where
-    by_page : (o : Option Page) → page_at old k ≡ o → is_leaving o ≡ true → is_leaving (page_at new k) ≡ true
+    by_page : (o : Option Page) → page_at old k ≡ o → is_evacuating o ≡ true → is_evacuating (page_at new k) ≡ true
     by_page None f e = absurd (cc)
-    by_page (Some p) f e = let r = w.used k p f in ap is_leaving r.1 ∙ r.2.leaving ∙ e
+    by_page (Some p) f e = let r = w.used k p f in ap is_evacuating r.1 ∙ r.2.evacuating ∙ e
 
 block_class : (old new : List (Option Page)) (class page index : ℕ) → TakesBlock old class page index new → class_in (page_at new page) ≡ Some class
 block_class old new class page index t =
@@ -159,31 +159,31 @@ tidy_new : (s new : Store) (objects : List Object) (shape : Shape) (colour : Boo
     → IsTidy s objects → IsTidy new (objects ++ new_object shape ∷ [])
 tidy_new s new objects shape colour id at same makes takes w = record {
   class = λ b l. elim (blocks b l) [
-    | inl q ↦ (let h = q.1 in let p = held_block s b q.0 in
-        ap (λ z. class_by z (node_of new b).part) h.shape ∙ ap (class_by (node_of s b).shape) h.part ∙ w.class b q.0 ∙ ap class_in p.2.page ∙ sym (keeps_class s.pages new.pages keeps (b / 2048) p.0.class (ap class_in p.2.page)))
+    | inl q ↦ (let h = q.1 in let p = allocated_block s b q.0 in
+        ap (λ z. class_by z (record_of new b).part) h.shape ∙ ap (class_by (record_of s b).shape) h.part ∙ w.class b q.0 ∙ ap class_in p.2.page ∙ sym (keeps_class s.pages new.pages keeps (b / 2048) p.0.class (ap class_in p.2.page)))
     | inr q ↦ (let m = q.3 in let t = takes_class (cells_of shape) at s.pages (parts_in (cells_of shape)) new.pages takes q.0 q.1 in
-        ap (λ z. class_by z (node_of new b).part) m.shape ∙ ap (class_by shape) m.part ∙ t.1 ∙ sym (ap (λ z. class_in (page_at new.pages (z / 2048))) q.2 ∙ t.2))
+        ap (λ z. class_by z (record_of new b).part) m.shape ∙ ap (class_by shape) m.part ∙ t.1 ∙ sym (ap (λ z. class_in (page_at new.pages (z / 2048))) q.2 ∙ t.2))
   ];
   part = λ b l. elim (blocks b l) [
-    | inl q ↦ (let h = q.1 in let p = w.part b q.0 in let e : parts_in (cells_of (node_of new b).shape) ≡ parts_in (cells_of (node_of s b).shape) = ap (λ z. parts_in (cells_of z)) h.shape in let x = h.part in omega (arith, e, p, x))
-    | inr q ↦ (let m = q.3 in let e : parts_in (cells_of (node_of new b).shape) ≡ parts_in (cells_of shape) = ap (λ z. parts_in (cells_of z)) m.shape in let x = m.part in let y = q.1 in omega (arith, e, x, y))
+    | inl q ↦ (let h = q.1 in let p = w.part b q.0 in let e : parts_in (cells_of (record_of new b).shape) ≡ parts_in (cells_of (record_of s b).shape) = ap (λ z. parts_in (cells_of z)) h.shape in let x = h.part in omega (arith, e, p, x))
+    | inr q ↦ (let m = q.3 in let e : parts_in (cells_of (record_of new b).shape) ≡ parts_in (cells_of shape) = ap (λ z. parts_in (cells_of z)) m.shape in let x = m.part in let y = q.1 in omega (arith, e, x, y))
   ];
   given = λ b l. elim (blocks b l) [
     | inl q ↦ (let x = q.1.identity in let y = w.given b q.0 in let z = longer in omega (arith, x, y, z))
     | inr q ↦ (let x = q.3.identity in let z = longer in omega (arith, x, z, same))
   ];
   shape = λ b l. elim (blocks b l) [
-    | inl q ↦ (let h = q.1 in h.shape ∙ w.shape b q.0 ∙ sym (ap (λ z. (object_of (objects ++ new_object shape ∷ []) z).shape) h.identity ∙ old_shape (node_of s b).identity (w.given b q.0)))
+    | inl q ↦ (let h = q.1 in h.shape ∙ w.shape b q.0 ∙ sym (ap (λ z. (object_of (objects ++ new_object shape ∷ []) z).shape) h.identity ∙ old_shape (record_of s b).identity (w.given b q.0)))
     | inr q ↦ (let m = q.3 in m.shape ∙ sym (ap (λ z. (object_of (objects ++ new_object shape ∷ []) z).shape) (m.identity ∙ same) ∙ new_shape))
   ];
   one = λ a b l n f g x y. by_two a b f g x y (blocks a l) (blocks b n);
   old = λ b l. elim (blocks b l) [
-    | inl q ↦ elim (w.old b q.0) [ inl z ↦ inl (q.1.forward ∙ z) | inr z ↦ inr (keeps_leaving s.pages new.pages keeps (b / 2048) z) ]
+    | inl q ↦ elim (w.old b q.0) [ inl z ↦ inl (q.1.forward ∙ z) | inr z ↦ inr (keeps_evacuating s.pages new.pages keeps (b / 2048) z) ]
     | inr q ↦ inl (q.3.forward ∙ sym q.2)
   ];
 }
   where
-    blocks : (b : ℕ) → is_held new b ≡ true → WasOrMade s new at (parts_in (cells_of shape)) id shape b
+    blocks : (b : ℕ) → is_allocated new b ≡ true → WasOrMade s new at (parts_in (cells_of shape)) id shape b
     blocks b l = made_blocks s shape colour id at (parts_in (cells_of shape)) new makes b l
 
     keeps : KeepsPages s.pages new.pages
@@ -204,7 +204,7 @@ tidy_new s new objects shape colour id at same makes takes w = record {
         here : (length objects + 1 == length objects + 1) ≡ true
         here = grind arith
 
-    by_two : (a b : ℕ) → (node_of new a).forward ≡ a → (node_of new b).forward ≡ b → (node_of new a).identity ≡ (node_of new b).identity → (node_of new a).part ≡ (node_of new b).part
+    by_two : (a b : ℕ) → (record_of new a).forward ≡ a → (record_of new b).forward ≡ b → (record_of new a).identity ≡ (record_of new b).identity → (record_of new a).part ≡ (record_of new b).part
         → WasOrMade s new at (parts_in (cells_of shape)) id shape a → WasOrMade s new at (parts_in (cells_of shape)) id shape b → a ≡ b
     by_two a b f g x y (inl p) (inl q) = w.one a b p.0 q.0 (sym p.1.forward ∙ f) (sym q.1.forward ∙ g) (sym p.1.identity ∙ x ∙ q.1.identity) (sym p.1.part ∙ y ∙ q.1.part)
     by_two a b f g x y (inr p) (inr q) = p.2 ∙ ap at (sym p.3.part ∙ y ∙ q.3.part) ∙ sym q.2
@@ -248,7 +248,7 @@ tidy_change h after g c next (Does_word id i word address new at writes) w =
 tidy_change h after g c next (Does_new cell id shape k new at r makes takes) w =
     let f = shrinks_records h k _ r in
     let s = records_stay h k _ r in
-    tidy_new k.store new g.objects shape k.sense k.next at (s.next ∙ next) makes takes (tidy_same h.store k.store g.objects f.0 f.1 w)
+    tidy_new k.store new g.objects shape k.mark_parity k.next at (s.next ∙ next) makes takes (tidy_same h.store k.store g.objects f.0 f.1 w)
 tidy_change h after g c next (Does_join m) w = w
 tidy_change h after g c next (Does_leave m k clears) w = let f = clears_leave h (first_slot g.limits m) g.limits.slots k clears in tidy_same h.store k.store g.objects f.shrinks f.pages w
 
@@ -259,7 +259,7 @@ only_change h after g c base ids next low (Does_ref id i value address y k new a
     only_less h.store new base ids (shrinks_then h.store k.store new (shrinks_records h k _ r).0 (shrinks_writes k.store new address _ writes (record { identity = refl; part = refl; shape = refl; forward = refl }))) w
 only_change h after g c base ids next low (Does_word id i word address new at writes) w =
     only_less h.store new base ids (shrinks_writes h.store new address _ writes (record { identity = refl; part = refl; shape = refl; forward = refl })) w
-only_change h after g c base ids next low (Does_new cell id shape k new at r makes takes) w = λ b l main small. elim (made_blocks k.store shape k.sense k.next at (parts_in (cells_of shape)) new makes b l) [
+only_change h after g c base ids next low (Does_new cell id shape k new at r makes takes) w = λ b l main small. elim (made_blocks k.store shape k.mark_parity k.next at (parts_in (cells_of shape)) new makes b l) [
   | inl q ↦ (let i = q.1.identity in ap (contains ids) i ∙ before b q.0 (sym q.1.forward ∙ main) (omega (arith, i, small)))
   | inr q ↦ absurd (let i = q.3.identity in let n = (records_stay h k _ r).next in omega (arith, i, n, next, low, small))
 ]
@@ -274,23 +274,23 @@ pub bounded_change : (h after : HeapState) (g : Graph) (c : Change) (blocks : �
 bounded_change h after g c blocks spare pages asks Does_nothing w = w
 bounded_change h after g c blocks spare pages asks (Does_root cell id y k r i) w =
     let f = shrinks_records h k _ r in
-    bounded_same h _ blocks spare w (record { most = f.2.most; below = f.2.below }) f.1 (subst (MayLeave spare h.defrag_pages (leaving_pages h.store.pages)) (sym (records_stay h k _ r).phase) w.leaving)
+    bounded_same h _ blocks spare w (record { most = f.2.most; below = f.2.below }) f.1 (subst (MayEvacuate spare h.defrag_pages (evacuating_pages h.store.pages)) (sym (records_stay h k _ r).phase) w.evacuating)
 bounded_change h after g c blocks spare pages asks (Does_ref id i value address y k new at r main writes) w =
     let f = shrinks_records h k _ r in
-    bounded_same h _ blocks spare w (record { most = f.2.most; below = f.2.below }) (writes.pages ∙ f.1) (subst (MayLeave spare h.defrag_pages (leaving_pages h.store.pages)) (sym (records_stay h k _ r).phase) w.leaving)
-bounded_change h after g c blocks spare pages asks (Does_word id i word address new at writes) w = bounded_same h _ blocks spare w (record { most = refl; below = refl }) writes.pages w.leaving
+    bounded_same h _ blocks spare w (record { most = f.2.most; below = f.2.below }) (writes.pages ∙ f.1) (subst (MayEvacuate spare h.defrag_pages (evacuating_pages h.store.pages)) (sym (records_stay h k _ r).phase) w.evacuating)
+bounded_change h after g c blocks spare pages asks (Does_word id i word address new at writes) w = bounded_same h _ blocks spare w (record { most = refl; below = refl }) writes.pages w.evacuating
 bounded_change h after g c blocks spare pages asks (Does_new cell id shape k new at r makes takes) w =
     let f = shrinks_records h k _ r in
     let b : IsBounded k.store.pages blocks spare = subst (λ z. IsBounded z blocks spare) (sym f.1) (bounded_pages h blocks spare w) in
     let a : ArePages k.store.pages = subst ArePages (sym f.1) pages in
     let t = takes_bounded (cells_of shape) at k.store.pages (parts_in (cells_of shape)) new.pages blocks spare a b (λ n l. (let q = asks n l in let e : main_blocks k.store.pages n ≡ main_blocks h.store.pages n = ap (λ z. main_blocks z n) f.1 in omega (arith, q, e))) takes in
-    let same : leaving_pages new.pages ≡ leaving_pages h.store.pages = t.leaving ∙ ap leaving_pages f.1 in
+    let same : evacuating_pages new.pages ≡ evacuating_pages h.store.pages = t.evacuating ∙ ap evacuating_pages f.1 in
     record {
       used = t.bounded.used;
-      leaving = subst (λ z. MayLeave spare z (leaving_pages new.pages) k.phase) (sym f.2.most) (subst (λ z. MayLeave spare h.defrag_pages z k.phase) (sym same) (subst (MayLeave spare h.defrag_pages (leaving_pages h.store.pages)) (sym (records_stay h k _ r).phase) w.leaving));
+      evacuating = subst (λ z. MayEvacuate spare z (evacuating_pages new.pages) k.phase) (sym f.2.most) (subst (λ z. MayEvacuate spare h.defrag_pages z k.phase) (sym same) (subst (MayEvacuate spare h.defrag_pages (evacuating_pages h.store.pages)) (sym (records_stay h k _ r).phase) w.evacuating));
       same = may_spare h after blocks spare (record { most = f.2.most; below = f.2.below }) (ap (λ (s : HeapSettings). s.pages) (change_settings h after g c (Does_new cell id shape k new at r makes takes))) w.same;
     }
-bounded_change h after g c blocks spare pages asks (Does_join m) w = bounded_same h _ blocks spare w (record { most = refl; below = refl }) refl w.leaving
+bounded_change h after g c blocks spare pages asks (Does_join m) w = bounded_same h _ blocks spare w (record { most = refl; below = refl }) refl w.evacuating
 bounded_change h after g c blocks spare pages asks (Does_leave m k clears) w =
     let f = clears_leave h (first_slot g.limits m) g.limits.slots k clears in
-    bounded_same h _ blocks spare w (record { most = f.settings.most; below = f.settings.below }) f.pages (subst (MayLeave spare h.defrag_pages (leaving_pages h.store.pages)) (sym f.phase) w.leaving)
+    bounded_same h _ blocks spare w (record { most = f.settings.most; below = f.settings.below }) f.pages (subst (MayEvacuate spare h.defrag_pages (evacuating_pages h.store.pages)) (sym f.phase) w.evacuating)

@@ -12,7 +12,7 @@ use Rattle.heap_model.specs.Settings.{HeapSettings, settings_of, settings_by}
 use Rattle.heap_model.specs.Opening.{IsOpening}
 use Rattle.heap_model.specs.Spent.{swept_units}
 use Rattle.heap_model.specs.Event.{Course, Event, Runs}
-use Rattle.heap_model.specs.Led.{opened}
+use Rattle.heap_model.specs.ReachedFrom.{opened}
 use Rattle.space.specs.Demand.{Demand}
 use Rattle.space.specs.Tally.{opening_tally, AllKeepTo}
 use Rattle.space.specs.Space.{space_for, spare_of, below_of}

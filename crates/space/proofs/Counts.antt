@@ -14,26 +14,26 @@ use Rattle.size_classes.specs.Sizes.{blocks_in}
 use Rattle.size_classes.specs.Parts.{part_words}
 use Rattle.size_classes.specs.Need.{blocks_needed}
 use Rattle.size_classes.proofs.Table.{blocks_some}
-use Rattle.heap_model.specs.Pages.{Page, IsPage, ArePages, IsOpen, is_free, is_usable, first_of, page_of_class, fresh_page, with_held, TakesBlock, page_at, free_on, free_blocks, free_pages, whole_pages, pages_needed, has_room}
-use Rattle.heap_model.specs.State.{is_leaving}
+use Rattle.heap_model.specs.Pages.{Page, IsPage, ArePages, IsOpen, is_free, is_usable, first_of, page_of_class, fresh_page, with_allocated, TakesBlock, page_at, free_on, free_blocks, free_pages, whole_pages, pages_needed, has_room}
+use Rattle.heap_model.specs.State.{is_evacuating}
 use Rattle.heap_model.specs.Taking.{Takes, Nothing_taken, Part_taken}
 use Rattle.heap_model.proofs.Moved.{usable_fits}
 use Rattle.heap_model.proofs.Placed.{page_for_within}
 use Rattle.heap_model.proofs.Rooms.{set_sum, no_blocks, more_needed}
 use Rattle.heap_model.proofs.Taken.{class_low, takes_pages}
 use Rattle.space.specs.Space.{class_sum, class_pages, pages_for}
-use Rattle.space.specs.Counts.{is_of, stays, main_on, main_blocks, used_pages, leaving_pages, IsBounded}
+use Rattle.space.specs.Counts.{is_of, stays, main_on, main_blocks, used_pages, evacuating_pages, IsBounded}
 
 abbrev pub one_if : Bool → ℕ
 one_if b = cond b 1 0
 
--- the pages of a class that aren't leaving, and those that are
+-- the pages of a class that aren't evacuating, and those that are
 abbrev pub stay_on : ℕ → Option Page → ℕ
 stay_on class o = one_if (stays class o)
 
-abbrev pub leave_on : ℕ → Option Page → ℕ
-leave_on class None = 0
-leave_on class (Some p) = one_if ((p.class == class) && p.leaving)
+abbrev pub evacuating_on : ℕ → Option Page → ℕ
+evacuating_on class None = 0
+evacuating_on class (Some p) = one_if ((p.class == class) && p.evacuating)
 
 pub first_page : (o : Option Page) (os : List (Option Page)) → ArePages (o ∷ os) → (p : Page) → o ≡ Some p → IsPage p
 first_page o os w p e = w.each 0 p e
@@ -54,14 +54,14 @@ both_true false y h = absurd (cc)
 -- the blocks of a page are free or held
 own_page : (class : ℕ) (o : Option Page) → ((p : Page) → o ≡ Some p → IsPage p) → free_on class o + main_on class o ≡ blocks_in class * stay_on class o
 own_page class None w = let z : blocks_in class * 0 ≡ 0 = mul-zero (blocks_in class) in omega (arith, z)
-own_page class (Some p) w = by_test ((p.class == class) && not p.leaving) refl
+own_page class (Some p) w = by_test ((p.class == class) && not p.evacuating) refl
   where
-    by_test : (b : Bool) → ((p.class == class) && not p.leaving) ≡ b → cond b (count_by not p.held) 0 + cond b (count_by (λ b. b) p.held) 0 ≡ blocks_in class * one_if b
+    by_test : (b : Bool) → ((p.class == class) && not p.evacuating) ≡ b → cond b (count_by not p.allocated) 0 + cond b (count_by (λ b. b) p.allocated) 0 ≡ blocks_in class * one_if b
     by_test true e =
-        let same : p.class ≡ class = eqb-true p.class class (both_true (p.class == class) (not p.leaving) e).0 in
+        let same : p.class ≡ class = eqb-true p.class class (both_true (p.class == class) (not p.evacuating) e).0 in
         let l = (w p refl).blocks in
-        let m : length p.held ≡ blocks_in class = l ∙ ap blocks_in same in
-        let f = flags_all p.held in
+        let m : length p.allocated ≡ blocks_in class = l ∙ ap blocks_in same in
+        let f = flags_all p.allocated in
         let o : blocks_in class * 1 ≡ blocks_in class = omega arith in
         omega (arith, m, f, o)
     by_test false e = let z : blocks_in class * 0 ≡ 0 = mul-zero (blocks_in class) in omega (arith, z)
@@ -82,9 +82,9 @@ own class (o ∷ os) w =
     omega (arith, r, h, a, b, t, s)
 
 -- each page of a class stays or leaves
-used_page : (class : ℕ) (o : Option Page) → (one_if (is_of class o) ≡ stay_on class o + leave_on class o) × (leave_on class o ≤ one_if (is_leaving o))
+used_page : (class : ℕ) (o : Option Page) → (one_if (is_of class o) ≡ stay_on class o + evacuating_on class o) × (evacuating_on class o ≤ one_if (is_evacuating o))
 used_page class None = (refl, omega arith)
-used_page class (Some p) = by_tests (p.class == class) p.leaving
+used_page class (Some p) = by_tests (p.class == class) p.evacuating
   where
     by_tests : (b l : Bool) → (one_if b ≡ one_if (b && not l) + one_if (b && l)) × (one_if (b && l) ≤ one_if l)
     by_tests true true = (refl, omega arith)
@@ -92,15 +92,15 @@ used_page class (Some p) = by_tests (p.class == class) p.leaving
     by_tests false true = (refl, omega arith)
     by_tests false false = (refl, omega arith)
 
-pub used : (class : ℕ) (pages : List (Option Page)) → (used_pages pages class ≡ count_by (stays class) pages + sum_by (leave_on class) pages) × (sum_by (leave_on class) pages ≤ leaving_pages pages)
+pub used : (class : ℕ) (pages : List (Option Page)) → (used_pages pages class ≡ count_by (stays class) pages + sum_by (evacuating_on class) pages) × (sum_by (evacuating_on class) pages ≤ evacuating_pages pages)
 used class [] = (refl, omega arith)
 used class (o ∷ os) =
     let r = used class os in
     let h = used_page class o in
     let a = sum_by-cons (λ z. one_if (is_of class z)) o os in
     let b = sum_by-cons (stay_on class) o os in
-    let c = sum_by-cons (leave_on class) o os in
-    let d = sum_by-cons (λ z. one_if (is_leaving z)) o os in
+    let c = sum_by-cons (evacuating_on class) o os in
+    let d = sum_by-cons (λ z. one_if (is_evacuating z)) o os in
     (omega (arith, r.0, h.0, a, b, c), omega (arith, r.1, h.1, c, d))
 
 pub class_sum_le : (f g : ℕ → ℕ) (n : ℕ) → ((k : ℕ) → k < n → f k ≤ g k) → class_sum f n ≤ class_sum g n
@@ -173,7 +173,7 @@ module _ (pages : List (Option Page)) (blocks need : ℕ → ℕ) (spare : ℕ) 
       o : free_blocks pages class + main_blocks pages class ≡ blocks_in class * count_by (stays class) pages
       o = own class pages w
 
-      u : (used_pages pages class ≡ count_by (stays class) pages + sum_by (leave_on class) pages) × (sum_by (leave_on class) pages ≤ leaving_pages pages)
+      u : (used_pages pages class ≡ count_by (stays class) pages + sum_by (evacuating_on class) pages) × (sum_by (evacuating_on class) pages ≤ evacuating_pages pages)
       u = used class pages
 
       missing : ℕ
@@ -190,7 +190,7 @@ module _ (pages : List (Option Page)) (blocks need : ℕ → ℕ) (spare : ℕ) 
         | inr m ↦ (
             let s : missing + blocks_in class * count_by (stays class) pages ≤ blocks class = omega (arith, m, o, a) in
             let q = whole_within (blocks_in class) missing (count_by (stays class) pages) (blocks class) some s in
-            let v = b.leaving in
+            let v = b.evacuating in
             omega (arith, q, u.0, u.1, v))
       ]
 
@@ -205,18 +205,18 @@ pub bounded_room : (pages : List (Option Page)) (blocks need : ℕ → ℕ) (spa
     → ((class : ℕ) → class < CLASSES → main_blocks pages class + need class ≤ blocks class) → has_room pages need ≡ true
 bounded_room pages blocks need spare w b fits asks = room pages blocks need spare w b asks fits
 
--- a free block that is taken is one more that is held
+-- a free block that is taken is one more that is allocated
 -- a flag that is set is counted
-pub held_more : (flags : List Bool) (i : ℕ) → slice_get flags i ≡ Some false → count_by (λ b. b) (set flags i true) ≡ count_by (λ b. b) flags + 1
-held_more flags i e = let s = set_sum (λ b. one_if b) flags i false true false (slice_get_within flags i false e) (get_or_from_slice_get flags i false false e) in omega (arith, s)
+pub allocated_more : (flags : List Bool) (i : ℕ) → slice_get flags i ≡ Some false → count_by (λ b. b) (set flags i true) ≡ count_by (λ b. b) flags + 1
+allocated_more flags i e = let s = set_sum (λ b. one_if b) flags i false true false (slice_get_within flags i false e) (get_or_from_slice_get flags i false false e) in omega (arith, s)
 
-main_more : (p : Page) (class k index : ℕ) → p.class ≡ class → p.leaving ≡ false → IsOpen p index → main_on k (Some (with_held p index true)) ≡ main_on k (Some p) + one_if (class == k)
-main_more p class k index same stay o = subst (λ z. main_on k (Some (with_held p index true)) ≡ main_on k (Some p) + one_if (z == k)) same (by_class (p.class == k) p.leaving stay)
+main_more : (p : Page) (class k index : ℕ) → p.class ≡ class → p.evacuating ≡ false → IsOpen p index → main_on k (Some (with_allocated p index true)) ≡ main_on k (Some p) + one_if (class == k)
+main_more p class k index same stay o = subst (λ z. main_on k (Some (with_allocated p index true)) ≡ main_on k (Some p) + one_if (z == k)) same (by_class (p.class == k) p.evacuating stay)
   where
-    m : count_by (λ b. b) (set p.held index true) ≡ count_by (λ b. b) p.held + 1
-    m = held_more p.held index o
+    m : count_by (λ b. b) (set p.allocated index true) ≡ count_by (λ b. b) p.allocated + 1
+    m = allocated_more p.allocated index o
 
-    by_class : (b l : Bool) → l ≡ false → cond (b && not l) (count_by (λ b. b) (set p.held index true)) 0 ≡ cond (b && not l) (count_by (λ b. b) p.held) 0 + one_if b
+    by_class : (b l : Bool) → l ≡ false → cond (b && not l) (count_by (λ b. b) (set p.allocated index true)) 0 ≡ cond (b && not l) (count_by (λ b. b) p.allocated) 0 + one_if b
     by_class b true e = absurd (cc)
     by_class true false e = m
     by_class false false e = refl
@@ -233,8 +233,8 @@ module _ (old new : List (Option Page)) (page : ℕ) (o v : Option Page) (l : pa
   pub used_set : (k : ℕ) → used_pages new k + one_if (is_of k o) ≡ used_pages old k + one_if (is_of k v)
   used_set k = ap (λ z. used_pages z k + one_if (is_of k o)) is ∙ set_sum (λ z. one_if (is_of k z)) old page o v None l at
 
-  pub leaving_set : leaving_pages new + one_if (is_leaving o) ≡ leaving_pages old + one_if (is_leaving v)
-  leaving_set = ap (λ z. leaving_pages z + one_if (is_leaving o)) is ∙ set_sum (λ z. one_if (is_leaving z)) old page o v None l at
+  pub evacuating_set : evacuating_pages new + one_if (is_evacuating o) ≡ evacuating_pages old + one_if (is_evacuating v)
+  evacuating_set = ap (λ z. evacuating_pages z + one_if (is_evacuating o)) is ∙ set_sum (λ z. one_if (is_evacuating z)) old page o v None l at
 
   pub main_set : (k : ℕ) → main_blocks new k + main_on k o ≡ main_blocks old k + main_on k v
   main_set k = ap (λ z. main_blocks z k + main_on k o) is ∙ set_sum (main_on k) old page o v None l at
@@ -252,12 +252,12 @@ one_page_more pages blocks spare class small w b more none = by_some (blocks cla
 
     by_some : (t : Bool) → (blocks class == 0) ≡ t → used_pages pages class + 1 ≤ (if t then 0 else whole_pages class (blocks class) + spare)
     by_some true e = absurd (let z : blocks class ≡ 0 = eqb-true (blocks class) 0 e in omega (arith, z, more))
-    by_some false e = let u = used class pages in let v = b.leaving in omega (arith, within, u.0, u.1, v)
+    by_some false e = let u = used class pages in let v = b.evacuating in omega (arith, within, u.0, u.1, v)
 
 -- what a block that is taken leaves
 pub record Took (old new : List (Option Page)) (blocks : ℕ → ℕ) (spare class : ℕ) : Type 0 where
   pub bounded : IsBounded new blocks spare
-  pub leaving : leaving_pages new ≡ leaving_pages old
+  pub evacuating : evacuating_pages new ≡ evacuating_pages old
   pub main : (k : ℕ) → main_blocks new k ≡ main_blocks old k + one_if (class == k)
 
 pub one_block : (old new : List (Option Page)) (blocks : ℕ → ℕ) (spare class page index : ℕ) → class < CLASSES → ArePages old → IsBounded old blocks spare → main_blocks old class + 1 ≤ blocks class
@@ -270,22 +270,22 @@ one_block old new blocks spare class page index small w b more t = by_usable (po
     used_place : (p : Page) → page_at old page ≡ Some p → is_usable class (Some p) ≡ true → Took old new blocks spare class
     used_place p at usable =
         let fits = usable_fits class p usable in
-        let v : Option Page = Some (with_held p index true) in
-        let is : new ≡ set old page v = t.new_is ∙ ap (λ z. set old page (Some (with_held (page_of_class class z) index true))) at in
+        let v : Option Page = Some (with_allocated p index true) in
+        let is : new ≡ set old page v = t.new_is ∙ ap (λ z. set old page (Some (with_allocated (page_of_class class z) index true))) at in
         let opened : IsOpen p index = subst (λ z. IsOpen (page_of_class class z) index) at t.was_free in
         record {
           bounded = record {
             used = λ k s. (let u = used_set old new page (Some p) v within at is k in let q = b.used k s in omega (arith, u, q));
-            leaving = (let u = leaving_set old new page (Some p) v within at is in let q = b.leaving in omega (arith, u, q));
+            evacuating = (let u = evacuating_set old new page (Some p) v within at is in let q = b.evacuating in omega (arith, u, q));
           };
-          leaving = (let u = leaving_set old new page (Some p) v within at is in omega (arith, u));
+          evacuating = (let u = evacuating_set old new page (Some p) v within at is in omega (arith, u));
           main = λ k. (let u = main_set old new page (Some p) v within at is k in let m = main_more p class k index fits.0 fits.1 opened in omega (arith, u, m));
         }
 
     free_place : page_at old page ≡ None → free_blocks old class ≡ 0 → Took old new blocks spare class
     free_place at none =
-        let v : Option Page = Some (with_held (fresh_page class) index true) in
-        let is : new ≡ set old page v = t.new_is ∙ ap (λ z. set old page (Some (with_held (page_of_class class z) index true))) at in
+        let v : Option Page = Some (with_allocated (fresh_page class) index true) in
+        let is : new ≡ set old page v = t.new_is ∙ ap (λ z. set old page (Some (with_allocated (page_of_class class z) index true))) at in
         let opened : IsOpen (fresh_page class) index = subst (λ z. IsOpen (page_of_class class z) index) at t.was_free in
         let room = one_page_more old blocks spare class small w b more none in
         record {
@@ -294,9 +294,9 @@ one_block old new blocks spare class page index small w b more t = by_usable (po
               | inl e ↦ (let o : one_if (class == k) ≡ 1 = ap one_if e.0 in subst (λ z. used_pages new z ≤ class_pages spare z (blocks z)) e.1 (let u1 = used_set old new page None v within at is class in let one : one_if (class == class) ≤ 1 = one_most (class == class) in omega (arith, u1, room, one)))
               | inr d ↦ (let o : one_if (class == k) ≡ 0 = ap one_if d.0 in let q = b.used k s in omega (arith, u, o, q))
             ]);
-            leaving = (let u = leaving_set old new page None v within at is in let q = b.leaving in omega (arith, u, q));
+            evacuating = (let u = evacuating_set old new page None v within at is in let q = b.evacuating in omega (arith, u, q));
           };
-          leaving = (let u = leaving_set old new page None v within at is in omega (arith, u));
+          evacuating = (let u = evacuating_set old new page None v within at is in omega (arith, u));
           main = λ k. (let u = main_set old new page None v within at is k in let m = main_more (fresh_page class) class k index refl refl opened in let f = fresh_main class k in omega (arith, u, m, f));
         }
       where
@@ -323,15 +323,15 @@ one_block old new blocks spare class page index small w b more t = by_usable (po
 -- and the blocks of an object
 pub record TookAll (old new : List (Option Page)) (blocks : ℕ → ℕ) (spare cells parts : ℕ) : Type 0 where
   pub bounded : IsBounded new blocks spare
-  pub leaving : leaving_pages new ≡ leaving_pages old
+  pub evacuating : evacuating_pages new ≡ evacuating_pages old
   pub main : (k : ℕ) → main_blocks new k ≡ main_blocks old k + blocks_needed cells parts k
 
 pub takes_bounded : (cells : ℕ) (at : ℕ → ℕ) (old : List (Option Page)) (parts : ℕ) (new : List (Option Page)) (blocks : ℕ → ℕ) (spare : ℕ) → ArePages old → IsBounded old blocks spare
     → ((k : ℕ) → k < CLASSES → main_blocks old k + blocks_needed cells parts k ≤ blocks k) → Takes cells at old parts new → TookAll old new blocks spare cells parts
-takes_bounded cells at old parts new blocks spare w b asks Nothing_taken = record { bounded = b; leaving = refl; main = λ k. omega arith }
+takes_bounded cells at old parts new blocks spare w b asks Nothing_taken = record { bounded = b; evacuating = refl; main = λ k. omega arith }
 takes_bounded cells at old parts new blocks spare w b asks (Part_taken part class index s t takes f block) =
     let small = class_low (part_words cells part) class f in
     let r = takes_bounded cells at old part s blocks spare w b (λ k l. (let n = more_needed cells part class k f in let a = asks k l in omega (arith, n, a))) takes in
     let own : blocks_needed cells (part + 1) class ≡ blocks_needed cells part class + 1 = more_needed cells part class class f ∙ ap (λ z. blocks_needed cells part class + one_if z) (eq-eqb class class refl) in
     let one = one_block s t blocks spare class (at part / 2048) index small (takes_pages cells at old part s w takes) r.bounded (let m = r.main class in let a = asks class small in omega (arith, m, own, a)) block in
-    record { bounded = one.bounded; leaving = one.leaving ∙ r.leaving; main = λ k. (let m = r.main k in let o = one.main k in let n = more_needed cells part class k f in omega (arith, m, o, n)) }
+    record { bounded = one.bounded; evacuating = one.evacuating ∙ r.evacuating; main = λ k. (let m = r.main k in let o = one.main k in let n = more_needed cells part class k f in omega (arith, m, o, n)) }

@@ -12,10 +12,10 @@ use Rattle.heap_model.specs.State.{HeapState}
 use Rattle.heap_model.specs.Opening.{IsOpening}
 use Rattle.heap_model.specs.Settings.{HeapSettings, settings_of}
 use Rattle.heap_model.specs.Spent.{IsWithin, cycle_limit, swept_units}
-use Rattle.heap_model.specs.Standing.{Stands}
+use Rattle.heap_model.specs.Standing.{Represents}
 use Rattle.heap_model.specs.Action.{Action, Scans_root, Ends_roots, Scans_header, Scans_cell, Ends_marking, Frees_block, Passes_block, Closes_page, Ends_sweep, Looks_at_page, Chooses_page, Chooses_none, Moves_block, Ends_moving, Chain, Nothing_done, Then}
 use Rattle.heap_model.specs.Event.{Course, Event, Command_done, Cycle_begun, Cycle_on, Quantum_done, Quantum_refused, Collects, Does, Runs, IsCourse, present_of, snapshot_of, room_for, change_by}
-use Rattle.heap_model.specs.Led.{opened}
+use Rattle.heap_model.specs.ReachedFrom.{opened}
 use Rattle.heap_model.specs.Left.{LeavesCycle}
 use Rattle.heap_model.proofs.Spent.{moving_bound}
 use Rattle.heap_model.proofs.Settings.{does_settings}
@@ -25,7 +25,7 @@ use Rattle.heap_model.proofs.Costs.{turn_left}
 use Rattle.heap_model.proofs.Left.{change_left}
 use Rattle.heap_model.proofs.Changed.{stands_changed}
 use Rattle.heap_model.proofs.Course.{founded, present_row, opening_course}
-use Rattle.space.specs.Tally.{Tally, opening_tally, after_event, is_tracing, AllKeepTo}
+use Rattle.space.specs.Tally.{Tally, opening_tally, after_event, awaits_sweep_end, AllKeepTo}
 use Rattle.space.specs.Pace.{Pace, Beat, opening_beat, in_cycle, KeepsPace, AllKeepPace, moving_units, moved_quanta, demand_of}
 use Rattle.space.proofs.Pacing.{idle_phase, quanta_after, runs_keep, opening_paced}
 use Rattle.space.proofs.Spending.{limit_stays, same_swept, swept_kept, all_spent, few_quanta}
@@ -35,39 +35,39 @@ next_times : (n d : ℕ) → (n + 1) * d ≡ n * d + d
 next_times n d = grind arith
 
 -- a running cycle moves, if it is past the end of its sweep
-a_move : (q : Phase) → in_cycle q ≡ true → is_tracing q ≡ false → (m : Moving) × (q ≡ phases.Moving m)
+a_move : (q : Phase) → in_cycle q ≡ true → awaits_sweep_end q ≡ false → (m : Moving) × (q ≡ phases.Moving m)
 a_move phases.Idle on off = absurd (cc)
 a_move (phases.Roots next) on off = absurd (cc)
 a_move (phases.Marking part cell) on off = absurd (cc)
 a_move (phases.Sweeping page block) on off = absurd (cc)
 a_move (phases.Moving m) on off = (m, refl)
 
-not_tracing : (q : Phase) → is_tracing q ≡ true → (m : Moving) → q ≡ phases.Moving m → ⊥
-not_tracing q on m e = let z : true ≡ false = sym on ∙ ap is_tracing e in cc
+not_tracing : (q : Phase) → awaits_sweep_end q ≡ true → (m : Moving) → q ≡ phases.Moving m → ⊥
+not_tracing q on m e = let z : true ≡ false = sym on ∙ ap awaits_sweep_end e in cc
 
 -- no action goes back before the end of the sweep
-action_tracing : (h after : HeapState) (cost : ℕ) → Action h cost after → is_tracing after.phase ≡ true → is_tracing h.phase ≡ true
-action_tracing h after cost (Scans_root next k e l sh) on = ap is_tracing e
-action_tracing h after cost (Ends_roots next e l) on = ap is_tracing e
-action_tracing h after cost (Scans_header part cell x front back e f n) on = ap is_tracing e
-action_tracing h after cost (Scans_cell part cell new k e l w sh) on = ap is_tracing e
-action_tracing h after cost (Ends_marking part cell e f n) on = ap is_tracing e
-action_tracing h after cost (Frees_block page block p new e f was unmarked w pages) on = ap is_tracing e
-action_tracing h after cost (Passes_block page block p e f l marked) on = ap is_tracing e
-action_tracing h after cost (Closes_page page block new e l f w pages) on = ap is_tracing e
-action_tracing h after cost (Ends_sweep page block e l) on = ap is_tracing e
+action_tracing : (h after : HeapState) (cost : ℕ) → Action h cost after → awaits_sweep_end after.phase ≡ true → awaits_sweep_end h.phase ≡ true
+action_tracing h after cost (Scans_root next k e l sh) on = ap awaits_sweep_end e
+action_tracing h after cost (Ends_roots next e l) on = ap awaits_sweep_end e
+action_tracing h after cost (Scans_header part cell x front back e f n) on = ap awaits_sweep_end e
+action_tracing h after cost (Scans_cell part cell new k e l w sh) on = ap awaits_sweep_end e
+action_tracing h after cost (Ends_marking part cell e f n) on = ap awaits_sweep_end e
+action_tracing h after cost (Frees_block page block p new e f was unmarked w pages) on = ap awaits_sweep_end e
+action_tracing h after cost (Passes_block page block p e f l marked) on = ap awaits_sweep_end e
+action_tracing h after cost (Closes_page page block new e l f w pages) on = ap awaits_sweep_end e
+action_tracing h after cost (Ends_sweep page block e l) on = ap awaits_sweep_end e
 action_tracing h after cost (Looks_at_page class page best chosen at few more) on = absurd (cc)
 action_tracing h after cost (Chooses_page class page best chosen c p new at few last is good there w pages) on = absurd (cc)
 action_tracing h after cost (Chooses_none class page best chosen at few last is) on = absurd (cc)
-action_tracing h after cost (Moves_block class page block chosen i to j p q new e at leaving next place there empty w pages) on = absurd (cc)
+action_tracing h after cost (Moves_block class page block chosen i to j p q new e at evacuating next place there empty w pages) on = absurd (cc)
 action_tracing h after cost (Ends_moving done) on = absurd (cc)
 
-pub chain_tracing : (h after : HeapState) (spent : ℕ) → Chain h spent after → is_tracing after.phase ≡ true → is_tracing h.phase ≡ true
+pub chain_tracing : (h after : HeapState) (spent : ℕ) → Chain h spent after → awaits_sweep_end after.phase ≡ true → awaits_sweep_end h.phase ≡ true
 chain_tracing h after spent Nothing_done on = on
 chain_tracing h after spent (Then u cost j k linked chain links action) on = chain_tracing h j u chain (action_tracing (record j { store = linked }) k cost action on)
 
 -- in moving no more is spent than before it and in it at most
-moving_high : (h : HeapState) (present snapshot : Graph) → Stands h present snapshot → (m : Moving) → h.phase ≡ phases.Moving m → h.units ≤ swept_units h + moving_units h
+moving_high : (h : HeapState) (present snapshot : Graph) → Represents h present snapshot → (m : Moving) → h.phase ≡ phases.Moving m → h.units ≤ swept_units h + moving_units h
 moving_high h present snapshot w (moves.Pass class page best chosen) e =
     let v = subst (λ z. IsWithin h z) e w.within in
     let b = moving_bound h present snapshot w.pages w.consistent in
@@ -104,8 +104,8 @@ record IsSpent (k : ℕ) (h : HeapState) (r : Course) (t : Tally) (n : ℕ) : Ty
   more : ℕ
   units : ℕ
   spent : in_cycle r.heap.phase ≡ true → n * k ≤ r.heap.units + 255 * ended
-  none : is_tracing r.heap.phase ≡ true → ended ≡ 0
-  moved : in_cycle r.heap.phase ≡ true → is_tracing r.heap.phase ≡ false → HasMoved k h r ended more units
+  none : awaits_sweep_end r.heap.phase ≡ true → ended ≡ 0
+  moved : in_cycle r.heap.phase ≡ true → awaits_sweep_end r.heap.phase ≡ false → HasMoved k h r ended more units
 
 -- with no cycle running there is nothing to keep
 idle_spent : (k : ℕ) (h : HeapState) (r : Course) (t : Tally) (n : ℕ) → cycle_limit r.heap ≡ cycle_limit h → settings_of r.heap ≡ settings_of h → in_cycle r.heap.phase ≡ false → IsSpent k h r t n
@@ -122,7 +122,7 @@ idle_spent k h r t n limit settings off = record {
 
 module _ (h : HeapState) (k : ℕ) (great : 256 ≤ k) where
   spent_few : (r : Course) (t : Tally) (n : ℕ) → IsCourse r → IsSpent k h r t n → in_cycle r.heap.phase ≡ true → n + 1 ≤ moved_quanta h k
-  spent_few r t n w i on = by_sweep (is_tracing r.heap.phase) refl
+  spent_few r t n w i on = by_sweep (awaits_sweep_end r.heap.phase) refl
     where
       same : swept_units r.heap ≡ swept_units h
       same = same_swept h r.heap i.limit i.settings
@@ -133,7 +133,7 @@ module _ (h : HeapState) (k : ℕ) (great : 256 ≤ k) where
           let defrag : r.heap.defrag_pages ≡ h.defrag_pages = ap (λ (s : HeapSettings). s.defrag_pages) i.settings in
           ap (λ z. (z + CLASSES) * length r.heap.store.pages + 2048 * length r.heap.store.pages + 1) defrag ∙ ap (λ z. (h.defrag_pages + CLASSES) * z + 2048 * z + 1) pages
 
-      by_sweep : (b : Bool) → is_tracing r.heap.phase ≡ b → n + 1 ≤ (swept_units h + moving_units h + 255 * (moving_units h / (k - 255) + 1)) / k + 1
+      by_sweep : (b : Bool) → awaits_sweep_end r.heap.phase ≡ b → n + 1 ≤ (swept_units h + moving_units h + 255 * (moving_units h / (k - 255) + 1)) / k + 1
       by_sweep true e =
           let l = swept_kept r.heap (present_of r) (snapshot_of r) w.stands e in
           let s = i.spent on in
@@ -152,13 +152,13 @@ module _ (h : HeapState) (k : ℕ) (great : 256 ≤ k) where
 
   -- a quantum with a cycle running, which doesn't end it
   quantum_on : (r new : Course) (budget spends : ℕ) (phase : Phase) (t : Tally) (n : ℕ) → IsCourse r → IsSpent k h r t n → k ≤ budget → Collects r budget spends phase new → cycle_limit new.heap ≡ cycle_limit h → settings_of new.heap ≡ settings_of h
-      → in_cycle r.heap.phase ≡ true → in_cycle new.heap.phase ≡ true → (b c : Bool) → is_tracing r.heap.phase ≡ b → is_tracing new.heap.phase ≡ c → IsSpent k h new (after_event t (Quantum_done budget spends phase)) (n + 1)
+      → in_cycle r.heap.phase ≡ true → in_cycle new.heap.phase ≡ true → (b c : Bool) → awaits_sweep_end r.heap.phase ≡ b → awaits_sweep_end new.heap.phase ≡ c → IsSpent k h new (after_event t (Quantum_done budget spends phase)) (n + 1)
   quantum_on r new budget spends phase t n w i enough q limit settings on stays = by_sweep
     where
       away : new.heap.phase ≢ phases.Idle
       away idle = let z : true ≡ false = sym stays ∙ ap in_cycle idle in cc
 
-      after : Stands new.heap (present_of r) (snapshot_of r)
+      after : Represents new.heap (present_of r) (snapshot_of r)
       after = stands_chain r.heap new.heap spends (present_of r) (snapshot_of r) w.stands q.turn.chain
 
       total : new.heap.units ≡ r.heap.units + spends
@@ -173,7 +173,7 @@ module _ (h : HeapState) (k : ℕ) (great : 256 ≤ k) where
       more : (ended : ℕ) → i.ended ≡ ended → (n + 1) * k ≤ new.heap.units + 255 * (ended + 1)
       more ended e = let s = i.spent on in let x = next_times n k in omega (arith, s, x, total, left, enough, e)
 
-      by_sweep : (b c : Bool) → is_tracing r.heap.phase ≡ b → is_tracing new.heap.phase ≡ c → IsSpent k h new (after_event t (Quantum_done budget spends phase)) (n + 1)
+      by_sweep : (b c : Bool) → awaits_sweep_end r.heap.phase ≡ b → awaits_sweep_end new.heap.phase ≡ c → IsSpent k h new (after_event t (Quantum_done budget spends phase)) (n + 1)
       by_sweep true true e f = record {
         limit = limit;
         settings = settings;
@@ -226,8 +226,8 @@ module _ (h : HeapState) (k : ℕ) (great : 256 ≤ k) where
     more = i.more;
     units = i.units;
     spent = λ on. (let s = i.spent (sym (ap in_cycle left.phase) ∙ on) in let u = left.units in omega (arith, s, u));
-    none = λ on. i.none (sym (ap is_tracing left.phase) ∙ on);
-    moved = λ on past. (let v = i.moved (sym (ap in_cycle left.phase) ∙ on) (sym (ap is_tracing left.phase) ∙ past) in record { one = v.one; spent = v.spent; within = within i.units v.within });
+    none = λ on. i.none (sym (ap awaits_sweep_end left.phase) ∙ on);
+    moved = λ on past. (let v = i.moved (sym (ap in_cycle left.phase) ∙ on) (sym (ap awaits_sweep_end left.phase) ∙ past) in record { one = v.one; spent = v.spent; within = within i.units v.within });
   }
 
   spent_next : (r : Course) (e : Event) (new : Course) (t : Tally) (b : Beat) (n : ℕ) (p : Pace) → IsCourse r → IsSpent k h r t n → KeepsPace p k b e → Does r e new → IsSpent k h new (after_event t e) (quanta_after r e n)
@@ -247,7 +247,7 @@ module _ (h : HeapState) (k : ℕ) (great : 256 ≤ k) where
     units = 0;
     spent = λ on. omega arith;
     none = λ on. refl;
-    moved = λ on past. absurd (let z : true ≡ false = sym (ap (λ (z : HeapState). is_tracing z.phase) does.heap) ∙ past in cc);
+    moved = λ on past. absurd (let z : true ≡ false = sym (ap (λ (z : HeapState). awaits_sweep_end z.phase) does.heap) ∙ past in cc);
   }
   spent_next r Cycle_on new t b n p w i keeps does = subst (λ z. IsSpent k h z t n) (sym does.1) i
   spent_next r (Quantum_done budget units phase) new t b n p w i keeps does = by_on (in_cycle r.heap.phase) (in_cycle new.heap.phase) refl refl
@@ -260,7 +260,7 @@ module _ (h : HeapState) (k : ℕ) (great : 256 ≤ k) where
 
       by_on : (b c : Bool) → in_cycle r.heap.phase ≡ b → in_cycle new.heap.phase ≡ c → IsSpent k h new (after_event t (Quantum_done budget units phase)) (if in_cycle r.heap.phase then n + 1 else n)
       by_on true true e f = subst (λ z. IsSpent k h new (after_event t (Quantum_done budget units phase)) (if z then n + 1 else n)) (sym e)
-          (quantum_on r new budget units phase t n w i keeps does limit settings e f (is_tracing r.heap.phase) (is_tracing new.heap.phase) refl refl)
+          (quantum_on r new budget units phase t n w i keeps does limit settings e f (awaits_sweep_end r.heap.phase) (awaits_sweep_end new.heap.phase) refl refl)
       by_on true false e f = idle_spent k h new _ _ limit settings f
       by_on false c e f =
           let still = idle_chain r.heap new.heap units does.turn.chain (idle_phase r.heap.phase e) in

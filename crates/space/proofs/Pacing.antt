@@ -21,7 +21,7 @@ use Rattle.heap_model.specs.declared.phase.Phase.TheVariants as phases
 use Rattle.heap_model.specs.State.{HeapState}
 use Rattle.heap_model.specs.Opening.{IsOpening}
 use Rattle.heap_model.specs.Event.{Course, Event, Command_done, Cycle_begun, Cycle_on, Quantum_done, Quantum_refused, Enters, Begins, Collects, Does, Runs, IsCourse, present_of, room_for, change_by}
-use Rattle.heap_model.specs.Led.{opened}
+use Rattle.heap_model.specs.ReachedFrom.{opened}
 use Rattle.heap_model.specs.Left.{LeavesCycle}
 use Rattle.heap_model.proofs.Stood.{idle_chain}
 use Rattle.heap_model.proofs.Left.{change_left}
@@ -29,7 +29,7 @@ use Rattle.heap_model.proofs.Changes.{length-put}
 use Rattle.heap_model.proofs.Freed.{objects_stay}
 use Rattle.heap_model.proofs.Course.{enters_graph, enters_present, begins_present, collects_present, does_course}
 use Rattle.space.specs.Demand.{LiveWithin, blocks_of, asked_for, asked_by}
-use Rattle.space.specs.Tally.{Tally, opening_tally, after_event, is_tracing, KeepsTo, AllKeepTo}
+use Rattle.space.specs.Tally.{Tally, opening_tally, after_event, awaits_sweep_end, KeepsTo, AllKeepTo}
 use Rattle.space.specs.Placement.{KeepsShapes}
 use Rattle.space.specs.Pace.{Pace, Beat, opening_beat, next_beat, in_cycle, KeepsPace, AllKeepPace, demand_of}
 use Rattle.space.proofs.Changing.{shapes_kept}
@@ -222,11 +222,11 @@ module _ (p : Pace) (k most : ℕ) where
       present = collects_present r new budget units phase w q
 
       -- with no cycle running
-      at_rest : b.on ≡ false → IsPaced new (if is_tracing phase then t else record t { base = t.last }) b p most n
+      at_rest : b.on ≡ false → IsPaced new (if awaits_sweep_end phase then t else record t { base = t.last }) b p most n
       at_rest off =
           let still = idle_chain r.heap new.heap units q.turn.chain (idle_phase r.heap.phase (sym i.on ∙ off)) in
           let ends : phase ≡ phases.Idle = sym q.ends ∙ ap (λ (z : HeapState). z.phase) still.0 ∙ idle_phase r.heap.phase (sym i.on ∙ off) in
-          subst (λ z. IsPaced new (if is_tracing z then t else record t { base = t.last }) b p most n) (sym ends) (record {
+          subst (λ z. IsPaced new (if awaits_sweep_end z then t else record t { base = t.last }) b p most n) (sym ends) (record {
             graph = i.graph ∙ sym present;
             same = i.same ∙ sym present;
             on = i.on ∙ ap (λ (z : HeapState). in_cycle z.phase) (sym still.0);
@@ -243,7 +243,7 @@ module _ (p : Pace) (k most : ℕ) where
           by_off class false z l = l
 
       -- with a cycle running
-      at_work : b.on ≡ true → IsPaced new (if is_tracing phase then t else record t { base = t.last }) (record b { on = in_cycle phase; asked = λ class. 0 }) p most (n + 1)
+      at_work : b.on ≡ true → IsPaced new (if awaits_sweep_end phase then t else record t { base = t.last }) (record b { on = in_cycle phase; asked = λ class. 0 }) p most (n + 1)
       at_work on = by_phase phase q.ends
         where
           since_last : (class : ℕ) → class < CLASSES → (blocks_of (drop t.last t.graph.objects) class ≤ (n + 1) * p.busy class) × (blocks_of (drop t.last t.graph.objects) class ≤ most * p.busy class)
@@ -282,16 +282,16 @@ module _ (p : Pace) (k most : ℕ) where
           tracing : (f : Phase) → new.heap.phase ≡ f → in_cycle f ≡ true → IsPaced new t (record b { on = true; asked = λ class. 0 }) p most (n + 1)
           tracing f e o = ended f true t.base e o i.base (λ class small. (since_last class small).0) since_base
 
-          by_phase : (f : Phase) → new.heap.phase ≡ f → IsPaced new (if is_tracing f then t else record t { base = t.last }) (record b { on = in_cycle f; asked = λ class. 0 }) p most (n + 1)
+          by_phase : (f : Phase) → new.heap.phase ≡ f → IsPaced new (if awaits_sweep_end f then t else record t { base = t.last }) (record b { on = in_cycle f; asked = λ class. 0 }) p most (n + 1)
           by_phase (phases.Roots next) e = tracing (phases.Roots next) e refl
           by_phase (phases.Marking part cell) e = tracing (phases.Marking part cell) e refl
           by_phase (phases.Sweeping page block) e = tracing (phases.Sweeping page block) e refl
           by_phase (phases.Moving m) e = ended (phases.Moving m) true t.last e refl i.last (λ class small. (since_last class small).0) (λ class small. (let l = (since_last class small).0 in omega (arith, l)))
           by_phase phases.Idle e = ended phases.Idle false t.last e refl i.last (λ class small. (since_last class small).1) (λ class small. (since_last class small).1)
 
-      by_on : (o : Bool) → b.on ≡ o → IsPaced new (if is_tracing phase then t else record t { base = t.last }) (if b.on then record b { on = in_cycle phase; asked = λ class. 0 } else b) p most (if b.on then n + 1 else n)
-      by_on true e = subst (λ z. IsPaced new (if is_tracing phase then t else record t { base = t.last }) (if z then record b { on = in_cycle phase; asked = λ class. 0 } else b) p most (if z then n + 1 else n)) (sym e) (at_work e)
-      by_on false e = subst (λ z. IsPaced new (if is_tracing phase then t else record t { base = t.last }) (if z then record b { on = in_cycle phase; asked = λ class. 0 } else b) p most (if z then n + 1 else n)) (sym e) (at_rest e)
+      by_on : (o : Bool) → b.on ≡ o → IsPaced new (if awaits_sweep_end phase then t else record t { base = t.last }) (if b.on then record b { on = in_cycle phase; asked = λ class. 0 } else b) p most (if b.on then n + 1 else n)
+      by_on true e = subst (λ z. IsPaced new (if awaits_sweep_end phase then t else record t { base = t.last }) (if z then record b { on = in_cycle phase; asked = λ class. 0 } else b) p most (if z then n + 1 else n)) (sym e) (at_work e)
+      by_on false e = subst (λ z. IsPaced new (if awaits_sweep_end phase then t else record t { base = t.last }) (if z then record b { on = in_cycle phase; asked = λ class. 0 } else b) p most (if z then n + 1 else n)) (sym e) (at_rest e)
 
   -- an event keeps to the demand
   paced_to : (r : Course) (e : Event) (t : Tally) (b : Beat) (n : ℕ) → IsPaced r t b p most n → (b.on ≡ true → n + 1 ≤ most) → KeepsPace p k b e → KeepsTo (demand_of p most) t e

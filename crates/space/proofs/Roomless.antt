@@ -13,7 +13,7 @@ use Rattle.graph_heap.specs.declared.command.Change.{Change}
 use Rattle.graph_heap.specs.declared.command.Change.TheVariants as changes
 use Rattle.graph_heap.specs.Shape.{fits, takes_refs, takes_words}
 use Rattle.graph_heap.specs.Graph.{Object, Graph}
-use Rattle.graph_heap.specs.Effect.{◌>>=◌, slot_at, static_at, found, object_at, ref_cell, word_cell, ref_at, word_at, fitting, next_identity, with_room, admits, admitted, is_join, deed_of, effect_of, settled, reply_of}
+use Rattle.graph_heap.specs.Effect.{◌>>=◌, slot_at, static_at, found, object_at, ref_cell, word_cell, ref_at, word_at, fitting, next_identity, with_room, admits, admitted, is_join, admitted_effect, effect_of, settled, reply_of}
 use Rattle.graph_heap.specs.History.{had_room}
 use Rattle.size_classes.specs.Need.{needed}
 use Rattle.heap_model.specs.Event.{Course, Event, Command_done, Cycle_begun, Cycle_on, Quantum_done, Quantum_refused, Runs, Enters, present_of, room_for}
@@ -88,30 +88,30 @@ abbrev IsNew : Command → Type 0
 IsNew (commands.New dst shape) = Unit {0}
 IsNew _ = ⊥
 
-deeds_roomless : (room : Bool) (g : Graph) (m : ℕ) (c : Command) → (IsNew c → ⊥) → IsRoomless (deed_of room g m c)
-deeds_roomless room g m (commands.New dst shape) n = absurd (n tt)
-deeds_roomless room g m (commands.Load dst obj i) n = bind_roomless _ _ (slot_other g.limits m dst) (λ d. bind_roomless _ _ (slot_other g.limits m obj) (λ a. bind_roomless _ _ (ref_other g.objects (slice_index g.roots a) i) (λ v. (refl, λ class. refl))))
-deeds_roomless room g m (commands.Store obj i src) n = bind_roomless _ _ (slot_other g.limits m obj) (λ a. bind_roomless _ _ (slot_other g.limits m src) (λ s. bind_roomless _ _ (ref_other g.objects (slice_index g.roots a) i) (λ v. (refl, λ class. refl))))
-deeds_roomless room g m (commands.CompareStore obj i expect new) n =
+admitted_roomless : (room : Bool) (g : Graph) (m : ℕ) (c : Command) → (IsNew c → ⊥) → IsRoomless (admitted_effect room g m c)
+admitted_roomless room g m (commands.New dst shape) n = absurd (n tt)
+admitted_roomless room g m (commands.Load dst obj i) n = bind_roomless _ _ (slot_other g.limits m dst) (λ d. bind_roomless _ _ (slot_other g.limits m obj) (λ a. bind_roomless _ _ (ref_other g.objects (slice_index g.roots a) i) (λ v. (refl, λ class. refl))))
+admitted_roomless room g m (commands.Store obj i src) n = bind_roomless _ _ (slot_other g.limits m obj) (λ a. bind_roomless _ _ (slot_other g.limits m src) (λ s. bind_roomless _ _ (ref_other g.objects (slice_index g.roots a) i) (λ v. (refl, λ class. refl))))
+admitted_roomless room g m (commands.CompareStore obj i expect new) n =
     bind_roomless _ _ (slot_other g.limits m obj) (λ a. bind_roomless _ _ (slot_other g.limits m expect) (λ e. bind_roomless _ _ (slot_other g.limits m new) (λ s. bind_roomless _ _ (ref_other g.objects (slice_index g.roots a) i) (λ v.
     if_roomless (v == slice_index g.roots e) _ _ (refl, λ class. refl) (refl, λ class. refl)))))
-deeds_roomless room g m (commands.Get obj i) n = bind_roomless _ _ (slot_other g.limits m obj) (λ a. bind_roomless _ _ (word_other g.objects (slice_index g.roots a) i) (λ v. (refl, λ class. refl)))
-deeds_roomless room g m (commands.Put obj i word) n = bind_roomless _ _ (slot_other g.limits m obj) (λ a. bind_roomless _ _ (word_other g.objects (slice_index g.roots a) i) (λ v. (refl, λ class. refl)))
-deeds_roomless room g m (commands.ComparePut obj i old new) n =
+admitted_roomless room g m (commands.Get obj i) n = bind_roomless _ _ (slot_other g.limits m obj) (λ a. bind_roomless _ _ (word_other g.objects (slice_index g.roots a) i) (λ v. (refl, λ class. refl)))
+admitted_roomless room g m (commands.Put obj i word) n = bind_roomless _ _ (slot_other g.limits m obj) (λ a. bind_roomless _ _ (word_other g.objects (slice_index g.roots a) i) (λ v. (refl, λ class. refl)))
+admitted_roomless room g m (commands.ComparePut obj i old new) n =
     bind_roomless _ _ (slot_other g.limits m obj) (λ a. bind_roomless _ _ (word_other g.objects (slice_index g.roots a) i) (λ v. if_roomless (v == old) _ _ (refl, λ class. refl) (refl, λ class. refl)))
-deeds_roomless room g m (commands.Copy dst src) n = bind_roomless _ _ (slot_other g.limits m dst) (λ d. bind_roomless _ _ (slot_other g.limits m src) (λ s. (refl, λ class. refl)))
-deeds_roomless room g m (commands.Clear dst) n = bind_roomless _ _ (slot_other g.limits m dst) (λ d. (refl, λ class. refl))
-deeds_roomless room g m (commands.LoadStatic dst k) n = bind_roomless _ _ (slot_other g.limits m dst) (λ d. bind_roomless _ _ (static_other g.limits k) (λ s. (refl, λ class. refl)))
-deeds_roomless room g m (commands.StoreStatic k src) n = bind_roomless _ _ (slot_other g.limits m src) (λ s. bind_roomless _ _ (static_other g.limits k) (λ d. (refl, λ class. refl)))
-deeds_roomless room g m (commands.CompareStatic k expect new) n =
+admitted_roomless room g m (commands.Copy dst src) n = bind_roomless _ _ (slot_other g.limits m dst) (λ d. bind_roomless _ _ (slot_other g.limits m src) (λ s. (refl, λ class. refl)))
+admitted_roomless room g m (commands.Clear dst) n = bind_roomless _ _ (slot_other g.limits m dst) (λ d. (refl, λ class. refl))
+admitted_roomless room g m (commands.LoadStatic dst k) n = bind_roomless _ _ (slot_other g.limits m dst) (λ d. bind_roomless _ _ (static_other g.limits k) (λ s. (refl, λ class. refl)))
+admitted_roomless room g m (commands.StoreStatic k src) n = bind_roomless _ _ (slot_other g.limits m src) (λ s. bind_roomless _ _ (static_other g.limits k) (λ d. (refl, λ class. refl)))
+admitted_roomless room g m (commands.CompareStatic k expect new) n =
     bind_roomless _ _ (slot_other g.limits m expect) (λ e. bind_roomless _ _ (slot_other g.limits m new) (λ s. bind_roomless _ _ (static_other g.limits k) (λ d. if_roomless (slice_index g.roots d == slice_index g.roots e) _ _ (refl, λ class. refl) (refl, λ class. refl))))
-deeds_roomless room g m (commands.Same a b) n = bind_roomless _ _ (slot_other g.limits m a) (λ x. bind_roomless _ _ (slot_other g.limits m b) (λ y. (refl, λ class. refl)))
-deeds_roomless room g m (commands.Describe a) n = bind_roomless _ _ (slot_other g.limits m a) (λ x. bind_roomless _ _ (object_other g.objects (slice_index g.roots x)) (λ o. (refl, λ class. refl)))
-deeds_roomless room g m commands.Join n = (refl, λ class. refl)
-deeds_roomless room g m commands.Leave n = (refl, λ class. refl)
+admitted_roomless room g m (commands.Same a b) n = bind_roomless _ _ (slot_other g.limits m a) (λ x. bind_roomless _ _ (slot_other g.limits m b) (λ y. (refl, λ class. refl)))
+admitted_roomless room g m (commands.Describe a) n = bind_roomless _ _ (slot_other g.limits m a) (λ x. bind_roomless _ _ (object_other g.objects (slice_index g.roots x)) (λ o. (refl, λ class. refl)))
+admitted_roomless room g m commands.Join n = (refl, λ class. refl)
+admitted_roomless room g m commands.Leave n = (refl, λ class. refl)
 
 others_roomless : (room : Bool) (g : Graph) (m : ℕ) (c : Command) → (IsNew c → ⊥) → IsRoomless (effect_of room g m c)
-others_roomless room g m c n = bind_roomless (admitted g m c) (λ ok. deed_of room g m c) (admitted_other g m c) (λ ok. deeds_roomless room g m c n)
+others_roomless room g m c n = bind_roomless (admitted g m c) (λ ok. admitted_effect room g m c) (admitted_other g m c) (λ ok. admitted_roomless room g m c n)
 
 -- a new object's reply, with and without room
 abbrev pub new_effect : Result Bool Refusal → Result ℕ Refusal → Result Shape Refusal → Result ℕ Refusal → Shape → Bool → Result (Reply × Change) Refusal

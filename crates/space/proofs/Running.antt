@@ -19,23 +19,23 @@ use Rattle.size_classes.specs.Need.{needed}
 use Rattle.heap_model.specs.declared.phase.Phase.{Phase}
 use Rattle.heap_model.specs.declared.phase.Phase.TheVariants as phases
 use Rattle.heap_model.specs.Pages.{Page, ArePages, page_at, has_room}
-use Rattle.heap_model.specs.Store.{is_held, node_of}
+use Rattle.heap_model.specs.Store.{is_allocated, record_of}
 use Rattle.heap_model.specs.Core.{Resting}
 use Rattle.heap_model.specs.Cut.{view}
 use Rattle.heap_model.specs.Collector.{contains, In_idle, In_moves}
-use Rattle.heap_model.specs.State.{HeapState, seen, collector_of, progress_of, is_leaving}
+use Rattle.heap_model.specs.State.{HeapState, seen, collector_of, progress_of, is_evacuating}
 use Rattle.heap_model.specs.Agreement.{Consistent}
 use Rattle.heap_model.specs.Opening.{IsOpening}
 use Rattle.heap_model.specs.Action.{Chain, Nothing_done, Then}
-use Rattle.heap_model.specs.Standing.{Stands}
+use Rattle.heap_model.specs.Standing.{Represents}
 use Rattle.heap_model.specs.Settings.{HeapSettings}
 use Rattle.heap_model.specs.Change.{DoesChange}
 use Rattle.heap_model.specs.Event.{Course, Event, Command_done, Cycle_begun, Cycle_on, Quantum_done, Quantum_refused, Enters, Begins, Collects, Does, Runs, IsCourse, present_of, snapshot_of, room_for, change_by}
-use Rattle.heap_model.specs.Led.{opened}
+use Rattle.heap_model.specs.ReachedFrom.{opened}
 use Rattle.heap_model.proofs.Seen.{behind}
-use Rattle.heap_model.proofs.Held.{held_block}
+use Rattle.heap_model.proofs.Allocated.{allocated_block}
 use Rattle.heap_model.proofs.Collector.{stage_at}
-use Rattle.heap_model.proofs.Rest.{held_kept}
+use Rattle.heap_model.proofs.Rest.{allocated_kept}
 use Rattle.heap_model.proofs.Stood.{stands_chain}
 use Rattle.heap_model.proofs.Relinked.{stands_relinked}
 use Rattle.heap_model.proofs.Settings.{change_settings}
@@ -44,10 +44,10 @@ use Rattle.heap_model.proofs.Opening.{page_none}
 use Rattle.heap_model.proofs.Agreements.{consistent_agrees}
 use Rattle.heap_model.proofs.Course.{enters_graph, enters_present, enters_snapshot, begins_present, collects_limits, collects_present, does_course, opening_course}
 use Rattle.space.specs.Demand.{Demand, LiveWithin, blocks_of, blocks_for, asked_for, asked_by}
-use Rattle.space.specs.Tally.{Tally, opening_tally, after_event, is_tracing, KeepsTo, AllKeepTo, FindsRoom, NewFindsRoom, EveryNewFindsRoom}
+use Rattle.space.specs.Tally.{Tally, opening_tally, after_event, awaits_sweep_end, KeepsTo, AllKeepTo, FindsRoom, NewFindsRoom, EveryNewFindsRoom}
 use Rattle.space.specs.Space.{pages_for, space_for, spare_of}
-use Rattle.space.specs.Counts.{is_of, main_blocks, leaving_pages, IsBounded}
-use Rattle.space.specs.Placement.{MayLeave, MaySpare, HasBoundedPages, IsTidy, KeepsOnly, KeepsShapes}
+use Rattle.space.specs.Counts.{is_of, main_blocks, evacuating_pages, IsBounded}
+use Rattle.space.specs.Placement.{MayEvacuate, MaySpare, HasBoundedPages, IsTidy, KeepsOnly, KeepsShapes}
 use Rattle.space.proofs.Counts.{one_if, bounded_room}
 use Rattle.space.proofs.Spacing.{bounded_pages, bounded_action, bounded_same}
 use Rattle.space.proofs.Tidying.{shrinks_keeps, tidy_same, tidy_action, only_less, only_action}
@@ -56,25 +56,25 @@ use Rattle.space.proofs.Census.{census}
 use Rattle.space.proofs.Roomless.{IsOther, new_effect, admitted_other, slot_other, fitting_other, next_other}
 
 -- in idle and moving, only what is kept has a main copy
-resting : (h : HeapState) (present snapshot : Graph) (c : Consistent h present snapshot) → is_tracing h.phase ≡ false → Resting (seen h) (view present) (view snapshot) c.parts.at
+resting : (h : HeapState) (present snapshot : Graph) (c : Consistent h present snapshot) → awaits_sweep_end h.phase ≡ false → Resting (seen h) (view present) (view snapshot) c.parts.at
 resting h present snapshot c off = by_phase h.phase refl off
   where
-    by_phase : (p : Phase) → h.phase ≡ p → is_tracing p ≡ false → Resting (seen h) (view present) (view snapshot) c.parts.at
+    by_phase : (p : Phase) → h.phase ≡ p → awaits_sweep_end p ≡ false → Resting (seen h) (view present) (view snapshot) c.parts.at
     by_phase phases.Idle e z = stage_at (collector_of h) (view present) (view snapshot) c.parts In_idle (ap (progress_of h.store.pages) e)
     by_phase (phases.Roots next) e z = absurd (cc)
     by_phase (phases.Marking part cell) e z = absurd (cc)
     by_phase (phases.Sweeping page block) e z = absurd (cc)
     by_phase (phases.Moving m) e z = (stage_at (collector_of h) (view present) (view snapshot) c.parts In_moves (ap (progress_of h.store.pages) e)).0
 
-pub rest_only : (h : HeapState) (present snapshot : Graph) (ids : List ℕ) → Stands h present snapshot → is_tracing h.phase ≡ false → ((id : ℕ) → Reaches snapshot id → contains ids id ≡ true) → KeepsOnly h.store (length snapshot.objects) ids
+pub rest_only : (h : HeapState) (present snapshot : Graph) (ids : List ℕ) → Represents h present snapshot → awaits_sweep_end h.phase ≡ false → ((id : ℕ) → Reaches snapshot id → contains ids id ≡ true) → KeepsOnly h.store (length snapshot.objects) ids
 rest_only h present snapshot ids st off reached b l main small =
     let c = st.consistent in
     let r = resting h present snapshot c off in
-    let held_x : (seen h).held (b + 1) ≡ true = behind true (λ z. is_held h.store z) b ∙ l in
-    let forward : (seen h).forward (b + 1) ≡ b + 1 = behind 0 (λ z. (node_of h.store z).forward + 1) b ∙ ap (λ z. z + 1) main in
-    let k = held_kept h present snapshot c b (r.kept (b + 1) held_x) (sym forward ∙ r.forward (b + 1) held_x) in
+    let allocated_x : (seen h).allocated (b + 1) ≡ true = behind true (λ z. is_allocated h.store z) b ∙ l in
+    let forward : (seen h).forward (b + 1) ≡ b + 1 = behind 0 (λ z. (record_of h.store z).forward + 1) b ∙ ap (λ z. z + 1) main in
+    let k = allocated_kept h present snapshot c b (r.kept (b + 1) allocated_x) (sym forward ∙ r.forward (b + 1) allocated_x) in
     elim k.0 [
-      | inl reach ↦ reached (node_of h.store b).identity reach
+      | inl reach ↦ reached (record_of h.store b).identity reach
       | inr late ↦ absurd (let q = late.0 in omega (arith, q, small))
     ]
 
@@ -84,7 +84,7 @@ pub record Went (h after : HeapState) (objects : List Object) (blocks : ℕ → 
   pub bounded : HasBoundedPages after blocks spare
   pub count : length after.store.pages ≡ length h.store.pages
 
-pub chain_went : (h after : HeapState) (spent : ℕ) (present snapshot : Graph) (objects : List Object) (blocks : ℕ → ℕ) (spare : ℕ) → Stands h present snapshot → IsTidy h.store objects → HasBoundedPages h blocks spare → Chain h spent after → Went h after objects blocks spare
+pub chain_went : (h after : HeapState) (spent : ℕ) (present snapshot : Graph) (objects : List Object) (blocks : ℕ → ℕ) (spare : ℕ) → Represents h present snapshot → IsTidy h.store objects → HasBoundedPages h blocks spare → Chain h spent after → Went h after objects blocks spare
 chain_went h after spent g s objects blocks spare st tidy bounded Nothing_done = record { tidy = tidy; bounded = bounded; count = refl }
 chain_went h after spent g s objects blocks spare st tidy bounded (Then u cost j k linked chain links action) =
     let w = chain_went h j u g s objects blocks spare st tidy bounded chain in
@@ -92,11 +92,11 @@ chain_went h after spent g s objects blocks spare st tidy bounded (Then u cost j
     let si = stands_relinked j linked links g s (stands_chain h j u g s st chain) in
     record {
       tidy = tidy_action i k cost g s objects si action (tidy_same j.store linked objects (shrinks_keeps j.store linked links.blocks) links.pages w.tidy);
-      bounded = bounded_action i k cost blocks spare si.pages si.closed (bounded_same j i blocks spare w.bounded (record { most = refl; below = refl }) links.pages w.bounded.leaving) action;
+      bounded = bounded_action i k cost blocks spare si.pages si.closed (bounded_same j i blocks spare w.bounded (record { most = refl; below = refl }) links.pages w.bounded.evacuating) action;
       count = action_count i k cost action ∙ ap length links.pages ∙ w.count;
     }
 
-pub chain_only : (h after : HeapState) (spent base : ℕ) (ids : List ℕ) → Chain h spent after → is_tracing after.phase ≡ true → KeepsOnly h.store base ids → KeepsOnly after.store base ids
+pub chain_only : (h after : HeapState) (spent base : ℕ) (ids : List ℕ) → Chain h spent after → awaits_sweep_end after.phase ≡ true → KeepsOnly h.store base ids → KeepsOnly after.store base ids
 chain_only h after spent base ids Nothing_done t w = w
 chain_only h after spent base ids (Then u cost j k linked chain links action) t w =
     only_action (record j { store = linked }) k cost base ids action t (λ on. only_less j.store linked base ids (shrinks_keeps j.store linked links.blocks) (chain_only h j u base ids chain on w))
@@ -209,7 +209,7 @@ tracked_begins r new t d spare w k live b = record {
   kept = shapes_into _ _ _ (ap (λ (z : Graph). z.objects) present) k.kept;
   only = subst (λ (z : HeapState). KeepsOnly z.store (length k.first) k.ids) (sym b.heap) k.only;
   tidy = subst (λ (z : HeapState). IsTidy z.store (present_of new).objects) (sym b.heap) (subst (λ (z : Graph). IsTidy r.heap.store z.objects) (sym present) k.tidy);
-  bounded = subst (λ z. HasBoundedPages z (blocks_for d) spare) (sym b.heap) (bounded_same r.heap _ (blocks_for d) spare k.bounded (record { most = refl; below = refl }) refl (let q = bounded_pages r.heap (blocks_for d) spare k.bounded in q.leaving));
+  bounded = subst (λ z. HasBoundedPages z (blocks_for d) spare) (sym b.heap) (bounded_same r.heap _ (blocks_for d) spare k.bounded (record { most = refl; below = refl }) refl (let q = bounded_pages r.heap (blocks_for d) spare k.bounded in q.evacuating));
   pages = subst (λ (z : HeapState). space_for d spare ≤ length z.store.pages) (sym b.heap) k.pages;
 }
   where
@@ -223,7 +223,7 @@ tracked_begins r new t d spare w k live b = record {
         ap (λ z. after (opening z) (take new.place new.history)) limits ∙ ap (after (opening r.heap.limits)) all
 
 tracked_quantum : (r new : Course) (budget units : ℕ) (phase : Phase) (t : Tally) (d : Demand) (spare : ℕ) → IsCourse r → IsTracked r t d spare → Collects r budget units phase new → IsTracked new (after_event t (Quantum_done budget units phase)) d spare
-tracked_quantum r new budget units phase t d spare w k q = by_tracing (is_tracing phase) refl
+tracked_quantum r new budget units phase t d spare w k q = by_tracing (awaits_sweep_end phase) refl
   where
     present : present_of new ≡ present_of r
     present = collects_present r new budget units phase w q
@@ -237,7 +237,7 @@ tracked_quantum r new budget units phase t d spare w k q = by_tracing (is_tracin
     went : Went r.heap new.heap (present_of r).objects (blocks_for d) spare
     went = chain_went r.heap new.heap units (present_of r) (snapshot_of r) (present_of r).objects (blocks_for d) spare w.stands k.tidy k.bounded q.turn.chain
 
-    stands : Stands new.heap (present_of r) (snapshot_of r)
+    stands : Represents new.heap (present_of r) (snapshot_of r)
     stands = stands_chain r.heap new.heap units (present_of r) (snapshot_of r) w.stands q.turn.chain
 
     live : LiveWithin (snapshot_of new) d.live
@@ -255,7 +255,7 @@ tracked_quantum r new budget units phase t d spare w k q = by_tracing (is_tracin
     last : t.last ≡ length (snapshot_of new).objects
     last = k.last ∙ ap (λ (z : Graph). length z.objects) (sym snapshot)
 
-    by_tracing : (b : Bool) → is_tracing phase ≡ b → IsTracked new (if b then t else record t { base = t.last }) d spare
+    by_tracing : (b : Bool) → awaits_sweep_end phase ≡ b → IsTracked new (if b then t else record t { base = t.last }) d spare
     by_tracing true on = record {
       graph = k.graph ∙ sym present;
       last = last;
@@ -266,7 +266,7 @@ tracked_quantum r new budget units phase t d spare w k q = by_tracing (is_tracin
       base = k.base;
       within = k.within;
       kept = shapes_into _ _ _ (ap (λ (z : Graph). z.objects) present) k.kept;
-      only = chain_only r.heap new.heap units (length k.first) k.ids q.turn.chain (ap is_tracing q.ends ∙ on) k.only;
+      only = chain_only r.heap new.heap units (length k.first) k.ids q.turn.chain (ap awaits_sweep_end q.ends ∙ on) k.only;
       tidy = tidy;
       bounded = went.bounded;
       pages = pages;
@@ -281,7 +281,7 @@ tracked_quantum r new budget units phase t d spare w k q = by_tracing (is_tracin
       base = k.last;
       within = k.live.blocks;
       kept = shapes_into _ _ _ (ap (λ (z : Graph). z.objects) present) k.kept_last;
-      only = rest_only new.heap (present_of r) (snapshot_of r) k.live.ids stands (ap is_tracing q.ends ∙ off) k.live.reached;
+      only = rest_only new.heap (present_of r) (snapshot_of r) k.live.ids stands (ap awaits_sweep_end q.ends ∙ off) k.live.reached;
       tidy = tidy;
       bounded = went.bounded;
       pages = pages;
@@ -302,8 +302,8 @@ runs_find_room (e ∷ es) r new t d spare w k runs keeps =
 
 -- from an opening heap
 module _ (h : HeapState) (o : IsOpening h) (some : 0 < length h.store.pages) where
-  none_held : (b : ℕ) → is_held h.store b ≡ true → ⊥
-  none_held b l = let q = held_block h.store b l in let z : None ≡ Some q.0 = sym (ap (λ y. page_at y (b / 2048)) o.pages ∙ page_none (length h.store.pages) (b / 2048)) ∙ q.2.page in cc
+  none_allocated : (b : ℕ) → is_allocated h.store b ≡ true → ⊥
+  none_allocated b l = let q = allocated_block h.store b l in let z : None ≡ Some q.0 = sym (ap (λ y. page_at y (b / 2048)) o.pages ∙ page_none (length h.store.pages) (b / 2048)) ∙ q.2.page in cc
 
   count_none : (p : Option Page → Bool) → p None ≡ false → count_by p h.store.pages ≡ 0
   count_none p e = ap (count_by p) o.pages ∙ sum_by-replicate (λ z. one_if (p z)) (length h.store.pages) None ∙ ap (λ z. length h.store.pages * one_if z) e ∙ mul-zero (length h.store.pages)
@@ -326,18 +326,18 @@ module _ (h : HeapState) (o : IsOpening h) (some : 0 < length h.store.pages) whe
     base = refl;
     within = λ class l. omega arith;
     kept = record { more = omega arith; shape = λ id l. refl };
-    only = λ b l. absurd (none_held b l);
+    only = λ b l. absurd (none_allocated b l);
     tidy = record {
-      class = λ b l. absurd (none_held b l);
-      part = λ b l. absurd (none_held b l);
-      given = λ b l. absurd (none_held b l);
-      shape = λ b l. absurd (none_held b l);
-      one = λ a b l. absurd (none_held a l);
-      old = λ b l. absurd (none_held b l);
+      class = λ b l. absurd (none_allocated b l);
+      part = λ b l. absurd (none_allocated b l);
+      given = λ b l. absurd (none_allocated b l);
+      shape = λ b l. absurd (none_allocated b l);
+      one = λ a b l. absurd (none_allocated a l);
+      old = λ b l. absurd (none_allocated b l);
     };
     bounded = record {
       used = λ class l. (let z = count_none (is_of class) refl in omega (arith, z));
-      leaving = subst (MayLeave spare h.defrag_pages (leaving_pages h.store.pages)) (sym o.phase) (let z = count_none is_leaving refl in omega (arith, z));
+      evacuating = subst (MayEvacuate spare h.defrag_pages (evacuating_pages h.store.pages)) (sym o.phase) (let z = count_none is_evacuating refl in omega (arith, z));
       same = may;
     };
     pages = fits;

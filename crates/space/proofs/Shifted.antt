@@ -5,7 +5,7 @@ use Rattle.graph_heap.specs.declared.command.Change.{Change}
 use Rattle.heap_model.specs.declared.phase.Candidate.{Candidate}
 use Rattle.heap_model.specs.State.{HeapState}
 use Rattle.heap_model.specs.Spent.{IsWithin}
-use Rattle.heap_model.specs.Standing.{Stands}
+use Rattle.heap_model.specs.Standing.{Represents}
 use Rattle.heap_model.specs.Action.{Action, Scans_root, Ends_roots, Scans_header, Scans_cell, Ends_marking, Frees_block, Passes_block, Closes_page, Ends_sweep, Looks_at_page, Chooses_page, Chooses_none, Moves_block, Ends_moving, Shades, Was_marked, Is_marked, AtPass, In_pass, After_page, MovingDone, No_class, No_page, Chain, Nothing_done, Then}
 use Rattle.heap_model.specs.Change.{Records, Records_nothing, Records_main, Clears, Clears_none, Clears_next, DoesChange, Does_nothing, Does_root, Does_ref, Does_word, Does_new, Does_join, Does_leave}
 
@@ -38,7 +38,7 @@ action_at u h after cost (Ends_sweep page block e l) = Ends_sweep page block e l
 action_at u h after cost (Looks_at_page class page best chosen at few more) = Looks_at_page class page best chosen (pass_at u h class page best chosen at) few more
 action_at u h after cost (Chooses_page class page best chosen c p new at few last is good there w pages) = Chooses_page class page best chosen c p new (pass_at u h class page best chosen at) few last is good there w pages
 action_at u h after cost (Chooses_none class page best chosen at few last is) = Chooses_none class page best chosen (pass_at u h class page best chosen at) few last is
-action_at u h after cost (Moves_block class page block chosen i to j p q new e at leaving next place there empty w pages) = Moves_block class page block chosen i to j p q new e at leaving next place there empty w pages
+action_at u h after cost (Moves_block class page block chosen i to j p q new e at evacuating next place there empty w pages) = Moves_block class page block chosen i to j p q new e at evacuating next place there empty w pages
 action_at u h after cost (Ends_moving done) = Ends_moving (done_at u h done)
 
 pub chain_at : (u : ℕ) (h after : HeapState) (spent : ℕ) → Chain h spent after → Chain (at_units u h) spent (at_units (u + spent) after)
@@ -66,7 +66,7 @@ change_at u h after g c (Does_join m) = Does_join m
 change_at u h after g c (Does_leave m k clears) = Does_leave m (at_units u k) (clears_at u h _ _ k clears)
 
 -- it stands for the same graph heaps, if this many units are within those of its phase
-pub stands_at : (u : ℕ) (h : HeapState) (present snapshot : Graph) → Stands h present snapshot → IsWithin (at_units u h) h.phase → Stands (at_units u h) present snapshot
+pub stands_at : (u : ℕ) (h : HeapState) (present snapshot : Graph) → Represents h present snapshot → IsWithin (at_units u h) h.phase → Represents (at_units u h) present snapshot
 stands_at u h present snapshot w within =
     let c = w.consistent in
     record {

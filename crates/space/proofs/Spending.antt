@@ -10,15 +10,15 @@ use Rattle.heap_model.specs.declared.phase.Moving.TheVariants as moves
 use Rattle.heap_model.specs.State.{HeapState}
 use Rattle.heap_model.specs.Settings.{HeapSettings, settings_of}
 use Rattle.heap_model.specs.Spent.{IsWithin, cycle_limit, swept_units}
-use Rattle.heap_model.specs.Turn.{NextCosts, Of_move, Of_other, SpendsTurn}
+use Rattle.heap_model.specs.QuantumSpending.{NextCosts, Of_move, Of_other, QuantumSpends}
 use Rattle.heap_model.specs.Event.{Course, Event, Command_done, Cycle_begun, Cycle_on, Quantum_done, Quantum_refused, Does, present_of, room_for, change_by}
-use Rattle.heap_model.specs.Standing.{Stands}
+use Rattle.heap_model.specs.Standing.{Represents}
 use Rattle.heap_model.proofs.Spent.{marking_bound}
 use Rattle.heap_model.proofs.Stood.{idle_chain}
 use Rattle.heap_model.proofs.Turns.{chain_units}
 use Rattle.heap_model.proofs.Bound.{chain_limit, spent_more}
 use Rattle.heap_model.proofs.Left.{change_left}
-use Rattle.space.specs.Tally.{is_tracing}
+use Rattle.space.specs.Tally.{awaits_sweep_end}
 use Rattle.space.specs.Pace.{in_cycle}
 use Rattle.space.proofs.Pacing.{idle_phase, quanta_after}
 
@@ -40,10 +40,10 @@ same_swept h after limit same =
     omega (arith, limit, pages, looks)
 
 -- up to the end of the sweep no more is spent than roots, marking and sweeping spend
-pub swept_kept : (h : HeapState) (present snapshot : Graph) → Stands h present snapshot → is_tracing h.phase ≡ true → h.units ≤ swept_units h
+pub swept_kept : (h : HeapState) (present snapshot : Graph) → Represents h present snapshot → awaits_sweep_end h.phase ≡ true → h.units ≤ swept_units h
 swept_kept h present snapshot w on = by_phase h.phase refl w.within on
   where
-    by_phase : (q : Phase) → h.phase ≡ q → IsWithin h q → is_tracing q ≡ true → h.units ≤ swept_units h
+    by_phase : (q : Phase) → h.phase ≡ q → IsWithin h q → awaits_sweep_end q ≡ true → h.units ≤ swept_units h
     by_phase phases.Idle e v on = absurd (cc)
     by_phase (phases.Roots next) e v on = let a = v.0 in let b = v.1 in omega (arith, a, b)
     by_phase (phases.Marking part cell) e v on = let a = v.0 in let b = marking_bound h present snapshot part cell w.pages w.consistent e in omega (arith, a, b)
@@ -51,7 +51,7 @@ swept_kept h present snapshot w on = by_phase h.phase refl w.within on
     by_phase (phases.Moving m) e v on = absurd (cc)
 
 -- where the next action isn't a move, it costs one unit, so that the whole budget was spent
-pub all_spent : (h after : HeapState) (budget spent : ℕ) → SpendsTurn h budget after spent → ((m : Moving) → after.phase ≡ phases.Moving m → ⊥) → after.phase ≢ phases.Idle → budget ≤ spent
+pub all_spent : (h after : HeapState) (budget spent : ℕ) → QuantumSpends h budget after spent → ((m : Moving) → after.phase ≡ phases.Moving m → ⊥) → after.phase ≢ phases.Idle → budget ≤ spent
 all_spent h after budget spent t none away = elim t.ends [
   | inl e ↦ absurd (away e)
   | inr n ↦ by_cost n.0 n.1 n.2

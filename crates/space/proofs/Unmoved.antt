@@ -7,52 +7,52 @@ use Rattle.heap_model.specs.declared.phase.Phase.TheVariants as phases
 use Rattle.heap_model.specs.declared.phase.Moving.{Moving}
 use Rattle.heap_model.specs.declared.phase.Moving.TheVariants as moves
 use Rattle.heap_model.specs.Pages.{Page, page_at}
-use Rattle.heap_model.specs.State.{HeapState, is_leaving}
+use Rattle.heap_model.specs.State.{HeapState, is_evacuating}
 use Rattle.heap_model.specs.Placed.{IsPlaced}
 use Rattle.heap_model.specs.Opening.{IsOpening}
 use Rattle.heap_model.specs.Settings.{settings_of}
 use Rattle.heap_model.specs.Spent.{cycle_limit, swept_units}
 use Rattle.heap_model.specs.Event.{Course, Event, Command_done, Cycle_begun, Cycle_on, Quantum_done, Quantum_refused, Does, Runs, IsCourse, present_of, snapshot_of}
-use Rattle.heap_model.specs.Led.{opened}
-use Rattle.heap_model.proofs.Held.{page_within}
+use Rattle.heap_model.specs.ReachedFrom.{opened}
+use Rattle.heap_model.proofs.Allocated.{page_within}
 use Rattle.heap_model.proofs.Moved.{same_number}
 use Rattle.heap_model.proofs.Settings.{does_settings}
 use Rattle.heap_model.proofs.Course.{does_course, opening_course}
 use Rattle.space.specs.Demand.{Demand, blocks_for}
-use Rattle.space.specs.Tally.{Tally, opening_tally, after_event, is_tracing, KeepsTo, AllKeepTo, EveryNewFindsRoom}
+use Rattle.space.specs.Tally.{Tally, opening_tally, after_event, awaits_sweep_end, KeepsTo, AllKeepTo, EveryNewFindsRoom}
 use Rattle.space.specs.Space.{space_for, pages_for, below_of}
-use Rattle.space.specs.Counts.{leaving_pages}
-use Rattle.space.specs.Placement.{MayLeave, MaySpare, HasBoundedPages}
+use Rattle.space.specs.Counts.{evacuating_pages}
+use Rattle.space.specs.Placement.{MayEvacuate, MaySpare, HasBoundedPages}
 use Rattle.space.specs.Pace.{Pace, Beat, opening_beat, in_cycle, KeepsPace, AllKeepPace, unmoved_quanta, demand_of}
-use Rattle.space.proofs.Counts.{one_if, leaving_set}
+use Rattle.space.proofs.Counts.{one_if, evacuating_set}
 use Rattle.space.proofs.Running.{IsTracked, tracked_does, opening_tracked, runs_find_room}
 use Rattle.space.proofs.Pacing.{quanta_after, runs_keep, opening_paced}
 use Rattle.space.proofs.Spending.{limit_stays, same_swept, swept_kept, all_spent, few_quanta, HaveSpent, Spends, spent_next}
 
--- a page that is leaving is counted
-some_leaving : (pages : List (Option Page)) (page : ℕ) (p : Page) → page_at pages page ≡ Some p → p.leaving ≡ true → 0 < leaving_pages pages
-some_leaving pages page p at on =
-    let counts = leaving_set pages (set pages page None) page (Some p) None (page_within pages page p at) at refl in
-    let one : one_if (is_leaving (Some p)) ≡ 1 = ap one_if on in
-    let none : one_if (is_leaving None) ≡ 0 = refl in
+-- a page that is evacuating is counted
+some_evacuating : (pages : List (Option Page)) (page : ℕ) (p : Page) → page_at pages page ≡ Some p → p.evacuating ≡ true → 0 < evacuating_pages pages
+some_evacuating pages page p at on =
+    let counts = evacuating_set pages (set pages page None) page (Some p) None (page_within pages page p at) at refl in
+    let one : one_if (is_evacuating (Some p)) ≡ 1 = ap one_if on in
+    let none : one_if (is_evacuating None) ≡ 0 = refl in
     omega (arith, counts, one, none)
 
 -- where no page may be left sparse, blocks aren't moved
 pub none_moving : (h : HeapState) (blocks : ℕ → ℕ) (m : Moving) → IsPlaced h.store.pages h.phase → HasBoundedPages h blocks 0 → h.phase ≡ phases.Moving m → ⊥
 none_moving h blocks (moves.Pass class page best chosen) placed w e =
-    let l = subst (MayLeave 0 h.defrag_pages (leaving_pages h.store.pages)) e w.leaving in
+    let l = subst (MayEvacuate 0 h.defrag_pages (evacuating_pages h.store.pages)) e w.evacuating in
     let few = l.1 in
     omega (arith, few)
 none_moving h blocks (moves.Emptying class page block chosen) placed w e =
-    let l = subst (MayLeave 0 h.defrag_pages (leaving_pages h.store.pages)) e w.leaving in
+    let l = subst (MayEvacuate 0 h.defrag_pages (evacuating_pages h.store.pages)) e w.evacuating in
     let few = l.0 in
     let none = l.1 in
     let p = subst (IsPlaced h.store.pages) e placed in
-    let some = some_leaving h.store.pages page p.0 p.1 p.2 in
+    let some = some_evacuating h.store.pages page p.0 p.1 p.2 in
     omega (arith, few, none, some)
 
 -- a running cycle that moves nothing is before the end of its sweep
-still_tracing : (q : Phase) → ((m : Moving) → q ≡ phases.Moving m → ⊥) → in_cycle q ≡ true → is_tracing q ≡ true
+still_tracing : (q : Phase) → ((m : Moving) → q ≡ phases.Moving m → ⊥) → in_cycle q ≡ true → awaits_sweep_end q ≡ true
 still_tracing phases.Idle none on = absurd (cc)
 still_tracing (phases.Roots next) none on = refl
 still_tracing (phases.Marking part cell) none on = refl

@@ -8,21 +8,21 @@ use Rattle.heap_model.specs.declared.phase.Phase.{Phase}
 use Rattle.heap_model.specs.declared.phase.Phase.TheVariants as phases
 use Rattle.heap_model.specs.declared.phase.Moving.TheVariants as moves
 use Rattle.heap_model.specs.Pages.{Page, page_at}
-use Rattle.heap_model.specs.Store.{Store, is_held, node_of}
+use Rattle.heap_model.specs.Store.{Store, is_allocated, record_of}
 use Rattle.heap_model.specs.Collector.{contains}
-use Rattle.heap_model.specs.State.{HeapState, is_leaving}
+use Rattle.heap_model.specs.State.{HeapState, is_evacuating}
 use Rattle.space.specs.Space.{class_pages, pages_for, spare_of}
-use Rattle.space.specs.Counts.{used_pages, leaving_pages}
+use Rattle.space.specs.Counts.{used_pages, evacuating_pages}
 
--- in moving as many pages are leaving as were chosen, and else as many as may be
-abbrev pub MayLeave : ℕ → ℕ → ℕ → Phase → Type 0
-MayLeave spare most leaving phases.Idle = leaving ≤ spare
-MayLeave spare most leaving (phases.Roots next) = leaving ≤ spare
-MayLeave spare most leaving (phases.Marking part cell) = leaving ≤ spare
-MayLeave spare most leaving (phases.Sweeping page block) = leaving ≤ spare
-MayLeave spare most leaving (phases.Moving (moves.Pass class page best chosen)) =
-    (leaving ≤ chosen) × (chosen < spare) × (spare ≡ most)
-MayLeave spare most leaving (phases.Moving (moves.Emptying class page block chosen)) = (leaving ≤ chosen)
+-- in moving as many pages are evacuating as were chosen, and else as many as may be
+abbrev pub MayEvacuate : ℕ → ℕ → ℕ → Phase → Type 0
+MayEvacuate spare most evacuating phases.Idle = evacuating ≤ spare
+MayEvacuate spare most evacuating (phases.Roots next) = evacuating ≤ spare
+MayEvacuate spare most evacuating (phases.Marking part cell) = evacuating ≤ spare
+MayEvacuate spare most evacuating (phases.Sweeping page block) = evacuating ≤ spare
+MayEvacuate spare most evacuating (phases.Moving (moves.Pass class page best chosen)) =
+    (evacuating ≤ chosen) × (chosen < spare) × (spare ≡ most)
+MayEvacuate spare most evacuating (phases.Moving (moves.Emptying class page block chosen)) = (evacuating ≤ chosen)
     × (chosen ≤ spare) × (spare ≡ most)
 
 -- as many pages may be left sparse as a cycle may empty; or none, where so many are free after each sweep that
@@ -31,10 +31,10 @@ abbrev pub MaySpare : HeapState → (ℕ → ℕ) → ℕ → Type 0
 MaySpare h blocks spare = (spare_of h ≡ spare)
     ⊎ ((spare ≡ 0) × (pages_for blocks 0 CLASSES + h.defrag_below ≤ length h.store.pages))
 
--- no class has more pages than its blocks take, and no more pages are leaving than may be
+-- no class has more pages than its blocks take, and no more pages are evacuating than may be
 pub record HasBoundedPages (h : HeapState) (blocks : ℕ → ℕ) (spare : ℕ) : Type 0 where
   pub used : (class : ℕ) → class < CLASSES → used_pages h.store.pages class ≤ class_pages spare class (blocks class)
-  pub leaving : MayLeave spare h.defrag_pages (leaving_pages h.store.pages) h.phase
+  pub evacuating : MayEvacuate spare h.defrag_pages (evacuating_pages h.store.pages) h.phase
   pub same : MaySpare h blocks spare
 
 -- the class of a page; a free page has none
@@ -42,24 +42,26 @@ abbrev pub class_in : Option Page → Option ℕ
 class_in None = None
 class_in (Some p) = Some p.class
 
--- Each held block is one of a part, on a page of the part's class; an old copy is on a leaving page; and no
+-- Each allocated block is one of a part, on a page of the part's class; an old copy is on an evacuating page; and no
 -- part has two main copies.
 pub record IsTidy (s : Store) (objects : List Object) : Type 0 where
-  pub class : (b : ℕ) → is_held s b ≡ true
-      → class_for (part_words (cells_of (node_of s b).shape) (node_of s b).part)
+  pub class : (b : ℕ) → is_allocated s b ≡ true
+      → class_for (part_words (cells_of (record_of s b).shape) (record_of s b).part)
       ≡ class_in (page_at s.pages (b / PAGE_WORDS))
-  pub part : (b : ℕ) → is_held s b ≡ true → (node_of s b).part < parts_in (cells_of (node_of s b).shape)
-  pub given : (b : ℕ) → is_held s b ≡ true → (node_of s b).identity ≤ length objects
-  pub shape : (b : ℕ) → is_held s b ≡ true → (node_of s b).shape ≡ (object_of objects (node_of s b).identity).shape
-  pub one : (a b : ℕ) → is_held s a ≡ true → is_held s b ≡ true → (node_of s a).forward ≡ a → (node_of s b).forward ≡ b
-      → (node_of s a).identity ≡ (node_of s b).identity → (node_of s a).part ≡ (node_of s b).part → a ≡ b
-  pub old : (b : ℕ) → is_held s b ≡ true
-      → ((node_of s b).forward ≡ b) ⊎ (is_leaving (page_at s.pages (b / PAGE_WORDS)) ≡ true)
+  pub part : (b : ℕ) → is_allocated s b ≡ true → (record_of s b).part < parts_in (cells_of (record_of s b).shape)
+  pub given : (b : ℕ) → is_allocated s b ≡ true → (record_of s b).identity ≤ length objects
+  pub shape : (b : ℕ) → is_allocated s b ≡ true → (record_of s b).shape
+      ≡ (object_of objects (record_of s b).identity).shape
+  pub one : (a b : ℕ) → is_allocated s a ≡ true → is_allocated s b ≡ true → (record_of s a).forward ≡ a
+      → (record_of s b).forward ≡ b
+      → (record_of s a).identity ≡ (record_of s b).identity → (record_of s a).part ≡ (record_of s b).part → a ≡ b
+  pub old : (b : ℕ) → is_allocated s b ≡ true
+      → ((record_of s b).forward ≡ b) ⊎ (is_evacuating (page_at s.pages (b / PAGE_WORDS)) ≡ true)
 
 -- of the identities up to one, only these have a main copy
 abbrev pub KeepsOnly : Store → ℕ → List ℕ → Type 0
-KeepsOnly s base ids = (b : ℕ) → is_held s b ≡ true → (node_of s b).forward ≡ b
-    → (node_of s b).identity ≤ base → contains ids (node_of s b).identity ≡ true
+KeepsOnly s base ids = (b : ℕ) → is_allocated s b ≡ true → (record_of s b).forward ≡ b
+    → (record_of s b).identity ≤ base → contains ids (record_of s b).identity ≡ true
 
 -- no object goes, and none changes its shape
 pub record KeepsShapes (old new : List Object) : Type 0 where

@@ -24,10 +24,10 @@ abbrev pub opening_tally : Limits → Tally
 opening_tally l = record { graph = opening l; last = 0; base = 0 }
 
 -- a cycle runs, and its sweep hasn't ended
-abbrev pub is_tracing : Phase → Bool
-is_tracing phases.Idle = false
-is_tracing (phases.Moving m) = false
-is_tracing phase = true
+abbrev pub awaits_sweep_end : Phase → Bool
+awaits_sweep_end phases.Idle = false
+awaits_sweep_end (phases.Moving m) = false
+awaits_sweep_end phase = true
 
 -- the tally after one more event
 abbrev pub after_event : Tally → Event → Tally
@@ -35,7 +35,7 @@ after_event t (Command_done m c reply) =
     record t { graph = after_entry t.graph (record { mutator = m; command = c; reply = reply }) }
 after_event t Cycle_begun = record t { last = length t.graph.objects }
 after_event t Cycle_on = t
-after_event t (Quantum_done budget units phase) = if is_tracing phase then t else record t { base = t.last }
+after_event t (Quantum_done budget units phase) = if awaits_sweep_end phase then t else record t { base = t.last }
 after_event t (Quantum_refused budget) = t
 
 -- An event keeps to a demand. Where a cycle begins, what is live is within it; and at a command, so are the

@@ -8,7 +8,7 @@ ghost use Rattle.heap_model.specs.State.{HeapState};
 ghost use Rattle.heap_model.specs.Settings.{settings_of, settings_by};
 ghost use Rattle.heap_model.specs.Opening.{IsOpening};
 ghost use Rattle.heap_model.specs.Event.{Course, Event, Runs};
-ghost use Rattle.heap_model.specs.Led.{opened};
+ghost use Rattle.heap_model.specs.ReachedFrom.{opened};
 ghost use Rattle.space.specs.Demand.{Demand, asked_for};
 ghost use Rattle.space.specs.Tally.{opening_tally, AllKeepTo, EveryNewFindsRoom};
 ghost use Rattle.space.specs.Pace.{Pace, opening_beat, AllKeepPace, moved_quanta, unmoved_quanta, demand_of};

@@ -12,15 +12,15 @@ ghost use Rattle.heap_model.specs.Taking.{Takes};
 ghost use Rattle.heap_model.specs.Action.{Action};
 ghost use Rattle.heap_model.specs.Marks.{AreClosed};
 ghost use Rattle.heap_model.specs.Change.{DoesChange};
-ghost use Rattle.heap_model.specs.Standing.{Stands};
+ghost use Rattle.heap_model.specs.Standing.{Represents};
 ghost use Rattle.space.specs.Demand.{asked_by, blocks_of};
-ghost use Rattle.space.specs.Tally.{is_tracing};
+ghost use Rattle.space.specs.Tally.{awaits_sweep_end};
 ghost use Rattle.space.specs.Space.{pages_for};
 ghost use Rattle.space.specs.Counts.{main_blocks, IsBounded};
 ghost use Rattle.space.specs.Placement.{HasBoundedPages, IsTidy, KeepsOnly, KeepsShapes};
 
 /// Pages that are within the bound for this many blocks of each class have room for more blocks, where these and
-/// those that are held are together no more than that.
+/// those that are allocated are together no more than that.
 pub fn bounded_pages_have_room()
     ensures { (pages : List (Option Page)) (blocks need : ℕ → ℕ) (spare : ℕ) → ArePages pages
         → IsBounded pages blocks spare → pages_for blocks spare CLASSES ≤ length pages
@@ -28,8 +28,8 @@ pub fn bounded_pages_have_room()
         → has_room pages need ≡ true }
 {}
 
-/// The parts of an object that take their blocks leave pages within the bound, where what is held and what
-/// they need are no more than its blocks of each class; and as many more blocks are held.
+/// The parts of an object that take their blocks leave pages within the bound, where what is allocated and what
+/// they need are no more than its blocks of each class; and as many more blocks are allocated.
 pub fn taken_blocks_stay_bounded()
     ensures { (cells : ℕ) (at : ℕ → ℕ) (old : List (Option Page)) (parts : ℕ) (new : List (Option Page))
         (blocks : ℕ → ℕ) (spare : ℕ) → ArePages old → IsBounded old blocks spare
@@ -49,14 +49,14 @@ pub fn actions_stay_bounded()
 /// identity comes back that was gone.
 pub fn actions_stay_tidy()
     ensures tidy { (h after : HeapState) (cost : ℕ) (present snapshot : Graph) (objects : List Object)
-        → Stands h present snapshot → Action h cost after → IsTidy h.store objects → IsTidy after.store objects }
+        → Represents h present snapshot → Action h cost after → IsTidy h.store objects → IsTidy after.store objects }
     ensures only { (h after : HeapState) (cost base : ℕ) (ids : List ℕ) → Action h cost after
-        → is_tracing after.phase ≡ true → (is_tracing h.phase ≡ true → KeepsOnly h.store base ids)
+        → awaits_sweep_end after.phase ≡ true → (awaits_sweep_end h.phase ≡ true → KeepsOnly h.store base ids)
         → KeepsOnly after.store base ids }
 {}
 
 /// A command's change leaves blocks where they should stand, no identity comes back that was gone, and the
-/// pages stay within their bound, where what is held and what is asked for are no more than its blocks of each
+/// pages stay within their bound, where what is allocated and what is asked for are no more than its blocks of each
 /// class.
 pub fn changes_stay_tidy()
     ensures tidy { (h after : HeapState) (g : Graph) (c : Change) → h.next ≡ length g.objects + 1
@@ -70,9 +70,9 @@ pub fn changes_stay_tidy()
         → HasBoundedPages h blocks spare → HasBoundedPages after blocks spare }
 {}
 
-/// The held blocks of a class, on pages that aren't leaving, are no more than what the identities need that
+/// The allocated blocks of a class, on pages that aren't evacuating, are no more than what the identities need that
 /// were kept, and what the objects need that were allocated since.
-pub fn held_blocks_are_few()
+pub fn allocated_blocks_are_few()
     ensures { (s : Store) (class : ℕ) (objects first : List Object) (ids : List ℕ) → ArePages s.pages → IsTidy s objects
         → KeepsShapes first objects → KeepsOnly s (length first) ids
         → main_blocks s.pages class ≤ sum_by (λ id. needed (object_of first id).shape class) ids

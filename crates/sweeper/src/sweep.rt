@@ -6,17 +6,17 @@ ghost use Rattle.heap_model.specs.Action as actions;
 ghost use Rattle.heap_model.specs.Pages.{page_at};
 ghost use Rattle.nodes.specs.Pages.{blocks_on};
 ghost use Rattle.nodes.specs.Acting.{Acts};
-ghost use Rattle.nodes.specs.RawHeap.{state_of, IsRawHeap};
+ghost use Rattle.nodes.specs.HeapFields.{state_of, AreHeapFields};
 
 use heap_model::phase::{Moving, Phase};
-use nodes::{Nodes, RawHeap};
+use nodes::{BlockStore, HeapFields};
 
-/// Looks at the next blocks of a page, as many as are left or as there is room for: a block that is held and
+/// Looks at the next blocks of a page, as many as are left or as there is room for: a block that is allocated and
 /// whose colour isn't the one that means marked is freed. Where none is left, it closes the page, and the
 /// free pages right after it for which there is room; where all pages are closed, it ends the sweep. Each of
 /// these costs one unit. Answers the units.
-pub fn sweep_next(heap: &mut RawHeap, page: u32, block: u32, room: u32) -> u32
-    requires heap { IsRawHeap heap.old }
+pub fn sweep_next(heap: &mut HeapFields, page: u32, block: u32, room: u32) -> u32
+    requires heap { AreHeapFields heap.old }
     requires phase { heap.old.phase ≡ phases.Sweeping page block }
     requires room { 0 < room }
     ensures acts { Acts heap.old room heap.new result }
@@ -41,8 +41,8 @@ pub fn sweep_next(heap: &mut RawHeap, page: u32, block: u32, room: u32) -> u32
 
 /// Closes a page whose blocks are all swept, and the free pages right after it for which there is room.
 /// Answers how many.
-fn close_pages(heap: &mut RawHeap, page: u32, block: u32, room: u32) -> u32
-    requires heap { IsRawHeap heap.old }
+fn close_pages(heap: &mut HeapFields, page: u32, block: u32, room: u32) -> u32
+    requires heap { AreHeapFields heap.old }
     requires phase { heap.old.phase ≡ phases.Sweeping page block }
     requires page { page < length heap.old.nodes.pages }
     requires looked { blocks_on (page_at heap.old.nodes.pages page) ≤ block }
@@ -63,7 +63,7 @@ fn close_pages(heap: &mut RawHeap, page: u32, block: u32, room: u32) -> u32
 }
 
 /// The first page from one on, up to another, that isn't free; the other where all are.
-fn free_until(nodes: &Nodes, from: usize, end: usize) -> usize
+fn free_until(nodes: &BlockStore, from: usize, end: usize) -> usize
     requires from { from ≤ end }
     requires within { end ≤ length nodes.now.pages }
     ensures within { (from ≤ result) × (result ≤ end) }
@@ -77,8 +77,8 @@ fn free_until(nodes: &Nodes, from: usize, end: usize) -> usize
 }
 
 /// Looks at `count` blocks of a page, from the next one on.
-fn sweep_blocks(heap: &mut RawHeap, page: u32, block: u32, count: u32)
-    requires heap { IsRawHeap heap.old }
+fn sweep_blocks(heap: &mut HeapFields, page: u32, block: u32, count: u32)
+    requires heap { AreHeapFields heap.old }
     requires phase { heap.old.phase ≡ phases.Sweeping page block }
     requires page { page < length heap.old.nodes.pages }
     requires some { 0 < count }
@@ -86,7 +86,7 @@ fn sweep_blocks(heap: &mut RawHeap, page: u32, block: u32, count: u32)
     ensures acts { Chain (state_of heap.old) count (state_of heap.new) }
     ensures grey { heap.new.grey ≡ heap.old.grey }
 {
-    let colour = heap.sense;
+    let colour = heap.mark_parity;
     heap.nodes
         .sweep(page as usize, block as usize, count as usize, colour);
     let block = block + count;
@@ -95,7 +95,7 @@ fn sweep_blocks(heap: &mut RawHeap, page: u32, block: u32, count: u32)
 
 /// The phase after a sweep: moving begins where pages may be emptied, and fewer are free than the
 /// configuration asks for.
-fn after_sweep(heap: &RawHeap) -> Phase
+fn after_sweep(heap: &HeapFields) -> Phase
     ensures { result ≡ actions.after_sweep (state_of heap.now) }
 {
     if 0 < heap.config.defrag_pages && heap.nodes.free_pages() < heap.config.defrag_below as usize {

@@ -8,18 +8,18 @@ use Rattle.std.proofs.lemmas.List.{take_at, take_all, get_or_at, get_or-take, ge
 use Rattle.std.proofs.lemmas.Fmt.{decimal_is_IsNumeral, decimal_digit, decimal_nonempty, first_decimal, decimal-digits_value, length-decimal-le}
 use Rattle.std.proofs.lemmas.Str.{digit_value_digit}
 use Rattle.std.proofs.lemmas.Str.Parse.{digit_at, digits_value-take-le, numerals_by_value, tells_digits, digits_value_short}
-use Rattle.trace.specs.Numbers.{Row, NoDigitAt, Fronts}
+use Rattle.trace.specs.Numbers.{DigitsSpell, NoDigitAt, Fronts}
 use Rattle.trace.specs.Reading.{number_in, field_in}
 use Rattle.trace.proofs.Numbers.{number_in-spelled, number_in-None}
 use Rattle.trace.proofs.Cuts.{parted}
 use Rattle.trace.proofs.Exact.{same_Some, narrow, wide, field_in-Some, field_in-spelled}
 
 -- 18 digits and one more write a number below 10 ^ 19
-pub row_small : (bytes : List ℕ) (n count : ℕ) → Row bytes n count → count ≤ 18 → n < 10 ^ 18
+pub row_small : (bytes : List ℕ) (n count : ℕ) → DigitsSpell bytes n count → count ≤ 18 → n < 10 ^ 18
 row_small bytes n count r few = omega (arith, r.value, digits_value_short (numerals_by_value _ tells_digits) (take count bytes) 18 r.digits (omega (arith, few, length-take count bytes)))
 
 -- a row with a digit more
-pub row_more : (bytes : List ℕ) (n count total : ℕ) → Row bytes n count → count < length bytes → 48 ≤ get_or bytes count 0 → get_or bytes count 0 ≤ 57 → total ≡ n * 10 + (get_or bytes count 0 - 48) → Row bytes total (count + 1)
+pub row_more : (bytes : List ℕ) (n count total : ℕ) → DigitsSpell bytes n count → count < length bytes → 48 ≤ get_or bytes count 0 → get_or bytes count 0 ≤ 57 → total ≡ n * 10 + (get_or bytes count 0 - 48) → DigitsSpell bytes total (count + 1)
 row_more bytes n count total r inside low high is =
     let digit = digit_value_digit (get_or bytes count 0) (low, high) in
     record {
@@ -29,7 +29,7 @@ row_more bytes n count total r inside low high is =
     }
 
 -- a number in front has no leading zero
-module _ (bytes : List ℕ) (n count : ℕ) (r : Row bytes n count) where
+module _ (bytes : List ℕ) (n count : ℕ) (r : DigitsSpell bytes n count) where
   pub row_fronts : 0 < count → (get_or bytes 0 0 ≡ 48 → count ≡ 1) → n < 2 ^ 64 → Fronts bytes n count
   row_fronts some lead small =
       let long : length (take count bytes) ≡ count = omega (arith, length-take count bytes, r.within) in
@@ -72,7 +72,7 @@ module _ (bytes rest : List ℕ) (m : ℕ) (fits : m < 2 ^ 64) (is : bytes ≡ d
   front_is = ap (λ l. take (length (decimal m)) l) is ∙ take_at (decimal m) rest (length (decimal m)) refl
 
   -- a row that no digit follows is that number
-  pub row_count : (n count : ℕ) → Row bytes n count → NoDigitAt bytes count → count ≡ length (decimal m)
+  pub row_count : (n count : ℕ) → DigitsSpell bytes n count → NoDigitAt bytes count → count ≡ length (decimal m)
   row_count n count r last =
       let most = reach count r.within r.digits in
       elim (cases_lt count (length (decimal m))) [
@@ -80,14 +80,14 @@ module _ (bytes rest : List ℕ) (m : ℕ) (fits : m < 2 ^ 64) (is : bytes ≡ d
         | inr all ↦ omega (arith, all, most)
       ]
 
-  pub row_is : (n count : ℕ) → Row bytes n count → NoDigitAt bytes count → Pair n count ≡ Pair m (length (decimal m))
+  pub row_is : (n count : ℕ) → DigitsSpell bytes n count → NoDigitAt bytes count → Pair n count ≡ Pair m (length (decimal m))
   row_is n count r last =
       let same = row_count n count r last in
       let value : n ≡ m = r.value ∙ ap (λ k. digits_value 10 (take k bytes)) same ∙ ap (digits_value 10) front_is ∙ (decimal_is_IsNumeral m fits).1 in
       ap (λ k. Pair k count) value ∙ ap (Pair m) same
 
   -- what the first digits write is at most the number
-  pub row_most : (n count : ℕ) → Row bytes n count → n ≤ m
+  pub row_most : (n count : ℕ) → DigitsSpell bytes n count → n ≤ m
   row_most n count r =
       let most = reach count r.within r.digits in
       let part : take count bytes ≡ take count (decimal m) = sym (take-take count (length (decimal m)) bytes most) ∙ ap (take count) front_is in
@@ -101,7 +101,7 @@ module _ (bytes rest : List ℕ) (m : ℕ) (fits : m < 2 ^ 64) (is : bytes ≡ d
   few_digits = length-decimal-le 20 m (omega arith) (omega (arith, fits)) fits
 
   -- 21 digits are too many
-  pub too_many : (n : ℕ) → Row bytes n 19 → 20 < length bytes → (48 ≤ get_or bytes 19 0) × (get_or bytes 19 0 ≤ 57) → (48 ≤ get_or bytes 20 0) × (get_or bytes 20 0 ≤ 57) → ⊥
+  pub too_many : (n : ℕ) → DigitsSpell bytes n 19 → 20 < length bytes → (48 ≤ get_or bytes 19 0) × (get_or bytes 19 0 ≤ 57) → (48 ≤ get_or bytes 20 0) × (get_or bytes 20 0 ≤ 57) → ⊥
   too_many n r inside d e =
       let s = row_more bytes n 19 (n * 10 + (get_or bytes 19 0 - 48)) r (omega (arith, inside)) d.0 d.1 refl in
       let t = row_more bytes (n * 10 + (get_or bytes 19 0 - 48)) 20 ((n * 10 + (get_or bytes 19 0 - 48)) * 10 + (get_or bytes 20 0 - 48)) s inside e.0 e.1 refl in

@@ -3,8 +3,8 @@ use Rattle.std.proofs.Common.{Bool, true, false, ◌≡◌, ℕ, ◌+◌, ◌≤
 use Rattle.std.specs.Prelude.{IsTrue, Ok, Err, Option, Some, None}
 use Rattle.trace.specs.declared.fault.TextFault.{TextFault}
 use Rattle.trace.specs.declared.version.Version.{Version}
-use Rattle.trace.specs.GoneOver.{LinesRead, Reached, NextThere, LinesDone, No_lines, One_line_more, GoneOver, NoLine, Ends}
-use Rattle.trace.specs.LineReader.{Lines, no_lines, lines_by, Hands}
+use Rattle.trace.specs.LinesProcessed.{LinesRead, Reached, NextThere, LinesDone, No_lines, One_line_more, LinesProcessed, NoLine, ProcessingEnds}
+use Rattle.trace.specs.LineReader.{Lines, no_lines, lines_by, ReadsLine}
 use Rattle.trace.specs.Streams.{Given, IsLine, Comes, Stays, text_of}
 use Rattle.trace.specs.TextLine.{Text, text_after, IsVersionLine, IsNextVersion}
 use Rattle.trace.specs.declared.version.Version.TheVariants.{Second}
@@ -46,7 +46,7 @@ line_more given after kept kept' line ended lines r comes is small = record {
 }
 
 -- the place reached in going through lines
-abbrev pub reached_by : {S E : Type 0} {Moves : Text → S → List E → S → Type 0} {given : Given} {old : S} {End : Reached S E → Type 0} → GoneOver Moves given old End → Reached S E
+abbrev pub reached_by : {S E : Type 0} {Moves : Text → S → List E → S → Type 0} {given : Given} {old : S} {End : Reached S E → Type 0} → LinesProcessed Moves given old End → Reached S E
 reached_by over = record { lines = over.lines; version = over.version; events = over.events; state = over.mid; rest = over.rest }
 
 module _ {S E : Type 0} (Moves : Text → S → List E → S → Type 0) where
@@ -104,7 +104,7 @@ module _ {S E : Type 0} {Moves : Text → S → List E → S → Type 0} {given 
 
   -- it ends after the lines so far
   abbrev ends_after : (after rest : List ℕ) (ended : Bool) (End : Reached S E → Type 0) → Comes given.after after reader.kept rest → length rest ≤ 65536 → End (reached rest)
-      → GoneOver Moves (later given after ended) old End
+      → LinesProcessed Moves (later given after ended) old End
   ends_after after rest ended End comes small end = record {
     lines = so.lines;
     version = reader.next;
@@ -118,23 +118,23 @@ module _ {S E : Type 0} {Moves : Text → S → List E → S → Type 0} {given 
 
   module _ (after : List ℕ) (ended : Bool) where
     -- there is no next line
-    abbrev pub ends_without : (A : Type 0) (Stops : TextFault → Text → S → S → Type 0) (fault : TextFault) → Hands (call after ended) reader next (Err fault)
-        → GoneOver Moves (later given after ended) old (λ r. Ends Stops {A = A} r ended mid (Err fault))
+    abbrev pub ends_without : (A : Type 0) (Stops : TextFault → Text → S → S → Type 0) (fault : TextFault) → ReadsLine (call after ended) reader next (Err fault)
+        → LinesProcessed Moves (later given after ended) old (λ r. ProcessingEnds Stops {A = A} r ended mid (Err fault))
     ends_without A Stops fault h =
         let same : next.text.number ≡ length so.lines = omega (arith, h.number, so.counted) in
         ends_after after next.kept ended _ h.text h.small (inl (subst (λ n. NoLine fault n next.kept ended) same h.says, refl))
 
-    module _ (b : Bool) (h : Hands (call after ended) reader next (Ok b)) where
+    module _ (b : Bool) (h : ReadsLine (call after ended) reader next (Ok b)) where
       -- the input has ended
       abbrev pub ends_over : b ≡ false → (End : Reached S E → Type 0) → ((rest : List ℕ) → (rest ≡ []) × IsTrue ended → End (reached rest))
-          → GoneOver Moves (later given after ended) old End
+          → LinesProcessed Moves (later given after ended) old End
       ends_over is End so_it_ends =
-          let e = subst (λ t. Hands (call after ended) reader next (Ok t)) is h in
+          let e = subst (λ t. ReadsLine (call after ended) reader next (Ok t)) is h in
           ends_after after next.kept ended End e.text e.small (so_it_ends next.kept e.says)
 
       module _ (is : b ≡ true) (text : Text) (same : text ≡ next.text) where
-        abbrev e : Hands (call after ended) reader next (Ok true)
-        e = subst (λ t. Hands (call after ended) reader next (Ok t)) is h
+        abbrev e : ReadsLine (call after ended) reader next (Ok true)
+        e = subst (λ t. ReadsLine (call after ended) reader next (Ok t)) is h
 
         -- the line that was handed out is the next one
         abbrev is_next : next.text ≡ text_after so.lines reader.next next.text.bytes
@@ -142,7 +142,7 @@ module _ {S E : Type 0} {Moves : Text → S → List E → S → Type 0} {given 
 
         -- it ends at the next line
         abbrev pub ends_in : (P : Text → Type 0) → P text → (End : Reached S E → Type 0)
-            → (text.number ≡ length so.lines + 1 → (rest : List ℕ) → NextThere (reached rest) P → End (reached rest)) → GoneOver Moves (later given after ended) old End
+            → (text.number ≡ length so.lines + 1 → (rest : List ℕ) → NextThere (reached rest) P → End (reached rest)) → LinesProcessed Moves (later given after ended) old End
         ends_in P this End so_it_ends =
             let count : text.number ≡ length so.lines + 1 = ap (λ (t : Text). t.number) same ∙ omega (arith, e.number, so.counted) in
             let rest = next.text.bytes ++ 10 ∷ next.kept in
@@ -150,7 +150,7 @@ module _ {S E : Type 0} {Moves : Text → S → List E → S → Type 0} {given 
 
         -- the next line leads to a fault
         abbrev pub ends_at : (A : Type 0) (Stops : TextFault → Text → S → S → Type 0) (fault : TextFault) (new : S) → Stops fault text mid new
-            → GoneOver Moves (later given after ended) old (λ r. Ends Stops {A = A} r ended new (Err fault))
+            → LinesProcessed Moves (later given after ended) old (λ r. ProcessingEnds Stops {A = A} r ended new (Err fault))
         ends_at A Stops fault new stops =
             ends_in (λ t. Stops fault t mid new) stops _ (λ count rest there. inr there)
 

@@ -5,7 +5,7 @@ use Rattle.trace.specs.declared.fault.TextFault.{TextFault}
 use Rattle.trace.specs.declared.line_handler.InputEnd.{InputEnd}
 use Rattle.trace.specs.declared.version.Version.{Version}
 use Rattle.trace.specs.declared.version.Version.TheVariants.{First}
-use Rattle.trace.specs.GoneOver.{LinesRead, LinesDone, No_lines, One_line_more, GoneOver, Ends}
+use Rattle.trace.specs.LinesProcessed.{LinesRead, LinesDone, No_lines, One_line_more, LinesProcessed, ProcessingEnds}
 use Rattle.trace.specs.Handling.{HandlesLine, HandlerStops, LinesHandled}
 use Rattle.trace.specs.Streams.{Given}
 use Rattle.trace.specs.TextLine.{Text, text_after, IsNextVersion}
@@ -56,7 +56,7 @@ module _ {H S E : Type 0} (Handles : Text → H → H → Result (Unit {0}) Text
 
   module _ (Stops : TextFault → Text → S → S → Type 0) (A : Type 0) (given : Given) (new : H) where
     -- all of the input is done
-    abbrev pub over_all : {end : InputEnd} (all : A) → AllMoved given new end → GoneOver Moves given (state first) (λ reached. Ends Stops reached given.ended (state new) (Ok all))
+    abbrev pub over_all : {end : InputEnd} (all : A) → AllMoved given new end → LinesProcessed Moves given (state first) (λ reached. ProcessingEnds Stops reached given.ended (state new) (Ok all))
     over_all {end = end} all a = record { lines = a.lines; version = end.version; events = a.events; mid = state new; rest = a.rest; read = a.read; done = a.done; ends = (a.none, a.ended, refl) }
 
     module _ (fault : TextFault)
@@ -64,13 +64,13 @@ module _ {H S E : Type 0} (Handles : Text → H → H → Result (Unit {0}) Text
         → (line : List ℕ) → Handles (text_after lines version line) mid new (Err fault) → Stops fault (text_after lines version line) (state mid) (state new)) where
       -- how the fault ends the lines
       stopped : (lines : List (List ℕ)) (version : Version) (told : List (Unit {0})) (events : List E) (mid : H) (rest : List ℕ) (done : LinesDone Moves (state first) lines version events (state mid)) → Knows lines version events mid done
-          → Ends (HandlerStops Handles) {A = InputEnd} (record { lines = lines; version = version; events = told; state = mid; rest = rest }) given.ended new (Err fault)
-          → Ends Stops {A = A} (record { lines = lines; version = version; events = events; state = state mid; rest = rest }) given.ended (state new) (Err fault)
+          → ProcessingEnds (HandlerStops Handles) {A = InputEnd} (record { lines = lines; version = version; events = told; state = mid; rest = rest }) given.ended new (Err fault)
+          → ProcessingEnds Stops {A = A} (record { lines = lines; version = version; events = events; state = state mid; rest = rest }) given.ended (state new) (Err fault)
       stopped lines version told events mid rest done knows (inl none) = inl (none.0, ap state none.1)
       stopped lines version told events mid rest done knows (inr there) = inr (there.0, there.1, there.2, there.3, stops lines version events mid done knows there.0 there.4)
 
       -- the input is done up to the fault
-      pub over_stopped : Follows → LinesHandled Handles given first new (Err fault) → GoneOver Moves given (state first) (λ reached. Ends Stops {A = A} reached given.ended (state new) (Err fault))
+      pub over_stopped : Follows → LinesHandled Handles given first new (Err fault) → LinesProcessed Moves given (state first) (λ reached. ProcessingEnds Stops {A = A} reached given.ended (state new) (Err fault))
       over_stopped f h =
           let o = h.over in
           let so = followed f o.lines o.version o.events o.mid o.done in

@@ -2,7 +2,7 @@
 use Rattle.std.specs.Prelude.{◌≡◌, List, [], length, Result, Ok, Err, IfOk}
 use Rattle.trace.specs.declared.fault.TextFault.{TextFault}
 use Rattle.trace.specs.declared.line_handler.InputEnd.{InputEnd}
-use Rattle.trace.specs.GoneOver.{GoneOver, Ends}
+use Rattle.trace.specs.LinesProcessed.{LinesProcessed, ProcessingEnds}
 use Rattle.trace.specs.Streams.{Given}
 use Rattle.trace.specs.TextLine.{Text}
 
@@ -19,5 +19,6 @@ module _ {H : Type 0} (Handles : Text → H → H → Result (Unit {0}) TextFaul
   -- The handler was handed the lines of an input, to its end or to a fault; at the end, the result says how many there
   -- are, and the version of one more.
   pub record LinesHandled (given : Given) (old new : H) (result : Result InputEnd TextFault) : Type 0 where
-    pub over : GoneOver HandlesLine given old (λ reached. Ends HandlerStops reached given.ended new result)
+    pub over : LinesProcessed HandlesLine given old
+        (λ reached. ProcessingEnds HandlerStops reached given.ended new result)
     pub tells : IfOk result (λ end. (end.lines ≡ length over.lines) × (end.version ≡ over.version))

@@ -9,7 +9,7 @@ use Rattle.trace.specs.declared.fault.TextFault.TheVariants.{Line as At_line, No
 use Rattle.trace.specs.declared.entry.EntryLine.{EntryLine}
 use Rattle.trace.specs.declared.entry.EntryLine.TheVariants as lines
 use Rattle.trace.specs.declared.version.Version.{Version}
-use Rattle.trace.specs.GoneOver.{Reached, NextThere, Goes, GoneOver, Ends}
+use Rattle.trace.specs.LinesProcessed.{Reached, NextThere, LineEffect, LinesProcessed, ProcessingEnds}
 use Rattle.trace.specs.Spelling.{SpellsEntry}
 use Rattle.trace.specs.Streams.{Given}
 use Rattle.trace.specs.TextLine.{Text, IsVersionLine}
@@ -49,18 +49,18 @@ HistoryEnds ended new (Ok (Good n)) reached = (reached.rest ≡ []) × IsTrue en
 -- the entry of the next line isn't a step
 HistoryEnds ended new (Ok (Wrong k)) reached = (k ≡ length reached.lines + 1)
     × NextThere reached (IsWrong reached.state) × (new ≡ reached.state)
-HistoryEnds ended new (Err fault) reached = Ends HistoryStops {A = Checked} reached ended new (Err fault)
+HistoryEnds ended new (Err fault) reached = ProcessingEnds HistoryStops {A = Checked} reached ended new (Err fault)
 
 -- A history, as it was checked from one graph heap to another: the entries of the lines done are legal, and
 -- lead to the graph heap after them.
 pub record EntriesChecked (given : Given) (old new : Graph) (result : Result Checked TextFault) : Type 0 where
-  pub over : GoneOver (Goes DoesNothing DoesEntry) given old (HistoryEnds given.ended new result)
+  pub over : LinesProcessed (LineEffect DoesNothing DoesEntry) given old (HistoryEnds given.ended new result)
   pub legal : IsLegal old over.events
   pub leads : over.mid ≡ after old over.events
 
 -- The outcome of one line.
 abbrev pub LineChecked : Text → Graph → Graph → Result Outcome TextFault → Type 0
-LineChecked text old new (Ok outcomes.Skipped) = Goes DoesNothing DoesEntry text old [] new
-LineChecked text old new (Ok outcomes.Done) = (e : Entry) × Goes DoesNothing DoesEntry text old (e ∷ []) new
+LineChecked text old new (Ok outcomes.Skipped) = LineEffect DoesNothing DoesEntry text old [] new
+LineChecked text old new (Ok outcomes.Done) = (e : Entry) × LineEffect DoesNothing DoesEntry text old (e ∷ []) new
 LineChecked text old new (Ok outcomes.Wrong) = IsWrong old text × (new ≡ old)
 LineChecked text old new (Err fault) = HistoryStops fault text old new

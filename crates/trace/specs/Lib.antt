@@ -4,10 +4,10 @@ pub mod Reading
 pub mod Streams
 pub mod TextLine
 pub mod Numbered
-pub mod GoneOver
+pub mod LinesProcessed
 pub mod Handling
 pub mod LineReader
-pub mod Held
+pub mod Buffered
 pub mod Waiting
 pub mod Memory
 pub mod MemorySource

@@ -3,7 +3,7 @@ use Rattle.std.specs.Prelude.{◌≡◌, ℕ, ◌+◌, ◌≤◌, Bool, true, fa
 use Rattle.trace.specs.declared.fault.TextFault.{TextFault}
 use Rattle.trace.specs.declared.version.Version.{Version}
 use Rattle.trace.specs.declared.version.Version.TheVariants.{First}
-use Rattle.trace.specs.GoneOver.{NoLine}
+use Rattle.trace.specs.LinesProcessed.{NoLine}
 use Rattle.trace.specs.Streams.{Given, IsLine, Comes}
 use Rattle.trace.specs.TextLine.{Text, IsNextVersion}
 
@@ -26,12 +26,12 @@ text_by (Ok false) new = new.kept
 text_by (Err e) new = new.kept
 
 -- what an outcome says of the reader after it, and of whether its input has ended
-abbrev pub Says : Result Bool TextFault → Lines → Bool → Type 0
+abbrev pub IsOutcome : Result Bool TextFault → Lines → Bool → Type 0
 -- there is a line
-Says (Ok true) new ended = IsLine new.text.bytes
+IsOutcome (Ok true) new ended = IsLine new.text.bytes
 -- the input has ended, and all lines were handed out
-Says (Ok false) new ended = (new.kept ≡ []) × IsTrue ended
-Says (Err fault) new ended = NoLine fault new.text.number new.kept ended
+IsOutcome (Ok false) new ended = (new.kept ≡ []) × IsTrue ended
+IsOutcome (Err fault) new ended = NoLine fault new.text.number new.kept ended
 
 -- how many lines an outcome hands out
 abbrev pub lines_by : Result Bool TextFault → ℕ
@@ -47,9 +47,9 @@ Versions (Err e) old new = new.next ≡ old.next
 
 -- What a call for the next line does, with what its source gave meanwhile: what was kept and what came are the line
 -- and what is kept, which with what came after it fits into a buffer.
-pub record Hands (given : Given) (old new : Lines) (result : Result Bool TextFault) : Type 0 where
+pub record ReadsLine (given : Given) (old new : Lines) (result : Result Bool TextFault) : Type 0 where
   pub text : Comes given.before given.after old.kept (text_by result new)
-  pub says : Says result new given.ended
+  pub says : IsOutcome result new given.ended
   pub number : new.text.number ≡ old.text.number + lines_by result
   pub versions : Versions result old new
   pub small : length (text_by result new) ≤ 65536

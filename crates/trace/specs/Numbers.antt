@@ -3,7 +3,7 @@ use Rattle.std.specs.Prelude.{◌≡◌, ℕ, ◌^◌, ◌<◌, ◌≤◌, List,
 use Rattle.std.specs.Str.Parse.{AllDigits, digits_value}
 
 -- The first `count` bytes are digits, and this is the number that they write.
-pub record Row (bytes : List ℕ) (n count : ℕ) : Type 0 where
+pub record DigitsSpell (bytes : List ℕ) (n count : ℕ) : Type 0 where
   pub within : count ≤ length bytes
   pub digits : AllDigits 10 (take count bytes)
   pub value : n ≡ digits_value 10 (take count bytes)

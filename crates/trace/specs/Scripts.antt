@@ -10,7 +10,7 @@ use Rattle.trace.specs.declared.fault.TextFault.TheVariants.{Line as At_line, No
 use Rattle.trace.specs.declared.line.Line.{Line}
 use Rattle.trace.specs.declared.line.Line.TheVariants as lines
 use Rattle.trace.specs.declared.version.Version.{Version}
-use Rattle.trace.specs.GoneOver.{Goes, GoneOver, Ends}
+use Rattle.trace.specs.LinesProcessed.{LineEffect, LinesProcessed, ProcessingEnds}
 use Rattle.trace.specs.Spelling.{Spells, is_skipped}
 use Rattle.trace.specs.Streams.{Given}
 use Rattle.trace.specs.TextLine.{Text, IsVersionLine}
@@ -70,8 +70,8 @@ ReadScripts = Version × Vec (Vec Command Global) Global
 
 -- Scripts of this many mutators, as the lines of an input are.
 pub record AreScripts (given : Given) (mutators : ℕ) (result : Result ReadScripts TextFault) : Type 0 where
-  pub over : GoneOver (Goes AsksNothing (DoesScript mutators)) given tt
-      (λ reached. Ends (ScriptStops mutators) reached given.ended tt result)
+  pub over : LinesProcessed (LineEffect AsksNothing (DoesScript mutators)) given tt
+      (λ reached. ProcessingEnds (ScriptStops mutators) reached given.ended tt result)
   pub are : IfOk result (λ read. (read.0 ≡ over.version) × (lists_in read.1 ≡ scripts_of mutators over.events))
 
 -- What was read of an input; or memory was refused before anything was read.

@@ -1,6 +1,6 @@
 //! Numbers in decimal, separated by blanks.
 ghost use Rattle.std.specs.Prelude.{◌≡◌, ℕ, Option, ◌<◌, ◌≤◌, ◌^◌, ◌==◌, List, ◌++◌, Some, IfSome, decimal, length, option_map, position};
-ghost use Rattle.trace.specs.Numbers.{Row, NoDigitAt, Fronts};
+ghost use Rattle.trace.specs.Numbers.{DigitsSpell, NoDigitAt, Fronts};
 ghost use Rattle.trace.specs.Reading.{number_in, lead_then, cut_at, after_in, field_in};
 
 /// How many digits a number has, at least, where it may be 2^64 or more.
@@ -9,7 +9,7 @@ const LONG: usize = 19;
 /// The digits at the front, up to 19: the number that they write, and how many they are.
 #[inline(always)]
 fn front_digits(bytes: &[u8]) -> (u64, usize)
-    ensures row { Row bytes.now result.0 result.1 }
+    ensures row { DigitsSpell bytes.now result.0 result.1 }
     ensures most { result.1 ≤ 19 }
     ensures end { result.1 < 19 → NoDigitAt bytes.now result.1 }
 {
@@ -29,7 +29,7 @@ fn front_digits(bytes: &[u8]) -> (u64, usize)
 /// The number at the front, where its first 19 digits are read.
 #[inline(always)]
 fn long_number(bytes: &[u8], n: u64) -> Option<(u64, usize)>
-    requires { Row bytes.now n 19 }
+    requires { DigitsSpell bytes.now n 19 }
     ensures found { IfSome result (λ f. Fronts bytes.now f.0 f.1) }
     ensures only { (m : ℕ) (rest : List ℕ) → m < 2 ^ 64 → bytes.now ≡ decimal m ++ rest → NoDigitAt rest 0
         → result ≡ Some (m, length (decimal m)) }

@@ -83,8 +83,8 @@ pub fn read_line(version: Version, bytes: &[u8]) -> Option<Line>
     meaning(version, bytes)
 }
 
-/// Reads a line of a trace. Answers none for the line that tells the version of those after it. A line that says nothing
-/// that a trace of its version may say is a fault.
+/// Reads a line of a trace. Answers none for the line that tells the version of those after it. A line that says
+/// nothing that a trace of its version may say is a fault.
 #[inline(always)]
 pub fn read_numbered(text: TextLine) -> Result<Option<Line>, TextFault>
     ensures { LineRead (text_in text.entry) result }

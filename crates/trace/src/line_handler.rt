@@ -1,7 +1,7 @@
 //! Going through the lines of an input.
 ghost use Rattle.std.specs.Prelude.{◌≡◌, ℕ, ◌+◌, Result, OnOk};
 ghost use Rattle.trace.specs.declared.fault.TextFault.{TextFault};
-ghost use Rattle.trace.specs.GoneOver.{reads_failed};
+ghost use Rattle.trace.specs.LinesProcessed.{reads_failed};
 ghost use Rattle.trace.specs.Streams.{Stays, given_by};
 ghost use Rattle.trace.specs.TextLine.{Text, text_in};
 ghost use Rattle.trace.specs.Handling.{LinesHandled};

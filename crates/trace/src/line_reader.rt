@@ -69,16 +69,16 @@ impl Model for LineReader {
 
     ghost Value = { Lines };
 
-    ghost use Rattle.trace.specs.Held.{lines_in, IsHeld};
+    ghost use Rattle.trace.specs.Buffered.{lines_in, IsBuffered};
 
     ghost view = { lines_in };
 
-    ghost invariant = { IsHeld };
+    ghost invariant = { IsBuffered };
 }
 
 impl LineReader {
-    ghost use Rattle.trace.specs.GoneOver.{reads_failed, writes_failed};
-    ghost use Rattle.trace.specs.LineReader.{Hands, no_lines};
+    ghost use Rattle.trace.specs.LinesProcessed.{reads_failed, writes_failed};
+    ghost use Rattle.trace.specs.LineReader.{ReadsLine, no_lines};
     ghost use Rattle.trace.specs.TextLine.{text_in, IsNextVersion};
 
     /// A reader that has read nothing yet.
@@ -205,7 +205,7 @@ impl LineReader {
     pub fn next_line<S: Source>(&mut self, source: &mut S) -> Result<bool, TextFault>
         // The source has given the bytes that are kept, and at least one for each line.
         requires { self.old.text.number + length self.old.kept ≤ length (S.given source.old) }
-        ensures hands { Hands (given_by S.given S.ended source.old source.new) self.old self.new result }
+        ensures hands { ReadsLine (given_by S.given S.ended source.old source.new) self.old self.new result }
         ensures behind { self.new.text.number + length self.new.kept ≤ length (S.given source.new) }
         ensures counted { self.new.text.number < 2 ^ 64 }
         ensures cause { S.failures source.new ≡ S.failures source.old + reads_failed result }
@@ -242,7 +242,7 @@ impl LineReader {
             × (waiting.new ≡ []) }
         ensures grows { length (K.taken sink.old) ≤ length (K.taken sink.new) }
         ensures hands { writes_failed result ≡ 0
-            → Hands (given_by S.given S.ended source.old source.new) self.old self.new result }
+            → ReadsLine (given_by S.given S.ended source.old source.new) self.old self.new result }
         ensures behind { self.new.text.number + length self.new.kept ≤ length (S.given source.new) }
         ensures counted { self.new.text.number < 2 ^ 64 }
         // Where a write failed, no line was handed out, and nothing was read.

@@ -1,7 +1,7 @@
 //! Heaps where memory may be refused: the answer says so, and nothing has changed then.
 use super::*;
 use graph_heap::{Entry, NoMemory, Reference, Reply};
-use machine::Recorded;
+use machine::HeapWithHistory;
 use std::alloc::AllocGlobal;
 
 /// The slow heap does a command and accepts another, or says that memory was refused and does it when asked again.
@@ -29,12 +29,12 @@ fn of_a_slow_heap(rt: HostRuntime) -> Result<(), NoMemory> {
 }
 
 /// A page with its history.
-fn recorded(rt: &(impl Abort + AllocGlobal)) -> Result<Recorded, NoMemory> {
-    Recorded::new(rt.alloc(), &config_of(rt, &ONE_PAGE))
+fn recorded(rt: &(impl Abort + AllocGlobal)) -> Result<HeapWithHistory, NoMemory> {
+    HeapWithHistory::new(rt.alloc(), &config_of(rt, &ONE_PAGE))
 }
 
 /// The reply to a command of mutator 0.
-fn told(heap: &mut Recorded, command: Command) -> Result<Reply, NoMemory> {
+fn reply_to(heap: &mut HeapWithHistory, command: Command) -> Result<Reply, NoMemory> {
     Ok(heap.call(0, command)?.entry().reply)
 }
 
@@ -44,7 +44,10 @@ fn of_reserved_calls(rt: HostRuntime) -> Result<(), NoMemory> {
     let mut heap = recorded(&rt)?;
     heap.reserve(40)?;
     for k in 0..40usize {
-        assert!(&rt; told(&mut heap, Command::Clear { dst: 0 }).is_ok(), "{k}");
+        assert!(&rt;
+            reply_to(&mut heap, Command::Clear { dst: 0 }).is_ok(),
+            "{k}"
+        );
     }
     Ok(())
 }
@@ -55,9 +58,9 @@ fn of_calls(rt: HostRuntime) -> Result<(), NoMemory> {
     let mut heap = recorded(&rt)?;
     for k in 0..40usize {
         let made = Reply::Made(k as u64 + 1);
-        let Ok(reply) = told(&mut heap, plain(0, 0, 0)) else {
+        let Ok(reply) = reply_to(&mut heap, plain(0, 0, 0)) else {
             assert_eq!(&rt; heap.history().len(), k);
-            assert_eq!(&rt; told(&mut heap, plain(0, 0, 0))?, made);
+            assert_eq!(&rt; reply_to(&mut heap, plain(0, 0, 0))?, made);
             return Err(NoMemory);
         };
         assert_eq!(&rt; reply, made);

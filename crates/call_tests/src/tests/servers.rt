@@ -1,5 +1,5 @@
-//! Servers, called from one thread: calls for which room is reserved; what each of two seats sees of the other's calls; objects
-//! that fill pages, and a cycle, through one seat and the pacer.
+//! Servers, called from one thread: calls for which room is reserved; what each of two seats sees of the other's calls;
+//! objects that fill pages, and a cycle, through one seat and the pacer.
 ghost use Rattle.std.specs.Prelude.{◌≡◌};
 ghost use Rattle.heap_server.specs.Opened.{names_of};
 
@@ -134,7 +134,7 @@ fn new(dst: u32, shape: Shape) -> Command {
 /// Large objects are made, in the slots from 0 on, and commands follow with these replies; then a cycle, and more
 /// commands.
 #[derive(Clone, Copy)]
-struct Row<'a> {
+struct ServerCase<'a> {
     objects: u32,
     before: &'a [(Command, Reply)],
     /// What each quantum of 256 units spends.
@@ -187,7 +187,7 @@ fn follow<N: Naming, R: Wait + Abort>(
     rt: &R,
     alloc: Global,
     opening: Opening,
-    row: &Row,
+    row: &ServerCase,
 ) -> Result<(), ServerFault>
     requires names { names_of opening ≡ N.names }
 {
@@ -208,14 +208,14 @@ fn follow<N: Naming, R: Wait + Abort>(
 fn follow_row<R: Wait + Abort + AllocGlobal>(
     rt: &R,
     settings: &Settings,
-    row: &Row,
+    row: &ServerCase,
 ) -> Result<(), ServerFault> {
     let config = config_of(rt, settings);
     follow::<Brand, _>(rt, rt.alloc(), Opening::new(&config), row)
 }
 
 /// The cycle: 9 roots, 7 headers, 8 blocks and a page, and a unit for each of the three changes of phase.
-const FULL_PAGE: Row = Row {
+const FULL_PAGE: ServerCase = ServerCase {
     objects: 8,
     before: &[
         (
@@ -244,7 +244,7 @@ const FULL_PAGE: Row = Row {
 
 /// The cycle: 12 roots, 9 for marking, 428 for sweeping, 114 looks at pages, a move of 256 words, and a unit
 /// for each of the four changes of phase.
-const SPARSE_PAGE: Row = Row {
+const SPARSE_PAGE: ServerCase = ServerCase {
     objects: 9,
     before: &[
         (
@@ -290,7 +290,7 @@ const SPARSE_PAGE: Row = Row {
 };
 
 /// No object: 9 roots, 4 pages, and a unit for each of the three changes of phase.
-const FEW_ROOTS: Row = Row {
+const FEW_ROOTS: ServerCase = ServerCase {
     objects: 0,
     before: &[],
     spent: &[16],
@@ -298,7 +298,7 @@ const FEW_ROOTS: Row = Row {
 };
 
 /// 512 roots, 4 pages, and a unit for each of the three changes of phase.
-const MANY_ROOTS: Row = Row {
+const MANY_ROOTS: ServerCase = ServerCase {
     spent: &[256, 256, 7],
     ..FEW_ROOTS
 };

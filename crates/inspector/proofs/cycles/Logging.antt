@@ -3,7 +3,7 @@ use Rattle.std.proofs.Common.{◌≡◌, ℕ, ◌+◌, ◌-◌, ◌^◌, min, ma
 use Rattle.std.specs.Prelude.{Option, Some, None, count_by}
 use Rattle.heap_model.specs.Event.{Course}
 use Rattle.nodes.specs.Copies.{copies_in}
-use Rattle.nodes.specs.declared.nodes.counting.Copies.{Copies}
+use Rattle.nodes.specs.declared.block_store.counting.Copies.{Copies}
 use Rattle.inspector.specs.declared.cycles.cycle.Cycle.{Cycle}
 use Rattle.inspector.specs.declared.cycles.open.Base.{Base}
 use Rattle.inspector.specs.declared.cycles.open.Open.{Open}
@@ -12,7 +12,7 @@ use Rattle.inspector.specs.Steps.{Step, is_quantum, begins, works, ends_sweep, e
 use Rattle.inspector.specs.Cycles.{counted, behind_last, copies_at, units_by, end_of, SweptBy, IsCycle, AreCycles, No_cycle, One_cycle_more}
 use Rattle.inspector.specs.Log.{place_at, IsBase, AreCounted, IsEnd, IsStart, IsOpen, HasOpen, IsOpenIn, IsLog}
 use Rattle.std.proofs.lemmas.List.Sums.{fold_push}
-use Rattle.inspector.proofs.cycles.Stepping.{count_push, count_other, fewer, idles, ends_none, no_quantum, end_here, last_push, swept_other, end_other, held_more}
+use Rattle.inspector.proofs.cycles.Stepping.{count_push, count_other, fewer, idles, ends_none, no_quantum, end_here, last_push, swept_other, end_other, allocated_more}
 
 -- what is known of the last sweep and the last end, with a step more
 pub objects_more : (b : Bool) (r : Course) (o : Option Course) (n m : ℕ) → (b ≡ true → n ≡ (copies_in r.heap.store).objects) → m ≡ (copies_at o).objects → cond b n m ≡ (copies_at (cond b (Some r) o)).objects
@@ -69,7 +69,7 @@ module _ (earlier : List Step) (first : Step) (later : List Step) (s : Step) (ol
       → SweptBy earlier first (later ++ s ∷ []) new.sweep → IsEnd first (later ++ s ∷ []) new.end → IsOpen earlier first (later ++ s ∷ []) new
   open_more new start quanta longest sweep end = record {
     start = subst (IsStart earlier first) (sym start) is.start;
-    quanta = quanta ∙ ap (λ n. min (n + cond (works s) 1 0) (2 ^ 64 - 1)) is.quanta ∙ held_more (count_by works later) (works s) ∙ ap counted (sym (count_push works later s));
+    quanta = quanta ∙ ap (λ n. min (n + cond (works s) 1 0) (2 ^ 64 - 1)) is.quanta ∙ allocated_more (count_by works later) (works s) ∙ ap counted (sym (count_push works later s));
     longest = longest ∙ ap (λ n. max n (units_by s)) is.longest ∙ sym (fold_push (λ most t. max most (units_by t)) 0 later s);
     sweep = sweep;
     end = end;
@@ -79,10 +79,10 @@ module _ (earlier : List Step) (first : Step) (later : List Step) (s : Step) (ol
   pub open_stays : works s ≡ false → IsOpen earlier first (later ++ s ∷ []) old
   open_stays e =
       let none = ends_none s e in
-      open_more old refl (held (works s) (count_by works later) e is.quanta) (no_units (works s) (s.after.heap.units - s.before.heap.units) e) (swept_other earlier first later s old.sweep none.0 is.sweep) (end_other first later s old.end none.1 is.end)
+      open_more old refl (allocated (works s) (count_by works later) e is.quanta) (no_units (works s) (s.after.heap.units - s.before.heap.units) e) (swept_other earlier first later s old.sweep none.0 is.sweep) (end_other first later s old.end none.1 is.end)
     where
-      held : (b : Bool) (n : ℕ) → b ≡ false → old.quanta ≡ min n (2 ^ 64 - 1) → old.quanta ≡ min (old.quanta + cond b 1 0) (2 ^ 64 - 1)
-      held b n e q = let none : cond b 1 0 ≡ 0 = ap {B = ℕ} (λ c. cond c 1 0) e in omega (arith, q, none)
+      allocated : (b : Bool) (n : ℕ) → b ≡ false → old.quanta ≡ min n (2 ^ 64 - 1) → old.quanta ≡ min (old.quanta + cond b 1 0) (2 ^ 64 - 1)
+      allocated b n e q = let none : cond b 1 0 ≡ 0 = ap {B = ℕ} (λ c. cond c 1 0) e in omega (arith, q, none)
 
       no_units : (b : Bool) (n : ℕ) → b ≡ false → old.longest ≡ max old.longest (cond b n 0)
       no_units b n e = let none : cond b n 0 ≡ 0 = ap {B = ℕ} (λ c. cond c n 0) e in omega (arith, none)

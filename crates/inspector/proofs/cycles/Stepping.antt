@@ -3,7 +3,7 @@ use Rattle.std.proofs.Common.{◌≡◌, ◌≢◌, ◌⊎◌, ℕ, ◌+◌, ◌
 use Rattle.std.specs.Prelude.{Option, Some, None, is_some, count_by}
 use Rattle.std.proofs.lemmas.List.Sums.{sum_by_push, sum_by-cons, fold_push}
 use Rattle.heap_model.specs.Event.{Course, Event, Command_done, Cycle_begun, Cycle_on, Quantum_done, Quantum_refused}
-use Rattle.space.specs.Tally.{is_tracing}
+use Rattle.space.specs.Tally.{awaits_sweep_end}
 use Rattle.space.specs.Pace.{in_cycle}
 use Rattle.inspector.specs.declared.cycles.cycle.Sweep.{Sweep}
 use Rattle.inspector.specs.declared.cycles.open.End.{End}
@@ -43,7 +43,7 @@ pub idles : (s : Step) → is_quantum s.event ≡ false → works s ≡ false
 idles s e = ap (λ b. b && in_cycle s.before.heap.phase) e
 
 pub ends_none : (s : Step) → works s ≡ false → (ends_sweep s ≡ false) × (ends_cycle s ≡ false)
-ends_none s e = (ap (λ b. b && (is_tracing s.before.heap.phase && not (is_tracing s.after.heap.phase))) e, ap (λ b. b && not (in_cycle s.after.heap.phase)) e)
+ends_none s e = (ap (λ b. b && (awaits_sweep_end s.before.heap.phase && not (awaits_sweep_end s.after.heap.phase))) e, ap (λ b. b && not (in_cycle s.after.heap.phase)) e)
 
 pub no_quantum : (e : Event) → is_beginning e ≡ true → is_quantum e ≡ false
 no_quantum (Command_done m c reply) is = refl
@@ -100,10 +100,10 @@ pub end_other : (first : Step) (later : List Step) (s : Step) (o : Option End) �
 end_other first later s None e none = count_other ends_cycle later s e ∙ none
 end_other first later s (Some end) e is = end_kept first later s end is
 
--- a count, as far as it can be held
-pub held_more : (n : ℕ) (b : Bool) → min (counted n + cond b 1 0) (2 ^ 64 - 1) ≡ counted (n + cond b 1 0)
-held_more n true = omega arith
-held_more n false = omega arith
+-- a count, as far as it can be allocated
+pub allocated_more : (n : ℕ) (b : Bool) → min (counted n + cond b 1 0) (2 ^ 64 - 1) ≡ counted (n + cond b 1 0)
+allocated_more n true = omega arith
+allocated_more n false = omega arith
 
 -- how a sweep is reported after one step more, by whether it was reported before
 module _ (earlier : List Step) (first : Step) (later : List Step) (s : Step) where

@@ -12,7 +12,7 @@ use Rattle.trace.specs.TextLine.{Text}
 use Rattle.player.proofs.Lines.{nothing_written}
 use Rattle.player.proofs.Alongside.{text_stops, all_brought, stops_bringing}
 use Rattle.player.specs.Player.{entries_in}
-use Rattle.player.specs.Playing.{stage}
+use Rattle.player.specs.Playing.{session}
 use Rattle.player.specs.New.{IsNew}
 use Rattle.inspector.specs.declared.cycles.watch.Watch.{Watch}
 use Rattle.inspector.specs.declared.cycles.cycle.Cycles.{Cycles}
@@ -42,7 +42,7 @@ module _ (first : Watch) (none : Logs [] first) (config : Config) (given : Given
   pub lines_taken : (end : InputEnd) (cycles : Cycles) → LinesHandled TextLogged given first new (Ok end) → ((steps : List Step) → Logs steps new → AreCycles steps cycles.items.items) → CyclesTaken config given (Ok cycles)
   lines_taken end cycles handled are =
       let all = all_brought (λ watch. watch.player) TextLogged first steps_in [] Logs given new none (λ text old new logged. logged) end handled in
-      (first.player, stage new.player [], all.0, is, are _ all.1)
+      (first.player, session new.player [], all.0, is, are _ all.1)
 
   -- the trace ends with a fault
   pub stops_taken : (fault : TextFault) → LinesHandled TextLogged given first new (Err fault) → CyclesTaken config given (Err fault)

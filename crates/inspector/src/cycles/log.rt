@@ -3,13 +3,13 @@ ghost use Rattle.std.specs.Prelude.{◌≡◌, true, false, ◌++◌, ◌∷◌,
 ghost use Rattle.heap_model.specs.Event.{Course};
 ghost use Rattle.inspector.specs.Steps.{Step, begins, is_quantum};
 ghost use Rattle.inspector.specs.Cycles.{AreCycles};
-ghost use Rattle.inspector.specs.Log.{IsMark, IsTurn, AreCounted, IsOpenIn, IsLog};
+ghost use Rattle.inspector.specs.Log.{IsMark, IsQuantumEffect, AreCounted, IsOpenIn, IsLog};
 
 use crate::cycles::cycle::Cycle;
 use crate::cycles::open::{Base, Open};
-use crate::cycles::turn::{Mark, Turn};
+use crate::cycles::turn::{Mark, QuantumEffect};
 use graph_heap::NoMemory;
-use machine::{Heap, Recorded};
+use machine::{Heap, HeapWithHistory};
 use nodes::Copies;
 use std::alloc::Global;
 
@@ -34,9 +34,14 @@ impl Log {
     }
 
     /// The cycle that is open after one more quantum.
-    fn open_after(&self, turn: &Turn, copies: &Copies, recorded: &Recorded) -> Option<Open>
+    fn open_after(
+        &self,
+        turn: &QuantumEffect,
+        copies: &Copies,
+        recorded: &HeapWithHistory,
+    ) -> Option<Open>
         ensures { (steps : List Step) (s : Step) → IsOpenIn steps s.before self.now.closed.items self.now.last
-            → begins s ≡ false → IsTurn s turn.now → AreCounted s copies.now → s.after ≡ recorded.now.course
+            → begins s ≡ false → IsQuantumEffect s turn.now → AreCounted s copies.now → s.after ≡ recorded.now.course
             → IsOpenIn (steps ++ s ∷ []) s.after self.now.closed.items result }
     {
         match self.last {
@@ -46,12 +51,12 @@ impl Log {
     }
 
     /// A quantum was done, before which the collector was at this mark.
-    pub fn quantum(&mut self, before: &Mark, recorded: &Recorded)
+    pub fn quantum(&mut self, before: &Mark, recorded: &HeapWithHistory)
         ensures { (steps : List Step) (s : Step) → IsLog steps s.before self.old → is_quantum s.event ≡ true
             → IsMark s.before.heap before.now → s.after ≡ recorded.now.course
             → IsLog (steps ++ s ∷ []) s.after self.new }
     {
-        let turn = Turn::of(before, recorded.heap());
+        let turn = QuantumEffect::between(before, recorded.heap());
         let copies = turn.copies(recorded.heap());
         let place = recorded.history().len();
         self.base = self.base.after(&turn, &copies, place);
@@ -74,7 +79,7 @@ impl Log {
     }
 
     /// A line begins a cycle.
-    pub fn begin_at(&mut self, line: u64, recorded: &Recorded) -> Result<(), NoMemory>
+    pub fn begin_at(&mut self, line: u64, recorded: &HeapWithHistory) -> Result<(), NoMemory>
         ensures { OnOk result ((steps : List Step) (s : Step) → IsLog steps s.before self.old → begins s ≡ true
             → s.line ≡ line → s.before ≡ recorded.now.course → IsLog (steps ++ s ∷ []) s.after self.new) }
     {

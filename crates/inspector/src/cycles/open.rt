@@ -5,12 +5,12 @@ ghost use Rattle.heap_model.specs.Pages as page_list;
 ghost use Rattle.nodes.specs.Copies.{copies_in};
 ghost use Rattle.inspector.specs.Steps.{Step, begins, ends_cycle};
 ghost use Rattle.inspector.specs.Cycles.{IsSweep, IsCycle, SweptBy, end_of};
-ghost use Rattle.inspector.specs.Log.{IsBase, IsBaseAt, IsOpen, IsEnd, IsTurn, AreCounted, end_at};
+ghost use Rattle.inspector.specs.Log.{IsBase, IsBaseAt, IsOpen, IsEnd, IsQuantumEffect, AreCounted, end_at};
 
 use crate::cycles::cycle::{Cycle, Sweep};
 use crate::cycles::made::{from_place, made_by};
-use crate::cycles::turn::Turn;
-use machine::{Heap, Recorded};
+use crate::cycles::turn::QuantumEffect;
+use machine::{Heap, HeapWithHistory};
 use nodes::Copies;
 
 /// What is known of the last sweep, and of the last cycle's end.
@@ -85,11 +85,12 @@ impl Base {
     }
 
     /// What is known after one more quantum, with the copies in the heap and the length of the history.
-    pub fn after(self, turn: &Turn, copies: &Copies, place: usize) -> Base
-        ensures { (steps : List Step) (s : Step) → IsBase steps self → IsTurn s turn.now → AreCounted s copies.now
+    pub fn after(self, turn: &QuantumEffect, copies: &Copies, place: usize) -> Base
+        ensures { (steps : List Step) (s : Step) → IsBase steps self → IsQuantumEffect s turn.now
+            → AreCounted s copies.now
             → place ≡ length s.after.history → IsBase (steps ++ s ∷ []) result }
     {
-        let Turn {
+        let QuantumEffect {
             ends_sweep,
             ends_cycle,
             ..
@@ -105,7 +106,7 @@ impl Base {
 
 impl End {
     /// What is reported of a cycle that ends with this heap, which has this many old copies.
-    fn of(heap: &Heap, old: usize) -> End
+    fn from_heap(heap: &Heap, old: usize) -> End
         ensures { result ≡ record { units = heap.now.units; moved = old } }
     {
         End {
@@ -117,7 +118,7 @@ impl End {
 
 impl Start {
     /// What the sweep of the cycle did, which has just ended and left these copies.
-    fn swept(&self, recorded: &Recorded, copies: &Copies) -> Sweep
+    fn swept(&self, recorded: &HeapWithHistory, copies: &Copies) -> Sweep
         ensures { (swept ended : Option Course) (first : Course) → IsBaseAt swept ended self.now.base
             → self.now.place ≡ length first.history
             → self.now.free ≡ page_list.free_pages first.heap.store.pages
@@ -142,7 +143,7 @@ impl Start {
 
 impl Open {
     /// A cycle that a line begins.
-    pub fn new(line: u64, base: &Base, recorded: &Recorded) -> Open
+    pub fn new(line: u64, base: &Base, recorded: &HeapWithHistory) -> Open
         ensures { (earlier : List Step) (s : Step) → IsBase earlier base.now → s.line ≡ line
             → s.before ≡ recorded.now.course → IsOpen earlier s [] result }
     {
@@ -161,8 +162,14 @@ impl Open {
     }
 
     /// The same after one more quantum, if the sweep has ended then.
-    fn sweep_after(&self, turn: &Turn, copies: &Copies, recorded: &Recorded) -> Option<Sweep>
-        ensures { (earlier later : List Step) (first s : Step) → IsOpen earlier first later self.now → IsTurn s turn.now
+    fn sweep_after(
+        &self,
+        turn: &QuantumEffect,
+        copies: &Copies,
+        recorded: &HeapWithHistory,
+    ) -> Option<Sweep>
+        ensures { (earlier later : List Step) (first s : Step) → IsOpen earlier first later self.now
+            → IsQuantumEffect s turn.now
             → AreCounted s copies.now → s.after ≡ recorded.now.course
             → SweptBy earlier first (later ++ s ∷ []) result }
     {
@@ -176,9 +183,9 @@ impl Open {
     }
 
     /// How it ended, if it has after one more quantum.
-    fn end_after(&self, turn: &Turn, copies: &Copies, heap: &Heap) -> Option<End>
+    fn end_after(&self, turn: &QuantumEffect, copies: &Copies, heap: &Heap) -> Option<End>
         ensures { (earlier later : List Step) (first s : Step) → begins first ≡ true
-            → IsOpen earlier first later self.now → IsTurn s turn.now → AreCounted s copies.now
+            → IsOpen earlier first later self.now → IsQuantumEffect s turn.now → AreCounted s copies.now
             → s.after.heap ≡ heap.now
             → IsEnd first (later ++ s ∷ []) result }
     {
@@ -188,13 +195,13 @@ impl Open {
         if !turn.ends_cycle {
             return None;
         }
-        Some(End::of(heap, copies.old))
+        Some(End::from_heap(heap, copies.old))
     }
 
     /// The cycle after one more quantum, with the copies in the heap where they were counted.
-    pub fn after(self, turn: &Turn, copies: &Copies, recorded: &Recorded) -> Open
+    pub fn after(self, turn: &QuantumEffect, copies: &Copies, recorded: &HeapWithHistory) -> Open
         ensures { (earlier later : List Step) (first s : Step) → begins first ≡ true → IsOpen earlier first later self
-            → IsTurn s turn.now → AreCounted s copies.now → s.after ≡ recorded.now.course
+            → IsQuantumEffect s turn.now → AreCounted s copies.now → s.after ≡ recorded.now.course
             → IsOpen earlier first (later ++ s ∷ []) result }
     {
         Open {
@@ -214,7 +221,7 @@ impl Open {
     {
         match self.end {
             Some(end) => end,
-            None => End::of(heap, heap.copies().old),
+            None => End::from_heap(heap, heap.copies().old),
         }
     }
 

@@ -1,6 +1,6 @@
 //! Taking the cycles of a run.
 ghost use Rattle.std.specs.Prelude.{◌≡◌, ◌+◌};
-ghost use Rattle.trace.specs.GoneOver.{reads_failed};
+ghost use Rattle.trace.specs.LinesProcessed.{reads_failed};
 ghost use Rattle.trace.specs.Streams.{Stays, given_by};
 ghost use Rattle.inspector.specs.Taking.{CyclesTaken};
 

@@ -1,13 +1,13 @@
 //! What a quantum was to the cycle that it found.
 ghost use Rattle.std.specs.Prelude.{◌≡◌, true};
 ghost use Rattle.nodes.specs.Copies.{copies_in};
-ghost use Rattle.inspector.specs.Log.{IsMark, IsTurn};
+ghost use Rattle.inspector.specs.Log.{IsMark, IsQuantumEffect};
 ghost use Rattle.inspector.specs.Steps.{Step, is_quantum};
 
 use heap_model::phase::Phase;
 use machine::Heap;
 use nodes::Copies;
-use sizing::{in_cycle, is_tracing};
+use sizing::{awaits_sweep_end, in_cycle};
 
 /// Where the collector of a heap is: its phase, and the units of the cycle.
 #[derive(Clone, Copy, Debug, PartialEq, Eq)]
@@ -18,7 +18,7 @@ pub struct Mark {
 
 /// What a quantum was to the cycle that it found.
 #[derive(Clone, Copy, Debug, PartialEq, Eq)]
-pub struct Turn {
+pub struct QuantumEffect {
     /// Whether it found one running.
     pub works: bool,
     /// Whether it ended the sweep.
@@ -31,7 +31,7 @@ pub struct Turn {
 
 impl Mark {
     /// Where the collector of a heap is now.
-    pub fn of(heap: &Heap) -> Mark
+    pub fn from_heap(heap: &Heap) -> Mark
         ensures { IsMark heap.now result }
     {
         Mark {
@@ -41,17 +41,17 @@ impl Mark {
     }
 }
 
-impl Turn {
+impl QuantumEffect {
     /// What a quantum was that left the heap so, before which the collector was at this mark.
-    pub fn of(before: &Mark, heap: &Heap) -> Turn
+    pub fn between(before: &Mark, heap: &Heap) -> QuantumEffect
         ensures { (s : Step) → is_quantum s.event ≡ true → IsMark s.before.heap before.now → s.after.heap ≡ heap.now
-            → IsTurn s result }
+            → IsQuantumEffect s result }
     {
         let works = in_cycle(before.phase);
         let after = heap.phase();
-        Turn {
+        QuantumEffect {
             works,
-            ends_sweep: works && is_tracing(before.phase) && !is_tracing(after),
+            ends_sweep: works && awaits_sweep_end(before.phase) && !awaits_sweep_end(after),
             ends_cycle: works && !in_cycle(after),
             units: if works {
                 heap.units().saturating_sub(before.units)

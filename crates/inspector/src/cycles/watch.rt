@@ -6,7 +6,7 @@ ghost use Rattle.player.specs.New.{IsNew};
 ghost use Rattle.player.specs.Player.{HasBudget};
 ghost use Rattle.player.specs.Ticking.{DueDone};
 ghost use Rattle.trace.specs.declared.line.Line.TheVariants as lines;
-ghost use Rattle.trace.specs.GoneOver.{reads_failed};
+ghost use Rattle.trace.specs.LinesProcessed.{reads_failed};
 ghost use Rattle.inspector.specs.Steps.{Step};
 ghost use Rattle.inspector.specs.Cycles.{AreCycles};
 ghost use Rattle.inspector.specs.Log.{IsMark, IsLog};
@@ -46,7 +46,7 @@ impl Watch {
     fn mark(&self) -> Mark
         ensures { IsMark self.now.player.course.heap result }
     {
-        Mark::of(self.player.recorded().heap())
+        Mark::from_heap(self.player.recorded().heap())
     }
 
     /// Does a command.

@@ -4,12 +4,12 @@ ghost use Rattle.size_classes.specs.declared.class.TheConstants.{CLASSES};
 ghost use Rattle.inspector.specs.LoadReport.{IsCovered, covered_line};
 
 use size_classes::CLASSES;
-use sizing::arrivals::{Kept, Load};
+use sizing::arrivals::{AllocationProfile, Conformance};
 use space::Pace;
 use std::alloc::{AllocError, Global};
 
 /// Whether no more blocks of any class were live than a load has.
-fn has_live(load: &Load, measured: &Pace) -> bool
+fn has_live(load: &AllocationProfile, measured: &Pace) -> bool
     ensures { IsTrue result
         ↔ ((class : ℕ) → class < CLASSES → slice_index measured.now.live class ≤ slice_index load.now.live class) }
 {
@@ -22,15 +22,19 @@ fn has_live(load: &Load, measured: &Pace) -> bool
 }
 
 /// Whether a load covers a run: the run keeps to it, and no more was live than it has.
-pub(crate) fn is_covered(load: &Load, kept: &Kept, measured: &Option<Pace>) -> bool
+pub(crate) fn is_covered(
+    load: &AllocationProfile,
+    kept: &Conformance,
+    measured: &Option<Pace>,
+) -> bool
     ensures { IsTrue result ↔ IsCovered load.now kept.now measured.now }
 {
     match *kept {
-        Kept::Keeps => match measured {
+        Conformance::Keeps => match measured {
             Some(measured) => has_live(load, measured),
             None => false,
         },
-        Kept::Breaks { .. } => false,
+        Conformance::Breaks { .. } => false,
     }
 }
 

@@ -1,10 +1,10 @@
 //! What is reported of whether a trace keeps to a load.
 ghost use Rattle.std.specs.Prelude.{◌≡◌, IfOk, string_bytes};
-ghost use Rattle.sizing.specs.declared.arrivals.keeping.Breach.TheVariants.{Asks};
+ghost use Rattle.sizing.specs.declared.arrivals.keeping.Violation.TheVariants.{Asks};
 ghost use Rattle.inspector.specs.LoadReport.{breach_line, kept_line};
 
 use size_classes::Class;
-use sizing::arrivals::{Breach, Kept};
+use sizing::arrivals::{Conformance, Violation};
 use std::alloc::{AllocError, Global};
 
 /// Says that with the line of this number too many blocks of a class are asked for.
@@ -18,26 +18,26 @@ fn asks_line(alloc: Global, line: u64, class: Class) -> Result<String, AllocErro
 }
 
 /// Says that the line of this number breaks the load, and how.
-fn breach_line(alloc: Global, line: u64, by: Breach) -> Result<String, AllocError>
+fn breach_line(alloc: Global, line: u64, by: Violation) -> Result<String, AllocError>
     ensures { IfOk result (λ text. string_bytes text ≡ breach_line line by) }
 {
     match by {
-        Breach::Asks(class) => asks_line(alloc, line, class),
-        Breach::BeginsLate => format!(in alloc;
+        Violation::Asks(class) => asks_line(alloc, line, class),
+        Violation::BeginsLate => format!(in alloc;
             "line {line}: more ticks than the gap since the last begin\n"
         ),
-        Breach::SmallQuantum => format!(in alloc;
+        Violation::SmallQuantum => format!(in alloc;
             "line {line}: a quantum of fewer units than the schedule gives\n"
         ),
     }
 }
 
 /// Whether a trace keeps to a load; or the line with which it breaks it, and how.
-pub(crate) fn kept_line(alloc: Global, kept: Kept) -> Result<String, AllocError>
+pub(crate) fn kept_line(alloc: Global, kept: Conformance) -> Result<String, AllocError>
     ensures { IfOk result (λ text. string_bytes text ≡ kept_line kept) }
 {
     match kept {
-        Kept::Keeps => format!(in alloc; "keeps to the load\n"),
-        Kept::Breaks { line, by } => breach_line(alloc, line, by),
+        Conformance::Keeps => format!(in alloc; "keeps to the load\n"),
+        Conformance::Breaks { line, by } => breach_line(alloc, line, by),
     }
 }

@@ -6,14 +6,14 @@ ghost use Rattle.inspector.specs.LoadReport.{live_line, live_told};
 
 use crate::class_lines::class_lines;
 use size_classes::Class;
-use sizing::arrivals::Load;
+use sizing::arrivals::AllocationProfile;
 use space::Pace;
 use std::alloc::{AllocError, Global};
 
 /// The line of a class, or nothing where no more blocks of it were live than the load has.
 fn class_line(
     alloc: Global,
-    load: &Load,
+    load: &AllocationProfile,
     measured: &Pace,
     class: Class,
 ) -> Result<String, AllocError>
@@ -31,7 +31,7 @@ fn class_line(
 /// The lines of all classes with more live blocks than the load has, if they could be measured.
 pub(crate) fn live_told(
     alloc: Global,
-    load: &Load,
+    load: &AllocationProfile,
     measured: &Option<Pace>,
 ) -> Result<String, AllocError>
     ensures { IfOk result (λ text. string_bytes text ≡ live_told (load_in load.now) measured.now) }

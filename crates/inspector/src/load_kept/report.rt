@@ -8,12 +8,16 @@ use crate::load_kept::kept_text::kept_line;
 use crate::load_kept::live_text::live_told;
 use crate::pages_needed::{Scope, pace_report};
 use size_classes::Config;
-use sizing::arrivals::{Kept, Load};
+use sizing::arrivals::{AllocationProfile, Conformance};
 use space::Pace;
 use std::alloc::{AllocError, Global};
 
 /// What is reported of the pages that a load needs.
-fn need_report(alloc: Global, config: &Config, load: &Load) -> Result<String, AllocError>
+fn need_report(
+    alloc: Global,
+    config: &Config,
+    load: &AllocationProfile,
+) -> Result<String, AllocError>
     ensures { IfOk result (λ text. IsNeedReport config.now (load_in load.now) (string_bytes text)) }
 {
     let pace = Some(load.pace(config));
@@ -28,8 +32,8 @@ fn need_report(alloc: Global, config: &Config, load: &Load) -> Result<String, Al
 pub fn load_report(
     alloc: Global,
     config: &Config,
-    load: &Load,
-    kept: Kept,
+    load: &AllocationProfile,
+    kept: Conformance,
     pace: &Option<Pace>,
 ) -> Result<String, AllocError>
     ensures { IfOk result (λ text. IsLoadReport config.now load.now kept pace.now (string_bytes text)) }

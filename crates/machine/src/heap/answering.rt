@@ -4,7 +4,7 @@ ghost use Rattle.graph_heap.specs.Graph.{Graph};
 ghost use Rattle.graph_heap.specs.Effect.{reply_of};
 ghost use Rattle.heap_model.specs.Agreement.{Agrees};
 ghost use Rattle.heap_model.specs.Event.{room_for};
-ghost use Rattle.machine.specs.Plan.{Deeds};
+ghost use Rattle.machine.specs.Plan.{IsPlan};
 
 use super::planning::Plan;
 use super::{Heap, planning};
@@ -26,7 +26,7 @@ impl Heap {
     /// What a command that is admitted does.
     fn plan(&self, mutator: u32, command: Command) -> Plan
         requires { mutator < self.now.limits.mutators }
-        ensures { Deeds self.now mutator command result }
+        ensures { IsPlan self.now mutator command result }
     {
         dispatch!(planning, self, mutator, command)
     }

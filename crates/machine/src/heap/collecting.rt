@@ -4,11 +4,11 @@ ghost use Rattle.graph_heap.specs.Graph.{Graph};
 ghost use Rattle.heap_model.specs.declared.phase.Phase.TheVariants as phases;
 ghost use Rattle.heap_model.specs.Agreement.{Agrees};
 ghost use Rattle.heap_model.specs.Spent.{cycle_limit};
-ghost use Rattle.heap_model.specs.Standing.{Stands};
-ghost use Rattle.heap_model.specs.Turn.{SpendsTurn};
+ghost use Rattle.heap_model.specs.Standing.{Represents};
+ghost use Rattle.heap_model.specs.QuantumSpending.{QuantumSpends};
 ghost use Rattle.nodes.specs.Acting.{ActsIn};
 ghost use Rattle.nodes.specs.Grey.{in_buffers};
-ghost use Rattle.nodes.specs.RawHeap.{state_of, IsRawHeap};
+ghost use Rattle.nodes.specs.HeapFields.{state_of, AreHeapFields};
 ghost use Rattle.machine.specs.Collecting.{Begins, Spends};
 
 use super::Heap;
@@ -16,15 +16,15 @@ use crate::collector::{BudgetOutOfRange, Busy, Spent};
 use defrag::move_next;
 use heap_model::phase::Phase;
 use marker::{scan_parts, scan_root};
-use nodes::RawHeap;
+use nodes::HeapFields;
 use satb_barrier::flush_all;
 use sweeper::sweep_next;
 
 /// Does the next actions of the collector, one or more of the same kind, if their units fit in the room that
 /// is left, and answers them. Nothing changes where they don't, or where no cycle is running. The buffers are
 /// empty.
-fn act(heap: &mut RawHeap, room: u32) -> Option<u32>
-    requires heap { IsRawHeap heap.old }
+fn act(heap: &mut HeapFields, room: u32) -> Option<u32>
+    requires heap { AreHeapFields heap.old }
     requires buffers { in_buffers heap.old.grey.buffers ≡ [] }
     ensures acts { ActsIn heap.old room heap.new result }
     ensures buffers { heap.new.grey.buffers ≡ heap.old.grey.buffers }
@@ -44,11 +44,11 @@ fn act(heap: &mut RawHeap, room: u32) -> Option<u32>
 
 /// Does actions while their units fit in what is left of a budget, until no cycle is running, and answers the
 /// units spent. The buffers are empty.
-fn spend(heap: &mut RawHeap, budget: u32) -> u32
-    requires heap { IsRawHeap heap.old }
+fn spend(heap: &mut HeapFields, budget: u32) -> u32
+    requires heap { AreHeapFields heap.old }
     requires buffers { in_buffers heap.old.grey.buffers ≡ [] }
-    ensures raw { IsRawHeap heap.new }
-    ensures turn { SpendsTurn (state_of heap.old) budget (state_of heap.new) result }
+    ensures raw { AreHeapFields heap.new }
+    ensures turn { QuantumSpends (state_of heap.old) budget (state_of heap.new) result }
 {
     let mut units = 0;
     while let Some(cost) = act(heap, budget - units) {
@@ -62,7 +62,7 @@ impl Heap {
     /// present, and for one when the last cycle began.
     pub fn phase(&self) -> Phase
         ensures phase { result ≡ self.now.phase }
-        ensures stands { (present : Graph) × (snapshot : Graph) × Stands self.now present snapshot }
+        ensures stands { (present : Graph) × (snapshot : Graph) × Represents self.now present snapshot }
     {
         self.raw.phase
     }
@@ -75,7 +75,7 @@ impl Heap {
         self.raw.units
     }
 
-    /// Begins a cycle: the sense of the colour is turned, so that no block is marked. It costs nothing.
+    /// Begins a cycle: the mark parity is turned, so that no block is marked. It costs nothing.
     /// Refused while a cycle is running, and then nothing changes.
     pub fn begin(&mut self) -> Result<(), Busy>
         ensures begins { Begins self.old self.new result }
@@ -84,7 +84,7 @@ impl Heap {
         if !matches!(self.raw.phase, Phase::Idle) {
             return Err(Busy);
         }
-        self.raw.sense = !self.raw.sense;
+        self.raw.mark_parity = !self.raw.mark_parity;
         self.raw.phase = Phase::Roots { next: 0 };
         self.raw.units = 0;
         Ok(())

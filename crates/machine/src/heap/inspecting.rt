@@ -31,12 +31,12 @@ impl Heap {
     /// What can be seen of a page: None where it is free, or where there is no such page.
     pub fn page(&self, page: usize) -> Option<PageView>
         ensures view { result ≡ view_of (page_at self.now.store.pages page) }
-        ensures within { IfSome result (λ v. v.held ≤ 512) }
+        ensures within { IfSome result (λ v. v.allocated ≤ 512) }
     {
         self.raw.nodes.page(page)
     }
 
-    /// How many words are wasted inside the held blocks of a page: of each block those behind the last cell of its
+    /// How many words are wasted inside the allocated blocks of a page: of each block those behind the last cell of its
     /// part. There are none on a free page, nor where there is no such page.
     pub fn wasted_inside(&self, page: usize) -> usize
         ensures wasted { result ≡ wasted_on self.now.store page }
@@ -60,7 +60,7 @@ impl Heap {
         self.raw.roots.used()
     }
 
-    /// Whether some block of an object is held.
+    /// Whether some block of an object is allocated.
     pub fn holds(&self, id: u64) -> bool
         ensures { IsTrue result ↔ HasBlock self.now.store id }
     {

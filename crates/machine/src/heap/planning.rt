@@ -4,7 +4,7 @@ ghost use Rattle.std.specs.Prelude.{◌≡◌, ◌<◌, Ok, Err, length, slice_i
 ghost use Rattle.graph_heap.specs.Graph.{Graph};
 ghost use Rattle.graph_heap.specs.Effect.{slot_at};
 ghost use Rattle.heap_model.specs.Agreement.{Agrees};
-ghost use Rattle.machine.specs.Plan.{write_to, Compares, Deeds};
+ghost use Rattle.machine.specs.Plan.{write_to, Compares, IsPlan};
 ghost use Rattle.machine.specs.Reading.{HoldsBy, Names};
 
 use super::Heap;
@@ -21,7 +21,7 @@ pub(super) type Plan = Result<Planned, Refusal>;
 /// A new object is planned.
 #[inline(always)]
 pub(super) fn make(heap: &Heap, mutator: u32, dst: u32, shape: Shape) -> Plan
-    ensures { Deeds heap.now mutator (Command.New dst shape) result }
+    ensures { IsPlan heap.now mutator (Command.New dst shape) result }
 {
     let cell = heap.raw.roots.slot(mutator, dst)?;
     let parts = parts_of(&shape).ok_or(Refusal::TooLarge)?;
@@ -40,12 +40,12 @@ pub(super) fn make(heap: &Heap, mutator: u32, dst: u32, shape: Shape) -> Plan
 /// A reference cell is loaded into a slot.
 #[inline(always)]
 pub(super) fn load(heap: &Heap, mutator: u32, dst: u32, obj: u32, i: u32) -> Plan
-    ensures { Deeds heap.now mutator (Command.Load dst obj i) result }
+    ensures { IsPlan heap.now mutator (Command.Load dst obj i) result }
 {
     let cell = heap.raw.roots.slot(mutator, dst)?;
     let root = heap.raw.roots.slot(mutator, obj)?;
     let at = heap.find(root, Kind::Ref, i)?;
-    let value = heap.held_in(at);
+    let value = heap.referent_in_cell(at);
     Ok(Planned {
         reply: Reply::Ref(value.identity),
         write: Write::Root {
@@ -58,10 +58,10 @@ pub(super) fn load(heap: &Heap, mutator: u32, dst: u32, obj: u32, i: u32) -> Pla
 /// A reference cell gets what a slot holds.
 #[inline(always)]
 pub(super) fn store(heap: &Heap, mutator: u32, obj: u32, i: u32, src: u32) -> Plan
-    ensures { Deeds heap.now mutator (Command.Store obj i src) result }
+    ensures { IsPlan heap.now mutator (Command.Store obj i src) result }
 {
     let root = heap.raw.roots.slot(mutator, obj)?;
-    let value = heap.held_by(mutator, src)?;
+    let value = heap.referent_in_slot(mutator, src)?;
     let at = heap.find(root, Kind::Ref, i)?;
     Ok(Planned::done(Write::Ref {
         at,
@@ -79,19 +79,19 @@ pub(super) fn compare_store(
     expect: u32,
     new: u32,
 ) -> Plan
-    ensures { Deeds heap.now mutator (Command.CompareStore obj i expect new) result }
+    ensures { IsPlan heap.now mutator (Command.CompareStore obj i expect new) result }
 {
     let root = heap.raw.roots.slot(mutator, obj)?;
-    let expected = heap.held_by(mutator, expect)?;
+    let expected = heap.referent_in_slot(mutator, expect)?;
     let source = heap.raw.roots.slot(mutator, new)?;
     let at = heap.find(root, Kind::Ref, i)?;
-    Ok(heap.compared(heap.held_in(at), expected, source, Target::Ref(at)))
+    Ok(heap.compared(heap.referent_in_cell(at), expected, source, Target::Ref(at)))
 }
 
 /// A word cell is read.
 #[inline(always)]
 pub(super) fn get(heap: &Heap, mutator: u32, obj: u32, i: u32) -> Plan
-    ensures { Deeds heap.now mutator (Command.Get obj i) result }
+    ensures { IsPlan heap.now mutator (Command.Get obj i) result }
 {
     let root = heap.raw.roots.slot(mutator, obj)?;
     let at = heap.find(root, Kind::Word, i)?;
@@ -101,7 +101,7 @@ pub(super) fn get(heap: &Heap, mutator: u32, obj: u32, i: u32) -> Plan
 /// A word cell is written.
 #[inline(always)]
 pub(super) fn put(heap: &Heap, mutator: u32, obj: u32, i: u32, word: u64) -> Plan
-    ensures { Deeds heap.now mutator (Command.Put obj i word) result }
+    ensures { IsPlan heap.now mutator (Command.Put obj i word) result }
 {
     let root = heap.raw.roots.slot(mutator, obj)?;
     let at = heap.find(root, Kind::Word, i)?;
@@ -111,7 +111,7 @@ pub(super) fn put(heap: &Heap, mutator: u32, obj: u32, i: u32, word: u64) -> Pla
 /// A word cell is compared with a word, and gets another if they are the same.
 #[inline(always)]
 pub(super) fn compare_put(heap: &Heap, mutator: u32, obj: u32, i: u32, old: u64, new: u64) -> Plan
-    ensures { Deeds heap.now mutator (Command.ComparePut obj i old new) result }
+    ensures { IsPlan heap.now mutator (Command.ComparePut obj i old new) result }
 {
     let root = heap.raw.roots.slot(mutator, obj)?;
     let at = heap.find(root, Kind::Word, i)?;
@@ -128,10 +128,10 @@ pub(super) fn compare_put(heap: &Heap, mutator: u32, obj: u32, i: u32, old: u64,
 /// A slot gets what another holds.
 #[inline(always)]
 pub(super) fn copy(heap: &Heap, mutator: u32, dst: u32, src: u32) -> Plan
-    ensures { Deeds heap.now mutator (Command.Copy dst src) result }
+    ensures { IsPlan heap.now mutator (Command.Copy dst src) result }
 {
     let cell = heap.raw.roots.slot(mutator, dst)?;
-    let value = heap.held_by(mutator, src)?;
+    let value = heap.referent_in_slot(mutator, src)?;
     Ok(Planned::done(Write::Root {
         cell,
         reference: value.reference,
@@ -141,7 +141,7 @@ pub(super) fn copy(heap: &Heap, mutator: u32, dst: u32, src: u32) -> Plan
 /// A slot gets null.
 #[inline(always)]
 pub(super) fn clear(heap: &Heap, mutator: u32, dst: u32) -> Plan
-    ensures { Deeds heap.now mutator (Command.Clear dst) result }
+    ensures { IsPlan heap.now mutator (Command.Clear dst) result }
 {
     let cell = heap.raw.roots.slot(mutator, dst)?;
     Ok(Planned::done(Write::Root { cell, reference: 0 }))
@@ -150,16 +150,16 @@ pub(super) fn clear(heap: &Heap, mutator: u32, dst: u32) -> Plan
 /// A slot gets what a static holds.
 #[inline(always)]
 pub(super) fn load_static(heap: &Heap, mutator: u32, dst: u32, k: u32) -> Plan
-    ensures { Deeds heap.now mutator (Command.LoadStatic dst k) result }
+    ensures { IsPlan heap.now mutator (Command.LoadStatic dst k) result }
 {
     let cell = heap.raw.roots.slot(mutator, dst)?;
     let source = heap.raw.roots.static_cell(k)?;
-    let held = heap.held(source);
+    let referent = heap.referent(source);
     Ok(Planned {
-        reply: Reply::Ref(held.identity),
+        reply: Reply::Ref(referent.identity),
         write: Write::Root {
             cell,
-            reference: held.reference,
+            reference: referent.reference,
         },
     })
 }
@@ -167,9 +167,9 @@ pub(super) fn load_static(heap: &Heap, mutator: u32, dst: u32, k: u32) -> Plan
 /// A static gets what a slot holds.
 #[inline(always)]
 pub(super) fn store_static(heap: &Heap, mutator: u32, k: u32, src: u32) -> Plan
-    ensures { Deeds heap.now mutator (Command.StoreStatic k src) result }
+    ensures { IsPlan heap.now mutator (Command.StoreStatic k src) result }
 {
-    let value = heap.held_by(mutator, src)?;
+    let value = heap.referent_in_slot(mutator, src)?;
     let cell = heap.raw.roots.static_cell(k)?;
     Ok(Planned::done(Write::Root {
         cell,
@@ -180,28 +180,28 @@ pub(super) fn store_static(heap: &Heap, mutator: u32, k: u32, src: u32) -> Plan
 /// A static is compared with a slot, and gets what another holds if they are the same.
 #[inline(always)]
 pub(super) fn compare_static(heap: &Heap, mutator: u32, k: u32, expect: u32, new: u32) -> Plan
-    ensures { Deeds heap.now mutator (Command.CompareStatic k expect new) result }
+    ensures { IsPlan heap.now mutator (Command.CompareStatic k expect new) result }
 {
-    let expected = heap.held_by(mutator, expect)?;
+    let expected = heap.referent_in_slot(mutator, expect)?;
     let source = heap.raw.roots.slot(mutator, new)?;
     let cell = heap.raw.roots.static_cell(k)?;
-    Ok(heap.compared(heap.held(cell), expected, source, Target::Root(cell)))
+    Ok(heap.compared(heap.referent(cell), expected, source, Target::Root(cell)))
 }
 
 /// Two slots are compared, by the identities that they hold.
 #[inline(always)]
 pub(super) fn same(heap: &Heap, mutator: u32, a: u32, b: u32) -> Plan
-    ensures { Deeds heap.now mutator (Command.Same a b) result }
+    ensures { IsPlan heap.now mutator (Command.Same a b) result }
 {
-    let first = heap.held_by(mutator, a)?;
-    let second = heap.held_by(mutator, b)?;
+    let first = heap.referent_in_slot(mutator, a)?;
+    let second = heap.referent_in_slot(mutator, b)?;
     Ok(Planned::reply(Reply::Is(first.identity == second.identity)))
 }
 
 /// Says the identity and the shape of an object.
 #[inline(always)]
 pub(super) fn describe(heap: &Heap, mutator: u32, a: u32) -> Plan
-    ensures { Deeds heap.now mutator (Command.Describe a) result }
+    ensures { IsPlan heap.now mutator (Command.Describe a) result }
 {
     let root = heap.raw.roots.slot(mutator, a)?;
     let found = heap.object(root)?;
@@ -212,7 +212,7 @@ pub(super) fn describe(heap: &Heap, mutator: u32, a: u32) -> Plan
 #[inline(always)]
 pub(super) fn join(heap: &Heap, mutator: u32) -> Plan
     requires { mutator < heap.now.limits.mutators }
-    ensures { Deeds heap.now mutator Command.Join result }
+    ensures { IsPlan heap.now mutator Command.Join result }
 {
     Ok(Planned::done(Write::Join { mutator }))
 }
@@ -221,7 +221,7 @@ pub(super) fn join(heap: &Heap, mutator: u32) -> Plan
 #[inline(always)]
 pub(super) fn leave(heap: &Heap, mutator: u32) -> Plan
     requires { mutator < heap.now.limits.mutators }
-    ensures { Deeds heap.now mutator Command.Leave result }
+    ensures { IsPlan heap.now mutator Command.Leave result }
 {
     Ok(Planned::done(Write::Leave { mutator }))
 }
@@ -229,27 +229,33 @@ pub(super) fn leave(heap: &Heap, mutator: u32) -> Plan
 impl Heap {
     /// What a slot of a mutator holds.
     #[inline(always)]
-    fn held_by(&self, mutator: u32, slot: u32) -> Result<Referent, Refusal>
+    fn referent_in_slot(&self, mutator: u32, slot: u32) -> Result<Referent, Refusal>
         ensures names { (g : Graph) → Agrees self.now g → IfOk result (HoldsBy self.now g mutator slot) }
         ensures refused { IfErr result (λ e. slot_at self.now.limits mutator slot ≡ Err e) }
     {
         let root = self.raw.roots.slot(mutator, slot)?;
-        Ok(self.held(root))
+        Ok(self.referent(root))
     }
 
     /// What a target holds is compared with what was expected: the same gives way to what a root holds.
     #[inline(always)]
-    fn compared(&self, held: Referent, expected: Referent, source: usize, target: Target) -> Planned
+    fn compared(
+        &self,
+        referent: Referent,
+        expected: Referent,
+        source: usize,
+        target: Target,
+    ) -> Planned
         requires { source < length self.now.roots }
         ensures { (g : Graph) → Agrees self.now g → (s : Referent) × Names self.now g (slice_index g.roots source) s
-            × Compares held.identity expected.identity (write_to target s.reference) result }
+            × Compares referent.identity expected.identity (write_to target s.reference) result }
     {
-        if held.identity != expected.identity {
-            return Planned::reply(Reply::Kept(held.identity));
+        if referent.identity != expected.identity {
+            return Planned::reply(Reply::Kept(referent.identity));
         }
         Planned {
             reply: Reply::Stored,
-            write: target.write(self.held(source).reference),
+            write: target.write(self.referent(source).reference),
         }
     }
 }

@@ -2,20 +2,20 @@
 ghost use Rattle.std.specs.Prelude.{◌≡◌, ◌<◌, ℕ, true, length, slice_index, IfOk};
 ghost use Rattle.graph_heap.specs.Graph.{Graph, object_of};
 ghost use Rattle.graph_heap.specs.Shape.{fits};
-ghost use Rattle.heap_model.specs.Store.{is_held};
+ghost use Rattle.heap_model.specs.Store.{is_allocated};
 ghost use Rattle.heap_model.specs.Agreement.{Agrees};
 ghost use Rattle.machine.specs.Reading.{Names, Finds, place_of, FindsCell, IsRefPlace, IsWordPlace};
 
 use super::Heap;
 use crate::plan::{Cell, Found, Kind};
-use arraylets::{Place, part_block, ref_place, word_place};
+use arraylets::{CellPosition, part_block, ref_place, word_place};
 use graph_heap::{Refusal, Shape};
 use nodes::Referent;
 
 impl Heap {
     /// What a root holds.
     #[inline(always)]
-    pub(super) fn held(&self, root: usize) -> Referent
+    pub(super) fn referent(&self, root: usize) -> Referent
         requires { root < length self.now.roots }
         ensures { (g : Graph) → Agrees self.now g → Names self.now g (slice_index g.roots root) result }
     {
@@ -27,19 +27,19 @@ impl Heap {
     pub(super) fn object(&self, root: usize) -> Result<Found, Refusal>
         requires { root < length self.now.roots }
         ensures finds { (g : Graph) → Agrees self.now g → Finds self.now g (slice_index g.roots root) result }
-        ensures held { IfOk result (λ f. is_held self.now.store f.block ≡ true) }
+        ensures allocated { IfOk result (λ f. is_allocated self.now.store f.block ≡ true) }
         ensures fits { IfOk result (λ f. fits f.shape ≡ true) }
     {
         let reference = self.raw.roots.get(root);
         if reference == 0 {
             return Err(Refusal::NullSlot);
         }
-        let held = self.raw.nodes.follow(reference);
-        let block = held.reference as usize - 1;
+        let referent = self.raw.nodes.follow(reference);
+        let block = referent.reference as usize - 1;
         let shape = self.raw.nodes.shape(block);
         Ok(Found {
             block,
-            id: held.identity,
+            id: referent.identity,
             shape,
         })
     }
@@ -61,7 +61,7 @@ impl Heap {
 
     /// What a reference cell holds.
     #[inline(always)]
-    pub(super) fn held_in(&self, at: Cell) -> Referent
+    pub(super) fn referent_in_cell(&self, at: Cell) -> Referent
         requires { (g : Graph) → Agrees self.now g → (id : ℕ) × (i : ℕ) × IsRefPlace self.now g id i at }
         ensures { (g : Graph) (id i : ℕ) → Agrees self.now g → IsRefPlace self.now g id i at
             → Names self.now g (slice_index (object_of g.objects id).refs i) result }
@@ -84,7 +84,7 @@ impl Heap {
 
 /// Where cell i of a kind stands in an object of a shape, or why there is none.
 #[inline(always)]
-fn place_of(kind: Kind, shape: Shape, i: u32) -> Result<Place, Refusal>
+fn place_of(kind: Kind, shape: Shape, i: u32) -> Result<CellPosition, Refusal>
     requires { fits shape ≡ true }
     ensures { result ≡ place_of kind shape i }
 {

@@ -2,7 +2,7 @@
 //! overwrites.
 ghost use Rattle.std.specs.Prelude.{◌+◌, ◌<◌, ◌≤◌, length, slice_index};
 ghost use Rattle.heap_model.specs.Change.{Clears};
-ghost use Rattle.nodes.specs.RawHeap.{state_of, IsRawHeap};
+ghost use Rattle.nodes.specs.HeapFields.{state_of, AreHeapFields};
 ghost use Rattle.machine.specs.Plan.{CanPerform, DoesEach};
 ghost use Rattle.machine.specs.Buffers.{AreOwn};
 ghost use Rattle.machine.specs.Writing.{CanWrite, IsWritten, IsRecorded};
@@ -10,12 +10,12 @@ ghost use Rattle.machine.specs.Writing.{CanWrite, IsWritten, IsRecorded};
 use crate::plan::{Cell, Write};
 use arraylets::new_object;
 use graph_heap::Shape;
-use nodes::RawHeap;
+use nodes::HeapFields;
 use satb_barrier::record;
 
 /// Does a write of a mutator.
 #[inline(always)]
-pub fn do_write(heap: &mut RawHeap, mutator: u32, write: &Write)
+pub fn do_write(heap: &mut HeapFields, mutator: u32, write: &Write)
     requires { CanWrite heap.old mutator write.now }
     ensures { IsWritten heap.old mutator write.now heap.new }
 {
@@ -32,8 +32,8 @@ pub fn do_write(heap: &mut RawHeap, mutator: u32, write: &Write)
 
 /// Records what a root holds, before it is overwritten.
 #[inline(always)]
-fn record_root(heap: &mut RawHeap, mutator: u32, root: usize)
-    requires heap { IsRawHeap heap.old }
+fn record_root(heap: &mut HeapFields, mutator: u32, root: usize)
+    requires heap { AreHeapFields heap.old }
     requires mutator { mutator < heap.old.roots.limits.mutators }
     requires root { root < length heap.old.roots.cells }
     ensures { IsRecorded heap.old mutator (slice_index heap.old.roots.cells root) heap.new }
@@ -44,7 +44,7 @@ fn record_root(heap: &mut RawHeap, mutator: u32, root: usize)
 
 /// A root gets a reference.
 #[inline(always)]
-fn write_root(heap: &mut RawHeap, mutator: u32, cell: usize, reference: u64)
+fn write_root(heap: &mut HeapFields, mutator: u32, cell: usize, reference: u64)
     requires { CanWrite heap.old mutator (Write.Root cell reference) }
     ensures { IsWritten heap.old mutator (Write.Root cell reference) heap.new }
 {
@@ -54,7 +54,7 @@ fn write_root(heap: &mut RawHeap, mutator: u32, cell: usize, reference: u64)
 
 /// A reference cell of an object gets a reference.
 #[inline(always)]
-fn write_ref(heap: &mut RawHeap, mutator: u32, at: Cell, reference: u64)
+fn write_ref(heap: &mut HeapFields, mutator: u32, at: Cell, reference: u64)
     requires { CanWrite heap.old mutator (Write.Ref at reference) }
     ensures { IsWritten heap.old mutator (Write.Ref at reference) heap.new }
 {
@@ -65,22 +65,22 @@ fn write_ref(heap: &mut RawHeap, mutator: u32, at: Cell, reference: u64)
 
 /// An object is made, and a root gets its reference.
 #[inline(always)]
-fn write_new(heap: &mut RawHeap, mutator: u32, root: usize, shape: Shape)
+fn write_new(heap: &mut HeapFields, mutator: u32, root: usize, shape: Shape)
     requires { CanWrite heap.old mutator (Write.New root shape) }
     ensures { IsWritten heap.old mutator (Write.New root shape) heap.new }
 {
     record_root(heap, mutator, root);
-    let block = new_object(&mut heap.nodes, shape, heap.sense, heap.next);
+    let block = new_object(&mut heap.nodes, shape, heap.mark_parity, heap.next);
     heap.roots.set(root, block as u64 + 1);
     heap.next += 1;
 }
 
 /// This many roots, from one on, get null one after the other, written by a mutator.
-fn null_roots(heap: &mut RawHeap, mutator: u32, first: usize, count: usize)
-    requires heap { IsRawHeap heap.old }
+fn null_roots(heap: &mut HeapFields, mutator: u32, first: usize, count: usize)
+    requires heap { AreHeapFields heap.old }
     requires mutator { mutator < heap.old.roots.limits.mutators }
     requires within { first + count ≤ length heap.old.roots.cells }
-    ensures heap { IsRawHeap heap.new }
+    ensures heap { AreHeapFields heap.new }
     ensures clears { Clears (state_of heap.old) first count (state_of heap.new) }
     ensures buffers { AreOwn mutator heap.old.grey heap.new.grey }
 {
@@ -91,8 +91,8 @@ fn null_roots(heap: &mut RawHeap, mutator: u32, first: usize, count: usize)
 
 /// The slots of a mutator get null, and it is live no more.
 #[inline(never)]
-fn write_leave(heap: &mut RawHeap, mutator: u32)
-    requires heap { IsRawHeap heap.old }
+fn write_leave(heap: &mut HeapFields, mutator: u32)
+    requires heap { AreHeapFields heap.old }
     requires write { CanPerform (state_of heap.old) (Write.Leave mutator) }
     ensures does { DoesEach (state_of heap.old) (Write.Leave mutator) (state_of heap.new) }
     ensures buffers { AreOwn mutator heap.old.grey heap.new.grey }

@@ -13,14 +13,14 @@ use std::alloc::Global;
 use trace::{Sink, write_all};
 
 /// What tells why an object is alive in a graph heap, or that it isn't, and whether a heap holds a block of it.
-fn told(alloc: Global, heap: &Heap, graph: &Reference, id: u64) -> Result<String, NoMemory>
+fn path_report(alloc: Global, heap: &Heap, graph: &Reference, id: u64) -> Result<String, NoMemory>
     ensures { IfOk result (λ text. TellsWhy id heap.now graph.now (string_bytes text)) }
 {
     path_text(alloc, graph, id, heap.holds(id))
 }
 
-/// Writes a shortest path from a root to an object; or that none leads to it, and whether a heap still holds blocks of it;
-/// or that it was never made.
+/// Writes a shortest path from a root to an object; or that none leads to it, and whether a heap still holds blocks of
+/// it; or that it was never made.
 pub(crate) fn tell_path<K: Sink>(
     alloc: Global,
     heap: &Heap,
@@ -32,7 +32,7 @@ pub(crate) fn tell_path<K: Sink>(
     ensures reads { failed_reads result ≡ 0 }
     ensures writes { K.failures sink.new ≡ K.failures sink.old + failed_writes result }
 {
-    let text = told(alloc, heap, graph, id)?;
+    let text = path_report(alloc, heap, graph, id)?;
     write_all(sink, text.as_bytes())?;
     Ok(Ending::Done)
 }

@@ -4,14 +4,14 @@ ghost use Rattle.size_classes.specs.Need.{blocks_needed};
 ghost use Rattle.size_classes.specs.Parts.{parts_in};
 ghost use Rattle.heap_model.specs.Pages.{page_at, is_usable, free_on, free_blocks, has_room, whole_pages};
 ghost use Rattle.heap_model.specs.Pages as page_list;
-ghost use Rattle.heap_model.specs.Action.{held_on, is_choosable};
+ghost use Rattle.heap_model.specs.Action.{allocated_on, is_choosable};
 ghost use Rattle.pages.specs.Index.{row_free, row_free_on};
-ghost use Rattle.pages.specs.Places.{FindsHeld};
+ghost use Rattle.pages.specs.Places.{FindsAllocated};
 ghost use Rattle.pages.specs.Together.{pages_in, Together, Tells};
 ghost use Rattle.pages.specs.View.{view_of};
 
 use super::{Block, PageTable};
-use crate::free_list::{is_taken, next_held};
+use crate::free_list::{is_taken, next_allocated};
 use crate::page;
 use crate::view::PageView;
 use headers::Arena;
@@ -34,7 +34,7 @@ impl PageTable {
         self.free_pages
     }
 
-    /// How many blocks of a class are free, on pages that aren't leaving.
+    /// How many blocks of a class are free, on pages that aren't evacuating.
     pub fn free_blocks(&self, class: Class) -> usize
         ensures free { Tells self.now (λ pages. result ≡ free_blocks pages class) }
         ensures within { result ≤ 2097152 }
@@ -49,7 +49,7 @@ impl PageTable {
         ensures { Tells self.now (λ pages. result ≡ has_room pages (blocks_needed parts.now (parts_in parts.now))) }
     {
         if parts.count() > 1 {
-            return self.room_for(&Need::of(parts));
+            return self.room_for(&Need::from_parts(parts));
         }
         // One part needs one block.
         let class = class_of(parts.words(0)).unwrap();
@@ -81,7 +81,7 @@ impl PageTable {
         missing.div_ceil(u64::from(class.blocks_per_page()))
     }
 
-    /// The first page of the class that isn't leaving and has a free block.
+    /// The first page of the class that isn't evacuating and has a free block.
     pub fn usable(&self, class: Class) -> Option<usize>
         ensures { Tells self.now (λ pages. result ≡ position (is_usable class) pages) }
     {
@@ -96,14 +96,14 @@ impl PageTable {
         Some(self.row(page)?.class)
     }
 
-    /// How many blocks of a page are held.
-    pub fn held(&self, page: usize) -> usize
+    /// How many blocks of a page are allocated.
+    pub fn allocated(&self, page: usize) -> usize
         requires { page < length self.now }
-        ensures held { Tells self.now (λ pages. result ≡ held_on (page_at pages page)) }
+        ensures allocated { Tells self.now (λ pages. result ≡ allocated_on (page_at pages page)) }
         ensures within { Tells self.now (λ pages. result ≤ 512) }
     {
         match self.row(page) {
-            Some(row) => row.held,
+            Some(row) => row.allocated,
             None => 0,
         }
     }
@@ -111,7 +111,7 @@ impl PageTable {
     /// What can be seen of a page: None where it is free, or where there is no such page.
     pub fn page(&self, page: usize) -> Option<PageView>
         ensures view { Tells self.now (λ pages. result ≡ view_of (page_at pages page)) }
-        ensures within { Tells self.now (λ pages. IfSome result (λ v. v.held ≤ 512)) }
+        ensures within { Tells self.now (λ pages. IfSome result (λ v. v.allocated ≤ 512)) }
     {
         if page >= self.rows.len() {
             return None;
@@ -119,13 +119,13 @@ impl PageTable {
         let row = self.row(page)?;
         Some(PageView {
             class: row.class,
-            held: row.held,
-            leaving: row.leaving,
-            receiving: row.receiving,
+            allocated: row.allocated,
+            evacuating: row.evacuating,
+            is_target: row.is_target,
         })
     }
 
-    /// Whether a page is of the class, and neither leaving nor receiving.
+    /// Whether a page is of the class, and neither evacuating nor a target.
     pub fn is_choosable(&self, class: Class, page: usize) -> bool
         requires { page < length self.now }
         ensures { Tells self.now (λ pages. result ≡ is_choosable class (page_at pages page)) }
@@ -133,7 +133,7 @@ impl PageTable {
         page::is_choosable(class, self.row(page))
     }
 
-    /// How many free blocks of a class a page has, none if it is leaving.
+    /// How many free blocks of a class a page has, none if it is evacuating.
     pub fn free_on(&self, class: Class, page: usize) -> usize
         requires { page < length self.now }
         ensures free { Tells self.now (λ pages. result ≡ free_on class (page_at pages page)) }
@@ -142,12 +142,12 @@ impl PageTable {
         page::free_on(class, self.row(page))
     }
 
-    /// Whether a block is held. On a free page none is.
-    pub fn is_held(&self, arena: &Arena, block: Block) -> bool
+    /// Whether a block is allocated. On a free page none is.
+    pub fn is_allocated(&self, arena: &Arena, block: Block) -> bool
         requires together { Together self.now arena.now }
         requires page { block.page < length self.now }
         ensures { IsTrue result ↔ IsSomeAnd (page_at (pages_in self.now arena.now) block.page)
-            (λ p. slice_get p.held block.index ≡ Some true) }
+            (λ p. slice_get p.allocated block.index ≡ Some true) }
     {
         match self.row(block.page) {
             Some(row) => {
@@ -158,13 +158,13 @@ impl PageTable {
         }
     }
 
-    /// The first held block of a page from a place on. On a free page none is.
-    pub fn next_held(&self, arena: &Arena, page: usize, from: usize) -> Option<usize>
+    /// The first allocated block of a page from a place on. On a free page none is.
+    pub fn next_allocated(&self, arena: &Arena, page: usize, from: usize) -> Option<usize>
         requires together { Together self.now arena.now }
         requires page { page < length self.now }
-        ensures finds { FindsHeld (page_at (pages_in self.now arena.now) page) from result }
+        ensures finds { FindsAllocated (page_at (pages_in self.now arena.now) page) from result }
         ensures within { IfSome result (λ i. i < 512) }
     {
-        next_held(arena, page, self.row(page)?.class, from)
+        next_allocated(arena, page, self.row(page)?.class, from)
     }
 }

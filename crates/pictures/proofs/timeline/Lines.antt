@@ -7,7 +7,7 @@ use Rattle.trace.specs.declared.line_handler.InputEnd.{InputEnd}
 use Rattle.trace.specs.Handling.{LinesHandled}
 use Rattle.trace.specs.Streams.{Given}
 use Rattle.player.specs.New.{IsNew}
-use Rattle.player.specs.Playing.{stage}
+use Rattle.player.specs.Playing.{session}
 use Rattle.player.proofs.Alongside.{all_brought, stops_bringing}
 use Rattle.pictures.specs.Samples.{Moment, moment, moments_in}
 use Rattle.pictures.specs.Sampler.{IsAlong, IsAlongFew}
@@ -36,7 +36,7 @@ module _ (first : SampledRun) (at : Samples_run (moment 0 first.player.course.he
   lines_taken end handled =
       let all = all_brought (λ run. run.player) LineSampled first moments_in (moment 0 first.player.course.heap ∷ []) Samples_run given new at (λ text old new sampled. sampled) end handled in
       let along = all.1 in
-      (first.player, stage new.player [], all.0, is, (is_stride _ new.sampler.samples.items.items new.sampler.samples.stride new.sampler.since along, along.each, all.2))
+      (first.player, session new.player [], all.0, is, (is_stride _ new.sampler.samples.items.items new.sampler.samples.stride new.sampler.since along, along.each, all.2))
 
   -- the trace ends with a fault
   pub stops_taken : (fault : TextFault) → LinesHandled LineSampled given first new (Err fault) → SamplesTaken config given (Err fault)

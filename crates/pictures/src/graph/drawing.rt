@@ -1,7 +1,7 @@
 //! Drawing a graph heap.
 ghost use Rattle.std.specs.Prelude.{◌≡◌, ◌+◌, ◌++◌, OnOk, OnErr, nat_eq};
 ghost use Rattle.std.specs.Set.{is_member};
-ghost use Rattle.trace.specs.GoneOver.{writes_failed};
+ghost use Rattle.trace.specs.LinesProcessed.{writes_failed};
 ghost use Rattle.trace.specs.Streams.{GrowsByPart, failed, taken_by};
 ghost use Rattle.pictures.specs.Statements.{dot_text};
 ghost use Rattle.pictures.specs.GraphDrawing as drawings;
@@ -86,7 +86,8 @@ impl<'a> Drawing<'a> {
         }
     }
 
-    /// Writes the cells that hold objects which are drawn. The cells are those of an object, or else they are the roots.
+    /// Writes the cells that hold objects which are drawn. The cells are those of an object, or else they are the
+    /// roots.
     fn write_cells<K: Sink>(
         &self,
         object: Option<u64>,
@@ -154,8 +155,8 @@ impl<'a> Drawing<'a> {
 /// Writes a graph heap to a sink as a DOT document, which Graphviz lays out, in lines that end with LF: the objects
 /// that can be reached, at most `most` of them, nearest to the roots first, each with its identity and its shape; a
 /// box for each root that holds one of them; each reference between them, with the index of its cell; and how many
-/// objects aren't drawn, if there are any. It takes memory for the search alone, before the first write. It fails where a
-/// write failed, and then the sink has taken a beginning of the document, or where memory was refused.
+/// objects aren't drawn, if there are any. It takes memory for the search alone, before the first write. It fails where
+/// a write failed, and then the sink has taken a beginning of the document, or where memory was refused.
 pub fn draw_graph<K: Sink>(
     alloc: Global,
     graph: &Reference,

@@ -51,30 +51,35 @@ fn route_lines(alloc: Global, limits: &Limits, route: &Route) -> Result<String, 
     Ok(text)
 }
 
-/// What is reported of an object, some of whose blocks are still held or not.
+/// What is reported of an object, some of whose blocks are still allocated or not.
 fn standing_text(
     alloc: Global,
     limits: &Limits,
     standing: &Standing,
-    held: bool,
+    allocated: bool,
 ) -> Result<String, AllocError>
     ensures { IfOk result (λ text. IsRooted limits.now standing.now
-        → TellsStanding limits.now held standing.now (string_bytes text)) }
+        → TellsStanding limits.now allocated standing.now (string_bytes text)) }
 {
     match standing {
         Standing::Reached(route) => route_lines(alloc, limits, route),
-        Standing::Unreachable if held => format!(in alloc; "unreachable held\n"),
+        Standing::Unreachable if allocated => format!(in alloc; "unreachable held\n"),
         Standing::Unreachable => format!(in alloc; "unreachable freed\n"),
         Standing::NeverMade => format!(in alloc; "never made\n"),
     }
 }
 
 /// Why an object of a graph heap is alive: a shortest path to it, a line for the root and one for each reference cell;
-/// or that none leads to it, and whether some of its blocks are still held, as the caller says; or that it was never
-/// made.
-pub fn path_text(alloc: Global, graph: &Reference, id: u64, held: bool) -> Result<String, NoMemory>
-    ensures { IfOk result (λ text. PathTold graph.now id held (string_bytes text)) }
+/// or that none leads to it, and whether some of its blocks are still allocated, as the caller says; or that it was
+/// never made.
+pub fn path_text(
+    alloc: Global,
+    graph: &Reference,
+    id: u64,
+    allocated: bool,
+) -> Result<String, NoMemory>
+    ensures { IfOk result (λ text. PathTold graph.now id allocated (string_bytes text)) }
 {
     let standing = shortest_path(alloc, graph, id)?;
-    Ok(standing_text(alloc, graph.limits(), &standing, held)?)
+    Ok(standing_text(alloc, graph.limits(), &standing, allocated)?)
 }

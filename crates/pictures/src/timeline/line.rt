@@ -1,8 +1,8 @@
 //! One line of a trace, played.
 ghost use Rattle.std.specs.Prelude.{◌≡◌, []};
-ghost use Rattle.trace.specs.GoneOver.{reads_failed};
+ghost use Rattle.trace.specs.LinesProcessed.{reads_failed};
 ghost use Rattle.trace.specs.TextLine.{text_in};
-ghost use Rattle.player.specs.Playing.{stage, LinePlayed};
+ghost use Rattle.player.specs.Playing.{session, LinePlayed};
 ghost use Rattle.player.specs.declared.style.Style.TheVariants.{Nothing};
 
 use player::{Player, do_line, is_event};
@@ -10,7 +10,7 @@ use trace::{TextFault, TextLine, read_numbered};
 
 /// Does the line of this text, and writes nothing of it. Answers whether it is that of an event.
 pub fn play_line(text: TextLine, player: &mut Player) -> Result<bool, TextFault>
-    ensures played { LinePlayed Nothing (text_in text.entry) (stage player.old []) (stage player.new []) result }
+    ensures played { LinePlayed Nothing (text_in text.entry) (session player.old []) (session player.new []) result }
     ensures reads { reads_failed result ≡ 0 }
 {
     let Some(line) = read_numbered(text)? else {

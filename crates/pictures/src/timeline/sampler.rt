@@ -22,7 +22,7 @@ fn sample(line: u64, heap: &Heap) -> Sample
     ensures { result ≡ sampled (moment line heap.now) }
 {
     let is_idle = matches!(heap.phase(), Phase::Idle);
-    Sample::of(heap, line, is_idle)
+    Sample::from_heap(heap, line, is_idle)
 }
 
 impl Sampler {

@@ -1,6 +1,6 @@
 //! Taking samples of a run.
 ghost use Rattle.std.specs.Prelude.{◌≡◌, ◌+◌, ◌∷◌, [], IfOk};
-ghost use Rattle.trace.specs.GoneOver.{reads_failed};
+ghost use Rattle.trace.specs.LinesProcessed.{reads_failed};
 ghost use Rattle.trace.specs.Streams.{Stays, given_by};
 ghost use Rattle.player.specs.New.{IsNew};
 ghost use Rattle.pictures.specs.Samples.{moment};

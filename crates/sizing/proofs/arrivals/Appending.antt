@@ -4,15 +4,15 @@ use Rattle.size_classes.specs.declared.class.TheConstants.{CLASSES}
 use Rattle.trace.specs.declared.line.Line.{Line}
 use Rattle.trace.specs.declared.line.Line.TheVariants as lines
 use Rattle.space.specs.Room.{asks}
-use Rattle.sizing.specs.Load.{Load, StaysInBucket, BeginsOften, AreBudgets}
+use Rattle.sizing.specs.AllocationProfile.{AllocationProfile, StaysInBucket, BeginsOften, AreBudgets}
 use Rattle.sizing.specs.Metering.{level_after}
 use Rattle.sizing.proofs.arrivals.Steps.{along, along_append}
 
 -- the level of a class's bucket after lines
-abbrev pub level_of : Load → ℕ → ℕ → List Line → ℕ
+abbrev pub level_of : AllocationProfile → ℕ → ℕ → List Line → ℕ
 level_of l class level ls = along (level_after l class) level ls
 
-pub level_append : (l : Load) (class level : ℕ) (ls ms : List Line) → level_of l class level (ls ++ ms) ≡ level_of l class (level_of l class level ls) ms
+pub level_append : (l : AllocationProfile) (class level : ℕ) (ls ms : List Line) → level_of l class level (ls ++ ms) ≡ level_of l class (level_of l class level ls) ms
 level_append l class level ls ms = along_append (level_after l class) level ls ms
 
 -- the ticks since the last line `begin` after lines
@@ -27,7 +27,7 @@ since_of since ls = along since_by since ls
 pub since_more : (since : ℕ) (ls : List Line) (line : Line) → since_of since (ls ++ line ∷ []) ≡ since_by (since_of since ls) line
 since_more since ls line = along_append since_by since ls (line ∷ [])
 
-module _ (l : Load) where
+module _ (l : AllocationProfile) where
   pub stays_more : (ls : List Line) (level : ℕ → ℕ) (line : Line) → StaysInBucket l level ls → StaysInBucket l (λ class. level_of l class (level class) ls) (line ∷ []) → StaysInBucket l level (ls ++ line ∷ [])
   stays_more [] level line before last = last
   stays_more (lines.Skip ∷ ls) level line before last = stays_more ls level line before last

@@ -4,7 +4,7 @@ use Rattle.heap_model.specs.declared.phase.Phase.{Phase}
 use Rattle.heap_model.specs.declared.phase.Phase.TheVariants as phases
 use Rattle.heap_model.specs.Event.{Event, Command_done, Cycle_begun, Cycle_on, Quantum_done, Quantum_refused}
 use Rattle.space.specs.Pace.{Pace, Beat, next_beat, in_cycle, AllKeepPace}
-use Rattle.sizing.specs.Load.{AllLive}
+use Rattle.sizing.specs.AllocationProfile.{AllLive}
 use Rattle.sizing.proofs.arrivals.Steps.{along, along_append}
 
 -- where events lead

@@ -4,13 +4,13 @@ use Rattle.trace.specs.declared.line.Line.{Line}
 use Rattle.trace.specs.declared.line.Line.TheVariants as lines
 use Rattle.trace.specs.declared.version.Version.{Version}
 use Rattle.trace.specs.declared.version.Version.TheVariants.{First}
-use Rattle.trace.specs.GoneOver.{LinesDone, No_lines, One_line_more}
+use Rattle.trace.specs.LinesProcessed.{LinesDone, No_lines, One_line_more}
 use Rattle.space.specs.Room.{asks}
-use Rattle.sizing.specs.Load.{Load, StaysInBucket, BeginsOften, AreBudgets, Arrives, KeepsLoad, SaysText, Says}
+use Rattle.sizing.specs.AllocationProfile.{AllocationProfile, StaysInBucket, BeginsOften, AreBudgets, Arrives, KeepsLoad, SaysText, Says}
 use Rattle.sizing.proofs.arrivals.Buckets.{bucket_arrives, arrives_bucket}
 use Rattle.sizing.proofs.arrivals.Reading.{same_parts, one_reading}
 
-stays_first : (l : Load) (ls ms : List Line) (level : ℕ → ℕ) → StaysInBucket l level (ls ++ ms) → StaysInBucket l level ls
+stays_first : (l : AllocationProfile) (ls ms : List Line) (level : ℕ → ℕ) → StaysInBucket l level (ls ++ ms) → StaysInBucket l level ls
 stays_first l [] ms level all = tt
 stays_first l (lines.Skip ∷ ls) ms level all = stays_first l ls ms level all
 stays_first l (lines.Command m c ∷ ls) ms level all = (all.0, stays_first l ls ms (λ class. level class + asks c class) all.1)
@@ -61,7 +61,7 @@ says_first whole text more version said x e (One_line_more ls before next es add
       (r.0, r.1, r.2 ++ added, r.3, ap (λ z. z ++ added) r.4 ∙ append_assoc r.1 r.2 added)
 ]
 
-pub beginnings_keep : (l : Load) (k : ℕ) (text more : List (List ℕ)) (version : Version) (said : List Line) → Says (text ++ more) version said → KeepsLoad l k (text ++ more) → KeepsLoad l k text
+pub beginnings_keep : (l : AllocationProfile) (k : ℕ) (text more : List (List ℕ)) (version : Version) (said : List Line) → Says (text ++ more) version said → KeepsLoad l k (text ++ more) → KeepsLoad l k text
 beginnings_keep l k text more version said says keeps =
     let r = says_first (text ++ more) text more version said tt refl says in
     let stays = stays_first l r.1 r.2 (λ class. 0) (subst (λ z. StaysInBucket l (λ class. 0) z) r.4 (arrives_bucket l said 0 (keeps.arrives version said says))) in

@@ -5,16 +5,16 @@ use Rattle.size_classes.specs.declared.class.TheConstants.{CLASSES}
 use Rattle.trace.specs.declared.line.Line.{Line}
 use Rattle.trace.specs.declared.line.Line.TheVariants as lines
 use Rattle.space.specs.Room.{asks}
-use Rattle.sizing.specs.Load.{Load, AsksFrom, Arrives, StaysInBucket}
+use Rattle.sizing.specs.AllocationProfile.{AllocationProfile, AsksFrom, Arrives, StaysInBucket}
 
 pub drained : (rate span n : ℕ) → rate * (span + n) ≡ rate * span + rate * n
 drained rate span n = grind arith
 
-pub from_here : (l : Load) (clock : ℕ) (ls : List Line) → Arrives l clock ls → AsksFrom l clock (λ class. 0) clock ls
+pub from_here : (l : AllocationProfile) (clock : ℕ) (ls : List Line) → Arrives l clock ls → AsksFrom l clock (λ class. 0) clock ls
 from_here l clock [] a = tt
 from_here l clock (line ∷ ls) a = a.0
 
-module _ (l : Load) where
+module _ (l : AllocationProfile) where
   from_start : (ls : List Line) (start clock : ℕ) (asked level : ℕ → ℕ) → start ≤ clock → ((class : ℕ) → asked class ≤ l.rate class * (clock - start) + level class) → StaysInBucket l level ls → AsksFrom l start asked clock ls
   from_start [] start clock asked level order low stays = tt
   from_start (lines.Skip ∷ ls) start clock asked level order low stays = from_start ls start clock asked level order low stays

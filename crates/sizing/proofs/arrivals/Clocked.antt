@@ -17,7 +17,7 @@ use Rattle.space.specs.Demand.{asked_for}
 use Rattle.space.specs.Room.{asks}
 use Rattle.space.specs.Pace.{Beat, next_beat, in_cycle, KeepsPace, AllKeepPace}
 use Rattle.space.proofs.Roomless.{asks_less}
-use Rattle.sizing.specs.Load.{Load, clock_after, AsksFrom, Arrives, BeginsOften, AreBudgets, AllLive, pace_of}
+use Rattle.sizing.specs.AllocationProfile.{AllocationProfile, clock_after, AsksFrom, Arrives, BeginsOften, AreBudgets, AllLive, pace_of}
 use Rattle.sizing.proofs.arrivals.Beats.{beats, beats_more, next_on, next_off, on_or_off, busy_phase}
 use Rattle.sizing.proofs.arrivals.Buckets.{from_here}
 use Rattle.sizing.proofs.arrivals.Dues.{EndsQuantum, ends_quantum, IsTimed, IsSoon, rests, dues_timed, due_soon, not_below}
@@ -26,7 +26,7 @@ pub since_is : (gap : ℕ) (ls : List Line) (a b : ℕ) → a ≡ b → BeginsOf
 since_is gap ls a b e w = subst (λ z. BeginsOften gap z ls) e w
 
 -- what is kept between two lines
-pub record IsClocked (l : Load) (c q k : ℕ) (p : PlayerState) (b : Beat) (start last : ℕ) (asked : ℕ → ℕ) : Type 0 where
+pub record IsClocked (l : AllocationProfile) (c q k : ℕ) (p : PlayerState) (b : Beat) (start last : ℕ) (asked : ℕ → ℕ) : Type 0 where
   pub timed : IsTimed c q k p b
   pub soon : IsSoon c q start p.timetable.clock p.timetable b
   pub ahead : (d : ℕ) → b.on ≡ true → p.timetable.due ≡ Some d → p.timetable.clock ≤ d
@@ -41,7 +41,7 @@ within rate burst span ticks a h s = let m = mul-le-mul_left rate s in omega (ar
 same_due : (o : Option ℕ) (d e : ℕ) → o ≡ Some d → o ≡ Some e → d ≡ e
 same_due o d e x y = let z : Some d ≡ Some e = sym x ∙ y in cc
 
-module _ (l : Load) (c q k : ℕ) (some : 1 ≤ c) where
+module _ (l : AllocationProfile) (c q k : ℕ) (some : 1 ≤ c) where
   abbrev pub IsFurther : PlayerState → Beat → List Line → Type 0
   IsFurther p b ls = (start : ℕ) × (last : ℕ) × (asked : ℕ → ℕ) × IsClocked l c q k p b start last asked × AsksFrom l start asked p.timetable.clock ls × BeginsOften l.gap (p.timetable.clock - last) ls
 

@@ -9,12 +9,12 @@ use Rattle.quanta.specs.Timetable as timetables
 use Rattle.trace.specs.declared.line.Line.{Line}
 use Rattle.player.specs.Player.{PlayerState, DoesLine}
 use Rattle.space.specs.Pace.{Beat, opening_beat, in_cycle, AllKeepPace}
-use Rattle.sizing.specs.Load.{Load, AsksFrom, Arrives, AreBudgets, KeepsLoad, AllLive, pace_of}
+use Rattle.sizing.specs.AllocationProfile.{AllocationProfile, AsksFrom, Arrives, AreBudgets, KeepsLoad, AllLive, pace_of}
 use Rattle.trace.specs.declared.version.Version.{Version}
-use Rattle.trace.specs.GoneOver.{LinesDone, No_lines, One_line_more}
+use Rattle.trace.specs.LinesProcessed.{LinesDone, No_lines, One_line_more}
 use Rattle.player.specs.declared.style.Style.{Style}
-use Rattle.player.specs.Playing.{Stage, PlaysLine}
-use Rattle.sizing.specs.Load.{Says}
+use Rattle.player.specs.Playing.{Session, PlaysLine}
+use Rattle.sizing.specs.AllocationProfile.{Says}
 use Rattle.sizing.proofs.arrivals.Beats.{beats, keep_more, live_more}
 use Rattle.sizing.proofs.arrivals.Buckets.{from_here}
 use Rattle.sizing.proofs.arrivals.Clocked.{IsFurther, line_keeps, budgets_left, clock_is, since_is}
@@ -29,7 +29,7 @@ does_more [] p mid new es more line w d = (more, [], new, subst (λ q. DoesLine 
 does_more (x ∷ ls) p mid new es more line w d = (w.0, w.1 ++ more, w.2, w.3, ap (λ z. z ++ more) w.4 ∙ append_assoc w.0 w.1 more, does_more ls w.2 mid new w.1 more line w.5 d)
 
 -- the lines that a text says, and what they do
-reads : (style : Style) (old new : Stage) (text : List (List ℕ)) (version : Version) (es : List Event) → LinesDone (PlaysLine style) old text version es new → (ls : List Line) × Says text version ls × DoesLines old.player ls es new.player
+reads : (style : Style) (old new : Session) (text : List (List ℕ)) (version : Version) (es : List Event) → LinesDone (PlaysLine style) old text version es new → (ls : List Line) × Says text version ls × DoesLines old.player ls es new.player
 reads style old new text version es No_lines = ([], No_lines, (refl, refl))
 reads style old new text version es (One_line_more before was next es' more bytes mid new' d (inl told) following) =
     let r = reads style old mid before was es' d in (
@@ -45,7 +45,7 @@ reads style old new text version es (One_line_more before was next es' more byte
       does_more r.0 old.player mid.player new'.player es' more does.1.0 r.2 does.1.2.0,
     )
 
-module _ (l : Load) (c q k : ℕ) (some : 1 ≤ c) where
+module _ (l : AllocationProfile) (c q k : ℕ) (some : 1 ≤ c) where
   lines_keep : (ls : List Line) (p new : PlayerState) (b : Beat) (es : List Event) → IsFurther l c q k some p b ls → AreBudgets k ls → Arrives l p.timetable.clock ls → AllLive l.live b.graph es → DoesLines p ls es new → AllKeepPace (pace_of l c q) k b es
   lines_keep [] p new b es f budgets arrives live does = subst (λ z. AllKeepPace (pace_of l c q) k b z) (sym does.0) tt
   lines_keep (line ∷ ls) p new b es f budgets arrives live does =
@@ -54,7 +54,7 @@ module _ (l : Load) (c q k : ℕ) (some : 1 ≤ c) where
       let rest = lines_keep ls does.2 new (beats b does.0) does.1 s.1 (budgets_left l c q k some line ls budgets) (subst (λ z. Arrives l z ls) (sym (clock_is l c q k some p does.2 line does.0 does.3)) arrives.1) more.1 does.5 in
       subst (λ z. AllKeepPace (pace_of l c q) k b z) (sym does.4) (keep_more (pace_of l c q) k b does.0 does.1 s.0 rest)
 
-pub load_keeps : (style : Style) (old new : Stage) (text : List (List ℕ)) (version : Version) (es : List Event) (l : Load) (k c q : ℕ) → IsOpening old.player.course.heap → old.player.timetable ≡ timetables.opening c q → 1 ≤ c → k ≤ old.player.budget
+pub load_keeps : (style : Style) (old new : Session) (text : List (List ℕ)) (version : Version) (es : List Event) (l : AllocationProfile) (k c q : ℕ) → IsOpening old.player.course.heap → old.player.timetable ≡ timetables.opening c q → 1 ≤ c → k ≤ old.player.budget
     → LinesDone (PlaysLine style) old text version es new → KeepsLoad l k text → AllLive l.live (opening old.player.course.heap.limits) es → AllKeepPace (pace_of l c q) k (opening_beat old.player.course.heap.limits) es
 load_keeps style old new text version es l k c q o t some budget done keeps live =
     let p = old.player in

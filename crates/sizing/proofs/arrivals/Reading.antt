@@ -2,12 +2,12 @@
 use Rattle.std.proofs.Common.{◌≡◌, ℕ, ◌+◌, inl, inr, List, [], ◌∷◌, ◌++◌, length, Some, ap, ◌∙◌, sym, subst, refl}
 use Rattle.trace.specs.declared.line.Line.{Line}
 use Rattle.trace.specs.declared.version.Version.{Version}
-use Rattle.trace.specs.GoneOver.{LinesDone, No_lines, One_line_more}
+use Rattle.trace.specs.LinesProcessed.{LinesDone, No_lines, One_line_more}
 use Rattle.trace.specs.Spelling.{Spells}
 use Rattle.trace.specs.TextLine.{Text, text_after, IsVersionLine, IsNextVersion}
 use Rattle.trace.specs.Reading.{line_in}
 use Rattle.trace.proofs.ReadLines.{read_only, unread}
-use Rattle.sizing.specs.Load.{SaysText}
+use Rattle.sizing.specs.AllocationProfile.{SaysText}
 
 pub nothing_behind : {A : Type 0} (xs : List A) (x : A) → [] ≡ xs ++ x ∷ [] → ⊥
 nothing_behind [] x e = absurd (cc)

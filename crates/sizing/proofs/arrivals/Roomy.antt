@@ -8,23 +8,23 @@ use Rattle.size_classes.specs.Config.{limits_of}
 use Rattle.heap_model.specs.State.{HeapState}
 use Rattle.heap_model.specs.Settings.{HeapSettings}
 use Rattle.heap_model.specs.Event.{Course, Event, Runs}
-use Rattle.heap_model.specs.Led.{opened}
+use Rattle.heap_model.specs.ReachedFrom.{opened}
 use Rattle.trace.specs.declared.version.Version.{Version}
-use Rattle.trace.specs.GoneOver.{LinesDone}
+use Rattle.trace.specs.LinesProcessed.{LinesDone}
 use Rattle.player.specs.declared.style.Style.{Style}
-use Rattle.player.specs.Playing.{Stage, PlaysLine}
+use Rattle.player.specs.Playing.{Session, PlaysLine}
 use Rattle.player.proofs.Lines.{lines_run}
 use Rattle.space.specs.Fitting.{FitsIn}
 use Rattle.space.specs.Room.{AllHaveRoom}
 use Rattle.space.proofs.Configured.{pace_configured}
-use Rattle.sizing.specs.Load.{Load, KeepsLoad, AllLive, pace_of}
+use Rattle.sizing.specs.AllocationProfile.{AllocationProfile, KeepsLoad, AllLive, pace_of}
 use Rattle.player.specs.New.{IsNew}
 use Rattle.sizing.proofs.arrivals.Playing.{load_keeps}
 
 course_is : (h : HeapState) (history : List Entry) (place : ℕ) → history ≡ [] → place ≡ 0 → (record { heap = h; history = history; place = place }) ≡ opened h
 course_is h history place e f = ap (λ z. record { heap = h; history = z; place = place }) e ∙ ap (λ z. record { heap = h; history = []; place = z }) f
 
-pub finds_room : (config : Config) (style : Style) (old new : Stage) (text : List (List ℕ)) (version : Version) (es : List Event) (l : Load) → IsNew config old.player → LinesDone (PlaysLine style) old text version es new
+pub finds_room : (config : Config) (style : Style) (old new : Session) (text : List (List ℕ)) (version : Version) (es : List Event) (l : AllocationProfile) → IsNew config old.player → LinesDone (PlaysLine style) old text version es new
     → KeepsLoad l (config.collector_ticks * config.rate) text → AllLive l.live (opening (limits_of config)) es → FitsIn config (pace_of l config.collector_ticks config.mutator_ticks) config.pages → AllHaveRoom es
 finds_room config style old new text version es l f done keeps live fits =
     let p = old.player in

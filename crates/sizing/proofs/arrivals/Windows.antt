@@ -5,7 +5,7 @@ use Rattle.graph_heap.specs.declared.command.Command.{Command}
 use Rattle.trace.specs.declared.line.Line.{Line}
 use Rattle.trace.specs.declared.line.Line.TheVariants as lines
 use Rattle.space.specs.Room.{asks}
-use Rattle.sizing.specs.Load.{Load}
+use Rattle.sizing.specs.AllocationProfile.{AllocationProfile}
 use Rattle.sizing.specs.Metering.{level_after}
 use Rattle.sizing.specs.Keeping.{ticks_in, asked_in, AsksTooMuch}
 use Rattle.sizing.proofs.arrivals.Buckets.{drained}
@@ -17,7 +17,7 @@ no_ticks rate t = ap (λ z. rate * z) (omega arith)
 more_ticks : (rate n t : ℕ) → rate * (0 + n + t) ≡ rate * n + rate * t
 more_ticks rate n t = ap (λ z. rate * z) (omega arith) ∙ drained rate n t
 
-module _ (l : Load) (class : ℕ) where
+module _ (l : AllocationProfile) (class : ℕ) where
   at_most : (ls : List Line) (level : ℕ) → level + asked_in class ls ≤ l.rate class * ticks_in ls + level_of l class level ls
   at_most [] level = omega arith
   at_most (lines.Skip ∷ ls) level = let a = at_most ls level in let e = no_ticks (l.rate class) (ticks_in ls) in omega (arith, a, e)

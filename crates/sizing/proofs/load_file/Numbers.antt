@@ -5,16 +5,16 @@ use Rattle.std.proofs.lemmas.Int.{ints}
 use Rattle.std.proofs.lemmas.Bool.Decides.{nat_tests}
 use Rattle.std.specs.Int.{FitsUnsignedBits}
 use Rattle.size_classes.specs.Keys.{is_between}
-use Rattle.sizing.specs.declared.load_file.fault.Place.{Place}
+use Rattle.sizing.specs.declared.load_file.fault.FieldPath.{FieldPath}
 use Rattle.sizing.specs.declared.load_file.fault.DocumentFault.TheVariants as faults
 use Rattle.sizing.specs.Document.{number_fault}
 
-pub fitting : (place : Place) (z : ℤ) → FitsUnsignedBits 32 z → number_fault place (Some z) ≡ None
+pub fitting : (place : FieldPath) (z : ℤ) → FitsUnsignedBits 32 z → number_fault place (Some z) ≡ None
 unfolding is_between
 fitting place (pos n) fits = grind (arith, ints, nat_tests)
 fitting place (negsuc n) fits = absurd fits
 
-pub other : (place : Place) (z : ℤ) → ¬ (FitsUnsignedBits 32 z) → number_fault place (Some z) ≡ Some (faults.OutOfRange place)
+pub other : (place : FieldPath) (z : ℤ) → ¬ (FitsUnsignedBits 32 z) → number_fault place (Some z) ≡ Some (faults.OutOfRange place)
 unfolding is_between
 other place (pos n) beyond = grind (arith, ints, nat_tests)
 other place (negsuc n) beyond = refl

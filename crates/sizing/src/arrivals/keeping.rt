@@ -1,21 +1,21 @@
 //! Whether a trace keeps to a load.
 ghost use Rattle.std.specs.Prelude.{◌≡◌, ℕ, ◌+◌, ◌-◌, ◌*◌, ◌<◌, ◌≤◌, replicate, slice_index, IfNone, IfSome};
 ghost use Rattle.space.specs.Room.{asks};
-ghost use Rattle.trace.specs.GoneOver.{reads_failed};
+ghost use Rattle.trace.specs.LinesProcessed.{reads_failed};
 ghost use Rattle.trace.specs.TextLine.{text_in};
 ghost use Rattle.trace.specs.Streams.{Stays, given_by};
 ghost use Rattle.sizing.specs.Fitting.{load_in};
 ghost use Rattle.sizing.specs.Metering.{levels_in, IsWithin, Overflows, Metered, TextMetered};
 ghost use Rattle.sizing.specs.Keeping.{LoadChecked};
 
-use crate::arrivals::load::Load;
+use crate::arrivals::load::AllocationProfile;
 use graph_heap::Command;
 use size_classes::{CLASSES, Class, Config, Need, parts_of};
 use trace::{Line, LineReader, Source, TextFault, TextLine, read_numbered};
 
 /// In which way a line breaks a load.
 #[derive(Clone, Copy, Debug, PartialEq, Eq)]
-pub enum Breach {
+pub enum Violation {
     /// From some line on, or by its command alone, more blocks of the class are asked for than the rate in the
     /// ticks between and the burst: the first class for which that is so.
     Asks(Class),
@@ -27,11 +27,11 @@ pub enum Breach {
 
 /// Whether a trace keeps to a load.
 #[derive(Clone, Copy, Debug, PartialEq, Eq)]
-pub enum Kept {
+pub enum Conformance {
     /// All its lines do.
     Keeps,
     /// The line of this number, from 1, is the first with which they don't.
-    Breaks { line: u64, by: Breach },
+    Breaks { line: u64, by: Violation },
 }
 
 /// What the lines so far add up to: how many blocks are in the bucket of each class, and how many ticks have
@@ -90,7 +90,7 @@ impl Meter {
     }
 
     /// Puts the blocks for which a command asks into the buckets. Answers the first class whose burst they pass.
-    fn ask(&mut self, command: &Command, load: &Load) -> Option<Class>
+    fn ask(&mut self, command: &Command, load: &AllocationProfile) -> Option<Class>
         requires { IsWithin (load_in load.now) self.old }
         ensures filled { IfNone result ((class : ℕ) → class < CLASSES
             → levels_in self.new class ≡ levels_in self.old class + asks command.now class) }
@@ -102,25 +102,25 @@ impl Meter {
             return None;
         };
         let parts = parts_of(shape)?;
-        fill(&mut self.levels, &Need::of(&parts), &load.burst)
+        fill(&mut self.levels, &Need::from_parts(&parts), &load.burst)
     }
 
     /// Counts a command. Answers how it breaks the load, if it does.
-    fn note_command(&mut self, command: &Command, load: &Load) -> Option<Breach>
+    fn note_command(&mut self, command: &Command, load: &AllocationProfile) -> Option<Violation>
         requires { IsWithin (load_in load.now) self.old }
         ensures { (m k : ℕ) → Metered (load_in load.now) k self.old (Line.Command m command.now) self.new result }
     {
         if let Some(class) = self.ask(command, load) {
-            return Some(Breach::Asks(class));
+            return Some(Violation::Asks(class));
         }
         if self.since > u64::from(load.gap) {
-            return Some(Breach::BeginsLate);
+            return Some(Violation::BeginsLate);
         }
         None
     }
 
     /// Counts a line. Answers how it breaks the load, with quanta of at least `budget` units, if it does.
-    fn note(&mut self, line: &Line, load: &Load, budget: u32) -> Option<Breach>
+    fn note(&mut self, line: &Line, load: &AllocationProfile, budget: u32) -> Option<Violation>
         requires { IsWithin (load_in load.now) self.old }
         ensures { Metered (load_in load.now) budget self.old line.now self.new result }
     {
@@ -131,7 +131,7 @@ impl Meter {
                 self.since = 0;
                 None
             }
-            Line::Quantum(units) if units < budget => Some(Breach::SmallQuantum),
+            Line::Quantum(units) if units < budget => Some(Violation::SmallQuantum),
             Line::Quantum(_) => None,
             Line::Tick(ticks) => {
                 drain(&mut self.levels, &load.rate, ticks);
@@ -146,9 +146,9 @@ impl Meter {
 fn check_line(
     text: TextLine,
     meter: &mut Meter,
-    load: &Load,
+    load: &AllocationProfile,
     budget: u32,
-) -> Result<Option<Breach>, TextFault>
+) -> Result<Option<Violation>, TextFault>
     requires { IsWithin (load_in load.now) meter.old }
     ensures { TextMetered (load_in load.now) budget (text_in text.entry) meter.old meter.new result }
 {
@@ -163,9 +163,9 @@ fn check_line(
 /// line after it is looked at. Whether the clock's limit is passed isn't asked. No memory is asked for.
 pub fn keeps_load<S: Source>(
     source: &mut S,
-    load: &Load,
+    load: &AllocationProfile,
     config: &Config,
-) -> Result<Kept, TextFault>
+) -> Result<Conformance, TextFault>
     ensures checked { LoadChecked (load_in load.now) (config.now.collector_ticks * config.now.rate)
         (given_by S.given S.ended source.old source.new) result }
     ensures reads { S.failures source.new ≡ S.failures source.old + reads_failed result }
@@ -176,11 +176,11 @@ pub fn keeps_load<S: Source>(
     let mut reader = LineReader::new();
     while reader.next_line(source)? {
         if let Some(by) = check_line(reader.text(), &mut meter, load, budget)? {
-            return Ok(Kept::Breaks {
+            return Ok(Conformance::Breaks {
                 line: reader.number(),
                 by,
             });
         }
     }
-    Ok(Kept::Keeps)
+    Ok(Conformance::Keeps)
 }

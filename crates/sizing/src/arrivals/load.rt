@@ -1,7 +1,7 @@
 //! What a program asks for by the clock, and the pace that this makes.
 ghost use Rattle.std.specs.Prelude.{◌≡◌, ℕ, ◌+◌, ◌*◌, ◌<◌, ◌^◌, slice_index};
 ghost use Rattle.space.specs.Fitting.{pace_in};
-ghost use Rattle.sizing.specs.Load.{pace_of};
+ghost use Rattle.sizing.specs.AllocationProfile.{pace_of};
 ghost use Rattle.sizing.specs.Fitting.{load_in, IsSamePace};
 
 use size_classes::{CLASSES, Config};
@@ -11,7 +11,7 @@ use space::Pace;
 /// for in a tick, and how many at once; and how many ticks pass at most from a line `begin`, or the start, to
 /// a command before the next such line.
 #[derive(Clone, Copy, Debug, PartialEq, Eq)]
-pub struct Load {
+pub struct AllocationProfile {
     pub live: [u32; CLASSES],
     pub rate: [u32; CLASSES],
     pub burst: [u32; CLASSES],
@@ -38,7 +38,7 @@ fn asked_in(rate: &[u32; CLASSES], burst: &[u32; CLASSES], ticks: u32) -> [u64; 
     blocks
 }
 
-impl Load {
+impl AllocationProfile {
     /// The pace that it makes, with the schedule of a configuration.
     pub fn pace(&self, config: &Config) -> Pace
         ensures { IsSamePace (pace_in result)

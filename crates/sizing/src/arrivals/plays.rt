@@ -1,6 +1,6 @@
 //! Playing a trace on a new player.
 ghost use Rattle.std.specs.Prelude.{◌≡◌, ◌+◌, IfOk, OnErr};
-ghost use Rattle.trace.specs.GoneOver.{reads_failed, writes_failed};
+ghost use Rattle.trace.specs.LinesProcessed.{reads_failed, writes_failed};
 ghost use Rattle.trace.specs.Streams.{Stays, given_by, taken_by};
 ghost use Rattle.sizing.specs.New.{PlayedNew};
 
@@ -12,7 +12,7 @@ use trace::{Sink, Source, TextFault};
 
 /// What was played on a new player: the player after it, and how the play ended.
 #[derive(Drop)]
-pub struct Run {
+pub struct PlayedTrace {
     pub player: Player,
     pub ended: Result<(), TextFault>,
 }
@@ -26,7 +26,7 @@ pub fn play_new<S: Source, K: Sink>(
     source: &mut S,
     sink: &mut K,
     style: Style,
-) -> Result<Run, NoMemory>
+) -> Result<PlayedTrace, NoMemory>
     ensures played { IfOk result (λ run. PlayedNew config.now style (given_by S.given S.ended source.old source.new)
         (taken_by K.taken sink.old sink.new) run.player run.ended) }
     ensures refused { OnErr result ((source.new ≡ source.old) × (sink.new ≡ sink.old)) }
@@ -36,5 +36,5 @@ pub fn play_new<S: Source, K: Sink>(
 {
     let mut player = Player::new(alloc, config)?;
     let ended = play(source, sink, &mut player, style);
-    Ok(Run { player, ended })
+    Ok(PlayedTrace { player, ended })
 }

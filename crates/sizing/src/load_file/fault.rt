@@ -6,17 +6,17 @@ use thiserror::Error;
 
 /// Which number of a document.
 #[derive(Clone, Copy, Debug, PartialEq, Eq)]
-pub enum Place {
+pub enum FieldPath {
     Gap,
     /// The one at a key of the table of the size class with blocks of `size` words.
     Class { size: u32, field: Field },
 }
 
-impl fmt::Display for Place {
+impl fmt::Display for FieldPath {
     fn fmt<W: fmt::Write>(&self, f: &mut fmt::Formatter<W>) -> fmt::Result {
         match self {
-            Place::Gap => write!(f, "gap"),
-            Place::Class { size, field } => write!(f, "size {size} {field}"),
+            FieldPath::Gap => write!(f, "gap"),
+            FieldPath::Class { size, field } => write!(f, "size {size} {field}"),
         }
     }
 }
@@ -37,10 +37,10 @@ pub enum DocumentFault {
     #[error("size {0} not a table")]
     NotTable(u32),
     #[error("{0} not a whole number")]
-    NotWhole(Place),
+    NotWhole(FieldPath),
     /// It isn't 0 to 4294967295.
     #[error("{0} out of range")]
-    OutOfRange(Place),
+    OutOfRange(FieldPath),
 }
 
 /// Why bytes give no load. Its text is what a user reads.

@@ -6,7 +6,7 @@ use Rattle.graph_heap.specs.History.{IsEntryOf, after_entry, after, IsLegal}
 use Rattle.graph_heap.proofs.Histories.{after-push, IsLegal-push}
 use Rattle.trace.specs.declared.fault.TextFault.{TextFault}
 use Rattle.trace.specs.declared.version.Version.{Version}
-use Rattle.trace.specs.GoneOver.{Goes, LinesDone, No_lines, One_line_more, GoneOver}
+use Rattle.trace.specs.LinesProcessed.{LineEffect, LinesDone, No_lines, One_line_more, LinesProcessed}
 use Rattle.trace.specs.Streams.{Given}
 use Rattle.std.specs.Prelude.{Result}
 use Rattle.trace.specs.declared.transcripts.histories.Checked.{Checked}
@@ -30,7 +30,7 @@ leads_told old mid new es fs legal leads none same =
     (subst (IsLegal old) e legal, same ∙ leads ∙ ap (after old) e)
 
 -- the entries of the lines done are legal, and lead to the graph heap after them
-leads_so : (old new : Graph) (ls : List (List ℕ)) (version : Version) (es : List Entry) → LinesDone (Goes DoesNothing DoesEntry) old ls version es new → IsLegal old es × (new ≡ after old es)
+leads_so : (old new : Graph) (ls : List (List ℕ)) (version : Version) (es : List Entry) → LinesDone (LineEffect DoesNothing DoesEntry) old ls version es new → IsLegal old es × (new ≡ after old es)
 leads_so old new ls version es No_lines = (tt, refl)
 leads_so old new ls version es (One_line_more ls' before version' es' fs text mid new' d (inl told) next) =
     let so = leads_so old mid ls' before es' d in
@@ -39,7 +39,7 @@ leads_so old new ls version es (One_line_more ls' before version' es' fs text mi
     let so = leads_so old mid ls' before es' d in
     leads_on old mid new es' fs before text so.0 so.1 does.1
 
-pub checked : (given : Given) (old new : Graph) (result : Result Checked TextFault) → GoneOver (Goes DoesNothing DoesEntry) given old (HistoryEnds given.ended new result) → EntriesChecked given old new result
+pub checked : (given : Given) (old new : Graph) (result : Result Checked TextFault) → LinesProcessed (LineEffect DoesNothing DoesEntry) given old (HistoryEnds given.ended new result) → EntriesChecked given old new result
 checked given old new result over =
     let so = leads_so old over.mid over.lines over.version over.events over.done in
     record { over = over; legal = so.0; leads = so.1 }

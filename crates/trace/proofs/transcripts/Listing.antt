@@ -13,7 +13,7 @@ use Rattle.trace.specs.declared.version.Version.{Version}
 use Rattle.trace.specs.declared.fault.TextFault.{TextFault}
 use Rattle.trace.specs.declared.line_handler.InputEnd.{InputEnd}
 use Rattle.trace.specs.declared.transcripts.scripts.Scripts.{Scripts}
-use Rattle.trace.specs.GoneOver.{Goes, LinesDone}
+use Rattle.trace.specs.LinesProcessed.{LineEffect, LinesDone}
 use Rattle.trace.specs.Handling.{LinesHandled}
 use Rattle.trace.specs.Streams.{Given}
 use Rattle.trace.proofs.Handling.{Follows, all_moved, over_all, over_stopped}
@@ -115,7 +115,7 @@ no_line version text only = (λ s. let e = only lines.Skip s in cc, λ m c s. le
 
 -- what a line of an input does to the scripts
 pub line_goes : (text : Text) (mutators : ℕ) (old new : Vec (Vec Command Global) Global) → vec_len old ≡ mutators → LineAdded text old new (Ok tt)
-    → (spelled : List Line) × Goes AsksNothing (DoesScript mutators) text tt spelled tt × ((ls : List Line) → lists_in old ≡ scripts_of mutators ls → lists_in new ≡ scripts_of mutators (ls ++ spelled))
+    → (spelled : List Line) × LineEffect AsksNothing (DoesScript mutators) text tt spelled tt × ((ls : List Line) → lists_in old ≡ scripts_of mutators ls → lists_in new ≡ scripts_of mutators (ls ++ spelled))
 line_goes text mutators old new len (inl told, same) =
     ([], inl (told.0, refl, tt), λ ls e. told.1 ∙ e ∙ ap (scripts_of mutators) (sym (append-nil ls)))
 line_goes text mutators old new len (inr (other, (line, does, lists)), same) =
@@ -128,10 +128,10 @@ Adds text old new result = LineAdded text old.lists new.lists result
 
 module _ (given : Given) (mutators : ℕ) (first new : Scripts) (none : lists_in first.lists ≡ replicate mutators []) (len : vec_len first.lists ≡ mutators) where
   -- the scripts are those of the lines so far
-  abbrev Known : (lines : List (List ℕ)) (version : Version) (spelled : List Line) (now : Scripts) → LinesDone (Goes AsksNothing (DoesScript mutators)) tt lines version spelled tt → Type 0
+  abbrev Known : (lines : List (List ℕ)) (version : Version) (spelled : List Line) (now : Scripts) → LinesDone (LineEffect AsksNothing (DoesScript mutators)) tt lines version spelled tt → Type 0
   Known lines version spelled now done = (lists_in now.lists ≡ scripts_of mutators spelled) × (vec_len now.lists ≡ mutators)
 
-  follows : Follows Adds (Goes AsksNothing (DoesScript mutators)) (λ scripts. tt) first Known
+  follows : Follows Adds (LineEffect AsksNothing (DoesScript mutators)) (λ scripts. tt) first Known
   follows = record {
     at_first = (none ∙ empty_scripts mutators, len);
     then = λ lines version spelled mid done known line new added.
@@ -142,13 +142,13 @@ module _ (given : Given) (mutators : ℕ) (first new : Scripts) (none : lists_in
   -- the input has ended
   pub scripts_read : (end : InputEnd) → LinesHandled Adds given first new (Ok end) → ScriptsRead given mutators (Ok (end.version, new.lists)) × (vec_len new.lists ≡ mutators)
   scripts_read end h =
-      let a = all_moved Adds (Goes AsksNothing (DoesScript mutators)) (λ scripts. tt) first Known follows given new end h in
-      (inr (record { over = over_all Adds (Goes AsksNothing (DoesScript mutators)) (λ scripts. tt) first Known (ScriptStops mutators) ReadScripts given new (end.version, new.lists) a; are = (refl, a.knows.0) }), a.knows.1)
+      let a = all_moved Adds (LineEffect AsksNothing (DoesScript mutators)) (λ scripts. tt) first Known follows given new end h in
+      (inr (record { over = over_all Adds (LineEffect AsksNothing (DoesScript mutators)) (λ scripts. tt) first Known (ScriptStops mutators) ReadScripts given new (end.version, new.lists) a; are = (refl, a.knows.0) }), a.knows.1)
 
   -- a fault
   pub scripts_stopped : (fault : TextFault) → LinesHandled Adds given first new (Err fault) → ScriptsRead given mutators (Err fault)
   scripts_stopped fault h = inr (record {
-    over = over_stopped Adds (Goes AsksNothing (DoesScript mutators)) (λ scripts. tt) first Known (ScriptStops mutators) ReadScripts given new fault
+    over = over_stopped Adds (LineEffect AsksNothing (DoesScript mutators)) (λ scripts. tt) first Known (ScriptStops mutators) ReadScripts given new fault
         (λ lines version spelled mid done known line stops. subst (λ n. ScriptStops n fault (text_after lines version line) tt tt) known.1 stops) follows h;
     are = tt;
   })

@@ -1,6 +1,6 @@
 //! Histories, checked against a graph heap.
 ghost use Rattle.std.specs.Prelude.{◌≡◌, ◌+◌};
-ghost use Rattle.trace.specs.GoneOver.{reads_failed};
+ghost use Rattle.trace.specs.LinesProcessed.{reads_failed};
 ghost use Rattle.trace.specs.Streams.{Stays, given_by};
 ghost use Rattle.trace.specs.TextLine.{text_in};
 ghost use Rattle.trace.specs.Histories.{LineChecked, EntriesChecked};

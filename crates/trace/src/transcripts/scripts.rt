@@ -1,6 +1,6 @@
 //! Scripts: the commands of each mutator.
 ghost use Rattle.std.specs.Prelude.{◌≡◌, ◌+◌, ◌<◌, vec_len, replicate, [], IfOk, IfErr, OnOk};
-ghost use Rattle.trace.specs.GoneOver.{reads_failed};
+ghost use Rattle.trace.specs.LinesProcessed.{reads_failed};
 ghost use Rattle.trace.specs.Streams.{Stays, given_by};
 ghost use Rattle.trace.specs.Spelling.{Spells};
 ghost use Rattle.trace.specs.Scripts.{line_of, lists_in, one_more, IsOfScripts, ScriptLineIs, LineAdded, ScriptsRead};

@@ -1,5 +1,5 @@
 use Rattle.std.proofs.Common.{◌<◌, sym, subst, refl, arith}
-use Rattle.arraylets.proofs.Linking.{spine_in, spine_held, cell_within, linked_by, links_same}
+use Rattle.arraylets.proofs.Linking.{spine_in, spine_allocated, cell_within, linked_by, links_same}
 use Rattle.arraylets.proofs.making.link.Goals as goal
 
 pub bounds-spines-position : goal.bounds-spines-position
@@ -7,10 +7,10 @@ bounds-spines-position c =
     let some : 0 < c.args.part = omega (arith, c.if-part-gt0.true) in
     subst (λ k. k < 64) (sym c.position-position.ensures.spine) (spine_in c.args.parts.now c.args.part c.requires.few some c.requires.part).1
 
-pub set_cell-requires-clause-held : goal.set_cell-requires-clause-held
-set_cell-requires-clause-held c =
+pub set_cell-requires-clause-allocated : goal.set_cell-requires-clause-allocated
+set_cell-requires-clause-allocated c =
     let some : 0 < c.args.part = omega (arith, c.if-part-gt0.true) in
-    spine_held c.args.parts.now _ c.args.nodes.now c.args.spines.now c.args.part _ c.position-position.result.cell c.args.block c.position-position.ensures.spine c.position-position.ensures.cell (c.requires.held some)
+    spine_allocated c.args.parts.now _ c.args.nodes.now c.args.spines.now c.args.part _ c.position-position.result.cell c.args.block c.position-position.ensures.spine c.position-position.ensures.cell (c.requires.allocated some)
 
 pub set_cell-requires-clause-within : goal.set_cell-requires-clause-within
 set_cell-requires-clause-within c =

@@ -14,6 +14,6 @@ returns-in_err-settings-clause-fault c =
 pub returns-clause-fault : goal.returns-clause-fault
 returns-clause-fault c =
     let known = sym c.has_unknown_key.ensures ∙ c.if-has_unknown_key.false in
-    c.check_budget.ensures.fault
+    c.from_checked.ensures.fault
     ∙ ap budget_fault c.in_ok-settings.ensures.values
     ∙ sym (document_fault-budget (table_view c.args.document.now) known (sym c.in_ok-settings.ensures.fault))

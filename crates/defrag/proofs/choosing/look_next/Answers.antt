@@ -1,12 +1,12 @@
 use Rattle.std.proofs.Common.{◌≡◌, ◌+◌, Some, subst, sym, ap, ◌∙◌, arith, true, false, refl}
 use Rattle.heap_model.specs.declared.phase.Moving.TheVariants as moves
 use Rattle.heap_model.specs.declared.phase.Phase.TheVariants as phases
-use Rattle.heap_model.specs.Action.{Action, goes_to, looked, is_chosen}
+use Rattle.heap_model.specs.Action.{Action, goes_to, candidate_after, is_chosen}
 use Rattle.heap_model.specs.State.{HeapState}
 use Rattle.heap_model.proofs.Grey.{passing}
 use Rattle.nodes.proofs.Keeping.{store_still}
-use Rattle.nodes.specs.declared.raw_heap.RawHeap.{RawHeap}
-use Rattle.nodes.specs.RawHeap.{state_of}
+use Rattle.nodes.specs.declared.heap_fields.HeapFields.{HeapFields}
+use Rattle.nodes.specs.HeapFields.{state_of}
 use Rattle.nodes.proofs.Standing.{units_small}
 use Rattle.defrag.proofs.Looks.{looks, chooses, chooses_none}
 use Rattle.defrag.proofs.choosing.look_next.Goals as goal
@@ -23,26 +23,26 @@ go_to-requires-in_default c = let u = units_small c.args.heap.now c.requires.hea
 
 pub returns-then-page-pages-clause-acts : goal.returns-then-page-pages-clause-acts
 returns-then-page-pages-clause-acts c =
-    subst (λ (x : RawHeap). Action (state_of c.args.heap.now) 1 (state_of x)) (sym c.go_to.ensures)
-    (looks c.args.class c.args.page c.args.candidate c.requires.class c.args.heap.now.nodes c.look-candidate.result
-    (subst (λ k. c.look-candidate.result ≡ looked c.args.heap.now.nodes.pages k c.args.page c.args.candidate) c.new-number.ensures c.look-candidate.ensures) (state_of c.args.heap.now) c.args.chosen refl c.requires.pass
+    subst (λ (x : HeapFields). Action (state_of c.args.heap.now) 1 (state_of x)) (sym c.go_to.ensures)
+    (looks c.args.class c.args.page c.args.candidate c.requires.class c.args.heap.now.nodes c.consider-candidate.result
+    (subst (λ k. c.consider-candidate.result ≡ candidate_after c.args.heap.now.nodes.pages k c.args.page c.args.candidate) c.new-number.ensures c.consider-candidate.ensures) (state_of c.args.heap.now) c.args.chosen refl c.requires.pass
     (omega (arith, c.pages.ensures.pages, c.if-page-pages.true)))
 
 pub returns-in-Some-clause-acts : goal.returns-in-Some-clause-acts
 returns-in-Some-clause-acts c =
-    subst (λ (x : RawHeap). Action (state_of c.args.heap.now) 1 (state_of x)) (sym c.go_to-in-Some.ensures)
-    (subst (λ (h : HeapState). Action (state_of c.args.heap.now) 1 (goes_to h 1 (phases.Moving (moves.Emptying c.args.class c.in-Some.found.page 0 (c.args.chosen + 1))))) (sym (store_still c.args.heap.now c.requires.heap (passing (state_of c.args.heap.now) c.args.class c.args.page c.args.candidate c.args.chosen c.requires.pass) c.leave.new.self))
-    (chooses c.args.class c.args.page c.args.candidate c.requires.class c.args.heap.now.nodes c.look-candidate.result
-    (subst (λ k. c.look-candidate.result ≡ looked c.args.heap.now.nodes.pages k c.args.page c.args.candidate) c.new-number.ensures c.look-candidate.ensures) (state_of c.args.heap.now) c.args.chosen refl c.requires.pass
-    c.in-Some.found c.leave.new.self c.in-Some.is (omega (arith, c.pages.ensures.pages, c.requires.page, c.if-page-pages.false))
+    subst (λ (x : HeapFields). Action (state_of c.args.heap.now) 1 (state_of x)) (sym c.go_to-in-Some.ensures)
+    (subst (λ (h : HeapState). Action (state_of c.args.heap.now) 1 (goes_to h 1 (phases.Moving (moves.Emptying c.args.class c.in-Some.found.page 0 (c.args.chosen + 1))))) (sym (store_still c.args.heap.now c.requires.heap (passing (state_of c.args.heap.now) c.args.class c.args.page c.args.candidate c.args.chosen c.requires.pass) c.mark_evacuating.new.self))
+    (chooses c.args.class c.args.page c.args.candidate c.requires.class c.args.heap.now.nodes c.consider-candidate.result
+    (subst (λ k. c.consider-candidate.result ≡ candidate_after c.args.heap.now.nodes.pages k c.args.page c.args.candidate) c.new-number.ensures c.consider-candidate.ensures) (state_of c.args.heap.now) c.args.chosen refl c.requires.pass
+    c.in-Some.found c.mark_evacuating.new.self c.in-Some.is (omega (arith, c.pages.ensures.pages, c.requires.page, c.if-page-pages.false))
     (subst (λ k. is_chosen c.args.heap.now.nodes.pages k (Some c.in-Some.found) ≡ true) c.new-number.ensures (sym c.is_chosen.ensures ∙ c.if-is_chosen.true))
-    c.leave.ensures.kept c.leave.ensures.pages))
+    c.mark_evacuating.ensures.kept c.mark_evacuating.ensures.pages))
 
 pub returns-in_default-clause-acts : goal.returns-in_default-clause-acts
 returns-in_default-clause-acts c =
-    subst (λ (x : RawHeap). Action (state_of c.args.heap.now) 1 (state_of x)) (sym c.go_to-in_default.ensures)
-    (chooses_none c.args.class c.args.page c.args.candidate c.requires.class c.args.heap.now.nodes c.look-candidate.result
-    (subst (λ k. c.look-candidate.result ≡ looked c.args.heap.now.nodes.pages k c.args.page c.args.candidate) c.new-number.ensures c.look-candidate.ensures) (state_of c.args.heap.now) c.args.chosen refl c.requires.pass
+    subst (λ (x : HeapFields). Action (state_of c.args.heap.now) 1 (state_of x)) (sym c.go_to-in_default.ensures)
+    (chooses_none c.args.class c.args.page c.args.candidate c.requires.class c.args.heap.now.nodes c.consider-candidate.result
+    (subst (λ k. c.consider-candidate.result ≡ candidate_after c.args.heap.now.nodes.pages k c.args.page c.args.candidate) c.new-number.ensures c.consider-candidate.ensures) (state_of c.args.heap.now) c.args.chosen refl c.requires.pass
     (omega (arith, c.pages.ensures.pages, c.requires.page, c.if-page-pages.false))
     (elim c.in_default.branch [
       | in_default-via-in-Some+else-is_chosen w ↦ ap (is_chosen c.args.heap.now.nodes.pages c.args.class) w.in-Some.is

@@ -1,5 +1,5 @@
 use Rattle.std.proofs.Common.{◌≡◌, suc, ◌+◌, ◌-◌, ◌∙◌, ap, subst, refl, arith}
-use Rattle.heap_model.specs.Action.{looked}
+use Rattle.heap_model.specs.Action.{candidate_after}
 use Rattle.defrag.specs.Looking.{looked_on}
 use Rattle.defrag.proofs.choosing.look_on.Goals as goal
 
@@ -13,8 +13,8 @@ unfolding looked_on
 loop-page-preserved c =
     let i = c.loop-page.invariant in let from = c.args.from in let page = c.loop-page.page in let on = looked_on c.args.nodes.now.pages c.args.class from c.args.best in (
       omega (arith, i.0),
-      c.look-candidate.ensures
-          ∙ ap (looked c.args.nodes.now.pages c.args.class page) i.1
-          ∙ ap (λ k. looked c.args.nodes.now.pages c.args.class k (on (page - from))) (let e : page ≡ from + (page - from) = omega (arith, i.0) in e)
+      c.consider-candidate.ensures
+          ∙ ap (candidate_after c.args.nodes.now.pages c.args.class page) i.1
+          ∙ ap (λ k. candidate_after c.args.nodes.now.pages c.args.class k (on (page - from))) (let e : page ≡ from + (page - from) = omega (arith, i.0) in e)
           ∙ ap on (let e : suc (page - from) ≡ page + 1 - from = omega (arith, i.0) in e),
     )

@@ -3,8 +3,8 @@ use Rattle.heap_model.specs.declared.phase.Phase.TheVariants as phases
 use Rattle.heap_model.specs.declared.phase.Moving.TheVariants as moves
 use Rattle.heap_model.specs.Action.{Action, Chain, goes_to, In_pass, No_class, Ends_moving}
 use Rattle.heap_model.specs.Spent.{IsWithin}
-use Rattle.nodes.specs.declared.raw_heap.RawHeap.{RawHeap}
-use Rattle.nodes.specs.RawHeap.{state_of}
+use Rattle.nodes.specs.declared.heap_fields.HeapFields.{HeapFields}
+use Rattle.nodes.specs.HeapFields.{state_of}
 use Rattle.nodes.proofs.Chains.{runs_once}
 use Rattle.nodes.proofs.Standing.{units_small}
 use Rattle.defrag.specs.Looking.{looked_on}
@@ -25,7 +25,7 @@ returns-then-class-clause-acts c =
     let a = c.args.heap.now in
     let most = (subst (IsWithin (state_of a)) c.requires.phase c.requires.heap.heap.stands.within).1 in
     runs_once a c.go_to.new.self c.args.room 1 c.requires.heap
-    (subst (λ (x : RawHeap). Action (state_of a) 1 (state_of x)) (sym c.go_to.ensures)
+    (subst (λ (x : HeapFields). Action (state_of a) 1 (state_of x)) (sym c.go_to.ensures)
     (Ends_moving (No_class c.args.page c.args.candidate c.args.chosen (subst (λ z. a.phase ≡ phases.Moving (moves.Pass z c.args.page c.args.candidate c.args.chosen)) (omega (arith, c.if-class.true, most)) c.requires.phase))))
     c.requires.room
 
@@ -40,7 +40,7 @@ returns-clause-acts c =
     let some : 0 < n = omega (arith, c.min-count.ensures, left, room) in
     let found : looked_on a.nodes.pages c.args.class page best n ≡ c.look_on.result =
     sym (c.look_on.ensures ∙ ap (λ k. looked_on a.nodes.pages k page best (page + n - page)) c.new.ensures ∙ ap (looked_on a.nodes.pages c.args.class page best) (let e : page + n - page ≡ n = omega arith in e)) in (
-      subst (λ (x : RawHeap). Chain h n (state_of x)) (sym c.go_to-2.ensures)
+      subst (λ (x : HeapFields). Chain h n (state_of x)) (sym c.go_to-2.ensures)
           (subst (λ b. Chain h n (goes_to h n (phases.Moving (moves.Pass c.args.class (page + n) b c.args.chosen)))) found
           (looks_run h c.args.class page best c.args.chosen n c.requires.phase (omega (arith, low)) (omega (arith, few, left, pages, c.saturating_sub-left.ensures)))),
       some,

@@ -7,8 +7,8 @@ use Rattle.heap_model.specs.Action.{Action, goes_to}
 use Rattle.heap_model.specs.State.{HeapState}
 use Rattle.heap_model.specs.Written.{records}
 use Rattle.nodes.proofs.Keeping.{store_still}
-use Rattle.nodes.specs.declared.raw_heap.RawHeap.{RawHeap}
-use Rattle.nodes.specs.RawHeap.{state_of}
+use Rattle.nodes.specs.declared.heap_fields.HeapFields.{HeapFields}
+use Rattle.nodes.specs.HeapFields.{state_of}
 use Rattle.nodes.proofs.Chains.{runs_once}
 use Rattle.nodes.proofs.Standing.{units_small}
 use Rattle.defrag.proofs.Moves.{page_in, class_small, chosen_small, costs_one, looks_again, ends, costs_words, can_move, moves_block}
@@ -51,7 +51,7 @@ go_to-requires c = let u = units_small c.args.heap.now c.requires.heap in let s 
 pub returns-clause-acts : goal.returns-clause-acts
 returns-clause-acts c =
     runs_once c.args.heap.now c.go_to.new.self c.args.room c.size-words.result c.requires.heap
-    (subst (λ (x : RawHeap). Action (state_of c.args.heap.now) c.size-words.result (state_of x)) (sym c.go_to.ensures)
+    (subst (λ (x : HeapFields). Action (state_of c.args.heap.now) c.size-words.result (state_of x)) (sym c.go_to.ensures)
     (subst (λ w. Action (state_of c.args.heap.now) w (goes_to (state_of (record c.args.heap.now { nodes = c.move_block.new.self })) w (phases.Moving (moves.Emptying c.args.class c.args.page (c.in-Some.next.index + 1) c.args.chosen)))) (sym c.size-words.ensures.size)
     (subst (λ (h : HeapState). Action (state_of c.args.heap.now) (size_of c.in-Some.next.class) (goes_to h (size_of c.in-Some.next.class) (phases.Moving (moves.Emptying c.args.class c.args.page (c.in-Some.next.index + 1) c.args.chosen)))) (sym (store_still c.args.heap.now c.requires.heap (ap records c.requires.phase) c.move_block.new.self))
     (moves_block c.args.heap.now c.requires.heap c.args.class c.args.page c.args.block c.args.chosen c.requires.phase c.in-Some.next c.in-Some.ensures.next

@@ -1,6 +1,6 @@
 use Rattle.std.proofs.Common.{◌∙◌, inr, refl, ap, arith}
 use Rattle.heap_model.specs.declared.phase.Phase.TheVariants as phases
-use Rattle.nodes.specs.RawHeap.{state_of}
+use Rattle.nodes.specs.HeapFields.{state_of}
 use Rattle.defrag.proofs.Moves.{pass_costs_one}
 use Rattle.defrag.proofs.moving.move_next.Goals as goal
 

@@ -1,7 +1,7 @@
 use Rattle.std.proofs.Common.{inr, refl, sym, subst, arith}
 use Rattle.heap_model.specs.Action.{Action, Ends_moving}
-use Rattle.nodes.specs.declared.raw_heap.RawHeap.{RawHeap}
-use Rattle.nodes.specs.RawHeap.{state_of}
+use Rattle.nodes.specs.declared.heap_fields.HeapFields.{HeapFields}
+use Rattle.nodes.specs.HeapFields.{state_of}
 use Rattle.nodes.proofs.Chains.{runs_once}
 use Rattle.nodes.proofs.Standing.{units_small}
 use Rattle.defrag.proofs.moving.page_done.Goals as goal
@@ -16,7 +16,7 @@ pub returns-else-chosen-heap-clause-acts : goal.returns-else-chosen-heap-clause-
 returns-else-chosen-heap-clause-acts c =
     let a = c.args.heap.now in
     runs_once a c.go_to.new.self c.args.room 1 c.requires.heap
-    (subst (λ (x : RawHeap). Action (state_of a) 1 (state_of x)) (sym c.go_to.ensures) (Ends_moving (c.requires.ends (let e = c.if-chosen-heap.false in omega arith))))
+    (subst (λ (x : HeapFields). Action (state_of a) 1 (state_of x)) (sym c.go_to.ensures) (Ends_moving (c.requires.ends (let e = c.if-chosen-heap.false in omega arith))))
     (let e = c.if-room-eq0.false in omega arith)
 
 pub returns-then-chosen-heap-clause-acts : goal.returns-then-chosen-heap-clause-acts

@@ -1,4 +1,4 @@
-use Rattle.heap_model.proofs.Held.{store_pages}
+use Rattle.heap_model.proofs.Allocated.{store_pages}
 use Rattle.heap_model.proofs.Actions.{action_kept as it}
 use Rattle.heap_model.proofs.collection.actions_keep.Goals as goal
 

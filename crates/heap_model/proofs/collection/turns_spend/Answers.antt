@@ -1,4 +1,4 @@
-use Rattle.heap_model.proofs.Held.{store_pages}
+use Rattle.heap_model.proofs.Allocated.{store_pages}
 use Rattle.heap_model.proofs.Turns.{action_cost as it0}
 use Rattle.heap_model.proofs.Turns.{chain_units as it1}
 use Rattle.heap_model.proofs.collection.turns_spend.Goals as goal

@@ -1,4 +1,4 @@
-use Rattle.heap_model.proofs.Held.{store_pages}
+use Rattle.heap_model.proofs.Allocated.{store_pages}
 use Rattle.heap_model.proofs.Spent.{begun_within as it0}
 use Rattle.heap_model.proofs.Spent.{within_kept as it1}
 use Rattle.heap_model.proofs.Spent.{limit_kept as it2}

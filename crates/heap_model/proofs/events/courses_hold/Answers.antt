@@ -1,6 +1,6 @@
 use Rattle.heap_model.specs.Event.{present_of, snapshot_of}
 use Rattle.heap_model.proofs.Agreements.{consistent_agrees}
-use Rattle.heap_model.proofs.Rest.{held_is_kept}
+use Rattle.heap_model.proofs.Rest.{allocated_is_kept}
 use Rattle.heap_model.proofs.Stood.{stands_chain, stands_limit}
 use Rattle.heap_model.proofs.events.courses_hold.Goals as goal
 
@@ -10,8 +10,8 @@ returns-clause-agrees c = λ r w. consistent_agrees r.heap (present_of r) (snaps
 pub returns-clause-within : goal.returns-clause-within
 returns-clause-within c = λ r spent h w chain. let s = stands_chain r.heap h spent (present_of r) (snapshot_of r) w.stands chain in (s, consistent_agrees h (present_of r) (snapshot_of r) s.consistent)
 
-pub returns-clause-held : goal.returns-clause-held
-returns-clause-held c = λ r w. held_is_kept r.heap (present_of r) (snapshot_of r) w.stands.consistent
+pub returns-clause-allocated : goal.returns-clause-allocated
+returns-clause-allocated c = λ r w. allocated_is_kept r.heap (present_of r) (snapshot_of r) w.stands.consistent
 
 pub returns-clause-units : goal.returns-clause-units
 returns-clause-units c = λ r w. stands_limit r.heap (present_of r) (snapshot_of r) w.stands

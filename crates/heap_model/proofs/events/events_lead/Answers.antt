@@ -1,5 +1,5 @@
-use Rattle.heap_model.proofs.Leading.{led_opening, led_more, led_course}
+use Rattle.heap_model.proofs.Leading.{reached_opening, reached_more, reached_course}
 use Rattle.heap_model.proofs.events.events_lead.Goals as goal
 
 pub returns : goal.returns
-returns c = record { opening = led_opening; more = led_more; course = led_course }
+returns c = record { opening = reached_opening; more = reached_more; course = reached_course }

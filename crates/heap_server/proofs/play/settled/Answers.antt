@@ -4,7 +4,7 @@ use Rattle.std.specs.List.{AllZip}
 use Rattle.std.proofs.lemmas.List.{length-map}
 use Rattle.std.proofs.lemmas.List.Sums.{sum-map}
 use Rattle.std.proofs.lemmas.List.Sorted.{IsPermutation-refl}
-use Rattle.heap_model.specs.Led.{IsLed}
+use Rattle.heap_model.specs.ReachedFrom.{IsReachedFrom}
 use Rattle.heap_server.specs.Views.{SeatView, PacerView}
 use Rattle.heap_server.specs.Seats.{mutators_of}
 use Rattle.heap_server.specs.Played.{IsCollected, HasFronts}
@@ -47,7 +47,7 @@ returns g c =
       counted = counted ∙ (sym (sum-map calls (take k seats)) ∙ ap sum (sym counts));
       within = subst (λ (w : List ℕ). AllZip (λ n most. n ≤ most) w (map length scripts)) (sym counts) (played_within (take k seats) scripts played.played);
       fronts = fronts;
-      led = subst (λ (p : PacerView). IsLed c.close-recorded.result.0.course p.begun p.quanta p.spent) (c.requires.1.0 ∙ sym c.new.ensures) c.close-recorded.ensures.led;
+      reached_from = subst (λ (p : PacerView). IsReachedFrom c.close-recorded.result.0.course p.begun p.quanta p.spent) (c.requires.1.0 ∙ sym c.new.ensures) c.close-recorded.ensures.reached_from;
       collected = subst (IsCollected c.args.budgets.now c.args.used) (sym c.new.ensures) c.requires.1.1.1.1.0;
       all = (λ yes. (let b = both.0 yes in (b.0, sym value ∙ whole.0 b.1 ∙ lengths, b.2)), λ b. both.1 (b.0, whole.1 (value ∙ (b.1 ∙ sym lengths)), b.2));
       merge = λ yes. (let b = both.0 yes in fronts_merge h scripts done (fronts b.0) (sym value ∙ whole.0 b.1 ∙ lengths));

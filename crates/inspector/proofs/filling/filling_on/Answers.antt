@@ -27,5 +27,5 @@ pub returns-clause-filling : goal.returns-clause-filling
 returns-clause-filling c =
     let s = c.args.heap.now.store in
     let is : c.in-Some.page.class ≡ c.args.class = omega (arith, c.if-number.false, c.number.ensures.number, c.number-2.ensures.number) in
-    c.page_filling.ensures.filling ∙ ap (page_filling c.args.class c.in-Some.page.held) c.wasted_inside.ensures.wasted
+    c.page_filling.ensures.filling ∙ ap (page_filling c.args.class c.in-Some.page.allocated) c.wasted_inside.ensures.wasted
     ∙ page_told c.args.class (wasted_on s c.args.number) (page_at s.pages c.args.number) c.in-Some.page c.in-Some.ensures.view (eq-eqb c.in-Some.page.class c.args.class is)

@@ -5,10 +5,10 @@ use crate::heap::{Heap, planning};
 use graph_heap::{Command, Reply, Shape};
 
 /// Does what is planned for a mutator, if that may ask for it. Nothing is planned before it is known that it may.
-macro_rules! settled {
+macro_rules! committed {
     ($heap:expr, $mutator:expr, $joins:expr, $plan:ident($($field:expr),*)) => {
         match $heap.raw.roots.admit($mutator, $joins) {
-            Ok(_) => $heap.settle($mutator, planning::$plan($heap, $mutator $(, $field)*)),
+            Ok(_) => $heap.commit($mutator, planning::$plan($heap, $mutator $(, $field)*)),
             Err(refusal) => Reply::Refused(refusal),
         }
     };
@@ -20,7 +20,7 @@ impl Heap {
     pub fn make(&mut self, mutator: u32, dst: u32, shape: Shape) -> Reply
         ensures { Steps self.old mutator (Command.New dst shape) result self.new }
     {
-        settled!(self, mutator, false, make(dst, shape))
+        committed!(self, mutator, false, make(dst, shape))
     }
 
     /// A reference cell into slot dst.
@@ -28,7 +28,7 @@ impl Heap {
     pub fn load(&mut self, mutator: u32, dst: u32, obj: u32, i: u32) -> Reply
         ensures { Steps self.old mutator (Command.Load dst obj i) result self.new }
     {
-        settled!(self, mutator, false, load(dst, obj, i))
+        committed!(self, mutator, false, load(dst, obj, i))
     }
 
     /// What slot src holds into a reference cell.
@@ -36,7 +36,7 @@ impl Heap {
     pub fn store(&mut self, mutator: u32, obj: u32, i: u32, src: u32) -> Reply
         ensures { Steps self.old mutator (Command.Store obj i src) result self.new }
     {
-        settled!(self, mutator, false, store(obj, i, src))
+        committed!(self, mutator, false, store(obj, i, src))
     }
 
     /// What slot new holds into a reference cell, if that holds what slot expect does.
@@ -44,7 +44,7 @@ impl Heap {
     pub fn compare_store(&mut self, mutator: u32, obj: u32, i: u32, expect: u32, new: u32) -> Reply
         ensures { Steps self.old mutator (Command.CompareStore obj i expect new) result self.new }
     {
-        settled!(self, mutator, false, compare_store(obj, i, expect, new))
+        committed!(self, mutator, false, compare_store(obj, i, expect, new))
     }
 
     /// Reads a word cell.
@@ -52,7 +52,7 @@ impl Heap {
     pub fn get(&mut self, mutator: u32, obj: u32, i: u32) -> Reply
         ensures { Steps self.old mutator (Command.Get obj i) result self.new }
     {
-        settled!(self, mutator, false, get(obj, i))
+        committed!(self, mutator, false, get(obj, i))
     }
 
     /// Writes a word cell.
@@ -60,7 +60,7 @@ impl Heap {
     pub fn put(&mut self, mutator: u32, obj: u32, i: u32, word: u64) -> Reply
         ensures { Steps self.old mutator (Command.Put obj i word) result self.new }
     {
-        settled!(self, mutator, false, put(obj, i, word))
+        committed!(self, mutator, false, put(obj, i, word))
     }
 
     /// Writes a word cell, if that is old.
@@ -68,7 +68,7 @@ impl Heap {
     pub fn compare_put(&mut self, mutator: u32, obj: u32, i: u32, old: u64, new: u64) -> Reply
         ensures { Steps self.old mutator (Command.ComparePut obj i old new) result self.new }
     {
-        settled!(self, mutator, false, compare_put(obj, i, old, new))
+        committed!(self, mutator, false, compare_put(obj, i, old, new))
     }
 
     /// What slot src holds into slot dst.
@@ -76,7 +76,7 @@ impl Heap {
     pub fn copy(&mut self, mutator: u32, dst: u32, src: u32) -> Reply
         ensures { Steps self.old mutator (Command.Copy dst src) result self.new }
     {
-        settled!(self, mutator, false, copy(dst, src))
+        committed!(self, mutator, false, copy(dst, src))
     }
 
     /// Null into slot dst.
@@ -84,7 +84,7 @@ impl Heap {
     pub fn clear(&mut self, mutator: u32, dst: u32) -> Reply
         ensures { Steps self.old mutator (Command.Clear dst) result self.new }
     {
-        settled!(self, mutator, false, clear(dst))
+        committed!(self, mutator, false, clear(dst))
     }
 
     /// What static k holds into slot dst.
@@ -92,7 +92,7 @@ impl Heap {
     pub fn load_static(&mut self, mutator: u32, dst: u32, k: u32) -> Reply
         ensures { Steps self.old mutator (Command.LoadStatic dst k) result self.new }
     {
-        settled!(self, mutator, false, load_static(dst, k))
+        committed!(self, mutator, false, load_static(dst, k))
     }
 
     /// What slot src holds into static k.
@@ -100,7 +100,7 @@ impl Heap {
     pub fn store_static(&mut self, mutator: u32, k: u32, src: u32) -> Reply
         ensures { Steps self.old mutator (Command.StoreStatic k src) result self.new }
     {
-        settled!(self, mutator, false, store_static(k, src))
+        committed!(self, mutator, false, store_static(k, src))
     }
 
     /// What slot new holds into static k, if that holds what slot expect does.
@@ -108,7 +108,7 @@ impl Heap {
     pub fn compare_static(&mut self, mutator: u32, k: u32, expect: u32, new: u32) -> Reply
         ensures { Steps self.old mutator (Command.CompareStatic k expect new) result self.new }
     {
-        settled!(self, mutator, false, compare_static(k, expect, new))
+        committed!(self, mutator, false, compare_static(k, expect, new))
     }
 
     /// Whether two slots hold the same identity, or both null.
@@ -116,7 +116,7 @@ impl Heap {
     pub fn same(&mut self, mutator: u32, a: u32, b: u32) -> Reply
         ensures { Steps self.old mutator (Command.Same a b) result self.new }
     {
-        settled!(self, mutator, false, same(a, b))
+        committed!(self, mutator, false, same(a, b))
     }
 
     /// The identity and the shape of the object in slot a.
@@ -124,7 +124,7 @@ impl Heap {
     pub fn describe(&mut self, mutator: u32, a: u32) -> Reply
         ensures { Steps self.old mutator (Command.Describe a) result self.new }
     {
-        settled!(self, mutator, false, describe(a))
+        committed!(self, mutator, false, describe(a))
     }
 
     /// The mutator becomes live.
@@ -132,7 +132,7 @@ impl Heap {
     pub fn join(&mut self, mutator: u32) -> Reply
         ensures { Steps self.old mutator Command.Join result self.new }
     {
-        settled!(self, mutator, true, join())
+        committed!(self, mutator, true, join())
     }
 
     /// Null into each slot of the mutator, which is live no more.
@@ -140,6 +140,6 @@ impl Heap {
     pub fn leave(&mut self, mutator: u32) -> Reply
         ensures { Steps self.old mutator Command.Leave result self.new }
     {
-        settled!(self, mutator, false, leave())
+        committed!(self, mutator, false, leave())
     }
 }

@@ -1,6 +1,6 @@
 use Rattle.std.proofs.Common.{ap, ◌∙◌, sym}
 use Rattle.heap_model.specs.State.{seen}
-use Rattle.nodes.specs.RawHeap.{state_of}
+use Rattle.nodes.specs.HeapFields.{state_of}
 use Rattle.marker.specs.declared.scan.Scan.{Scan}
 use Rattle.marker.proofs.Scanning.{width_there}
 use Rattle.marker.proofs.scan.scan_at.Goals as goal

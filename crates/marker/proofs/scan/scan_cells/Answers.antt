@@ -1,7 +1,7 @@
 use Rattle.std.proofs.Common.{◌≡◌, ◌+◌, ap, ◌∙◌, subst, refl, arith}
 use Rattle.heap_model.specs.Action.{Chain}
-use Rattle.nodes.specs.declared.raw_heap.RawHeap.{RawHeap}
-use Rattle.nodes.specs.RawHeap.{state_of}
+use Rattle.nodes.specs.declared.heap_fields.HeapFields.{HeapFields}
+use Rattle.nodes.specs.HeapFields.{state_of}
 use Rattle.marker.specs.Scanning.{scanning}
 use Rattle.marker.proofs.Scanned.{width_small}
 use Rattle.marker.proofs.Scanning.{none_scanned, run_scanned, still_scanning}
@@ -28,7 +28,7 @@ loop-scanned-preserved c =
       λ u. run_scanned (state_of (scanning c.args.heap.now c.args.part c.args.cell u)) c.loop-scanned.heap k c.args.part c.args.cell n c.scan_run-scanned.result u (i.0 u) (e.acts (u + n)),
       e.width ∙ i.1,
       e.buffers ∙ i.2,
-      e.same ∙ ap (λ (x : RawHeap). record x { nodes = k.nodes; grey = k.grey }) i.3,
+      e.same ∙ ap (λ (x : HeapFields). record x { nodes = k.nodes; grey = k.grey }) i.3,
       omega (arith, c.loop-scanned-test.true, e.count.1),
     )
 

@@ -2,9 +2,9 @@ use Rattle.std.proofs.Common.{◌≡◌, ◌+◌, ◌-◌, true, ap, ◌∙◌, 
 use Rattle.heap_model.specs.Action.{Action, Chain, goes_to}
 use Rattle.heap_model.specs.declared.phase.Phase.TheVariants as phases
 use Rattle.heap_model.specs.State.{seen}
-use Rattle.heap_model.specs.Store.{is_held}
-use Rattle.nodes.specs.declared.raw_heap.RawHeap.{RawHeap}
-use Rattle.nodes.specs.RawHeap.{state_of}
+use Rattle.heap_model.specs.Store.{is_allocated}
+use Rattle.nodes.specs.declared.heap_fields.HeapFields.{HeapFields}
+use Rattle.nodes.specs.HeapFields.{state_of}
 use Rattle.nodes.proofs.Chains.{one_action}
 use Rattle.nodes.proofs.Standing.{are_grey}
 use Rattle.marker.specs.declared.scan.Scan.{Scan}
@@ -35,36 +35,36 @@ returns-then-scan-clause-width c =
     let ne = some_left c.args.heap.now c.args.scan.part c.args.scan.cell c.args.scan.width c.requires.width c.if-scan.true in
     c.requires.width ∙ width_there c.args.heap.now c.args.scan.part ne ∙ sym c.scan_cells.ensures.width ∙ sym (width_there c.scan_cells.new.heap c.args.scan.part ne)
 
-pub take-requires-clause-grey : goal.take-requires-clause-grey
-take-requires-clause-grey c = grey_at (state_of c.args.heap.now) c.args.scan.part c.args.scan.cell c.requires.heap.0 (are_grey (scanning c.args.heap.now c.args.scan.part c.args.scan.cell c.requires.heap.0) c.requires.heap.1)
+pub pop_grey-requires-clause-grey : goal.pop_grey-requires-clause-grey
+pop_grey-requires-clause-grey c = grey_at (state_of c.args.heap.now) c.args.scan.part c.args.scan.cell c.requires.heap.0 (are_grey (scanning c.args.heap.now c.args.scan.part c.args.scan.cell c.requires.heap.0) c.requires.heap.1)
 
 pub scan_at-scan-requires : goal.scan_at-scan-requires
-scan_at-scan-requires c = λ _. subst (λ (x : RawHeap). is_held x.nodes (c.in_ok-part.part - 1) ≡ true) (sym c.take.ensures.same) c.in_ok-part.ensures.held
+scan_at-scan-requires c = λ _. subst (λ (x : HeapFields). is_allocated x.nodes (c.in_ok-part.part - 1) ≡ true) (sym c.pop_grey.ensures.same) c.in_ok-part.ensures.allocated
 
 pub returns-clause-scans : goal.returns-clause-scans
 returns-clause-scans c =
-    let a = c.args.heap.now in let k = c.take.new.heap in let at = c.args.scan in λ u.
+    let a = c.args.heap.now in let k = c.pop_grey.new.heap in let at = c.args.scan in λ u.
     subst (λ (s : Scan). Chain (state_of (scanning a at.part at.cell u)) 1 (state_of (scanning k s.part s.cell (u + 1)))) (sym c.scan_at-scan.ensures)
     (one_action (state_of (scanning a at.part at.cell u)) (state_of (scanning k c.in_ok-part.part 0 (u + 1))) 1
-    (header_scanned a k at.part at.cell c.in_ok-part.part u c.requires.heap (past_all a at.part at.cell at.width c.requires.width c.if-scan.false) c.take.ensures.same c.in_ok-part.ensures.taken))
+    (header_scanned a k at.part at.cell c.in_ok-part.part u c.requires.heap (past_all a at.part at.cell at.width c.requires.width c.if-scan.false) c.pop_grey.ensures.same c.in_ok-part.ensures.taken))
 
 pub returns-clause-width : goal.returns-clause-width
-returns-clause-width c = ap (λ (s : Scan). s.width) c.scan_at-scan.ensures ∙ sym (ap (λ (s : Scan). (seen (state_of c.take.new.heap)).width s.part) c.scan_at-scan.ensures)
+returns-clause-width c = ap (λ (s : Scan). s.width) c.scan_at-scan.ensures ∙ sym (ap (λ (s : Scan). (seen (state_of c.pop_grey.new.heap)).width s.part) c.scan_at-scan.ensures)
 
 pub returns-clause-buffers : goal.returns-clause-buffers
-returns-clause-buffers c = ap (λ (x : RawHeap). x.grey.buffers) c.take.ensures.same
+returns-clause-buffers c = ap (λ (x : HeapFields). x.grey.buffers) c.pop_grey.ensures.same
 
 pub returns-clause-same : goal.returns-clause-same
-returns-clause-same c = taken_same c.args.heap.now c.take.new.heap c.take.ensures.same
+returns-clause-same c = taken_same c.args.heap.now c.pop_grey.new.heap c.pop_grey.ensures.same
 
 pub returns-in_err-part-clause-ends : goal.returns-in_err-part-clause-ends
 returns-in_err-part-clause-ends c =
     let a = c.args.heap.now in let at = c.args.scan in let none = c.in_err-part.ensures.none refl in λ _ u.
-    subst (λ (x : RawHeap). Action (state_of (scanning a at.part at.cell u)) 1 (goes_to (state_of (scanning x at.part at.cell u)) 1 (phases.Sweeping 0 0))) (sym none.1)
+    subst (λ (x : HeapFields). Action (state_of (scanning a at.part at.cell u)) 1 (goes_to (state_of (scanning x at.part at.cell u)) 1 (phases.Sweeping 0 0))) (sym none.1)
     (marking_ends a at.part at.cell u c.requires.heap (past_all a at.part at.cell at.width c.requires.width c.if-scan.false) none.0)
 
 pub returns-in_err-part-clause-buffers : goal.returns-in_err-part-clause-buffers
-returns-in_err-part-clause-buffers c = ap (λ (x : RawHeap). x.grey.buffers) c.take.ensures.same
+returns-in_err-part-clause-buffers c = ap (λ (x : HeapFields). x.grey.buffers) c.pop_grey.ensures.same
 
 pub returns-in_err-part-clause-same : goal.returns-in_err-part-clause-same
-returns-in_err-part-clause-same c = taken_same c.args.heap.now c.take.new.heap c.take.ensures.same
+returns-in_err-part-clause-same c = taken_same c.args.heap.now c.pop_grey.new.heap c.pop_grey.ensures.same

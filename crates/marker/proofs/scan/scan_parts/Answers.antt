@@ -2,19 +2,19 @@ use Rattle.std.proofs.Common.{◌≡◌, ◌+◌, length, ap, ◌∙◌, sym, su
 use Rattle.std.specs.Prelude.{is_some}
 use Rattle.heap_model.specs.Action.{Chain}
 use Rattle.heap_model.specs.State.{seen}
-use Rattle.nodes.specs.declared.raw_heap.RawHeap.{RawHeap}
+use Rattle.nodes.specs.declared.heap_fields.HeapFields.{HeapFields}
 use Rattle.nodes.specs.Grey.{in_buffers}
-use Rattle.nodes.specs.RawHeap.{state_of}
+use Rattle.nodes.specs.HeapFields.{state_of}
 use Rattle.nodes.proofs.Chains.{heap_after_chain}
 use Rattle.nodes.proofs.Standing.{units_small}
 use Rattle.marker.specs.declared.scan.Scan.{Scan}
 use Rattle.marker.specs.Scanning.{scanning}
-use Rattle.marker.proofs.Scanned.{part_held}
+use Rattle.marker.proofs.Scanned.{part_allocated}
 use Rattle.marker.proofs.Scanning.{begun, more_scanned, ended, place_small}
 use Rattle.marker.proofs.scan.scan_parts.Goals as goal
 
 pub scan_at-scan-requires : goal.scan_at-scan-requires
-scan_at-scan-requires c ne = part_held c.args.heap.now c.requires.heap c.args.part c.args.cell c.requires.phase ne
+scan_at-scan-requires c ne = part_allocated c.args.heap.now c.requires.heap c.args.part c.args.cell c.requires.phase ne
 
 pub loop-units-init : goal.loop-units-init
 loop-units-init c =
@@ -40,7 +40,7 @@ scan_next-requires-clause-width c = c.loop-units.invariant.1
 pub go_to-requires : goal.go_to-requires
 go_to-requires c =
     let i = c.loop-units.invariant in let u = units_small c.args.heap.now c.requires.heap in
-    omega (arith, u, ap (λ (x : RawHeap). x.units) c.scan_next.ensures.same, ap (λ (x : RawHeap). x.units) i.3, c.loop-units-test.true)
+    omega (arith, u, ap (λ (x : HeapFields). x.units) c.scan_next.ensures.same, ap (λ (x : HeapFields). x.units) i.3, c.loop-units-test.true)
 
 pub loop-units-preserved : goal.loop-units-preserved
 loop-units-preserved c =
@@ -48,7 +48,7 @@ loop-units-preserved c =
       more_scanned c.args.heap.now c.loop-units.heap k c.loop-units.scan.part c.loop-units.scan.cell s.scan.part s.scan.cell c.loop-units.units s.units i.0 e.scans,
       e.width,
       c.scan_next.ensures.buffers ∙ i.2,
-      c.scan_next.ensures.same ∙ ap (λ (x : RawHeap). record x { nodes = k.nodes; grey = k.grey }) i.3,
+      c.scan_next.ensures.same ∙ ap (λ (x : HeapFields). record x { nodes = k.nodes; grey = k.grey }) i.3,
       omega (arith, e.count.1, c.loop-units-test.true),
     )
 
@@ -56,7 +56,7 @@ pub returns-in_default-clause-acts : goal.returns-in_default-clause-acts
 returns-in_default-clause-acts c =
     let i = c.loop-units.invariant in let a = c.args.heap.now in let n = c.loop-units.units in let k = c.scan_next.new.heap in (
       ended a c.go_to.new.self k c.loop-units.scan.part c.loop-units.scan.cell n (state_of (scanning c.loop-units.heap c.loop-units.scan.part c.loop-units.scan.cell (a.units + n))) i.0
-          (ap (λ (x : RawHeap). x.units) c.scan_next.ensures.same ∙ ap (λ (x : RawHeap). x.units) i.3) (c.scan_next.ensures.ends (ap is_some c.in_default.is) (a.units + n)) c.go_to.ensures,
+          (ap (λ (x : HeapFields). x.units) c.scan_next.ensures.same ∙ ap (λ (x : HeapFields). x.units) i.3) (c.scan_next.ensures.ends (ap is_some c.in_default.is) (a.units + n)) c.go_to.ensures,
       omega arith,
       omega (arith, c.loop-units-test.true),
     )
@@ -69,13 +69,13 @@ overflow_cast-cell-2 c =
 
 pub go_to-requires-2 : goal.go_to-requires-2
 go_to-requires-2 c =
-    let i = c.loop-units.invariant in let u = units_small c.args.heap.now c.requires.heap in omega (arith, u, ap (λ (x : RawHeap). x.units) i.3, i.4)
+    let i = c.loop-units.invariant in let u = units_small c.args.heap.now c.requires.heap in omega (arith, u, ap (λ (x : HeapFields). x.units) i.3, i.4)
 
 pub returns-clause-acts : goal.returns-clause-acts
 returns-clause-acts c =
     let i = c.loop-units.invariant in let a = c.args.heap.now in let n = c.loop-units.units in
-    let same = ap (λ (x : RawHeap). x.units) i.3 in (
-      subst (λ (x : RawHeap). Chain (state_of a) n (state_of x)) (sym c.go_to-2.ensures)
+    let same = ap (λ (x : HeapFields). x.units) i.3 in (
+      subst (λ (x : HeapFields). Chain (state_of a) n (state_of x)) (sym c.go_to-2.ensures)
           (subst (λ u. Chain (state_of a) n (state_of (scanning c.loop-units.heap c.loop-units.scan.part c.loop-units.scan.cell u))) (let e : a.units + n ≡ c.loop-units.heap.units + n = omega (arith, same) in e) i.0),
       omega (arith, c.requires.room, c.loop-units-test.false),
       i.4,

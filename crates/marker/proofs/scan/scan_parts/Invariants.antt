@@ -1,7 +1,7 @@
 use Rattle.std.proofs.Common.{◌≡◌, ◌+◌, ◌-◌, ◌≤◌}
 use Rattle.heap_model.specs.Action.{Chain}
 use Rattle.heap_model.specs.State.{seen}
-use Rattle.nodes.specs.RawHeap.{state_of}
+use Rattle.nodes.specs.HeapFields.{state_of}
 use Rattle.marker.specs.Scanning.{scanning}
 use Rattle.marker.proofs.scan.scan_parts.Given as goal
 

@@ -1,5 +1,5 @@
 use Rattle.std.proofs.Common.{inl, inr, refl, arith}
-use Rattle.player.specs.Playing.{stage}
+use Rattle.player.specs.Playing.{session}
 use Rattle.trace.specs.Streams.{given_by}
 use Rattle.trace.specs.declared.fault.TextFault.TheVariants as texts
 use Rattle.metronome.specs.declared.fault.RunFault.TheVariants as faults
@@ -22,8 +22,8 @@ returns-clause-behind g c = (c.in_ok-player.player, c.in_ok-player.ensures, c.in
 pub returns-clause-settings : goal.returns-clause-settings
 returns-clause-settings g c =
     let given = given_by g.S.Source.given g.S.Source.ended c.args.source.now c.play_silently.new.source in
-    let new = stage c.play_silently.new.player (g.K.Sink.taken c.play_silently.new.sink) in
-    played_settings c.args.config.now c.args.after given (stage c.in_ok-player.player (g.K.Sink.taken c.args.sink.now)) new c.in_ok-player.ensures c.in_ok-play_silently.ensures.played
+    let new = session c.play_silently.new.player (g.K.Sink.taken c.play_silently.new.sink) in
+    played_settings c.args.config.now c.args.after given (session c.in_ok-player.player (g.K.Sink.taken c.args.sink.now)) new c.in_ok-player.ensures c.in_ok-play_silently.ensures.played
 
 pub returns-in_err-player-clause-reads : goal.returns-in_err-player-clause-reads
 returns-in_err-player-clause-reads g c = omega (arith, memory_unread c.from_residual.result c.from_residual.ensures.1)

@@ -1,7 +1,7 @@
 use Rattle.std.proofs.Common.{rules}
 use Rattle.metronome_c.proofs.Asking.{asks_so}
 use Rattle.metronome_c.specs.Collecting.{phase_number}
-use Rattle.metronome_c.specs.Figures.{StandsForSome}
+use Rattle.metronome_c.specs.Figures.{RepresentsSome}
 use Rattle.metronome_c.proofs.Telling.{tells, shows}
 use Rattle.metronome_c.proofs.figures.metronome_phase.Goals as goal
 
@@ -9,4 +9,4 @@ pub returns-clause-phase : goal.returns-clause-phase
 returns-clause-phase c = tells (λ h. phase_number h.phase) _ _ _ _ _ _ (asks_so _ _ (λ h a k met. search rules) _ _ _ c.ask.ensures) c.tell.ensures
 
 pub returns-clause-stands : goal.returns-clause-stands
-returns-clause-stands c = shows StandsForSome _ _ _ (asks_so _ _ (λ h a k met. search rules) _ _ _ c.ask.ensures)
+returns-clause-stands c = shows RepresentsSome _ _ _ (asks_so _ _ (λ h a k met. search rules) _ _ _ c.ask.ensures)

@@ -5,7 +5,7 @@ use Rattle.trace.specs.Streams.{given_by}
 use Rattle.trace.specs.TextLine.{Text}
 use Rattle.trace.proofs.GoingOver.{at_first, goes_on, ends_without, ends_over, ends_at}
 use Rattle.trace.proofs.Reading.{reading_at_first, reading_on}
-use Rattle.player.specs.Playing.{stage, PlaysLine, is_event, StopsText}
+use Rattle.player.specs.Playing.{session, PlaysLine, is_event, StopsText}
 use Rattle.player.proofs.Behind.{behind_first, behind_fewer, behind_on, waited_or_written, handed}
 use Rattle.player.proofs.Lines.{ends_so}
 use Rattle.player.proofs.Closing.{either, cut_after, moved, no_part, grows_longer, stops_taken}
@@ -14,9 +14,9 @@ use Rattle.player.proofs.playing.play_lines.Goals as goal
 
 pub loop-reader-init : goal.loop-reader-init
 loop-reader-init g c = rw (c.new-reader.ensures, c.requires, append-nil (g.K.Sink.taken c.args.sink.now)) (record {
-  done = at_first (PlaysLine c.args.style) (g.S.Source.given c.args.source.now) (g.S.Source.ended c.args.source.now) (stage c.args.player.now (g.K.Sink.taken c.args.sink.now));
+  done = at_first (PlaysLine c.args.style) (g.S.Source.given c.args.source.now) (g.S.Source.ended c.args.source.now) (session c.args.player.now (g.K.Sink.taken c.args.sink.now));
   grows = omega arith;
-  behind = behind_first c.args.style (stage c.args.player.now (g.K.Sink.taken c.args.sink.now));
+  behind = behind_first c.args.style (session c.args.player.now (g.K.Sink.taken c.args.sink.now));
   few = left_at_first c.args.n;
   at_end = λ _. inl refl;
   none = λ _. refl;
@@ -30,7 +30,7 @@ returns-in_err-next_line_once_written-clause-played g c =
     let e = c.in_err-next_line_once_written.ensures in
     let i = c.loop-reader.invariant in
     let new = c.next_line_once_written.new in
-    let old = stage c.args.player.now (g.K.Sink.taken c.args.sink.now) in
+    let old = session c.args.player.now (g.K.Sink.taken c.args.sink.now) in
     let few = fewer c.args.n c.loop-reader.left (count_by is_event i.done.lines) i.few (c.is_any_left.ensures.some c.loop-reader-test.true) in
     rw (p.1, p.2) (either c.in_err-next_line_once_written.field-0.0
     (λ none. let so = moved c.args.style _ (g.K.Sink.taken new.sink ++ new.waiting) i.done (e.whole none) in
@@ -87,7 +87,7 @@ loop-reader-preserved g c =
     let e = c.in_ok-next_line_once_written.ensures in
     let i = c.loop-reader.invariant in
     let new = c.next_line_once_written.new in
-    let old = stage c.args.player.now (g.K.Sink.taken c.args.sink.now) in
+    let old = session c.args.player.now (g.K.Sink.taken c.args.sink.now) in
     let so = moved c.args.style _ (g.K.Sink.taken new.sink ++ new.waiting) i.done (e.whole refl) in
     let h = handed _ _ _ _ true c.if-branch.true (e.hands refl) in
     let played = c.in_ok-is_event.ensures.played (g.K.Sink.taken new.sink) in
@@ -95,7 +95,7 @@ loop-reader-preserved g c =
     record {
       done = goes_on so new.self _ _ _ (e.hands refl) c.if-branch.true _ c.text.ensures _ played.0 played.1;
       grows = omega (arith, e.grows, i.grows);
-      behind = behind_on c.args.style old so.lines so.events played.0 new.self.text.bytes new.self.kept (g.K.Sink.taken new.sink) c.loop-reader.reader.next (stage c.loop-reader.player (g.K.Sink.taken new.sink ++ new.waiting)) c.loop-reader.reader.kept
+      behind = behind_on c.args.style old so.lines so.events played.0 new.self.text.bytes new.self.kept (g.K.Sink.taken new.sink) c.loop-reader.reader.next (session c.loop-reader.player (g.K.Sink.taken new.sink ++ new.waiting)) c.loop-reader.reader.kept
           (g.K.Sink.taken c.loop-reader.sink) new.waiting i.behind e.grows so.done refl h.small
           (waited_or_written g.S.Source.given c.loop-reader.source new.source c.loop-reader.reader.kept (new.self.text.bytes ++ 10 ∷ new.self.kept) new.waiting h.text e.asked);
       few = rw (c.left_after-left.ensures, count_more so.lines new.self.text.bytes c.in_ok-is_event.is_event event) (left_on c.args.n c.loop-reader.left (count_by is_event so.lines) c.in_ok-is_event.is_event i.few (c.is_any_left.ensures.some c.loop-reader-test.true));
@@ -134,7 +134,7 @@ returns-after-loop-reader-clause-played g c =
 pub returns-after-loop-reader-clause-cut : goal.returns-after-loop-reader-clause-cut
 returns-after-loop-reader-clause-cut g c taken grows =
     let i = c.loop-reader.invariant in
-    let old = stage c.args.player.now (g.K.Sink.taken c.args.sink.now) in
+    let old = session c.args.player.now (g.K.Sink.taken c.args.sink.now) in
     let none = c.is_any_left.ensures.none c.loop-reader-test.false in
     let more = grows_longer (g.K.Sink.taken c.loop-reader.sink) taken c.loop-reader.waiting grows in
     none_cut (g.K.Sink.taken c.loop-reader.sink) taken c.loop-reader.waiting i.done c.args.n c.loop-reader.left i.few none (i.at_end none) i.grows grows

@@ -1,6 +1,6 @@
 use Rattle.std.proofs.Common.{◌≡◌, true, false, ap, ◌∙◌, sym, arith}
 use Rattle.graph_heap.specs.declared.command.Limits.{Limits}
-use Rattle.nodes.specs.declared.raw_heap.RawHeap.{RawHeap}
+use Rattle.nodes.specs.declared.heap_fields.HeapFields.{HeapFields}
 use Rattle.nodes.proofs.Standing.{are_grey}
 use Rattle.nodes.proofs.Threading.{buffers_none}
 use Rattle.satb_barrier.proofs.Listing.{are_grey_by, all_empty}
@@ -9,7 +9,7 @@ use Rattle.satb_barrier.proofs.list.flush_all.Goals as goal
 pub flush-requires-clause-grey : goal.flush-requires-clause-grey
 flush-requires-clause-grey c =
     let i = c.loop-mutator.invariant in
-    are_grey_by c.args.heap.now c.loop-mutator.heap (are_grey c.args.heap.now c.requires) i.1 i.0 (ap (λ (x : RawHeap). x.sense) i.2)
+    are_grey_by c.args.heap.now c.loop-mutator.heap (are_grey c.args.heap.now c.requires) i.1 i.0 (ap (λ (x : HeapFields). x.mark_parity) i.2)
 
 pub returns-clause-buffers : goal.returns-clause-buffers
 returns-clause-buffers c =

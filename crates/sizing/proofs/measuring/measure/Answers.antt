@@ -1,6 +1,6 @@
 use Rattle.std.proofs.Common.{[]}
 use Rattle.std.proofs.lemmas.Result.{err_from_is_err_and}
-use Rattle.player.specs.Playing.{stage}
+use Rattle.player.specs.Playing.{session}
 use Rattle.size_classes.specs.declared.config.TheConstants.{LEAST_BUDGET}
 use Rattle.sizing.proofs.Promising.{run_budgets, promised}
 use Rattle.sizing.proofs.Texts.{lines_measured, lines_played, stops_measured}
@@ -25,7 +25,7 @@ returns-clause-measured g c =
     let is = c.measured.ensures _ _ _ a.knows.measures in
     record {
       old = first.player;
-      new = stage c.each_line.new.handler.player [];
+      new = session c.each_line.new.handler.player [];
       played = lines_played first new.measured _ c.each_line.new.handler _ a;
       is_new = new.player;
       is = is;

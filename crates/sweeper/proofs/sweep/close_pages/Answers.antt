@@ -4,8 +4,8 @@ use Rattle.heap_model.specs.declared.phase.Phase.TheVariants as phases
 use Rattle.heap_model.specs.State.{HeapState}
 use Rattle.heap_model.specs.Written.{records}
 use Rattle.nodes.proofs.Keeping.{store_still}
-use Rattle.nodes.specs.declared.raw_heap.RawHeap.{RawHeap}
-use Rattle.nodes.specs.RawHeap.{state_of}
+use Rattle.nodes.specs.declared.heap_fields.HeapFields.{HeapFields}
+use Rattle.nodes.specs.HeapFields.{state_of}
 use Rattle.sweeper.proofs.Acting.{looked, closes_run}
 use Rattle.sweeper.proofs.sweep.close_pages.Goals as goal
 
@@ -16,7 +16,7 @@ returns-clause-acts c =
     let run = closes_run h c.args.page next new some
     (Closes_page c.args.page c.args.block new c.requires.phase c.requires.page (looked _ c.args.block c.requires.looked) c.close_page.ensures.kept c.close_page.ensures.pages)
     (omega (arith, low, c.pages.ensures.pages)) c.free_until-next.ensures.free in (
-      subst (λ (x : RawHeap). Chain h (next - c.args.page) (state_of x)) (sym c.go_to.ensures)
+      subst (λ (x : HeapFields). Chain h (next - c.args.page) (state_of x)) (sym c.go_to.ensures)
           (subst (λ (k : HeapState). Chain h (next - c.args.page) (goes_to k (next - c.args.page) (phases.Sweeping next 0))) (sym (store_still a c.requires.heap (ap records c.requires.phase) new)) run),
       omega (arith, some),
       omega (arith, low),

@@ -5,8 +5,8 @@ use Rattle.heap_model.specs.declared.phase.Phase.TheVariants as phases
 use Rattle.heap_model.specs.State.{HeapState}
 use Rattle.heap_model.specs.Written.{records}
 use Rattle.nodes.proofs.Keeping.{store_still}
-use Rattle.nodes.specs.declared.raw_heap.RawHeap.{RawHeap}
-use Rattle.nodes.specs.RawHeap.{state_of}
+use Rattle.nodes.specs.declared.heap_fields.HeapFields.{HeapFields}
+use Rattle.nodes.specs.HeapFields.{state_of}
 use Rattle.sweeper.proofs.Acting.{blocks_few, in_use}
 use Rattle.sweeper.proofs.sweep.sweep_blocks.Goals as goal
 
@@ -19,6 +19,6 @@ overflow_add-block c = let f = blocks_few c.args.heap.now.nodes.pages c.requires
 pub returns-clause-acts : goal.returns-clause-acts
 returns-clause-acts c =
     let a = c.args.heap.now in let h = state_of a in let n = c.args.count in
-    subst (λ (x : RawHeap). Chain h n (state_of x)) (sym c.go_to.ensures)
+    subst (λ (x : HeapFields). Chain h n (state_of x)) (sym c.go_to.ensures)
     (subst (λ (k : HeapState). Chain h n (goes_to k n (phases.Sweeping c.args.page (c.args.block + n)))) (sym (store_still a c.requires.heap (ap records c.requires.phase) c.sweep.new.self))
     (c.sweep.ensures h refl refl c.requires.phase))

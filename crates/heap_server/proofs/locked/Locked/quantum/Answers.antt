@@ -1,7 +1,7 @@
 use Rattle.std.proofs.Common.{◌≡◌, ◌∙◌, ℕ, ◌+◌, ap, sym, subst, refl, arith}
 use Rattle.heap_model.specs.Event.{Course, Collects}
 use Rattle.heap_model.specs.State.{HeapState}
-use Rattle.heap_model.proofs.Leading.{led_course}
+use Rattle.heap_model.proofs.Leading.{reached_course}
 use Rattle.heap_server.specs.Views.{PacerView, LockedView}
 use Rattle.heap_server.specs.Kept.{cycles_on}
 use Rattle.heap_server.specs.Paced.{IsPaced}
@@ -12,7 +12,7 @@ use Rattle.heap_server.proofs.locked.Locked.quantum.Goals as goal
 
 pub overflow_sub-on : goal.overflow_sub-on
 overflow_sub-on g c =
-    let fall = cycles_fall _ _ _ _ _ (led_course _ _ _ _ c.self.invariant.0.led) c.in_ok-spent.ensures.does in
+    let fall = cycles_fall _ _ _ _ _ (reached_course _ _ _ _ c.self.invariant.0.reached_from) c.in_ok-spent.ensures.does in
     let before : c.cycles_on-on.result ≡ cycles_on c.self.inside.recorded.course.heap.phase = c.cycles_on-on.ensures ∙ ap cycles_on (c.phase.ensures.phase ∙ ap (λ (h : HeapState). h.phase) c.heap.ensures.heap) in
     let after = c.cycles_on.ensures in
     omega arith
@@ -32,7 +32,7 @@ returns-clause-paced g c =
     let ended = c.audit-2.ensures.whole c.pacer.invariant.1 in
     let new : PacerView = record { begun = c.audit.new.share.amount; ended = c.add-3.new.share.amount; quanta = c.add.new.share.amount; spent = c.add-2.new.share.amount } in
     subst (λ (p : PacerView). IsPaced p c.args.budget c.in_ok-spent.spent new) c.pacer.view_is (
-    quantum_paced c.self.inside.recorded.course c.quantum.new.self.course c.args.budget c.in_ok-spent.spent _ new (led_course _ _ _ _ c.self.invariant.0.led) c.in_ok-spent.ensures.does c.in_ok-spent.ensures.ends
+    quantum_paced c.self.inside.recorded.course c.quantum.new.self.course c.args.budget c.in_ok-spent.spent _ new (reached_course _ _ _ _ c.self.invariant.0.reached_from) c.in_ok-spent.ensures.does c.in_ok-spent.ensures.ends
     (omega (arith, begun, ended, c.self.invariant.0.cycles)) c.audit.ensures.amount (omega (arith, c.add.ensures.amount, c.audit-3.ensures.amount)) (omega (arith, c.add-2.ensures.amount, c.audit-4.ensures.amount, c.from.ensures))
     (omega (arith, before, after, c.add-3.ensures.amount, c.audit-2.ensures.amount))
     )

@@ -1,7 +1,7 @@
 use Rattle.std.proofs.Common.{List, sym, subst}
 use mathlib.Core.List.{IsPrefix}
 use Rattle.graph_heap.specs.declared.command.Entry.{Entry}
-use Rattle.heap_server.specs.Place.{Commits}
+use Rattle.heap_server.specs.HistoryLength.{Commits}
 use Rattle.heap_server.proofs.Fronts.{prefix_trans}
 use Rattle.heap_server.proofs.Adding.{commits_whole, commits_longer}
 use Rattle.heap_server.proofs.place.Front.commit.Goals as goal

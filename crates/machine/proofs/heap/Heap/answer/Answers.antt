@@ -1,5 +1,5 @@
 use Rattle.std.proofs.Common.{◌∙◌}
-use Rattle.nodes.specs.RawHeap.{state_of}
+use Rattle.nodes.specs.HeapFields.{state_of}
 use Rattle.machine.proofs.Replying.{admitted_reply, refused_steps}
 use Rattle.machine.proofs.heap.Heap.answer.Goals as goal
 

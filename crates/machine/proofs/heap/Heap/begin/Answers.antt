@@ -5,7 +5,7 @@ use Rattle.heap_model.specs.Agreement.{Agrees}
 use Rattle.heap_model.specs.Action.{begun}
 use Rattle.heap_model.specs.Written.{records}
 use Rattle.nodes.specs.Grey.{grey_in}
-use Rattle.nodes.specs.RawHeap.{state_of, IsHeap}
+use Rattle.nodes.specs.HeapFields.{state_of, IsHeap}
 use Rattle.machine.proofs.Collecting.{begun_heap, begun_agrees}
 use Rattle.machine.proofs.heap.Heap.begin.Goals.{in-Idle, in_default}
 use Rattle.machine.proofs.heap.Heap.begin.Goals as goal

@@ -1,15 +1,15 @@
 use Rattle.std.proofs.Common.{false, refl}
-use Rattle.nodes.specs.RawHeap.{state_of}
+use Rattle.nodes.specs.HeapFields.{state_of}
 use Rattle.machine.proofs.Replying.{admitted_steps, refused_steps}
 use Rattle.machine.proofs.heap.Heap.clear.Goals as goal
 
-pub settle-requires-clause-planned : goal.settle-requires-clause-planned
-settle-requires-clause-planned c g a = (_, c.clear.ensures g a)
+pub commit-requires-clause-planned : goal.commit-requires-clause-planned
+commit-requires-clause-planned c g a = (_, c.clear.ensures g a)
 
 pub returns-in-Ok : goal.returns-in-Ok
 returns-in-Ok c =
     admitted_steps (state_of c.self.inside.raw) c.args.self.now c.self.view_is c.args.mutator _ false refl c.admit.result c.admit.ensures.admitted
-    c.in-Ok.field-0 c.in-Ok.is c.clear.result c.clear.ensures c.settle.result c.settle.new.self c.settle.ensures
+    c.in-Ok.field-0 c.in-Ok.is c.clear.result c.clear.ensures c.commit.result c.commit.new.self c.commit.ensures
 
 pub returns-in-Err : goal.returns-in-Err
 returns-in-Err c =

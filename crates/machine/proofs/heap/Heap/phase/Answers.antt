@@ -1,10 +1,10 @@
 use Rattle.std.proofs.Common.{subst}
 use Rattle.graph_heap.specs.Graph.{Graph}
 use Rattle.heap_model.specs.State.{HeapState}
-use Rattle.heap_model.specs.Standing.{Stands}
+use Rattle.heap_model.specs.Standing.{Represents}
 use Rattle.machine.proofs.heap.Heap.phase.Goals as goal
 
 pub returns-clause-stands : goal.returns-clause-stands
 returns-clause-stands c =
     let w = c.self.invariant.heap in
-    subst (λ (x : HeapState). (present : Graph) × (snapshot : Graph) × Stands x present snapshot) c.self.view_is (w.present, w.snapshot, w.stands)
+    subst (λ (x : HeapState). (present : Graph) × (snapshot : Graph) × Represents x present snapshot) c.self.view_is (w.present, w.snapshot, w.stands)

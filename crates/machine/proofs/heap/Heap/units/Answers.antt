@@ -2,7 +2,7 @@ use Rattle.std.proofs.Common.{◌≤◌, subst}
 use Rattle.heap_model.specs.State.{HeapState}
 use Rattle.heap_model.specs.Spent.{cycle_limit}
 use Rattle.heap_model.proofs.Stood.{stands_limit}
-use Rattle.nodes.specs.RawHeap.{state_of}
+use Rattle.nodes.specs.HeapFields.{state_of}
 use Rattle.machine.proofs.heap.Heap.units.Goals as goal
 
 pub returns-clause-within : goal.returns-clause-within

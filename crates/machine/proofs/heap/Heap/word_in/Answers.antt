@@ -4,11 +4,11 @@ use Rattle.heap_model.specs.State.{HeapState}
 use Rattle.heap_model.specs.Agreement.{Agrees}
 use Rattle.machine.specs.Reading.{IsWordPlace}
 use Rattle.machine.proofs.Doing.{present_agrees, place_now}
-use Rattle.machine.proofs.Finding.{word_held, word_is}
+use Rattle.machine.proofs.Finding.{word_allocated, word_is}
 use Rattle.machine.proofs.heap.Heap.word_in.Goals as goal
 
-pub cell-requires-clause-held : goal.cell-requires-clause-held
-cell-requires-clause-held c = let p = place_now IsWordPlace _ _ c.self.view_is c.self.invariant.heap c.args.at c.requires in word_held _ c.self.invariant.heap.present (present_agrees _ c.self.invariant.heap) p.0 p.1 c.args.at p.2
+pub cell-requires-clause-allocated : goal.cell-requires-clause-allocated
+cell-requires-clause-allocated c = let p = place_now IsWordPlace _ _ c.self.view_is c.self.invariant.heap c.args.at c.requires in word_allocated _ c.self.invariant.heap.present (present_agrees _ c.self.invariant.heap) p.0 p.1 c.args.at p.2
 
 pub cell-requires-clause-within : goal.cell-requires-clause-within
 cell-requires-clause-within c = (place_now IsWordPlace _ _ c.self.view_is c.self.invariant.heap c.args.at c.requires).2.1.within

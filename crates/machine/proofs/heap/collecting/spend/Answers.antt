@@ -1,6 +1,6 @@
 use Rattle.std.proofs.Common.{◌+◌, ◌-◌, ◌<◌, length, refl, ap, ◌∙◌, arith}
 use Rattle.heap_model.specs.Action.{Nothing_done}
-use Rattle.nodes.specs.RawHeap.{state_of}
+use Rattle.nodes.specs.HeapFields.{state_of}
 use Rattle.nodes.proofs.Chains.{then_chain, heap_after_chain}
 use Rattle.machine.proofs.heap.collecting.spend.Goals as goal
 

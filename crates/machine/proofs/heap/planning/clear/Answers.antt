@@ -8,5 +8,5 @@ pub returns : goal.returns
 returns c g a = rw c.done.ensures (
   changes.Root c.in_ok-cell.cell 0,
   clear_effect c.args.heap.now g a c.args.mutator c.args.dst c.in_ok-cell.cell (placed c.heap.view_is c.args.mutator c.args.dst c.in_ok-cell.cell c.in_ok-cell.ensures.place),
-  (0, refl, within c.heap.view_is c.in_ok-cell.cell c.in_ok-cell.ensures.within, inl refl, record { held = refl; forward = refl; name = refl }),
+  (0, refl, within c.heap.view_is c.in_ok-cell.cell c.in_ok-cell.ensures.within, inl refl, record { allocated = refl; forward = refl; name = refl }),
 )

@@ -5,12 +5,12 @@ use Rattle.machine.specs.Plan.{CanPerform, DoesEach}
 use Rattle.machine.specs.Writing.{CanWrite, IsWritten}
 use Rattle.machine.specs.declared.plan.Write.{Write}
 use Rattle.machine.specs.declared.plan.Write.TheVariants as writes
-use Rattle.nodes.specs.RawHeap.{state_of}
+use Rattle.nodes.specs.HeapFields.{state_of}
 use Rattle.machine.proofs.Doing.{present_agrees}
-use Rattle.machine.proofs.Finding.{word_held}
+use Rattle.machine.proofs.Finding.{word_allocated}
 use Rattle.machine.proofs.Live.{join_does}
 use Rattle.machine.proofs.Writing.{word_does}
-use Rattle.nodes.proofs.Keeping.{are_held, store_kept}
+use Rattle.nodes.proofs.Keeping.{are_allocated, store_kept}
 use Rattle.machine.proofs.heap.writing.do_write.Goals as goal
 
 pub returns-in-Nothing : goal.returns-in-Nothing
@@ -19,11 +19,11 @@ returns-in-Nothing c =
     subst (λ (w : Write). IsWritten a c.args.mutator w a) (sym c.in-Nothing.is)
     (record { does = λ g x is p. subst (λ (y : Change). DoesChange h g y h) (sym p) Does_nothing; buffers = refl })
 
-pub set_cell-requires-clause-held : goal.set_cell-requires-clause-held
-set_cell-requires-clause-held c =
+pub set_cell-requires-clause-allocated : goal.set_cell-requires-clause-allocated
+set_cell-requires-clause-allocated c =
     let w = c.requires.heap.heap in
     let p = subst (CanPerform (state_of c.args.heap.now)) c.in-Word.is c.requires.write w.present (present_agrees _ w) in
-    word_held (state_of c.args.heap.now) w.present (present_agrees _ w) p.1.0 p.1.1 c.in-Word.at p.1.3
+    word_allocated (state_of c.args.heap.now) w.present (present_agrees _ w) p.1.0 p.1.1 c.in-Word.at p.1.3
 
 pub set_cell-requires-clause-within : goal.set_cell-requires-clause-within
 set_cell-requires-clause-within c =
@@ -36,7 +36,7 @@ returns-in-Word c =
     subst (λ (w : Write). IsWritten a c.args.mutator w (record a { nodes = c.set_cell.new.self })) (sym c.in-Word.is)
     (record {
       does =
-          subst (DoesEach h (writes.Word c.in-Word.at c.in-Word.word)) (sym (store_kept a (are_held a c.requires.heap) c.set_cell.new.self (ap length c.set_cell.ensures.written.pages) c.set_cell.ensures.links))
+          subst (DoesEach h (writes.Word c.in-Word.at c.in-Word.word)) (sym (store_kept a (are_allocated a c.requires.heap) c.set_cell.new.self (ap length c.set_cell.ensures.written.pages) c.set_cell.ensures.links))
           (word_does h c.in-Word.at c.in-Word.word _ c.set_cell.ensures.written);
       buffers = refl;
     })

@@ -1,7 +1,7 @@
 use Rattle.std.proofs.Common.{◌+◌, ◌<◌, sym, subst}
 use Rattle.graph_heap.specs.declared.command.Limits.{Limits}
 use Rattle.heap_model.specs.Change.{Clears_none}
-use Rattle.nodes.specs.RawHeap.{state_of}
+use Rattle.nodes.specs.HeapFields.{state_of}
 use Rattle.machine.specs.declared.plan.Write.TheVariants as writes
 use Rattle.machine.proofs.Live.{null_can, next_within, clears_step, clears_row, own_none, own_then, own_after}
 use Rattle.machine.proofs.Writing.{written_heap}

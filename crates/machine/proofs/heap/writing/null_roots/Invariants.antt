@@ -1,7 +1,7 @@
 use Rattle.heap_model.specs.Change.{Clears}
-use Rattle.nodes.specs.RawHeap.{state_of, IsRawHeap}
+use Rattle.nodes.specs.HeapFields.{state_of, AreHeapFields}
 use Rattle.machine.specs.Buffers.{AreOwn}
 use Rattle.machine.proofs.heap.writing.null_roots.Given as goal
 
 abbrev pub invariant-loop-i : goal.invariant-loop-i
-invariant-loop-i l = IsRawHeap l.heap × Clears (state_of l.fn.heap) l.fn.first l.i (state_of l.heap) × AreOwn l.fn.mutator l.fn.heap.grey l.heap.grey
+invariant-loop-i l = AreHeapFields l.heap × Clears (state_of l.fn.heap) l.fn.first l.i (state_of l.heap) × AreOwn l.fn.mutator l.fn.heap.grey l.heap.grey

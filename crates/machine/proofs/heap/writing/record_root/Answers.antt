@@ -1,5 +1,5 @@
 use Rattle.std.proofs.Common.{subst}
-use Rattle.nodes.specs.RawHeap.{state_of}
+use Rattle.nodes.specs.HeapFields.{state_of}
 use Rattle.machine.specs.Writing.{IsRecorded}
 use Rattle.machine.proofs.Writing.{root_follows}
 use Rattle.machine.proofs.heap.writing.record_root.Goals as goal
@@ -10,4 +10,4 @@ record-requires-clause-leads c = root_follows (state_of c.args.heap.now) c.requi
 pub returns : goal.returns
 returns c =
     let done = c.record.ensures in
-    subst (λ x. IsRecorded c.args.heap.now c.args.mutator x c.record.new.heap) c.get-before.ensures (record { records = done.records; buffers = done.buffers; held = done.held; same = done.same })
+    subst (λ x. IsRecorded c.args.heap.now c.args.mutator x c.record.new.heap) c.get-before.ensures (record { records = done.records; buffers = done.buffers; allocated = done.allocated; same = done.same })

@@ -1,6 +1,6 @@
 use Rattle.std.proofs.Common.{◌+◌, ◌*◌, ◌<◌, ◌≤◌, length, sym, subst}
 use Rattle.graph_heap.specs.declared.command.Limits.{Limits}
-use Rattle.nodes.specs.RawHeap.{state_of}
+use Rattle.nodes.specs.HeapFields.{state_of}
 use Rattle.machine.proofs.Doing.{leave_within}
 use Rattle.machine.proofs.Live.{clears_row, leaver_low, slots_cleared, leave_does}
 use Rattle.machine.proofs.heap.writing.write_leave.Goals as goal

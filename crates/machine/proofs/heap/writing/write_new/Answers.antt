@@ -1,9 +1,9 @@
 use Rattle.std.proofs.Common.{◌≡◌, ◌+◌, ◌<◌, ◌^◌, length, set, sym, subst, true, arith, refl}
 use Rattle.size_classes.specs.Need.{needed}
 use Rattle.heap_model.specs.Pages as page_list
-use Rattle.heap_model.proofs.Recorded.{records_stay}
-use Rattle.nodes.specs.declared.raw_heap.RawHeap.{RawHeap}
-use Rattle.nodes.specs.RawHeap.{state_of}
+use Rattle.heap_model.proofs.Recording.{records_stay}
+use Rattle.nodes.specs.declared.heap_fields.HeapFields.{HeapFields}
+use Rattle.nodes.specs.HeapFields.{state_of}
 use Rattle.machine.proofs.Doing.{present_agrees}
 use Rattle.machine.proofs.Writing.{new_does}
 use Rattle.heap_model.specs.State.{HeapState}
@@ -27,11 +27,11 @@ new_object-block-requires-clause-room c =
 
 pub set-requires : goal.set-requires
 set-requires c =
-    subst (λ (x : RawHeap). c.args.root < length x.roots.cells) (sym c.record_root.ensures.same) (c.requires.write c.requires.heap.heap.present (present_agrees _ c.requires.heap.heap)).1.1
+    subst (λ (x : HeapFields). c.args.root < length x.roots.cells) (sym c.record_root.ensures.same) (c.requires.write c.requires.heap.heap.present (present_agrees _ c.requires.heap.heap)).1.1
 
 pub overflow_add-heap : goal.overflow_add-heap
 overflow_add-heap c =
-    let next = subst (λ (x : RawHeap). x.next < 2 ^ 63) (sym c.record_root.ensures.same) (c.requires.write c.requires.heap.heap.present (present_agrees _ c.requires.heap.heap)).1.2 in
+    let next = subst (λ (x : HeapFields). x.next < 2 ^ 63) (sym c.record_root.ensures.same) (c.requires.write c.requires.heap.heap.present (present_agrees _ c.requires.heap.heap)).1.2 in
     omega (arith, next)
 
 pub returns : goal.returns
@@ -42,7 +42,7 @@ returns c =
       does =
           rw c.set.ensures
           (subst (λ (h : HeapState). DoesEach (state_of a) (writes.New c.args.root c.args.shape) (record h { next = rec.next + 1; roots = set rec.roots.cells c.args.root (c.new_object-block.result + 1) }))
-          (sym (store_kept rec c.record_root.ensures.held new count c.new_object-block.ensures.links))
+          (sym (store_kept rec c.record_root.ensures.allocated new count c.new_object-block.ensures.links))
           (new_does (state_of a) (state_of rec) _ c.record_root.ensures.records c.args.root c.new_object-block.result c.args.shape new refl made));
       buffers = c.record_root.ensures.buffers;
     }

@@ -1,8 +1,8 @@
 use Rattle.std.proofs.Common.{◌<◌, length, sym, subst, refl}
 use Rattle.machine.proofs.Doing.{present_agrees}
 use Rattle.machine.proofs.Writing.{root_does}
-use Rattle.nodes.specs.declared.raw_heap.RawHeap.{RawHeap}
-use Rattle.nodes.specs.RawHeap.{state_of}
+use Rattle.nodes.specs.declared.heap_fields.HeapFields.{HeapFields}
+use Rattle.nodes.specs.HeapFields.{state_of}
 use Rattle.machine.proofs.heap.writing.write_root.Goals as goal
 
 pub record_root-requires-clause-root : goal.record_root-requires-clause-root
@@ -10,7 +10,7 @@ record_root-requires-clause-root c = (c.requires.write c.requires.heap.heap.pres
 
 pub set-requires : goal.set-requires
 set-requires c =
-    subst (λ (x : RawHeap). c.args.cell < length x.roots.cells) (sym c.record_root.ensures.same) (c.requires.write c.requires.heap.heap.present (present_agrees _ c.requires.heap.heap)).1.2
+    subst (λ (x : HeapFields). c.args.cell < length x.roots.cells) (sym c.record_root.ensures.same) (c.requires.write c.requires.heap.heap.present (present_agrees _ c.requires.heap.heap)).1.2
 
 pub returns : goal.returns
 returns c = record {

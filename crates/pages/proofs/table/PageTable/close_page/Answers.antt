@@ -7,13 +7,13 @@ pub returns-then-row-eq0-clause-closed : goal.returns-then-row-eq0-clause-closed
 returns-then-row-eq0-clause-closed c = λ words t.
     let r = c.in-Some.row in
     closed_by c.args.self.now words t c.args.page c.requires (Some r) c.put.new.self (sym c.in-Some.is ∙ c.row.ensures.row)
-    (c.put.ensures ∙ ap (λ b. set c.args.self.now c.args.page (cond b None (Some (record r { leaving = false; receiving = false })))) (sym (eq-eqb r.held 0 c.if-row-eq0.true)))
+    (c.put.ensures ∙ ap (λ b. set c.args.self.now c.args.page (cond b None (Some (record r { evacuating = false; is_target = false })))) (sym (eq-eqb r.allocated 0 c.if-row-eq0.true)))
 
 pub returns-else-row-eq0-clause-closed : goal.returns-else-row-eq0-clause-closed
 returns-else-row-eq0-clause-closed c = λ words t.
     let r = c.in-Some.row in
     closed_by c.args.self.now words t c.args.page c.requires (Some r) c.update.new.self (sym c.in-Some.is ∙ c.row.ensures.row)
-    (c.update.ensures ∙ ap (λ b. set c.args.self.now c.args.page (cond b None (Some (record r { leaving = false; receiving = false })))) (sym (ne_eqb r.held 0 c.if-row-eq0.false)))
+    (c.update.ensures ∙ ap (λ b. set c.args.self.now c.args.page (cond b None (Some (record r { evacuating = false; is_target = false })))) (sym (ne_eqb r.allocated 0 c.if-row-eq0.false)))
 
 pub returns-in_default-clause-closed : goal.returns-in_default-clause-closed
 returns-in_default-clause-closed c = λ words t.

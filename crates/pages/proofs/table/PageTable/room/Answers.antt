@@ -13,7 +13,7 @@ use Rattle.pages.proofs.table.PageTable.room.Goals as goal
 
 pub returns-then-count-gt1 : goal.returns-then-count-gt1
 returns-then-count-gt1 c = λ words t.
-    c.room_for.ensures words t ∙ room_same (pages_in c.args.self.now words) (λ class. slice_index c.of.result class) (blocks_needed c.args.parts.now (parts_in c.args.parts.now)) c.of.ensures
+    c.room_for.ensures words t ∙ room_same (pages_in c.args.self.now words) (λ class. slice_index c.from_parts.result class) (blocks_needed c.args.parts.now (parts_in c.args.parts.now)) c.from_parts.ensures
 
 class_is : (cells words class : ℕ) (o : Option ℕ) → words ≡ part_words cells 0 → o ≡ class_for words → o ≡ Some class → class_for (part_words cells 0) ≡ Some class
 class_is cells words class o e f g = ap class_for (sym e) ∙ sym f ∙ g

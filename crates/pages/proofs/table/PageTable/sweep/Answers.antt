@@ -7,7 +7,7 @@ use Rattle.pages.proofs.Telling.{some_there}
 use Rattle.pages.proofs.table.PageTable.sweep.Goals as goal
 
 pub unwrap-row-requires : goal.unwrap-row-requires
-unwrap-row-requires c = some_there c.args.self.now c.args.arena.now c.args.block.page c.requires.page (λ (p : Page). c.args.block.index + c.args.count ≤ length p.held) c.requires.blocks c.row.result c.row.ensures.row
+unwrap-row-requires c = some_there c.args.self.now c.args.arena.now c.args.block.page c.requires.page (λ (p : Page). c.args.block.index + c.args.count ≤ length p.allocated) c.requires.blocks c.row.result c.row.ensures.row
 
 pub sweep-requires-clause-page : goal.sweep-requires-clause-page
 sweep-requires-clause-page c = c.row.ensures.few

@@ -2,7 +2,7 @@ use Rattle.std.proofs.Common.{◌≡◌, ◌+◌, sym, refl, subst, arith}
 use Rattle.std.specs.Prelude.{Result}
 use Rattle.trace.specs.declared.fault.TextFault.{TextFault}
 use Rattle.trace.specs.declared.fault.TextFault.TheVariants.{NoMemory}
-use Rattle.trace.specs.GoneOver.{writes_failed}
+use Rattle.trace.specs.LinesProcessed.{writes_failed}
 use Rattle.pictures.specs.GraphDrawn.{GraphDrawn}
 use Rattle.pictures.proofs.graph.Drawn.{failed_so}
 use Rattle.pictures.proofs.graph.drawing.draw_graph.Goals as goal

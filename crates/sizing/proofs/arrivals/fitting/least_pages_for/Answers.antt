@@ -1,5 +1,5 @@
 use Rattle.space.specs.Fitting.{pace_in}
-use Rattle.sizing.specs.Load.{pace_of}
+use Rattle.sizing.specs.AllocationProfile.{pace_of}
 use Rattle.sizing.specs.Fitting.{load_in}
 use Rattle.sizing.proofs.arrivals.Same.{least_same}
 use Rattle.sizing.proofs.arrivals.fitting.least_pages_for.Goals as goal

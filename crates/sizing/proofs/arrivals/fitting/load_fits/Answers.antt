@@ -1,5 +1,5 @@
 use Rattle.space.specs.Fitting.{pace_in}
-use Rattle.sizing.specs.Load.{pace_of}
+use Rattle.sizing.specs.AllocationProfile.{pace_of}
 use Rattle.sizing.specs.Fitting.{load_in}
 use Rattle.sizing.proofs.arrivals.Same.{fits_same, fits_back}
 use Rattle.sizing.proofs.arrivals.fitting.load_fits.Goals as goal

@@ -5,9 +5,9 @@ use Rattle.trace.specs.Spelling.{Spells}
 use Rattle.trace.specs.TextLine.{Text, text_in}
 use Rattle.trace.proofs.Reading.{reading_at_first, reading_on}
 use Rattle.trace.proofs.GoingOver.{at_first, goes_on, ends_without, ends_over, ends_in, ends_at}
-use Rattle.sizing.specs.declared.arrivals.keeping.Kept.{Kept}
+use Rattle.sizing.specs.declared.arrivals.keeping.Conformance.{Conformance}
 use Rattle.sizing.specs.Fitting.{load_in}
-use Rattle.sizing.specs.Load.{SaysText}
+use Rattle.sizing.specs.AllocationProfile.{SaysText}
 use Rattle.sizing.specs.Metering.{NoEvent, TextMetered}
 use Rattle.sizing.specs.Keeping.{BreaksBy}
 use Rattle.sizing.proofs.arrivals.Checking.{checked, line_goes, line_breaks, meter_starts, not_some}
@@ -26,7 +26,7 @@ returns-in_err-next_line-clause-checked g c =
     let e = c.in_err-next_line.ensures in
     let i = c.loop-reader.invariant in
     rw (p.1, p.2) (checked (load_in c.args.load.now) c.budget-budget.result _ _ _ c.loop-reader.meter c.budget-budget.ensures.budget
-    (ends_without i.done c.next_line.new.self _ _ Kept NoEvent _ e.hands) i.meter)
+    (ends_without i.done c.next_line.new.self _ _ Conformance NoEvent _ e.hands) i.meter)
 
 pub returns-clause-checked : goal.returns-clause-checked
 returns-clause-checked g c =
@@ -41,7 +41,7 @@ returns-in_err-by-clause-checked g c =
     let e = c.in_ok-next_line.ensures in
     let i = c.loop-reader.invariant in
     rw (p.1, p.2) (checked (load_in c.args.load.now) c.budget-budget.result _ _ _ c.loop-reader.meter c.budget-budget.ensures.budget
-    (ends_at i.done c.next_line.new.self _ _ _ e.hands c.if-branch.true _ c.text.ensures Kept NoEvent _ tt c.in_err-by.ensures) i.meter)
+    (ends_at i.done c.next_line.new.self _ _ _ e.hands c.if-branch.true _ c.text.ensures Conformance NoEvent _ tt c.in_err-by.ensures) i.meter)
 
 pub returns-in-Some-clause-checked : goal.returns-in-Some-clause-checked
 returns-in-Some-clause-checked g c =

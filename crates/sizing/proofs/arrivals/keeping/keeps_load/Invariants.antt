@@ -3,7 +3,7 @@ use Rattle.trace.specs.Streams.{given_by}
 use Rattle.trace.proofs.GoingOver.{SoFar}
 use Rattle.trace.proofs.Reading.{IsReading}
 use Rattle.sizing.specs.Fitting.{load_in}
-use Rattle.sizing.specs.Load.{SaysText}
+use Rattle.sizing.specs.AllocationProfile.{SaysText}
 use Rattle.sizing.proofs.arrivals.Checking.{IsMeterOf}
 use Rattle.sizing.proofs.arrivals.keeping.keeps_load.Given as goal
 

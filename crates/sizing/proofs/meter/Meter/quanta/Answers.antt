@@ -1,6 +1,6 @@
 use Rattle.std.proofs.Common.{◌≡◌, ◌↔◌, ◌≤◌, Some, ap, ◌∙◌, sym, subst}
 use Rattle.std.specs.Prelude.{IfSome}
-use Rattle.space.specs.Tally.{is_tracing}
+use Rattle.space.specs.Tally.{awaits_sweep_end}
 use Rattle.space.specs.Pace.{in_cycle}
 use Rattle.sizing.specs.declared.meter.Meter.{Meter}
 use Rattle.sizing.specs.declared.season.Season.{Season}
@@ -20,9 +20,9 @@ returns c = λ l es quanta r new v w works ends.
     let same : fin ≡ record old { on = fin.on; season = fin.season; asked = fin.asked; budget = fin.budget } =
     ap (λ (x : Meter). record x { budget = Some c.least_of.result }) beat.same ∙ ap (λ s. record old { on = fin.on; season = s; asked = fin.asked; budget = fin.budget }) (sym season) in
     quanta_measure l es quanta r new old fin c.args.budget v w works same
-    (λ e. season ∙ rest.tracing (ap is_tracing (sym ends) ∙ e))
+    (λ e. season ∙ rest.tracing (ap awaits_sweep_end (sym ends) ∙ e))
     (λ e. season ∙ rest.rested e)
-    (λ e t. subst (IsSwept old.season) (sym season) (rest.swept (ap is_tracing (sym ends) ∙ e) t))
+    (λ e t. subst (IsSwept old.season) (sym season) (rest.swept (ap awaits_sweep_end (sym ends) ∙ e) t))
     (λ e. (let n = beat.on e in (n.0 ∙ ap in_cycle (sym ends), n.1)))
     (λ e. (let n = beat.off e in (ap (λ (x : Meter). x.on) n, ap (λ (x : Meter). x.asked) n)))
     (λ k. subst (λ o. (k ≤ c.least_of.result) ↔ (IfSome o (λ n. k ≤ n) × (k ≤ c.args.budget))) budget (c.least_of.ensures k))

@@ -4,7 +4,7 @@ use Rattle.std.proofs.lemmas.List.{length_push}
 use Rattle.trace.proofs.GoingOver.{one_line, at_first, goes_on, ends_without, ends_over, ends_in, ends_at}
 use Rattle.trace.specs.declared.transcripts.histories.Checked.{Checked}
 use Rattle.trace.specs.TextLine.{Text}
-use Rattle.trace.specs.GoneOver.{Goes}
+use Rattle.trace.specs.LinesProcessed.{LineEffect}
 use Rattle.trace.specs.Histories.{DoesNothing, DoesEntry, HistoryStops, IsWrong}
 use Rattle.trace.proofs.transcripts.Checking.{checked}
 use Rattle.trace.proofs.Reading.{reading_at_first, reading_on}
@@ -12,7 +12,7 @@ use Rattle.trace.proofs.transcripts.histories.check_entries.Goals as goal
 
 pub loop-reader-init : goal.loop-reader-init
 loop-reader-init g c = rw c.new-reader.ensures (record {
-  done = at_first (Goes DoesNothing DoesEntry) (g.S.Source.given c.args.source.now) (g.S.Source.ended c.args.source.now) c.args.reference.now;
+  done = at_first (LineEffect DoesNothing DoesEntry) (g.S.Source.given c.args.source.now) (g.S.Source.ended c.args.source.now) c.args.reference.now;
   good = refl;
   few = omega arith;
   reading = reading_at_first (g.S.Source.given c.args.source.now) (g.S.Source.failures c.args.source.now) (g.S.Source.input c.args.source.now);

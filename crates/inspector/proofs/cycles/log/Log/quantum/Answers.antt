@@ -8,7 +8,7 @@ use Rattle.inspector.proofs.cycles.log.Log.quantum.Goals as goal
 pub returns : goal.returns
 returns c = λ steps s is quantum mark now.
     let heap = ap (λ (r : Course). r.heap) now ∙ sym c.heap.ensures.heap in
-    let turn = c.of-turn.ensures s quantum mark heap in
+    let turn = c.between-turn.ensures s quantum mark heap in
     let same = c.heap-2.ensures.heap ∙ ap (λ (r : Course). r.heap) (sym now) in
     let counted : AreCounted s c.copies-copies.result = record {
       sweep = λ e. c.copies-copies.ensures.sweep (turn.sweep ∙ e) ∙ ap (λ h. copies_in h.store) same;

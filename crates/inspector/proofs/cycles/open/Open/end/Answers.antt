@@ -1,7 +1,7 @@
 use Rattle.std.proofs.Common.{◌∙◌, sym, ap, subst}
 use Rattle.heap_model.specs.State.{HeapState}
 use Rattle.nodes.specs.Copies.{copies_in}
-use Rattle.nodes.specs.declared.nodes.counting.Copies.{Copies}
+use Rattle.nodes.specs.declared.block_store.counting.Copies.{Copies}
 use Rattle.inspector.specs.declared.cycles.open.End.{End}
 use Rattle.inspector.specs.Log.{IsEnd}
 use Rattle.inspector.proofs.cycles.open.Open.end.Goals as goal
@@ -13,4 +13,4 @@ pub returns-in-None : goal.returns-in-None
 returns-in-None c = λ later first is now.
     let same = now (subst (IsEnd first later) c.in-None.is is) in
     let ends : HeapState → End = λ h. record { units = h.units; moved = (copies_in h.store).old } in
-    c.of.ensures ∙ ap (λ (k : Copies). record { units = c.args.heap.now.units; moved = k.old }) c.copies.ensures ∙ ap ends (sym same)
+    c.from_heap.ensures ∙ ap (λ (k : Copies). record { units = c.args.heap.now.units; moved = k.old }) c.copies.ensures ∙ ap ends (sym same)

@@ -1,0 +1,5 @@
+use Rattle.heap_model.proofs.Rest.{allocated_is_kept as it}
+use Rattle.heap_model.proofs.collection.allocated_is_kept.Goals as goal
+
+pub returns : goal.returns
+returns c = it

@@ -1,5 +1,0 @@
-use Rattle.heap_model.proofs.Rest.{held_is_kept as it}
-use Rattle.heap_model.proofs.collection.held_is_kept.Goals as goal
-
-pub returns : goal.returns
-returns c = it

@@ -1,0 +1,42 @@
+-- The fields of a heap, as the heap in words.
+use Rattle.std.specs.Prelude.{◌≡◌, ◌<◌, ◌^◌, ℕ, true, false, [], length}
+use Rattle.graph_heap.specs.Graph.{Graph, object_of}
+use Rattle.graph_heap.specs.Shape.{fits}
+use Rattle.heap_model.specs.State.{HeapState}
+use Rattle.heap_model.specs.Spent.{cycle_limit}
+use Rattle.heap_model.specs.Standing.{Represents}
+use Rattle.heap_model.specs.Written.{records}
+use Rattle.nodes.specs.declared.heap_fields.HeapFields.{HeapFields}
+use Rattle.nodes.specs.Grey.{grey_in}
+
+-- the fields of a heap, as the heap in words
+abbrev pub state_of : HeapFields → HeapState
+state_of a = record {
+  limits = a.roots.limits;
+  defrag_below = a.config.defrag_below;
+  defrag_pages = a.config.defrag_pages;
+  store = a.nodes;
+  roots = a.roots.cells;
+  live = a.roots.live;
+  next = a.next;
+  phase = a.phase;
+  units = a.units;
+  mark_parity = a.mark_parity;
+  grey = grey_in a.nodes a.grey;
+}
+
+-- The heap stands for some graph heaps in which no object is too large, and what a cycle may spend is a
+-- small number.
+pub record IsHeap (h : HeapState) : Type 0 where
+  pub present : Graph
+  pub snapshot : Graph
+  pub stands : Represents h present snapshot
+  pub fits : (id : ℕ) → fits (object_of present.objects id).shape ≡ true
+  pub small : cycle_limit h < 2 ^ 31
+
+-- What holds of the fields between two steps: they are a heap, each mutator has a buffer, and outside roots and
+-- marking no part is grey.
+pub record AreHeapFields (a : HeapFields) : Type 0 where
+  pub heap : IsHeap (state_of a)
+  pub buffers : length a.grey.buffers ≡ a.roots.limits.mutators
+  pub empty : records a.phase ≡ false → grey_in a.nodes a.grey ≡ []

@@ -1,5 +1,0 @@
-use Rattle.space.proofs.Census.{census}
-use Rattle.space.proofs.steps.held_blocks_are_few.Goals as goal
-
-pub returns : goal.returns
-returns c = λ s class objects first ids w tidy kept only. census s w class objects tidy first ids kept only

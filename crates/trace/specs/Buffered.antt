@@ -1,0 +1,32 @@
+-- A reader of lines, as it lies in its buffer.
+use Rattle.std.specs.Prelude.{◌≡◌, ◌+◌, ◌-◌, ◌^◌, ◌<◌, ◌≤◌, nat_le, if◌then◌else◌, slice_range}
+use Rattle.trace.specs.declared.line_reader.LineReader.TheInside.{Inside}
+use Rattle.trace.specs.declared.version.Version.{Version}
+use Rattle.trace.specs.declared.version.Version.TheVariants.{First}
+use Rattle.trace.specs.LineReader.{Lines}
+
+-- the version of the line handed out last: the first line is in the first version, and each line after it in that which
+-- the first line told
+abbrev pub version_in : Inside → Version
+version_in a = if nat_le a.number 1 then First else a.next
+
+-- the fields of a reader, as what it shows
+abbrev pub lines_in : Inside → Lines
+lines_in a = record {
+  text = record {
+    bytes = slice_range a.buffer a.line_start a.line_end;
+    number = a.number;
+    version = version_in a;
+  };
+  kept = slice_range a.buffer a.start a.end;
+  next = a.next;
+}
+
+-- The ranges lie in the buffer, the lines can be counted, and before the first line no version is told.
+pub record IsBuffered (a : Inside) : Type 0 where
+  pub line : a.line_start ≤ a.line_end
+  pub line_within : a.line_end ≤ 65536
+  pub range : a.start ≤ a.end
+  pub within : a.end ≤ 65536
+  pub few : a.number + (a.end - a.start) < 2 ^ 64
+  pub untold : a.number ≡ 0 → a.next ≡ First

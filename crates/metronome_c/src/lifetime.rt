@@ -20,7 +20,7 @@ pub extern "C" fn metronome_create_for(
     version: u32,
 ) -> u32
     ensures same { version ≡ 2 → Creates (heap_in heap.old) settings.now (heap_in heap.new) result }
-    ensures other { version ≢ 2 → (heap_in heap.new ≡ held heap.old) × (result ≡ status_number OtherVersion) }
+    ensures other { version ≢ 2 → (heap_in heap.new ≡ heap_in heap.old) × (result ≡ status_number OtherVersion) }
 {
     if version != VERSION {
         return Status::OtherVersion.number();

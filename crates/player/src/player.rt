@@ -99,7 +99,7 @@ impl Player {
         Ok(Player {
             recorded: HeapWithHistory::new(alloc, config)?,
             schedule: Schedule::new(alloc, config),
-            budget: config.collector_ticks * config.rate,
+            budget: config.budget(),
         })
     }
 

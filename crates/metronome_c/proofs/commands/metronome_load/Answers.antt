@@ -5,4 +5,4 @@ use Rattle.metronome_c.proofs.Stepping.{does_by, steps}
 use Rattle.metronome_c.proofs.commands.metronome_load.Goals as goal
 
 pub returns : goal.returns
-returns c = steps c.args.mutator (commands.Load c.args.dst c.args.obj c.args.i) _ _ _ _ (asks_so _ _ (λ h r k met. does_by c.args.mutator (commands.Load c.args.dst c.args.obj c.args.i) h r k (grind arith steps 200000)) _ _ _ c.told.ensures.1) c.told.ensures.2
+returns c = steps c.args.mutator (commands.Load c.args.dst c.args.obj c.args.i) _ _ _ _ (asks_so _ _ (λ h r k met. does_by c.args.mutator (commands.Load c.args.dst c.args.obj c.args.i) h r k (grind arith steps 200000)) _ _ _ c.answer.ensures.1) c.answer.ensures.2

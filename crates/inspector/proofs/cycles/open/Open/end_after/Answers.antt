@@ -17,5 +17,5 @@ returns c = λ earlier later first s begun is turn counted now.
     let ends_with : HeapState → End = λ h. record { units = h.units; moved = c.args.copies.now.old } in
     let with_old : ℕ → End = λ n. record { units = s.after.heap.units; moved = n } in
     let ends = sym turn.cycle ∙ c.if-not-turn.false in
-    end_now first later s c.args.self.now.end (sym c.is_some.ensures ∙ c.if-is_some.false) (begins_on first begun) ends is.end c.of.result
+    end_now first later s c.args.self.now.end (sym c.is_some.ensures ∙ c.if-is_some.false) (begins_on first begun) ends is.end c.from_heap.result
     (c.from_heap.ensures ∙ ap ends_with (sym now) ∙ ap with_old (ap (λ (k : Copies). k.old) (counted.cycle ends)))

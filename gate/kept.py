@@ -1,6 +1,8 @@
 """What was refused by earlier runs on this machine, by the checksums of all that its trial read."""
+import contextlib
 import hashlib
 import os
+import threading
 
 from kit import rt
 
@@ -19,6 +21,43 @@ HERE = os.path.dirname(os.path.abspath(__file__))
 JUDGES_SUM = hashlib.sha256(b"".join(text_of(f"{HERE}/{it}") for it in JUDGES)).hexdigest()
 
 
+# The sums of crates that a thread has made so far, where each is to be made once: a crate stands below others by many ways.
+sums = threading.local()
+
+
+def each_once(stamp):
+    """A crate's sum, which is taken from those that the thread has made so far, if it gathers them."""
+
+    def taken(crate):
+        made = getattr(sums, "made", None)
+        if made is None:
+            return stamp(crate)
+        if crate.name not in made:
+            made[crate.name] = stamp(crate)
+        return made[crate.name]
+
+    return taken
+
+
+rt.rtlib.Crate.stamp = each_once(rt.rtlib.Crate.stamp)
+
+
+@contextlib.contextmanager
+def gathered():
+    """Within it this thread makes the sum of each crate once."""
+    sums.made = {}
+    try:
+        yield
+    finally:
+        sums.made = None
+
+
+def stamp_of(crate):
+    """A sum of the crate's files, those of the crates below, and the toolchain."""
+    with gathered():
+        return rt.stamp_of(crate, {})
+
+
 class Kept:
     """The store, as it stands for the files that the crates have when the run begins."""
 
@@ -29,7 +68,7 @@ class Kept:
     def stamp(self, crate):
         """A sum of the crate's files, those of the crates below, and the toolchain, as they were when first asked for."""
         if crate.name not in self.stamps:
-            self.stamps[crate.name] = rt.stamp_of(crate, {})
+            self.stamps[crate.name] = stamp_of(crate)
         return self.stamps[crate.name]
 
     def place(self, edit):
@@ -53,7 +92,7 @@ class Kept:
 
     def keep(self, edit, why):
         """Keeps how the prover refused an edit, unless a file that it read was changed since the run began."""
-        if rt.stamp_of(edit.crate, {}) != self.stamp(edit.crate):
+        if stamp_of(edit.crate) != self.stamp(edit.crate):
             return
         place = self.place(edit)
         try:

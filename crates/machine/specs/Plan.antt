@@ -55,7 +55,7 @@ abbrev pub write_to : Target → ℕ → Write
 write_to (targets.Root cell) x = writes.Root cell x
 write_to (targets.Ref at) x = writes.Ref at x
 
--- the plan of a comparison: what was referent is kept, or, where it was expected, it gives way by a write
+-- the plan of a comparison: what the place holds is kept, or, where it was expected, it gives way by a write
 abbrev pub Compares : ℕ → ℕ → Write → Planned → Type 0
 Compares referent expected write p = ((referent ≢ expected)
     × (p ≡ record { reply = replies.Kept referent; write = writes.Nothing }))

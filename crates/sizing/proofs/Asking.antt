@@ -148,21 +148,21 @@ module _ (l : Limits) (es : List Event) where
       lives = w.lives;
       before = w.before;
       lived = command_lived;
-      last_allocated = subst (λ n. AreBlocks new.season.live_last (w.lives n)) (sym command_cycles) (subst (λ z. AreBlocks z (w.lives u.cycles)) (sym last_same) w.last_allocated);
-      base_allocated = subst (λ n. AreBlocks new.season.live_base (w.lives n)) (sym command_number) (subst (λ z. AreBlocks z (w.lives u.number)) (sym base_same) w.base_allocated);
-      before_allocated = subst (λ z. AreBlocks z w.before) (sym before_same) w.before_allocated;
+      last_counted = subst (λ n. AreBlocks new.season.live_last (w.lives n)) (sym command_cycles) (subst (λ z. AreBlocks z (w.lives u.cycles)) (sym last_same) w.last_counted);
+      base_counted = subst (λ n. AreBlocks new.season.live_base (w.lives n)) (sym command_number) (subst (λ z. AreBlocks z (w.lives u.number)) (sym base_same) w.base_counted);
+      before_counted = subst (λ z. AreBlocks z w.before) (sym before_same) w.before_counted;
       together = together;
       together_least = least_more l es one w.lives w.lives command_agree (ℕ → ℕ) WithinBlocks (λ most. (class : ℕ) → class < CLASSES → w.together class ≤ most class) (λ most. (class : ℕ) → class < CLASSES → together class ≤ most class) w.together_least
           together_above (λ live q g n. together_below few live q (command_agree live g) n);
-      together_allocated = asks.together w.together (w.lives u.number) (made_since u.base u) more w.together_allocated w.base_allocated base a;
+      together_counted = asks.together w.together (w.lives u.number) (made_since u.base u) more w.together_counted w.base_counted base a;
       gathered = gathered;
       gathered_least = least_more l es one w.lives w.lives command_agree ℕ (λ pages live. WithinPages pages) (λ pages. w.gathered ≤ pages) (λ pages. gathered ≤ pages) w.gathered_least gathered_above (λ live q g n. gathered_below live q (command_agree live g) n);
-      gathered_allocated = asks.gathered w.gathered w.before (made_since u.swept u) more w.gathered_allocated w.before_allocated swept a;
+      gathered_counted = asks.gathered w.gathered w.before (made_since u.swept u) more w.gathered_counted w.before_counted swept a;
       made = made;
       made_least = least_more l es one w.lives w.lives command_agree Budget (λ b live. WithinBudget b) (λ (b : Budget). w.made ≤ b.made) (λ (b : Budget). made ≤ b.made) w.made_least made_above (λ live b g n. made_below live b n);
-      made_allocated = asks.made w.made (made_since u.base u) more w.made_allocated base a;
+      made_counted = asks.made w.made (made_since u.base u) more w.made_counted base a;
       live = w.live;
       live_least = λ live_at pages k most. w.live_least live_at pages ((keep_append Anything live_at (opening_season l) es one).0 k).0 most;
       live_most = w.live_most;
-      live_allocated = subst (λ z. IsPages z w.live) (sym asks.live) w.live_allocated;
+      live_counted = subst (λ z. IsPages z w.live) (sym asks.live) w.live_counted;
     }

@@ -41,22 +41,22 @@ opening_shifts l m last base before n = record {
   lives = none_live;
   before = λ class. 0;
   lived = record { least = λ live k n class low. omega arith; sooner = λ live k class low. omega arith; exact = λ live a class low. refl };
-  last_allocated = last;
-  base_allocated = base;
-  before_allocated = before;
+  last_counted = last;
+  base_counted = base;
+  before_counted = before;
   together = λ class. 0;
   together_least = record { above = λ live q k class low. omega arith; below = λ live q a k. tt };
-  together_allocated = n.together;
+  together_counted = n.together;
   gathered = 0;
   gathered_least = record { above = λ live q k. omega arith; below = λ live q a k. tt };
-  gathered_allocated = (let e = n.gathered in omega (arith, e));
+  gathered_counted = (let e = n.gathered in omega (arith, e));
   made = 0;
   made_least = record { above = λ live q k. omega arith; below = λ live q a k. tt };
-  made_allocated = (let e = n.made in omega (arith, e));
+  made_counted = (let e = n.made in omega (arith, e));
   live = 0;
   live_least = λ live pages k most. omega arith;
   live_most = λ n. subst (λ z. z ≤ 0) (sym pages_none) (omega arith);
-  live_allocated = (let e = n.live in omega (arith, e));
+  live_counted = (let e = n.live in omega (arith, e));
 }
 
 pub opening_measures : (h : HeapState) (m : Meter) → IsOpening h → m.graph ≡ opening h.limits → m.on ≡ false → m.budget ≡ None → m.season.tracing ≡ false
@@ -178,8 +178,8 @@ module _ (l : Limits) (es : List Event) (r new : Course) (m : ℕ) (c : Command)
     abbrev now : ℕ → ℕ
     now class = b.asked class + asked_for b.graph m c class
 
-    now_allocated : AreBlocks mid.asked now
-    now_allocated = are_sum old.asked asked mid.asked b.asked (asked_for b.graph m c) v.holds.asked asked_beat s.sum
+    now_counted : AreBlocks mid.asked now
+    now_counted = are_sum old.asked asked mid.asked b.asked (asked_for b.graph m c) v.holds.asked asked_beat s.sum
 
     budgets : (k : ℕ) → HaveBudgets k (es ++ event ∷ []) ↔ IfSome mid.budget (λ budget. k ≤ budget)
     budgets k =
@@ -210,12 +210,12 @@ module _ (l : Limits) (es : List Event) (r new : Course) (m : ℕ) (c : Command)
     needs_by : (o : Bool) → b.on ≡ o → Needs l (es ++ event ∷ []) mid
     needs_by true on =
         needs_with true on (λ class. max (v.needs.pace.busy class) (now class)) v.needs.pace.idle (pace_busy v.needs.pace now)
-        (are_max old.busy mid.asked mid.busy v.needs.pace.busy now v.needs.busy now_allocated (s.busy (v.holds.on ∙ on)))
+        (are_max old.busy mid.asked mid.busy v.needs.pace.busy now v.needs.busy now_counted (s.busy (v.holds.on ∙ on)))
         (subst (λ z. AreBlocks z v.needs.pace.idle) (sym (s.not_idle (v.holds.on ∙ on))) v.needs.idle)
     needs_by false off =
         needs_with false off v.needs.pace.busy (λ class. max (v.needs.pace.idle class) (now class)) (pace_idle v.needs.pace now)
         (subst (λ z. AreBlocks z v.needs.pace.busy) (sym (s.not_busy (v.holds.on ∙ off))) v.needs.busy)
-        (are_max old.idle mid.asked mid.idle v.needs.pace.idle now v.needs.idle now_allocated (s.idle (v.holds.on ∙ off)))
+        (are_max old.idle mid.asked mid.idle v.needs.pace.idle now v.needs.idle now_counted (s.idle (v.holds.on ∙ off)))
 
     needs_now : Needs l (es ++ event ∷ []) mid
     needs_now = needs_by b.on refl
@@ -279,7 +279,7 @@ module _ (l : Limits) (es : List Event) (r new : Course) (m : ℕ) (c : Command)
         last = counts t.last fin.season.since_last v.are.last (are_sum step.season.since_last asked fin.season.since_last (made_since t.last t) (asked_for t.graph m c) (allocated_before t.last (λ (x : Counted). x.since_last) v.holds.last) asked_is al.season.last);
         base = counts t.base fin.season.since_base v.are.base (are_sum step.season.since_base asked fin.season.since_base (made_since t.base t) (asked_for t.graph m c) (allocated_before t.base (λ (x : Counted). x.since_base) v.holds.base) asked_is al.season.base);
         swept = counts t.swept fin.season.since_swept v.are.swept (are_sum step.season.since_swept asked fin.season.since_swept (made_since t.swept t) (asked_for t.graph m c) (allocated_before t.swept (λ (x : Counted). x.since_swept) v.holds.swept) asked_is al.season.swept);
-        asked = subst (λ y. AreBlocks y now) (sym (ap (λ (x : Meter). x.asked) al.same ∙ ap (λ (x : Meter). x.asked) z)) now_allocated;
+        asked = subst (λ y. AreBlocks y now) (sym (ap (λ (x : Meter). x.asked) al.same ∙ ap (λ (x : Meter). x.asked) z)) now_counted;
       }) (subst (Needs l (es ++ event ∷ [])) (sym al.same) (record {
         pace = needs_step.pace;
         paces = needs_step.paces;
@@ -301,7 +301,7 @@ module _ (l : Limits) (es : List Event) (r new : Course) (m : ℕ) (c : Command)
         last = counts t.last step.season.since_last v.are.last (allocated_before t.last (λ (x : Counted). x.since_last) v.holds.last);
         base = counts t.base step.season.since_base v.are.base (allocated_before t.base (λ (x : Counted). x.since_base) v.holds.base);
         swept = counts t.swept step.season.since_swept v.are.swept (allocated_before t.swept (λ (x : Counted). x.since_swept) v.holds.swept);
-        asked = subst (λ y. AreBlocks y now) (sym (ap (λ (x : Meter). x.asked) z)) now_allocated;
+        asked = subst (λ y. AreBlocks y now) (sym (ap (λ (x : Meter). x.asked) z)) now_counted;
       }) needs_step (shifts_by step refl refl refl refl)
         where
           counts : (n : ℕ) (allocated : List ℕ) → n ≤ length (present_of r).objects → AreBlocks allocated (made_since n t) → AreBlocks allocated (blocks_of (drop n (after_entry t.graph entry).objects))

@@ -38,22 +38,22 @@ module _ (l : Limits) (es : List Event) where
         lives = w.lives;
         before = before;
         lived = lived;
-        last_allocated = last;
-        base_allocated = base;
-        before_allocated = sooner;
+        last_counted = last;
+        base_counted = base;
+        before_counted = sooner;
         together = w.together;
         together_least = least_on (ℕ → ℕ) WithinBlocks (λ blocks. (class : ℕ) → class < CLASSES → w.together class ≤ blocks class) w.together_least;
-        together_allocated = subst (λ (z : Most). AreBlocks z.together w.together) (sym most) w.together_allocated;
+        together_counted = subst (λ (z : Most). AreBlocks z.together w.together) (sym most) w.together_counted;
         gathered = w.gathered;
         gathered_least = least_on ℕ (λ pages live. WithinPages pages) (λ pages. w.gathered ≤ pages) w.gathered_least;
-        gathered_allocated = subst (λ (z : Most). IsPages z.gathered w.gathered) (sym most) w.gathered_allocated;
+        gathered_counted = subst (λ (z : Most). IsPages z.gathered w.gathered) (sym most) w.gathered_counted;
         made = w.made;
         made_least = least_on Budget (λ b live. WithinBudget b) (λ (b : Budget). w.made ≤ b.made) w.made_least;
-        made_allocated = subst (λ (z : Most). IsPages z.made w.made) (sym most) w.made_allocated;
+        made_counted = subst (λ (z : Most). IsPages z.made w.made) (sym most) w.made_counted;
         live = w.live;
         live_least = λ live_at pages k most_at. w.live_least live_at pages (kept live_at k) most_at;
         live_most = w.live_most;
-        live_allocated = subst (λ (z : Most). IsPages z.live w.live) (sym most) w.live_allocated;
+        live_counted = subst (λ (z : Most). IsPages z.live w.live) (sym most) w.live_counted;
       }
         where
           kept : (live : Lives) → AllKeep Anything live (opening_season l) (es ++ fs) → AllKeep Anything live (opening_season l) es
@@ -63,9 +63,9 @@ module _ (l : Limits) (es : List Event) where
     pub shifts_still : ((live : Lives) → season_at live (season l es fs live) fs ≡ season l es fs live) → new.season ≡ old.season → new.most ≡ old.most → Shifts l (es ++ fs) new
     shifts_still stays same most =
         on_with cycles w.before lived
-        (subst (λ n. AreBlocks new.season.live_last (w.lives n)) (sym cycles) (subst (λ (z : Counted). AreBlocks z.live_last (w.lives (still l es fs).cycles)) (sym same) w.last_allocated))
-        (subst (λ n. AreBlocks new.season.live_base (w.lives n)) (sym number) (subst (λ (z : Counted). AreBlocks z.live_base (w.lives (still l es fs).number)) (sym same) w.base_allocated))
-        (subst (λ (z : Counted). AreBlocks z.before w.before) (sym same) w.before_allocated) most
+        (subst (λ n. AreBlocks new.season.live_last (w.lives n)) (sym cycles) (subst (λ (z : Counted). AreBlocks z.live_last (w.lives (still l es fs).cycles)) (sym same) w.last_counted))
+        (subst (λ n. AreBlocks new.season.live_base (w.lives n)) (sym number) (subst (λ (z : Counted). AreBlocks z.live_base (w.lives (still l es fs).number)) (sym same) w.base_counted))
+        (subst (λ (z : Counted). AreBlocks z.before w.before) (sym same) w.before_counted) most
       where
         all : season_at none_live (opening_season l) (es ++ fs) ≡ still l es fs
         all = goes l es fs none_live ∙ stays none_live
@@ -105,9 +105,9 @@ module _ (l : Limits) (es : List Event) where
       pub shifts_swept : AreBlocks old.season.since_base (made_since (still l es fs).base (still l es fs)) → IsSwept old.season new.season → new.most ≡ old.most → Shifts l (es ++ fs) new
       shifts_swept base s most =
           on_with swept_cycles sooner lived
-          (subst (λ n. AreBlocks new.season.live_last (w.lives n)) (sym swept_cycles) (subst (λ z. AreBlocks z (w.lives (still l es fs).cycles)) (sym (ap (λ (z : Counted). z.live_last) s.same)) w.last_allocated))
-          (subst (λ n. AreBlocks new.season.live_base (w.lives n)) (sym swept_number) (subst (λ z. AreBlocks z (w.lives (still l es fs).cycles)) (sym (ap (λ (z : Counted). z.live_base) s.same)) w.last_allocated))
-          (are_sum old.season.live_base old.season.since_base new.season.before (w.lives (still l es fs).number) (made_since (still l es fs).base (still l es fs)) w.base_allocated base s.before) most
+          (subst (λ n. AreBlocks new.season.live_last (w.lives n)) (sym swept_cycles) (subst (λ z. AreBlocks z (w.lives (still l es fs).cycles)) (sym (ap (λ (z : Counted). z.live_last) s.same)) w.last_counted))
+          (subst (λ n. AreBlocks new.season.live_base (w.lives n)) (sym swept_number) (subst (λ z. AreBlocks z (w.lives (still l es fs).cycles)) (sym (ap (λ (z : Counted). z.live_base) s.same)) w.last_counted))
+          (are_sum old.season.live_base old.season.since_base new.season.before (w.lives (still l es fs).number) (made_since (still l es fs).base (still l es fs)) w.base_counted base s.before) most
         where
           lived : Lived l (es ++ fs) w.lives sooner
           lived = lived_more l es fs w.lives w.lives (agrees swept_cycles) w.before sooner w.lived
@@ -219,20 +219,20 @@ module _ (l : Limits) (es : List Event) where
       lives = lives;
       before = w.before;
       lived = begun_lived;
-      last_allocated = subst (λ n. AreBlocks new.season.live_last (lives n)) (sym begun_cycles) (subst (AreBlocks new.season.live_last) (sym latest) (subst (λ z. AreBlocks z now) (sym (ap (λ (z : Counted). z.live_last) s.same)) a));
-      base_allocated = subst (λ n. AreBlocks new.season.live_base (lives n)) (sym begun_number) (subst (AreBlocks new.season.live_base) (sym (earlier t.number few)) (subst (λ z. AreBlocks z (w.lives t.number)) (sym (ap (λ (z : Counted). z.live_base) s.same)) w.base_allocated));
-      before_allocated = subst (λ z. AreBlocks z w.before) (sym (ap (λ (z : Counted). z.before) s.same)) w.before_allocated;
+      last_counted = subst (λ n. AreBlocks new.season.live_last (lives n)) (sym begun_cycles) (subst (AreBlocks new.season.live_last) (sym latest) (subst (λ z. AreBlocks z now) (sym (ap (λ (z : Counted). z.live_last) s.same)) a));
+      base_counted = subst (λ n. AreBlocks new.season.live_base (lives n)) (sym begun_number) (subst (AreBlocks new.season.live_base) (sym (earlier t.number few)) (subst (λ z. AreBlocks z (w.lives t.number)) (sym (ap (λ (z : Counted). z.live_base) s.same)) w.base_counted));
+      before_counted = subst (λ z. AreBlocks z w.before) (sym (ap (λ (z : Counted). z.before) s.same)) w.before_counted;
       together = w.together;
       together_least = least_begun (ℕ → ℕ) WithinBlocks (λ most. (class : ℕ) → class < CLASSES → w.together class ≤ most class) w.together_least;
-      together_allocated = subst (λ z. AreBlocks z w.together) (sym (ap (λ (z : Most). z.together) m.same)) w.together_allocated;
+      together_counted = subst (λ z. AreBlocks z w.together) (sym (ap (λ (z : Most). z.together) m.same)) w.together_counted;
       gathered = w.gathered;
       gathered_least = least_begun ℕ (λ pages live. WithinPages pages) (λ pages. w.gathered ≤ pages) w.gathered_least;
-      gathered_allocated = subst (λ z. IsPages z w.gathered) (sym (ap (λ (z : Most). z.gathered) m.same)) w.gathered_allocated;
+      gathered_counted = subst (λ z. IsPages z w.gathered) (sym (ap (λ (z : Most). z.gathered) m.same)) w.gathered_counted;
       made = w.made;
       made_least = least_begun Budget (λ b live. WithinBudget b) (λ (b : Budget). w.made ≤ b.made) w.made_least;
-      made_allocated = subst (λ z. IsPages z w.made) (sym (ap (λ (z : Most). z.made) m.same)) w.made_allocated;
+      made_counted = subst (λ z. IsPages z w.made) (sym (ap (λ (z : Most). z.made) m.same)) w.made_counted;
       live = max w.live (pages_of now);
       live_least = begun_few;
       live_most = begun_most;
-      live_allocated = m.most w.live now w.live_allocated a;
+      live_counted = m.most w.live now w.live_counted a;
     }

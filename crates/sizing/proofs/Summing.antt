@@ -93,19 +93,19 @@ module _ (l : Limits) (es : List Event) (m : Meter) (w : Shifts l es m) where
   }
     where
       together : (class : ℕ) → class < CLASSES → w.together class ≡ slice_index n.together class
-      together = stated (2 ^ 64) n.together m.most.together w.together (omega arith) some.together w.together_allocated
+      together = stated (2 ^ 64) n.together m.most.together w.together (omega arith) some.together w.together_counted
 
       gathered : w.gathered ≡ n.gathered
-      gathered = same_pages m.most.gathered w.gathered w.gathered_allocated (let e = some.gathered.0 in let b = some.gathered.1 in omega (arith, e, b)) ∙ sym some.gathered.0
+      gathered = same_pages m.most.gathered w.gathered w.gathered_counted (let e = some.gathered.0 in let b = some.gathered.1 in omega (arith, e, b)) ∙ sym some.gathered.0
 
       live : w.live ≡ n.live
-      live = same_pages m.most.live w.live w.live_allocated (let e = some.live.0 in let b = some.live.1 in omega (arith, e, b)) ∙ sym some.live.0
+      live = same_pages m.most.live w.live w.live_counted (let e = some.live.0 in let b = some.live.1 in omega (arith, e, b)) ∙ sym some.live.0
 
       made : w.made ≡ n.made
-      made = same_pages m.most.made w.made w.made_allocated (let e = some.made.0 in let b = some.made.1 in omega (arith, e, b)) ∙ sym some.made.0
+      made = same_pages m.most.made w.made w.made_counted (let e = some.made.0 in let b = some.made.1 in omega (arith, e, b)) ∙ sym some.made.0
   needed_measured None some none = λ s. elim (none refl) [
-    | inl o ↦ over (2 ^ 64) m.most.together w.together s.blocks o w.together_allocated ((keep_together s.blocks).0 s.together) s.small_blocks
-    | inr (inl o) ↦ (let x = more_pages m.most.gathered w.gathered w.gathered_allocated o in let y = (keep_gathered s.pages).0 s.gathered in let z = s.small_pages.0 in omega (arith, x, y, z))
-    | inr (inr (inl o)) ↦ (let x = more_pages m.most.live w.live w.live_allocated o in let y = ((keep_budget s.budget).0 s.budgeted).0 in let z = s.small_pages.1 in omega (arith, x, y, z))
-    | inr (inr (inr o)) ↦ (let x = more_pages m.most.made w.made w.made_allocated o in let y = ((keep_budget s.budget).0 s.budgeted).1 in let z = s.small_pages.2 in omega (arith, x, y, z))
+    | inl o ↦ over (2 ^ 64) m.most.together w.together s.blocks o w.together_counted ((keep_together s.blocks).0 s.together) s.small_blocks
+    | inr (inl o) ↦ (let x = more_pages m.most.gathered w.gathered w.gathered_counted o in let y = (keep_gathered s.pages).0 s.gathered in let z = s.small_pages.0 in omega (arith, x, y, z))
+    | inr (inr (inl o)) ↦ (let x = more_pages m.most.live w.live w.live_counted o in let y = ((keep_budget s.budget).0 s.budgeted).0 in let z = s.small_pages.1 in omega (arith, x, y, z))
+    | inr (inr (inr o)) ↦ (let x = more_pages m.most.made w.made w.made_counted o in let y = ((keep_budget s.budget).0 s.budgeted).1 in let z = s.small_pages.2 in omega (arith, x, y, z))
   ]

@@ -116,25 +116,25 @@ pub record Shifts (l : Limits) (es : List Event) (m : Meter) : Type 0 where
   pub lives : Lives
   pub before : ℕ → ℕ
   pub lived : Lived l es lives before
-  pub last_allocated : AreBlocks m.season.live_last (lives (season_at none_live (opening_season l) es).cycles)
-  pub base_allocated : AreBlocks m.season.live_base (lives (season_at none_live (opening_season l) es).number)
-  pub before_allocated : AreBlocks m.season.before before
+  pub last_counted : AreBlocks m.season.live_last (lives (season_at none_live (opening_season l) es).cycles)
+  pub base_counted : AreBlocks m.season.live_base (lives (season_at none_live (opening_season l) es).number)
+  pub before_counted : AreBlocks m.season.before before
   pub together : ℕ → ℕ
   pub together_least :
       IsLeastOf (ℕ → ℕ) WithinBlocks (λ blocks. (class : ℕ) → class < CLASSES
       → together class ≤ blocks class) l es lives
-  pub together_allocated : AreBlocks m.most.together together
+  pub together_counted : AreBlocks m.most.together together
   pub gathered : ℕ
   pub gathered_least : IsLeastOf ℕ (λ pages live. WithinPages pages) (λ pages. gathered ≤ pages) l es lives
-  pub gathered_allocated : IsPages m.most.gathered gathered
+  pub gathered_counted : IsPages m.most.gathered gathered
   pub made : ℕ
   pub made_least : IsLeastOf Budget (λ b live. WithinBudget b) (λ b. made ≤ b.made) l es lives
-  pub made_allocated : IsPages m.most.made made
+  pub made_counted : IsPages m.most.made made
   pub live : ℕ
   pub live_least : (live_at : Lives) (pages : ℕ) → AllKeep Anything live_at (opening_season l) es
       → ((n : ℕ) → pages_of (live_at n) ≤ pages) → live ≤ pages
   pub live_most : (n : ℕ) → pages_of (lives n) ≤ live
-  pub live_allocated : IsPages m.most.live live
+  pub live_counted : IsPages m.most.live live
 
 -- What a meter holds once these events have led to a course.
 pub record Measures (l : Limits) (es : List Event) (r : Course) (m : Meter) : Type 0 where

@@ -7,7 +7,7 @@ ghost use Rattle.sizing.specs.Counts.{MOST, AreBlocks, IsTable, HasOver};
 use graph_heap::Shape;
 use size_classes::{CLASSES, Class, Need, parts_of};
 
-/// How many blocks of each class. A count stops at the greatest that can be allocated.
+/// How many blocks of each class. A count stops at the greatest that can be represented.
 pub type Blocks = [u128; CLASSES];
 
 /// No block.

@@ -28,7 +28,7 @@ use Rattle.space.specs.Placement.{class_in, IsTidy, KeepsOnly, KeepsShapes}
 use Rattle.space.proofs.Counts.{one_if, both_true}
 use Rattle.space.proofs.Tidying.{place_page}
 
--- names are reply_has_room apart
+-- names are told apart
 name_eq : Name → Name → Bool
 name_eq a b = nat_eq a.identity b.identity && nat_eq a.part b.part
 

@@ -12,7 +12,7 @@ use Rattle.inspector.specs.Steps.{Step, is_quantum, begins, works, ends_sweep, e
 use Rattle.inspector.specs.Cycles.{counted, behind_last, copies_at, units_by, end_of, SweptBy, IsCycle, AreCycles, No_cycle, One_cycle_more}
 use Rattle.inspector.specs.Log.{place_at, IsBase, AreCounted, IsEnd, IsStart, IsOpen, HasOpen, IsOpenIn, IsLog}
 use Rattle.std.proofs.lemmas.List.Sums.{fold_push}
-use Rattle.inspector.proofs.cycles.Stepping.{count_push, count_other, fewer, idles, ends_none, no_quantum, end_here, last_push, swept_other, end_other, allocated_more}
+use Rattle.inspector.proofs.cycles.Stepping.{count_push, count_other, fewer, idles, ends_none, no_quantum, end_here, last_push, swept_other, end_other, counted_more}
 
 -- what is known of the last sweep and the last end, with a step more
 pub objects_more : (b : Bool) (r : Course) (o : Option Course) (n m : ℕ) → (b ≡ true → n ≡ (copies_in r.heap.store).objects) → m ≡ (copies_at o).objects → cond b n m ≡ (copies_at (cond b (Some r) o)).objects
@@ -69,7 +69,7 @@ module _ (earlier : List Step) (first : Step) (later : List Step) (s : Step) (ol
       → SweptBy earlier first (later ++ s ∷ []) new.sweep → IsEnd first (later ++ s ∷ []) new.end → IsOpen earlier first (later ++ s ∷ []) new
   open_more new start quanta longest sweep end = record {
     start = subst (IsStart earlier first) (sym start) is.start;
-    quanta = quanta ∙ ap (λ n. min (n + cond (works s) 1 0) (2 ^ 64 - 1)) is.quanta ∙ allocated_more (count_by works later) (works s) ∙ ap counted (sym (count_push works later s));
+    quanta = quanta ∙ ap (λ n. min (n + cond (works s) 1 0) (2 ^ 64 - 1)) is.quanta ∙ counted_more (count_by works later) (works s) ∙ ap counted (sym (count_push works later s));
     longest = longest ∙ ap (λ n. max n (units_by s)) is.longest ∙ sym (fold_push (λ most t. max most (units_by t)) 0 later s);
     sweep = sweep;
     end = end;

@@ -100,10 +100,10 @@ pub end_other : (first : Step) (later : List Step) (s : Step) (o : Option End) �
 end_other first later s None e none = count_other ends_cycle later s e ∙ none
 end_other first later s (Some end) e is = end_kept first later s end is
 
--- a count, as far as it can be allocated
-pub allocated_more : (n : ℕ) (b : Bool) → min (counted n + cond b 1 0) (2 ^ 64 - 1) ≡ counted (n + cond b 1 0)
-allocated_more n true = omega arith
-allocated_more n false = omega arith
+-- a count, as far as it can be represented
+pub counted_more : (n : ℕ) (b : Bool) → min (counted n + cond b 1 0) (2 ^ 64 - 1) ≡ counted (n + cond b 1 0)
+counted_more n true = omega arith
+counted_more n false = omega arith
 
 -- how a sweep is reported after one step more, by whether it was reported before
 module _ (earlier : List Step) (first : Step) (later : List Step) (s : Step) where

@@ -9,7 +9,7 @@ use Rattle.heap_model.specs.Pages.{page_at, page_of_class, with_allocated, IsOpe
 use Rattle.heap_model.specs.Store.{address_of}
 use Rattle.pages.specs.declared.bits.BitRow.{BitRow}
 use Rattle.pages.specs.declared.page.PageRecord.{PageRecord}
-use Rattle.pages.specs.BitRow.{has_bit}
+use Rattle.pages.specs.BitRow.{has_bit, room_of}
 use Rattle.pages.specs.FreeList.{flags_of, index_on, IsFreeList, SameOutside}
 use Rattle.pages.specs.Index.{row_at, HasFree, IsIndex}
 use Rattle.pages.specs.Together.{pages_in, Together, KeepsAllocated}
@@ -71,12 +71,12 @@ module _ (rows pages : List (Option PageRecord)) (seen : rows ≡ pages) (usable
         full_is : blocks ≡ blocks_in old.class
         full_is = blocks_is ∙ ap blocks_in (sym class_is)
 
-        pub last_taken : row.allocated ≡ blocks → (one new : BitRow) → one ≡ get_or usable number one → has_bit new page ≡ 0 → ((i : ℕ) → i < 4096 → i ≢ page → has_bit new i ≡ has_bit one i)
+        pub last_taken : row.allocated ≡ blocks → (one new : BitRow) → one ≡ get_or usable number one → has_bit new page ≡ 0 → ((i : ℕ) → i ≢ page → has_bit new i ≡ has_bit one i) → room_of new ≡ room_of one
             → IsIndex (set rows page (Some row)) (set usable number new) free (set free_blocks number (had - 1)) free_pages
-        last_taken full one new read here others =
+        last_taken full one new read here others room =
             through number (number_is ∙ sym class_is) had had_is (λ n. set usable n new) (λ h. h - 1)
             (taken_last rows usable free free_blocks free_pages b page old row inside lent_is same known has_free.1 stays more has_free.2 (full ∙ full_is) one new
-            (read ∙ ap (λ n. get_or usable n one) (number_is ∙ sym class_is)) here others)
+            (read ∙ ap (λ n. get_or usable n one) (number_is ∙ sym class_is)) here others room)
 
         pub one_taken : row.allocated ≢ blocks → IsIndex (set rows page (Some row)) usable free (set free_blocks number (had - 1)) free_pages
         one_taken left =

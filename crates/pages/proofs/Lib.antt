@@ -1,4 +1,4 @@
-pub mod OfBits
+pub mod Summaries
 pub mod Threading
 pub mod Indexing
 pub mod Telling

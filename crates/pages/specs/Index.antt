@@ -5,7 +5,7 @@ use Rattle.size_classes.specs.declared.config.TheConstants.{MOST_PAGES}
 use Rattle.size_classes.specs.Sizes.{blocks_in}
 use Rattle.pages.specs.declared.bits.BitRow.{BitRow}
 use Rattle.pages.specs.declared.page.PageRecord.{PageRecord}
-use Rattle.pages.specs.BitRow.{has_bit}
+use Rattle.pages.specs.BitRow.{has_bit, room_of}
 
 -- the record of page k, none where there is no such page
 abbrev pub row_at : List (Option PageRecord) → ℕ → Option PageRecord
@@ -48,16 +48,21 @@ bit b = if b then 1 else 0
 abbrev pub class_bit : List BitRow → ℕ → ℕ → ℕ
 class_bit usable class k = slice_index (map (λ r. has_bit r k) usable) class
 
+-- how many bits the row of a class has
+abbrev pub class_room : List BitRow → ℕ → ℕ
+class_room usable class = slice_index (map room_of usable) class
+
 -- the bits and the numbers are those of the rows
 pub record IsIndex (rows : List (Option PageRecord)) (usable : List BitRow) (free : BitRow) (free_blocks : List ℕ)
     (free_pages : ℕ) : Type 0 where
   pub few : length rows ≤ MOST_PAGES
   pub classes : length usable ≡ CLASSES
   pub counts : length free_blocks ≡ CLASSES
-  pub usable_bits : (class k : ℕ) → class < CLASSES → k < MOST_PAGES
-      → class_bit usable class k ≡ bit (row_usable class (row_at rows k))
+  pub wide : (class : ℕ) → class < CLASSES → length rows ≤ class_room usable class
+  pub free_wide : length rows ≤ room_of free
+  pub usable_bits : (class k : ℕ) → class < CLASSES → class_bit usable class k ≡ bit (row_usable class (row_at rows k))
   pub free_bits : (k : ℕ) → k < length rows → has_bit free k ≡ bit (row_free (row_at rows k))
-  pub free_past : (k : ℕ) → k < MOST_PAGES → length rows ≤ k → has_bit free k ≡ 0
+  pub free_past : (k : ℕ) → length rows ≤ k → has_bit free k ≡ 0
   pub blocks_are : (class : ℕ) → class < CLASSES → slice_index free_blocks class ≡ sum_by (row_free_on class) rows
   pub pages_are : free_pages ≡ count_by row_free rows
 

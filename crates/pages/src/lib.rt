@@ -5,6 +5,7 @@
 
 mod bits;
 mod free_list;
+mod levels;
 mod page;
 pub mod table;
 pub mod view;

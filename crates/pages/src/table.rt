@@ -72,10 +72,10 @@ impl PageTable {
         }
         let mut usable = Vec::with_capacity(alloc, CLASSES)?;
         'classes: for _ in 0..CLASSES as u8 {
-            let one = BitRow::new(alloc)?;
+            let one = BitRow::new(alloc, pages)?;
             usable.push(one)?;
         }
-        let mut free = BitRow::new(alloc)?;
+        let mut free = BitRow::new(alloc, pages)?;
         for page in 0..pages as usize {
             free.set(page, true);
         }
@@ -92,8 +92,7 @@ impl PageTable {
     /// The first page of the class that isn't evacuating and has a free block.
     #[inline(always)]
     fn first_usable(&self, class: Class) -> Option<usize>
-        ensures place { result ≡ position (row_usable class) self.now }
-        ensures within { IfSome result (λ k. k < 4096) }
+        ensures { result ≡ position (row_usable class) self.now }
     {
         self.usable[class.number()].first()
     }

@@ -1,25 +1,29 @@
-use Rattle.std.proofs.Common.{◌≡◌, ◌<◌, ◌/◌, get_or, length, arith, ap, ◌∙◌}
-use Rattle.std.specs.Int.{bit_at}
-use Rattle.std.proofs.lemmas.List.{get_or_read}
-use Rattle.pages.proofs.OfBits.{bit_here, bit_other, summed}
+use Rattle.std.proofs.Common.{◌≡◌, ℕ, ◌++◌, List, length, take, drop, ap, ◌∙◌, sym, subst, arith}
+use Rattle.std.proofs.lemmas.List.{take-append-le, take_all}
+use Rattle.pages.specs.Bits.{bit_in, IsSummary, IsLowest}
+use Rattle.pages.proofs.Summaries.{but_put}
 use Rattle.pages.proofs.bits.BitRow.set.Goals as goal
+
+-- what was written to a whole list is the list then
+whole : (old new : List ℕ) (n : ℕ) → n ≡ length old → length new ≡ length old → take n (new ++ drop (length new) old) ≡ new
+whole old new n count same = take-append-le n new (drop (length new) old) (omega (arith, count, same)) ∙ take_all n new (omega (arith, count, same))
+
+pub lowest_then-self-requires-clause-was : goal.lowest_then-self-requires-clause-was
+lowest_then-self-requires-clause-was c =
+    but_put c.args.self.now.words.items c.put_lowest.new.words c.args.k c.args.self.now.lowest c.args.self.now.kept
+    (λ i ne. c.put_lowest.ensures.others i ne ∙ ap (λ w. bit_in w i) c.as_mut_slice-words.ensures.value)
 
 pub invariant_of-self : goal.invariant_of-self
 invariant_of-self c =
-    let below : c.args.k / 64 < length c.args.self.now.words.items = omega (arith, c.args.self.now.summed.len, c.requires) in
-    let read : c.index.result.now ≡ get_or c.args.self.now.words.items (c.args.k / 64) 0 = get_or_read c.args.self.now.words.items (c.args.k / 64) c.index.result.now below c.index.ensures 0 in
+    let words : length c.put_lowest.new.words ≡ length c.args.self.now.words.items = c.put_lowest.ensures.len.0 ∙ ap (λ (l : List ℕ). length l) c.as_mut_slice-words.ensures.value in
+    let groups : length c.put_lowest.new.groups ≡ length c.args.self.now.groups.items = c.put_lowest.ensures.len.1 ∙ ap (λ (l : List ℕ). length l) c.as_mut_slice-groups.ensures.value in
+    let tops : length c.put_lowest.new.tops ≡ length c.args.self.now.tops.items = c.put_lowest.ensures.len.2 ∙ ap (λ (l : List ℕ). length l) c.as_mut_slice-tops.ensures.value in
+    let w = whole c.args.self.now.words.items c.put_lowest.new.words c.args.self.now.words.len c.args.self.now.words.ok.0 words in
+    let g = whole c.args.self.now.groups.items c.put_lowest.new.groups c.args.self.now.groups.len c.args.self.now.groups.ok.0 groups in
+    let t = whole c.args.self.now.tops.items c.put_lowest.new.tops c.args.self.now.tops.len c.args.self.now.tops.ok.0 tops in
     record {
-      summed = summed c.args.self.now.words.items c.args.self.now.summary c.args.k c.with_bit-word.result c.args.self.now.summed c.requires
-          (λ i h n. c.with_bit-word.ensures.others i h n ∙ ap (λ w. bit_at w i) read) c.with_bit-self.result c.with_bit-self.ensures.here c.with_bit-self.ensures.others;
-    }
-
-pub returns : goal.returns
-returns c =
-    let below : c.args.k / 64 < length c.args.self.now.words.items = omega (arith, c.args.self.now.summed.len, c.requires) in
-    let read : c.index.result.now ≡ get_or c.args.self.now.words.items (c.args.k / 64) 0 = get_or_read c.args.self.now.words.items (c.args.k / 64) c.index.result.now below c.index.ensures 0 in
-    record {
-      here = bit_here c.args.self.now.words.items c.args.self.now.summary c.args.k c.with_bit-word.result c.args.self.now.summed c.requires
-          (λ i h n. c.with_bit-word.ensures.others i h n ∙ ap (λ w. bit_at w i) read) _ c.with_bit-word.ensures.here;
-      others = bit_other c.args.self.now.words.items c.args.self.now.summary c.args.k c.with_bit-word.result c.args.self.now.summed c.requires
-          (λ i h n. c.with_bit-word.ensures.others i h n ∙ ap (λ w. bit_at w i) read);
+      few = (omega (arith, ap (λ (l : List ℕ). length l) w, words, c.args.self.now.few.0), omega (arith, ap (λ (l : List ℕ). length l) g, groups, c.args.self.now.few.1));
+      grouped = subst (λ l. IsSummary l (take c.args.self.now.groups.len (c.put_lowest.new.groups ++ drop (length c.put_lowest.new.groups) c.args.self.now.groups.items))) (sym w) (subst (IsSummary c.put_lowest.new.words) (sym g) c.put_lowest.ensures.groups);
+      topped = subst (λ l. IsSummary l (take c.args.self.now.tops.len (c.put_lowest.new.tops ++ drop (length c.put_lowest.new.tops) c.args.self.now.tops.items))) (sym g) (subst (IsSummary c.put_lowest.new.groups) (sym t) c.put_lowest.ensures.tops);
+      kept = subst (λ l. IsLowest l c.lowest_then-self.result) (sym w) c.lowest_then-self.ensures;
     }

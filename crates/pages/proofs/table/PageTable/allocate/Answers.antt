@@ -7,24 +7,24 @@ use Rattle.pages.proofs.Writing.{keeps_both}
 use Rattle.pages.proofs.table.PageTable.allocate.Goals as goal
 
 pub allocate_on-requires-clause-usable : goal.allocate_on-requires-clause-usable
-allocate_on-requires-clause-usable c = (usable_here c.args.self.now c.args.class c.in-Some.page c.in-Some.ensures.place).1
+allocate_on-requires-clause-usable c = (usable_here c.args.self.now c.args.class c.in-Some.page c.in-Some.ensures).1
 
 pub use_page-requires-clause-free : goal.use_page-requires-clause-free
 use_page-requires-clause-free c = (free_here c.args.self.now c.in-Some-first_free.page c.in-Some-first_free.ensures.place).1
 
 pub returns-in-Some-clause-none : goal.returns-in-Some-clause-none
-returns-in-Some-clause-none c = some_iff (page_for (pages_in c.args.self.now c.args.arena.now) c.args.class) c.in-Some.page (for_usable c.args.self.now c.args.arena.now c.requires c.args.class c.in-Some.page c.in-Some.ensures.place)
+returns-in-Some-clause-none c = some_iff (page_for (pages_in c.args.self.now c.args.arena.now) c.args.class) c.in-Some.page (for_usable c.args.self.now c.args.arena.now c.requires c.args.class c.in-Some.page c.in-Some.ensures)
 
 pub returns-in-Some-clause-taken : goal.returns-in-Some-clause-taken
 returns-in-Some-clause-taken c = record {
   page = c.in-Some.page;
   index = index_on c.args.class c.in-Some.page c.allocate_on.result;
   place = c.allocate_on.ensures.place;
-  takes = record { page_is = for_usable c.args.self.now c.args.arena.now c.requires c.args.class c.in-Some.page c.in-Some.ensures.place; was_free = c.allocate_on.ensures.free; new_is = c.allocate_on.ensures.allocated };
+  takes = record { page_is = for_usable c.args.self.now c.args.arena.now c.requires c.args.class c.in-Some.page c.in-Some.ensures; was_free = c.allocate_on.ensures.free; new_is = c.allocate_on.ensures.allocated };
 }
 
 pub returns-in-Some-first_free-clause-none : goal.returns-in-Some-first_free-clause-none
-returns-in-Some-first_free-clause-none c = some_iff (page_for (pages_in c.args.self.now c.args.arena.now) c.args.class) c.in-Some-first_free.page (for_free c.args.self.now c.args.arena.now c.requires c.args.class (Some c.in-Some-first_free.page) c.in-None.ensures.place c.in-Some-first_free.ensures.place)
+returns-in-Some-first_free-clause-none c = some_iff (page_for (pages_in c.args.self.now c.args.arena.now) c.args.class) c.in-Some-first_free.page (for_free c.args.self.now c.args.arena.now c.requires c.args.class (Some c.in-Some-first_free.page) c.in-None.ensures c.in-Some-first_free.ensures.place)
 
 pub returns-in-Some-first_free-clause-taken : goal.returns-in-Some-first_free-clause-taken
 returns-in-Some-first_free-clause-taken c = record {
@@ -32,14 +32,14 @@ returns-in-Some-first_free-clause-taken c = record {
   index = index_on c.args.class c.in-Some-first_free.page c.allocate_on-in-Some-first_free.result;
   place = c.allocate_on-in-Some-first_free.ensures.place;
   takes = record {
-    page_is = for_free c.args.self.now c.args.arena.now c.requires c.args.class (Some c.in-Some-first_free.page) c.in-None.ensures.place c.in-Some-first_free.ensures.place;
+    page_is = for_free c.args.self.now c.args.arena.now c.requires c.args.class (Some c.in-Some-first_free.page) c.in-None.ensures c.in-Some-first_free.ensures.place;
     was_free = open_fresh c.args.self.now c.args.arena.now c.in-Some-first_free.page c.args.class (free_here c.args.self.now c.in-Some-first_free.page c.in-Some-first_free.ensures.place).0 (free_here c.args.self.now c.in-Some-first_free.page c.in-Some-first_free.ensures.place).1 (pages_in c.use_page.new.self c.use_page.new.arena) c.use_page.ensures.page (index_on c.args.class c.in-Some-first_free.page c.allocate_on-in-Some-first_free.result) c.allocate_on-in-Some-first_free.ensures.free;
     new_is = allocated_fresh c.args.self.now c.args.arena.now c.in-Some-first_free.page c.args.class (free_here c.args.self.now c.in-Some-first_free.page c.in-Some-first_free.ensures.place).0 (free_here c.args.self.now c.in-Some-first_free.page c.in-Some-first_free.ensures.place).1 (pages_in c.use_page.new.self c.use_page.new.arena) c.use_page.ensures.page (index_on c.args.class c.in-Some-first_free.page c.allocate_on-in-Some-first_free.result) _ c.allocate_on-in-Some-first_free.ensures.allocated;
   };
 }
 
 pub returns-in-None-first_free-clause-none : goal.returns-in-None-first_free-clause-none
-returns-in-None-first_free-clause-none c = none_iff (page_for (pages_in c.args.self.now c.args.arena.now) c.args.class) (for_free c.args.self.now c.args.arena.now c.requires c.args.class None c.in-None.ensures.place c.in-None-first_free.ensures.place)
+returns-in-None-first_free-clause-none c = none_iff (page_for (pages_in c.args.self.now c.args.arena.now) c.args.class) (for_free c.args.self.now c.args.arena.now c.requires c.args.class None c.in-None.ensures c.in-None-first_free.ensures.place)
 
 pub returns-in-Some-first_free-clause-words : goal.returns-in-Some-first_free-clause-words
 returns-in-Some-first_free-clause-words c =

@@ -3,4 +3,4 @@ use Rattle.pages.proofs.Telling.{usable_pages}
 use Rattle.pages.proofs.table.PageTable.usable.Goals as goal
 
 pub returns : goal.returns
-returns c = λ words t. c.first_usable.ensures.place ∙ usable_pages c.args.self.now words t c.args.class
+returns c = λ words t. c.first_usable.ensures ∙ usable_pages c.args.self.now words t c.args.class

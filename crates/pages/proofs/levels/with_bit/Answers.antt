@@ -1,6 +1,6 @@
 use Rattle.std.proofs.Common.{ap, sym, ◌∙◌, cond, w64}
 use Rattle.std.proofs.lemmas.Nat.Bits.{bit_at_set_same, bit_at_set_other, bit_at_clear_same, bit_at_clear_other}
-use Rattle.pages.proofs.bits.with_bit.Goals as goal
+use Rattle.pages.proofs.levels.with_bit.Goals as goal
 
 pub returns-then-on-clause-here : goal.returns-then-on-clause-here
 returns-then-on-clause-here c = bit_at_set_same w64 _ _ c.requires ∙ ap (λ b. cond b 1 0) (sym c.if-on.true)

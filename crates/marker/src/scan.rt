@@ -30,10 +30,13 @@ struct Step {
 
 /// Scans a root cell: it is corrected to the main copy, and that is shaded. Where all were scanned,
 /// marking begins. Each costs one unit.
-pub fn scan_root(heap: &mut HeapFields, next: usize)
+#[inline(always)]
+fn scan_root(heap: &mut HeapFields, next: usize)
     requires heap { AreHeapFields heap.old }
     requires phase { heap.old.phase ≡ phases.Roots next }
     ensures acts { Action (state_of heap.old) 1 (state_of heap.new) }
+    ensures goes { next < length heap.old.roots.cells → heap.new.phase ≡ phases.Roots (next + 1) }
+    ensures cells { length heap.new.roots.cells ≡ length heap.old.roots.cells }
     ensures buffers { heap.new.grey.buffers ≡ heap.old.grey.buffers }
 {
     if next >= heap.roots.cells().len() {
@@ -43,6 +46,25 @@ pub fn scan_root(heap: &mut HeapFields, next: usize)
     heap.roots.set(next, main);
     shade(heap, main);
     heap.go_to(1, Phase::Roots { next: next + 1 });
+}
+
+/// Scans root cells, as many as are left or as there is room for; where none is left, marking begins. Each of these
+/// costs one unit. Answers the units.
+pub fn scan_roots(heap: &mut HeapFields, next: usize, room: u32) -> u32
+    requires heap { AreHeapFields heap.old }
+    requires phase { heap.old.phase ≡ phases.Roots next }
+    requires room { 0 < room }
+    ensures acts { Acts heap.old room heap.new result }
+    ensures buffers { heap.new.grey.buffers ≡ heap.old.grey.buffers }
+{
+    let left = heap.roots.cells().len().saturating_sub(next);
+    let count = left.max(1).min(room as usize);
+    let mut scanned = 0;
+    while scanned < count {
+        scan_root(heap, next + scanned);
+        scanned += 1;
+    }
+    count as u32
 }
 
 /// Goes on with marking, as far as there is room for: scans the reference cells of the part in scan, then takes a

@@ -180,6 +180,7 @@ pub fn sweep(
 }
 
 /// The first allocated block of a page of a class from a place on.
+#[inline(never)]
 pub fn next_allocated(arena: &Arena, page: usize, class: Class, from: usize) -> Option<usize>
     requires page { page < 4096 }
     requires within { 2048 * page + 2048 ≤ length arena.now }

@@ -15,7 +15,7 @@ use super::Heap;
 use crate::collector::{BudgetOutOfRange, Busy, Spent};
 use defrag::move_next;
 use heap_model::phase::Phase;
-use marker::{scan_parts, scan_root};
+use marker::{scan_parts, scan_roots};
 use nodes::HeapFields;
 use satb_barrier::flush_all;
 use sweeper::sweep_next;
@@ -33,10 +33,7 @@ fn act(heap: &mut HeapFields, room: u32) -> Option<u32>
         Phase::Idle => None,
         Phase::Moving(place) => move_next(heap, place, room),
         _ if room == 0 => None,
-        Phase::Roots { next } => {
-            scan_root(heap, next);
-            Some(1)
-        }
+        Phase::Roots { next } => Some(scan_roots(heap, next, room)),
         Phase::Marking { part, cell } => Some(scan_parts(heap, part, cell, room)),
         Phase::Sweeping { page, block } => Some(sweep_next(heap, page, block, room)),
     }

@@ -42,7 +42,7 @@ season_few s asked =
     one_more k false = omega arith
 
 -- fewer objects since later
-drop_less : (m n : ℕ) (xs : List Object) (class : ℕ) → m ≤ n → blocks_of (drop n xs) class ≤ blocks_of (drop m xs) class
+pub drop_less : (m n : ℕ) (xs : List Object) (class : ℕ) → m ≤ n → blocks_of (drop n xs) class ≤ blocks_of (drop m xs) class
 drop_less zero zero xs class l = omega arith
 drop_less zero (suc n) [] class l = omega arith
 drop_less zero (suc n) (x ∷ xs) class l =

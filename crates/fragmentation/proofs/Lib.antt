@@ -15,6 +15,8 @@ pub mod Acting
 pub mod Counted
 pub mod Moving
 pub mod Budgets
+pub mod Words
+pub mod Flows
 pub mod Joints
 pub mod IsSparse
 pub mod Sparse

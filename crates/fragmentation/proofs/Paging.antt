@@ -57,7 +57,7 @@ pub pages_more : (f g : ℕ → ℕ) → ((k : ℕ) → k < CLASSES → f k ≤ 
 pages_more f g e = class_sum_le _ _ CLASSES (λ k l. whole_more k (f k) (g k) l (e k l))
 
 -- two numbers of blocks take no more pages together
-whole_both : (b x y : ℕ) → 0 < b → (x + y + (b - 1)) / b ≤ (x + (b - 1)) / b + (y + (b - 1)) / b
+pub whole_both : (b x y : ℕ) → 0 < b → (x + y + (b - 1)) / b ≤ (x + (b - 1)) / b + (y + (b - 1)) / b
 whole_both b x y some =
     let p : x + (b - 1) < (x + (b - 1)) / b * b + b = lt-div-mul-add some in
     let q : y + (b - 1) < (y + (b - 1)) / b * b + b = lt-div-mul-add some in

@@ -1,12 +1,13 @@
 //! How few pages each class has once blocks were moved: the laws. Each function does nothing: its contract is the law.
 #![tactic(auto)]
 
-ghost use Rattle.std.specs.Prelude.{◌≡◌, ℕ, ◌+◌, ◌<◌, ◌≤◌, true, false, List, Option, Some, length};
+ghost use Rattle.std.specs.Prelude.{◌≡◌, ℕ, ◌+◌, ◌*◌, ◌<◌, ◌≤◌, true, false, List, Option, Some, length};
 ghost use Rattle.graph_heap.specs.declared.command.Change.{Change};
 ghost use Rattle.graph_heap.specs.Graph.{Graph};
 ghost use Rattle.size_classes.specs.declared.class.TheConstants.{CLASSES};
 ghost use Rattle.size_classes.specs.Sizes.{blocks_in};
 ghost use Rattle.size_classes.specs.declared.config.Config.{Config};
+ghost use Rattle.size_classes.specs.declared.config.TheConstants.{LEAST_BUDGET};
 ghost use Rattle.heap_model.specs.declared.phase.Phase.TheVariants as phases;
 ghost use Rattle.heap_model.specs.declared.phase.Moving.TheVariants as moves;
 ghost use Rattle.heap_model.specs.declared.phase.Candidate.{Candidate};
@@ -26,8 +27,9 @@ ghost use Rattle.space.specs.Room.{AllHaveRoom};
 ghost use Rattle.space.specs.Space.{pages_for, spare_of, below_of};
 ghost use Rattle.fragmentation.specs.Tight.{IsTight, staying_pages};
 ghost use Rattle.fragmentation.specs.Gathering.{IsGathering, AreTight};
-ghost use Rattle.fragmentation.specs.Configured.{MovesAll, FitsTogether};
+ghost use Rattle.fragmentation.specs.Configured.{MovesAll, FitsTogether, FlowFitsIn};
 ghost use Rattle.fragmentation.specs.Season.{Lives, opening_season, AllKeep};
+ghost use Rattle.fragmentation.specs.Flow.{Flow, opening_meter, AllKeepFlow, FlowFits};
 ghost use Rattle.fragmentation.specs.Suffice.{GathersAll, WithinPages, WithinBlocks, sparse_pages, pages_of, Budget, budget_pages, WithinBudget};
 
 /// A tight class has as few pages that aren't evacuating as its allocated blocks on them need.
@@ -92,6 +94,16 @@ pub fn budget_suffices()
         → budget_pages b ≤ length h.store.pages → EveryNewFindsRoom es }
 {}
 
+/// So where live objects take at most some number of whole pages whenever a cycle begins, and the program makes, all
+/// size classes together, at most so many words for each quantum until a cycle's sweep ends and so many from one
+/// cycle's beginning to the next, no new object is refused for lack of space, where these fit in the pages that there
+/// are: whatever the sizes of the objects are, and however these change.
+pub fn flow_suffices()
+    ensures { (h : HeapState) (es : List Event) (new : Course) (f : Flow) (k : ℕ) → 0 < k → IsOpening h
+        → 0 < length h.store.pages → GathersAll h → Runs (opened h) es new
+        → AllKeepFlow f k (opening_meter h.limits) es → FlowFits f k h → EveryNewFindsRoom es }
+{}
+
 /// The space bound for a demand that is taken together, whatever moves: in every run that keeps, at each command, what
 /// was live when the cycle began whose sweep ended last, with what is made since and asked for, within a number of
 /// blocks of each class, no new object is refused for lack of space, where there are as many pages as those take.
@@ -122,7 +134,7 @@ pub fn sparse_suffices()
 
 /// In a heap of a configuration no reply of a run is the refusal for lack of space: where the run keeps to a demand
 /// that is taken together and fits; where each cycle gathers every class, and the run keeps within the configuration's
-/// pages; and there, where it keeps to a budget for which the configuration has pages.
+/// pages; and there, where it keeps to a budget for which the configuration has pages, or to a flow that fits.
 pub fn configured_pages_suffice()
     ensures joint { (config : Config) (h : HeapState) (es : List Event) (new : Course) (blocks : ℕ → ℕ) (live : Lives)
         → 1 ≤ config.pages → IsOpening h → settings_of h ≡ settings_by config → Runs (opened h) es new
@@ -135,4 +147,9 @@ pub fn configured_pages_suffice()
         → 1 ≤ config.pages → IsOpening h → settings_of h ≡ settings_by config → MovesAll config → Runs (opened h) es new
         → ((n : ℕ) → pages_of (live n) ≤ b.live) → AllKeep (WithinBudget b) live (opening_season h.limits) es
         → budget_pages b ≤ config.pages → AllHaveRoom es }
+    ensures flow { (config : Config) (h : HeapState) (es : List Event) (new : Course) (f : Flow) → 1 ≤ config.pages
+        → LEAST_BUDGET ≤ config.collector_ticks * config.rate → IsOpening h → settings_of h ≡ settings_by config
+        → MovesAll config → Runs (opened h) es new
+        → AllKeepFlow f (config.collector_ticks * config.rate) (opening_meter h.limits) es → FlowFitsIn config f
+        → AllHaveRoom es }
 {}

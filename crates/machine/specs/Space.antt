@@ -14,12 +14,13 @@ use Rattle.space.specs.Fitting.{Fits, FitsIn}
 use Rattle.space.specs.Room.{AllHaveRoom}
 use Rattle.fragmentation.specs.Season.{Lives, opening_season, AllKeep}
 use Rattle.fragmentation.specs.Suffice.{WithinPages, WithinBlocks, pages_of, Budget, budget_pages, WithinBudget}
-use Rattle.fragmentation.specs.Configured.{MovesAll, FitsTogether}
+use Rattle.fragmentation.specs.Flow.{Flow, opening_meter, AllKeepFlow}
+use Rattle.fragmentation.specs.Configured.{MovesAll, FitsTogether, FlowFitsIn}
 
 -- What a configuration promises of these events: no reply is the refusal for lack of space, where the events keep to a
 -- demand that fits the configuration, or to a pace that fits in its pages; or to a demand that is taken together and
 -- fits. Where moving follows each sweep and may empty all pages, the same holds where the events keep within the
--- configuration's pages, or to a budget for which it has pages.
+-- configuration's pages, to a budget for which it has pages, or to a flow that fits.
 pub record SpaceSuffices (config : Config) (es : List Event) : Type 0 where
   pub demand : (d : Demand) → AllKeepTo d (opening_tally (limits_of config)) es → Fits config d → AllHaveRoom es
   pub pace : (p : Pace) → AllKeepPace p (config.collector_ticks * config.rate) (opening_beat (limits_of config)) es
@@ -32,6 +33,9 @@ pub record SpaceSuffices (config : Config) (es : List Event) : Type 0 where
   pub budget : (b : Budget) (live : Lives) → MovesAll config → ((n : ℕ) → pages_of (live n) ≤ b.live)
       → AllKeep (WithinBudget b) live (opening_season (limits_of config)) es → budget_pages b ≤ config.pages
       → AllHaveRoom es
+  pub flow : (f : Flow) → MovesAll config
+      → AllKeepFlow f (config.collector_ticks * config.rate) (opening_meter (limits_of config)) es
+      → FlowFitsIn config f → AllHaveRoom es
 
 -- a heap of a configuration that was just made, without a history
 pub record IsJustMade (config : Config) (r : Course) : Type 0 where

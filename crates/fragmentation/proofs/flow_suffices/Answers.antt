@@ -1,0 +1,5 @@
+use Rattle.fragmentation.proofs.Flows.{flow_suffices as it}
+use Rattle.fragmentation.proofs.flow_suffices.Goals as goal
+
+pub returns : goal.returns
+returns c = it

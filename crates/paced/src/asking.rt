@@ -1,0 +1,37 @@
+//! How many words a command asks for.
+ghost use Rattle.std.specs.Prelude.{◌≡◌, ◌≤◌, if◌then◌else◌};
+ghost use Rattle.graph_heap.specs.Shape.{fits};
+ghost use Rattle.size_classes.specs.Need.{needed};
+ghost use Rattle.space.specs.Room.{asks};
+ghost use Rattle.fragmentation.specs.Flow.{words_of};
+
+use graph_heap::{Command, Shape};
+use size_classes::{CLASSES, Class, Need, parts_of};
+
+/// The words of the blocks that an object of a shape needs; none where the shape is too large.
+fn words_of_shape(shape: &Shape) -> u64
+    ensures words { result ≡ words_of (λ class. if fits shape.now then needed shape.now class else 0) }
+    ensures within { result ≤ 42000000000000 }
+{
+    let Some(parts) = parts_of(shape) else {
+        return 0;
+    };
+    let need = Need::from_parts(&parts);
+    let mut words = 0u64;
+    for number in 0..CLASSES {
+        let class = Class::new(number as u8);
+        words += u64::from(class.size()) * u64::from(need.blocks(class));
+    }
+    words
+}
+
+/// The words of the blocks for which a command asks at most: those of a new object.
+pub fn words_asked(command: &Command) -> u64
+    ensures words { result ≡ words_of (asks command.now) }
+    ensures within { result ≤ 42000000000000 }
+{
+    match command {
+        Command::New { dst: _, shape } => words_of_shape(shape),
+        _ => 0,
+    }
+}

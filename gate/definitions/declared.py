@@ -1,5 +1,6 @@
 """What a crate's code declares, and the contracts of its calls."""
 import re
+import textwrap
 from dataclasses import dataclass
 
 from contracts import Named, around, closing, contract_end
@@ -16,8 +17,8 @@ PART = re.compile(r"^ {4}(?:pub )?(?!ghost\b|pub\b)(\w+)(?=:|,| \{|\()", re.M)
 
 @dataclass
 class Call:
-    """A function with its contract: its crate and file, its type or trait and its name, whether it is declared public, and what
-    its contract names."""
+    """A function with its contract: its crate and file, its type or trait and its name, whether it is declared public, what its
+    contract names, and its text up to its body."""
 
     crate: str
     file: str
@@ -25,6 +26,7 @@ class Call:
     name: str
     is_public: bool
     named: Named
+    text: str
 
     def is_in(self, names):
         """Whether it can be called from outside, where just these names of its crate can be named there."""
@@ -65,7 +67,8 @@ class CodeFile:
         contract, end = contract_end(self.code, item.end())
         is_public = here.is_trait or bool(IS_PUBLIC.search(self.code, begin, item.start()))
         named = here.named(self.code[item.end() : contract])
-        self.calls.append(Call(self.crate, self.path, here.owner, item["call"], is_public, named))
+        text = textwrap.dedent(f"    {'pub ' * is_public}{self.text[item.start() : contract].rstrip()}")
+        self.calls.append(Call(self.crate, self.path, here.owner, item["call"], is_public, named, text))
         return end
 
     def block(self, item, here):
@@ -82,7 +85,7 @@ class CodeFile:
         if is_trait:
             for call in self.calls[first:]:
                 named.add(call.named)
-            self.declare(owner[1], item, "", named)
+            self.declare(owner[1], item, self.code[item.start() : end], "", named)
         else:
             self.said.setdefault(owner[1], Named()).add(named)
         return end
@@ -95,19 +98,20 @@ class CodeFile:
             end = closing(self.code, item.end(), ";")
             name = f"{here.owner}::{item['const']}" if here.owner else item["const"]
             value = " ".join(self.text[item.end() : end].split()).partition(" = ")[2]
-            self.declare(name, item, value.replace("[ ", "[").replace(", ]", "]"), Named())
+            self.declare(name, item, value, value.replace("[ ", "[").replace(", ]", "]"), Named())
             return end
         end = closing(self.code, item.end(), ";{")
         end = group_end(self.code, end) if self.code[end] == "{" else end + 1
         code = self.code[item.end() : end]
-        self.declare(item["type"], item, ", ".join(PART.findall(code)), here.named(code, is_type=True))
+        parts = ", ".join(PART.findall(code))
+        self.declare(item["type"], item, self.code[item.start() : end], parts, here.named(code, is_type=True))
         return end
 
-    def declare(self, name, item, value, named):
+    def declare(self, name, item, text, value, named):
         """A type, a trait or a constant is declared here."""
         place = Place(self.crate, self.path, name)
         comment, line = self.comment_above(item.start())
-        self.declared[place] = Definition(place, line, comment, value), named
+        self.declared[place] = Definition(place, line, comment, text, value), named
 
     def comment_above(self, at):
         """The doc comment above the item at a place, and the item's line."""

@@ -69,5 +69,5 @@ def read_specs(crate):
         owners.update((Place(crate, path, it), Place(crate, path, name)) for it, name in constructors_in(written))
         for name, one in written.items():
             place = Place(crate, path, name)
-            found[place] = Definition(place, one.line, one.comment), set(scope.places(one.text))
+            found[place] = Definition(place, one.line, one.comment, one.text), set(scope.places(one.text))
     return found, owners, told

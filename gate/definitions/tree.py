@@ -1,4 +1,5 @@
 """What is trusted, one by one: a definition, where it stands, and how a name finds it from where it is used."""
+import hashlib
 import os
 import re
 from dataclasses import dataclass, field
@@ -24,16 +25,21 @@ class Place:
 
 @dataclass
 class Definition:
-    """A definition: its place, the line of its file at which it begins, what is said of it above it, its value or its parts as
-    the code has them, the places of the definitions that it names, and what it takes from the language's library and from
-    packages, each a module and a name."""
+    """A definition: its place, the line of its file at which it begins, what is said of it above it, its text without comments,
+    its value or its parts as the code has them, the places of the definitions that it names, and what it takes from the
+    language's library and from packages, each a module and a name."""
 
     place: Place
     line: int
     comment: str
+    text: str = ""
     value: str = ""
     rests_on: set = field(default_factory=set)
     others: set = field(default_factory=set)
+
+    def checksum(self):
+        """The first eight digits of the checksum of its text, however that is laid out."""
+        return hashlib.sha256(" ".join(self.text.split()).encode()).hexdigest()[:8]
 
 
 @dataclass

@@ -1,5 +1,6 @@
-"""The list of trusted definitions as text."""
+"""The lists of trusted definitions as text, one for each crate."""
 import re
+import textwrap
 
 from trust import FIRST_OUTER
 
@@ -48,12 +49,12 @@ def line_of(definition, is_headline):
     """The line of a definition."""
     name = f"`{definition.place.name}`"
     said = sentence(definition.comment)
-    return f"  - {f'**{name}**' if is_headline else name}{value_of(definition)}{': ' if said else ''}{said}"
+    told = f"{value_of(definition)}{': ' if said else ''}{said}"
+    return f"  - {f'**{name}**' if is_headline else name} {definition.checksum()}{told}"
 
 
 def lines_of_crate(crate, trust, listed, headline):
     """The lines of a crate's definitions."""
-    yield from (f"### `{crate}`", "")
     by_file = {}
     for place in sorted(listed, key=lambda it: trust.definitions[it].line):
         by_file.setdefault(place.file, []).append(place)
@@ -61,7 +62,6 @@ def lines_of_crate(crate, trust, listed, headline):
         ending = ".rt" if file.startswith("src/") else ".antt"
         yield f"- {file}{ending}: {sentence(trust.files[crate].get(file, ''))}"
         yield from (line_of(trust.definitions[it], it in headline) for it in by_file[file])
-    yield ""
 
 
 def lines_of_others(others):
@@ -74,8 +74,13 @@ def lines_of_others(others):
         yield f"- {module}: {', '.join(names)}"
 
 
+def counted(number, what):
+    """A number of things, in words."""
+    return f"{number} {what}{'' if number == 1 else 's'}"
+
+
 class Listing:
-    """The list as text, with what it counts."""
+    """The lists, with what they count."""
 
     def __init__(self, trust):
         self.trust = trust
@@ -83,27 +88,45 @@ class Listing:
         self.outer = trust.closure(trust.headline | trust.outer)
         self.listed = trust.closure(trust.headline | trust.outer | trust.core)
         self.without = sorted((it for it in self.listed if not trust.definitions[it].comment), key=self.place_in_order)
-        self.others = trust.others.union(*(trust.definitions[it].others for it in self.listed))
 
     def place_in_order(self, place):
         """By what definitions are put in order: crate, file and line."""
         return self.trust.crates.index(place.crate), place.file, self.trust.definitions[place].line
 
-    def counts(self):
-        """What is counted, in lines of text."""
-        listed, headline, outer = len(self.listed), len(self.headline), len(self.outer)
-        yield f"The contracts of {self.trust.calls} public calls rest on {listed} definitions."
-        yield f"The headline rests on {headline} of them, in bold."
-        yield f"The contracts of the crates from `{FIRST_OUTER}` on, with the headline, rest on {outer};"
-        yield f"the other {listed - outer} are reached from contracts of lower crates alone."
-        yield f"Above {len(self.without)} of them no sentence stands yet."
-        yield f"They name {len(self.others)} of the language, its library and packages, which come last."
+    def of_crate(self, crate):
+        """What is listed of a crate, and what of that the headline rests on."""
+        listed = [it for it in self.listed if it.crate == crate]
+        return listed, [it for it in listed if it in self.headline]
 
-    def text(self):
-        """The list."""
-        lines = ["", *self.counts(), ""]
-        for crate in self.trust.crates:
-            of_crate = [it for it in self.listed if it.crate == crate]
-            lines += lines_of_crate(crate, self.trust, of_crate, self.headline) if of_crate else []
-        lines += ["### The language, its library, and packages", "", *lines_of_others(self.others)]
+    def others_of(self, crates):
+        """What contracts and definitions of some crates take from the language, its library and packages."""
+        cited = (self.trust.others.get(crate, set()) for crate in crates)
+        return set().union(*cited, *(self.trust.definitions[it].others for it in self.listed if it.crate in crates))
+
+    def counts(self):
+        """What is counted of all crates, as text."""
+        text = (
+            f"The contracts of {len(self.trust.calls)} public calls rest on {len(self.listed)} definitions, the headline on"
+            f" {len(self.headline)} of them; the contracts from `{FIRST_OUTER}` on, with the headline, on {len(self.outer)}."
+            f" Together they name {len(self.others_of(self.trust.crates))} of the language, its library and packages."
+        )
+        return "\n".join(textwrap.wrap(text, 128, break_on_hyphens=False)) + "\n"
+
+    def page(self, crate):
+        """The page of a crate, or nothing where no contract rests on a definition of it."""
+        listed, of_headline = self.of_crate(crate)
+        if not listed:
+            return None
+        lines = [
+            f"# Definitions of `{crate}`",
+            "",
+            f"What contracts of public calls rest on in this crate: {counted(len(listed), 'definition')}, of which the headline rests",
+            f"on {len(of_headline)}, in bold. docs/TRUST.md says how they are found. Behind each name stand the first digits of the",
+            "checksum of its text, so that a change of what it says shows here; then the value of a constant or the parts of a type,",
+            "and the first sentence above it. `gate/definitions/trusted --write` makes this page, and the gate compares it with the tree.",
+            "",
+            *lines_of_crate(crate, self.trust, listed, self.headline),
+        ]
+        if others := self.others_of([crate]):
+            lines += ["", "They name, of the language, its library and packages:", "", *lines_of_others(others)]
         return "\n".join(lines) + "\n"

@@ -16,17 +16,19 @@ IS_OWN = re.compile(r"\b[Ss]elf\b")
 
 @dataclass
 class Named:
-    """What a piece of code names: definitions, each a module and a name; types, each a crate and a name; and the definitions
-    that are asked of a type's values only, and say nothing of what contracts see of them."""
+    """What a piece of code names: definitions, each a module and a name; types, each a crate and a name; the definitions
+    that are asked of a type's values only, and say nothing of what contracts see of them; and the texts that name them."""
 
     definitions: set = field(default_factory=set)
     types: set = field(default_factory=set)
     promises: set = field(default_factory=set)
+    ghosts: list = field(default_factory=list)
 
     def add(self, other):
         self.definitions |= other.definitions
         self.types |= other.types
         self.promises |= other.promises
+        self.ghosts += other.ghosts
 
 
 @dataclass
@@ -42,19 +44,20 @@ class Around:
 
     def named(self, code, is_type=False):
         """What a piece of code names. In a type a ghost part with a colon is asked of its values, if it isn't a public field."""
-        plain, ghosts, promises, at = "", "", "", 0
+        plain, ghosts, promises, texts, at = "", "", "", [], 0
         while found := GHOST.search(code, at):
             end = group_end(code, found.end() - 1)
             inside = code[found.end() : end - 1] + "\n"
             is_asked = is_type and found["sign"] == ":" and not code[: found.start()].endswith("pub ")
             is_promise = is_asked or found["label"] == "invariant"
             ghosts, promises = ghosts + inside * (not is_promise), promises + inside * is_promise
+            texts.append(code[found.start() : end])
             plain, at = plain + code[at : found.start()], end
         plain += code[at:]
         types = {self.types.get(it, (self.crate, it)) for it in CAPITAL.findall(plain)}
         if self.owner and IS_OWN.search(code):
             types.add((self.crate, self.owner))
-        return Named(self.taken(ghosts), types, self.taken(promises))
+        return Named(self.taken(ghosts), types, self.taken(promises), texts)
 
     def taken(self, ghosts):
         """The definitions that a text of the logic names."""

@@ -29,14 +29,16 @@ class Trust:
     def __init__(self):
         self.crates = crates()
         self.definitions, self.owners, self.types, self.files = {}, {}, {}, {}
-        self.headline, self.core, self.outer, self.others, self.calls = set(), set(), set(), set(), 0
+        self.headline, self.core, self.outer, self.others, self.calls = set(), set(), set(), {}, []
         code = {crate: read_code(crate) for crate in self.crates}
         named = {crate: self.declare(crate, code[crate]) for crate in self.crates}
         for crate in self.crates:
             for place, (words, types) in named[crate].items():
                 self.rest(place, words, types)
             self.follow(crate, code[crate])
-        calls = {(it.crate, it.owner, it.name) for files in code.values() for file in files for it in file.calls}
+        all_calls = [it for files in code.values() for file in files for it in file.calls]
+        self.contracts = {(it.crate, it.file, it.owner, it.name): it for it in all_calls}
+        calls = {(crate, owner, name) for crate, _, owner, name in self.contracts}
         if not calls.issuperset(HEADLINE):
             raise SystemExit(f"{set(HEADLINE) - calls} isn't there")
 
@@ -56,6 +58,7 @@ class Trust:
             for place in self.types.get((crate, owner), []):
                 words, types = named[place]
                 named[place] = words | names.definitions, types | names.types
+                self.definitions[place].text += "".join(names.ghosts)
         return named
 
     def rest(self, place, words, types):
@@ -80,8 +83,8 @@ class Trust:
                     self.headline |= places
                 if call.is_in(public):
                     cited |= places
-                    self.others |= others
-                    self.calls += 1
+                    self.others.setdefault(crate, set()).update(others)
+                    self.calls.append(call)
 
     def found(self, crate, file, words):
         """The places of definitions that are named in a file, and the names that are none of the tree."""

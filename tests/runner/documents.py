@@ -2,17 +2,27 @@
 
 A line '    $ COMMAND' of an indented block, or '$ COMMAND' of one between ``` lines, is a command; the lines below it in the
 block, up to the next command or an empty line, are what it prints; a line '..' of them stands for any lines. Commands run in
-a new folder, which has bin/metronome and the examples, those of a document one after the other.
+a new folder, which has bin/metronome and the examples, those of a document one after the other. Each run of the program ends with
+status 0 in them, and the command too, but for one that ends in a search which finds nothing (1); the error stream gets nothing.
 """
 import os
 import re
 import subprocess
 from dataclasses import dataclass
 
-from runner.program import LIMIT, TOP, room
+from runner.program import LIMIT, TOP, Ended, room
 from runner.results import Result, difference, is_as_wanted
 
 SHOWN = re.compile(r"^( {4}|)\$ (.*)$")
+SEARCH = re.compile(r".*\| grep [^|]*")
+
+# What stands in the program's place: it runs the program, and notes with which status that ended.
+NOTING = """#!/bin/sh
+status=0
+'{program}' "$@" || status=$?
+echo "$status" >>'{statuses}'
+exit "$status"
+"""
 
 
 @dataclass(frozen=True)
@@ -48,13 +58,22 @@ class Document:
     def play(self, program):
         """Runs the commands; what came of each."""
         lines = self.lines()
-        outputs = self.outputs(program, lines)
-        return [self.result(it, it.wanted(lines), output) for it, output in outputs]
+        return [self.result(it, it.wanted(lines), *ran) for it, *ran in self.outputs(program, lines)]
 
-    def result(self, shown, wanted, output):
-        """What came of a command."""
-        faults = [] if is_as_wanted(wanted, output) else [difference("output", wanted, output)]
+    def result(self, shown, wanted, ended, statuses):
+        """What came of a command, by how it ended, and the program in it."""
+        faults = [] if is_as_wanted(wanted, ended.output) else [difference("output", wanted, ended.output)]
+        if ended.errors:
+            faults.append(difference("errors", b"", ended.errors))
+        if any(statuses):
+            faults.append(f"  the program ended with status {', '.join(map(str, statuses))}")
+        if ended.status != 0 and not (ended.status == 1 and SEARCH.fullmatch(shown.command)):
+            faults.append(f"  status {ended.status}")
         return Result(f"{self.place}:{shown.start}", shown.command, faults)
+
+    def count(self):
+        """How many commands it has."""
+        return len(list(commands(self.lines())))
 
     def lines(self):
         """The lines of the document."""
@@ -62,18 +81,20 @@ class Document:
             return file.read().split("\n")
 
     def outputs(self, program, lines):
-        """Its commands, each with what it prints."""
-        with room(f"{TOP}/examples") as folder:
+        """Its commands, each with how it ended, and with which statuses the program did in it."""
+        with room(f"{TOP}/examples") as folder, room() as aside:
             os.mkdir(f"{folder}/bin")
-            os.symlink(program.path, f"{folder}/bin/metronome")
-            return [(it, printed(it.command, folder)) for it in commands(lines)]
+            statuses = f"{aside}/statuses"
+            with open(os.open(f"{folder}/bin/metronome", os.O_CREAT | os.O_WRONLY, 0o755), "w", encoding="utf-8") as file:
+                file.write(NOTING.format(program=program.path, statuses=statuses))
+            return [(it, *ran(it.command, folder, statuses)) for it in commands(lines)]
 
     def write(self, program):
         """Writes what its commands print into the document, but for those with a line '..'."""
         lines = self.lines()
-        for shown, output in reversed(self.outputs(program, lines)):
+        for shown, ended, _ in reversed(self.outputs(program, lines)):
             if b"..\n" not in shown.wanted(lines).splitlines(keepends=True):
-                lines[shown.start : shown.end] = [shown.indent + it for it in output.decode().splitlines()]
+                lines[shown.start : shown.end] = [shown.indent + it for it in ended.output.decode().splitlines()]
         with open(self.path, "w", encoding="utf-8") as file:
             file.write("\n".join(lines))
 
@@ -97,7 +118,11 @@ def end_of_block(lines, at, indent):
     return at
 
 
-def printed(command, folder):
-    """What a command prints, its error stream too."""
-    how = {"cwd": folder, "stdin": subprocess.DEVNULL, "stdout": subprocess.PIPE, "stderr": subprocess.STDOUT}
-    return subprocess.run(["sh", "-c", command], check=False, timeout=LIMIT, **how).stdout
+def ran(command, folder, statuses):
+    """How a command ended, and the statuses that were noted of the program meanwhile."""
+    with open(statuses, "w", encoding="utf-8"):
+        pass
+    how = {"cwd": folder, "stdin": subprocess.DEVNULL, "capture_output": True}
+    run = subprocess.run(["sh", "-c", command], check=False, timeout=LIMIT, **how)
+    with open(statuses, encoding="utf-8") as file:
+        return Ended(run.returncode, run.stdout, run.stderr), [int(it) for it in file.read().split()]

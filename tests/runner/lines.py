@@ -46,7 +46,10 @@ def spread(lines, names):
             at += 1
             continue
         begin, end = block(lines, at)
-        rows = ranged(line, loop, names) if loop else rowed(lines[at + 1 : begin], table, names)
+        rows = ranged(line, loop, names) if loop else list(rowed(lines[at + 1 : begin], table, names))
+        if not rows and not (loop and names.keys() & set(re.findall(r"[a-z_]\w*", loop[2]))):
+            # (a loop within another may have no turn for some of that one's)
+            raise Wrong(f"line {line.number}: {line.text}: there is nothing of these")
         for row in rows:
             yield from spread(lines[begin + 1 : end], {**names, **row})
         at = end + 1

@@ -19,6 +19,10 @@ class Line:
     text: str
     reply: str | None = None
 
+    def is_kept(self):
+        """Whether a history has it: a command that is replied to, or the version."""
+        return self.reply is not None or self.text.startswith("version ")
+
 
 @dataclass
 class Story:
@@ -40,7 +44,7 @@ class Story:
     def play(self, program):
         """Plays the story; what came of it."""
         with room() as folder:
-            for name, text in (("config", self.config), ("text", self.text(len(self.trace)))):
+            for name, text in (("config", self.config), ("text", self.text(len(self.trace))), ("sound", self.sound())):
                 with open(f"{folder}/{name}", "w", encoding="utf-8") as file:
                     file.write(text)
             faults = list(Heard(self, program, folder).faults())
@@ -50,9 +54,26 @@ class Story:
                 faults += streams.faults_of_typing(self, program, folder)
             return [Result(self.place, self.title, faults)]
 
+    def count(self):
+        """How many lines it has, of the trace and of what is asked."""
+        return len(self.trace) + len(self.reported) + len(self.quanta) + len(self.windows) + len(self.ways) + bool(self.status)
+
     def text(self, count):
         """The text of so many lines of the trace."""
         return "".join(f"{it.text}\n" for it in self.trace[:count])
+
+    def errors(self):
+        """What the error stream has at the end."""
+        return f"metronome: {self.fault}\n".encode() if self.status else b""
+
+    def sound(self):
+        """The text of the lines that are played: all, but for the last where the run ends there."""
+        return self.text(len(self.trace) - bool(self.status))
+
+    def history(self):
+        """The text of the history that is wanted."""
+        entries = [it.text if it.reply is None else f"{it.text} => {it.reply}" for it in self.trace if it.is_kept()]
+        return "".join(f"{it}\n" for it in entries)
 
     def replies(self, count):
         """The replies to so many lines of the trace."""
@@ -121,7 +142,7 @@ class Heard:
     def __init__(self, story, program, folder):
         self.story, self.program, self.folder = story, program, folder
         self.replied = [it for it in story.trace if it.reply is not None]
-        self.reports = {}
+        self.reports, self.unwell = {}, []
 
     def run(self, *words, given=b""):
         """Runs the program."""
@@ -130,22 +151,21 @@ class Heard:
     def faults(self):
         """What is wrong with the story as the program tells it."""
         yield from self.faults_of_replies()
-        if not self.story.status:
-            yield from self.faults_of_history()
-            yield from self.faults_of_windows()
-            yield from self.faults_of_reports()
-            yield from self.faults_of_quanta()
+        yield from self.faults_of_history()
+        yield from self.faults_of_windows()
+        yield from self.faults_of_reports()
+        yield from self.faults_of_quanta()
+        yield from self.unwell
 
     def faults_of_replies(self):
         """Whether play replies as wanted, and ends so."""
         ended = self.run("play", "config", "text")
         if ended.output != self.story.replies(len(self.story.trace)).encode():
             yield self.first_difference(lines.shown(ended.output).split("\n"))
-        errors = f"metronome: {self.story.fault}\n" if self.story.status else ""
         if ended.status != self.story.status:
             yield f"  status: expected {self.story.status}, got {ended.status}"
-        if ended.errors != errors.encode():
-            yield difference("errors", errors.encode(), ended.errors)
+        if ended.errors != self.story.errors():
+            yield difference("errors", self.story.errors(), ended.errors)
 
     def first_difference(self, got):
         """Where lines differ first from the replies that are wanted."""
@@ -155,9 +175,13 @@ class Heard:
         return f"  behind the last reply: expected an ended line and no more, got {got[len(self.replied):]}"
 
     def faults_of_history(self):
-        """Whether check accepts the history of the story."""
-        history = self.run("play", "config", "text", "--history").output
-        ended = self.run("check", "config", "-", given=history)
+        """Whether the history of the story has its commands with the replies, and check accepts it."""
+        told = self.run("play", "config", "text", "--history")
+        if (told.status, told.errors) != (self.story.status, self.story.errors()):
+            yield f"  play --history: status {told.status}, {lines.shown(told.errors)}"
+        if told.output != self.story.history().encode():
+            yield difference("history", self.story.history().encode(), told.output)
+        ended = self.run("check", "config", "-", given=told.output)
         wanted = f"ok {len(self.replied)}\n".encode()
         if (ended.status, ended.output, ended.errors) != (0, wanted, b""):
             yield f"  check of its history: status {ended.status}, {lines.shown(ended.output + ended.errors)}"
@@ -167,14 +191,16 @@ class Heard:
         for count, number, (width, least, bound, permille) in self.story.windows:
             ended = self.run("mmu", "config", "-", width, given=self.story.text(count).encode())
             wanted = f"window {width} least {least} bound {bound} permille {permille}\n"
-            if ended.output != wanted.encode():
-                yield f"  line {number}: expected {wanted}    got {lines.shown(ended.output)}"
+            if (ended.status, ended.output, ended.errors) != (0, wanted.encode(), b""):
+                yield f"  line {number}: expected {wanted}    got {lines.shown(ended.output + ended.errors)}, status {ended.status}"
 
     def report(self, events):
         """The lines of the report behind so many events."""
         if events not in self.reports:
-            ended = self.run("inspect", "config", "text", "--after", str(events))
+            ended = self.run("inspect", "config", "sound", "--after", str(events))
             self.reports[events] = lines.shown(ended.output).splitlines()
+            if ended.status or ended.errors:
+                self.unwell.append(f"  inspect --after {events}: status {ended.status}, {lines.shown(ended.errors)}")
         return self.reports[events]
 
     def faults_of_reports(self):
@@ -189,7 +215,7 @@ class Heard:
         """Whether each quantum spends what is wanted, and ends in that phase; outside a cycle it spends nothing."""
         for events, number, units, phase in self.story.quanta:
             before, behind = figures(self.report(events - 1)), figures(self.report(events))
-            spent = 0 if before["phase"] == "idle" else int(behind["units"]) - int(before["units"])
+            spent = int(behind["units"]) - int(before["units"])
             is_phase = behind["phase"] == phase or phase == "on" and behind["phase"] != "idle"
             if spent != units or not is_phase:
                 yield f"  line {number}: expected {units} units, {phase}; got {spent}, {behind['phase']}"

@@ -40,7 +40,7 @@ def fault_of(program, folder, how, streams, wanted):
 
 def faults_of_typing(story, program, folder):
     """What is wrong where each line is typed once the reply to the one before it is there."""
-    how = {"stdin": subprocess.PIPE, "stdout": subprocess.PIPE, "cwd": folder}
+    how = {"stdin": subprocess.PIPE, "stdout": subprocess.PIPE, "stderr": subprocess.PIPE, "cwd": folder}
     with subprocess.Popen([program.path, *PLAY], **how) as typed:
         for event in story.trace:
             os.write(typed.stdin.fileno(), f"{event.text}\n".encode())
@@ -48,13 +48,19 @@ def faults_of_typing(story, program, folder):
             if reply != (event.reply or ""):
                 yield f"  line {event.number}: typed: {event.text}: expected {event.reply}, got {reply or 'nothing'}"
                 break
-        typed.stdin.close()
+        output, errors = typed.communicate(timeout=LIMIT)
+        ended, wanted = Ended(typed.returncode, output, errors), Ended(story.status, b"", story.errors())
+        if ended != wanted:
+            yield f"  typed, behind the last reply: expected {wanted}, got {ended}"
 
 
 def answer(stream):
     """The line that a stream gives next; none if none comes in time."""
-    ready, _, _ = select.select([stream], [], [], PATIENCE)
-    return shown(os.read(stream.fileno(), 4096)).removesuffix("\n") if ready else ""
+    line, more = b"", b"more"
+    while more and not line.endswith(b"\n") and select.select([stream], [], [], PATIENCE)[0]:
+        more = os.read(stream.fileno(), 4096)
+        line += more
+    return shown(line).removesuffix("\n")
 
 
 def writes(program, words, folder, given):

@@ -1,4 +1,4 @@
-"""The ways in which `pages` names how many pages suffice, for the scripts of this folder."""
+"""The ways in which `pages` names how many pages suffice, for the scripts of tests/ and bench/."""
 
 
 def moving(pages):

@@ -1,8 +1,8 @@
-"""Configurations, traces and scripts that are drawn, for the scripts of this folder."""
+"""Configurations, traces and scripts that are drawn, for the scripts of tests/ and bench/."""
 import os
 import subprocess
 
-TOP = os.path.dirname(os.path.dirname(os.path.abspath(__file__)))
+TOP = os.path.dirname(os.path.dirname(os.path.dirname(os.path.abspath(__file__))))
 PROGRAM = f"{TOP}/bin/metronome"
 
 CELLS = [0, 0, 0, 0, 1, 1, 2, 3, 251, 252, 503, 504, 900, 63503, 63504, 3999999, 4294967295]

@@ -1,0 +1,99 @@
+"""A test of the finders: a tree of its own goes in, and what is wrong with it comes out."""
+import os
+import tempfile
+
+from finders import lengths, names, paths, sentences, standing
+
+DOCUMENT = """# A document
+
+`Heap::step` is there, `Heap::walk` and `Store::step` are not, and `Vec::push` is the library's. crates/heap/src/lib.rt is there,
+crates/heap/src/gone.rt isn't, heap/src/lib.rt is and heap/specs/Gone.antt isn't; src/lib.rt is in a crate, src/no.rt in none. [one](docs/no.md)
+`crates/NAME` stands for many, and so does src/*.rt; crates/heap/out/heap is made.
+"""
+README = "# `heap`\n\n`step` and `heap` are there, `walk` isn't. specs/Heap.antt is there, proofs/Gone.antt isn't.\n"
+SHORT = "    /// A step_of the heap, and `a_name`.\n    pub fn step(&self) -> u32 {\n        1\n    }\n"
+LINES = "        let it = 1;\n"
+SPECS = """-- What a heap is.
+use Prim.{ℕ}
+
+-- a step
+step : ℕ
+
+-- the same of two steps
+two : ℕ
+
+-- a heap;
+-- they are steps
+heap : ℕ
+
+-- and no more
+rest : ℕ
+"""
+
+
+def fake():
+    """The files of the tree."""
+    bodies = {"fits": lengths.MOST_OF_BODY, "passes": lengths.MOST_OF_BODY + 1}
+    long = "".join(f"    fn {name}(&self)\n        ensures {{ it }}\n    {{\n{LINES * count}    }}\n" for name, count in bodies.items())
+    return {
+        "README.md": DOCUMENT,
+        "crates/heap/README.md": README,
+        "crates/heap/src/lib.rt": f"pub struct Heap;\n\nimpl Heap {{\n{SHORT}{long}}}\n",
+        "crates/heap/specs/Heap.antt": SPECS,
+        "crates/heap/proofs/Fits.antt": "x\n" * lengths.MOST_OF_FILE,
+        "crates/heap/proofs/Long.antt": "x\n" * (lengths.MOST_OF_FILE + 1),
+        "crates/heap/out/made.rt": "fn made_by_a_tool() {}\n" * 500,
+        "tests/long": "x\n" * (lengths.MOST_OF_FILE + 1),
+        "tests/cases/long.story": "x\n" * (lengths.MOST_OF_FILE + 1),
+        standing.KNOWN: "# known\none\none\ntwo\n",
+    }
+
+
+# What each finder is to find there.
+WANTED = {
+    paths: [
+        "README.md: docs/no.md isn't there",
+        "README.md: crates/heap/src/gone.rt isn't there",
+        "README.md: heap/specs/Gone.antt isn't there",
+        "README.md: src/no.rt isn't there",
+        "crates/heap/README.md: proofs/Gone.antt isn't there",
+    ],
+    lengths: [
+        "crates/heap/src/lib.rt: Heap::passes has 41 lines",
+        "crates/heap/proofs/Long.antt has 401 lines",
+        "tests/long has 401 lines",
+    ],
+    sentences: [
+        "crates/heap/specs/Heap.antt: -- the same of two steps",
+        "crates/heap/specs/Heap.antt: -- and no more",
+    ],
+    names: [
+        "README.md: `Heap::walk` isn't in the tree",
+        "README.md: `Store::step` isn't in the tree",
+        "crates/heap/README.md: `walk` isn't in the tree",
+        "crates/heap/src/lib.rt: step_of stands in a sentence without ``",
+    ],
+}
+
+
+def written(top):
+    """Writes the tree into a folder."""
+    for path, text in fake().items():
+        os.makedirs(os.path.dirname(f"{top}/{path}"), exist_ok=True)
+        with open(f"{top}/{path}", "w", encoding="utf-8") as file:
+            file.write(text)
+
+
+def faults():
+    """What a finder finds there that it isn't to, and what it doesn't find."""
+    with tempfile.TemporaryDirectory() as top:
+        written(top)
+        for finder, wanted in WANTED.items():
+            found = finder.found(top)
+            if sorted(found) != sorted(wanted):
+                yield f"{finder.__name__} finds {found}, and is to find {wanted}"
+        if standing.beside(["one", "three"], standing.known(top)) != (["three"], ["one", "two"]):
+            yield "standing: other findings are new, or gone"
+        standing.without(top, ["one", "two"])
+        if standing.known(top) != ["one"]:
+            yield "standing: what is gone is still known"

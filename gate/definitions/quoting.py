@@ -3,8 +3,9 @@ import re
 
 from tree import Place
 
-# A block, with the file and the names that it quotes behind the language: `antt machine/specs/Headline Holds Follows`.
-BLOCK = re.compile(r"^(?P<head>```(?:antt|rust) (?P<crate>\w+)/(?P<file>[\w/]+) (?P<names>[^\n]+))\n.*?^```$", re.M | re.S)
+# A block, with the file and the names that it quotes behind the language: `antt machine/specs/Headline.antt Holds Follows`.
+PLACE = r"(?P<crate>\w+)/(?P<file>[\w/]+)\.(?:antt|rt)"
+BLOCK = re.compile(rf"^(?P<head>```(?:antt|rust) {PLACE} (?P<names>[^\n]+))\n.*?^```$", re.M | re.S)
 
 # What counts are put between.
 COUNTS = re.compile(r"^<!-- gate/definitions: counts -->\n(.*?)^<!-- end -->$", re.M | re.S)

@@ -1,4 +1,5 @@
 """A test of the trials, on a crate of its own: what is right isn't told as refused, and what is wrong is."""
+import json
 import os
 import tempfile
 
@@ -7,12 +8,12 @@ import functions
 import kept
 import run
 import trials
-import verdicts
 from kit import rt
+from verdicts import BAD, BY_HAND, CLAUSE, CONDITION, INVARIANT, NAMES, NOT_REFUSED, REFUSED
 
 LIB = """#![tactic(auto)]
 
-ghost use Rattle.std.specs.Prelude.{◌≡◌, ◌+◌, ◌*◌, ◌≤◌};
+ghost use Rattle.std.specs.Prelude.{◌≡◌, ◌+◌, ◌*◌, ◌≤◌, length};
 ghost use Rattle.told.specs.Limit.{limit_of};
 
 /// One more.
@@ -67,6 +68,39 @@ pub fn seven() -> u32
 {
     4 + 3
 }
+
+/// One less.
+pub fn less(x: u8) -> u8
+    requires some { 1 ≤ x }
+    ensures value { result + 1 ≡ x }
+{
+    x - 1
+}
+
+/// At most 254.
+pub fn few(x: u8) -> u8
+    ensures few { result ≤ 254 }
+{
+    if x > 0 { less(x) } else { 0 }
+}
+
+/// The sum of the bytes.
+pub fn total(bytes: &[u8]) -> u64
+    requires short { length bytes.now ≤ 65536 }
+    ensures most { result ≤ 255 * length bytes.now }
+{
+    let mut sum: u64 = 0;
+    for byte in bytes {
+        sum += *byte as u64;
+    }
+    sum
+}
+"""
+INVARIANTS = """use Rattle.std.proofs.Common.{◌*◌, ◌≤◌}
+use Rattle.told.proofs.total.Given as goal
+
+abbrev pub invariant-loop-byte : goal.invariant-loop-byte
+invariant-loop-byte l = l.sum ≤ 255 * l.byte-index
 """
 SPECS = "use Prim.Native.Nat.{ℕ, ◌+◌, ◌*◌}\n\nabbrev pub limit_of : ℕ → ℕ\nlimit_of n = 2 * n\n"
 ANSWERS = "use Rattle.told.proofs.named.Goals as goal\n\npub returns : goal.returns\nreturns c = c.more-it.ensures\n"
@@ -92,27 +126,54 @@ FILES = {
     "crates/told/proofs/Limits.antt": LEMMA,
     "crates/told/proofs/limit/Answers.antt": CITES,
     "crates/told/proofs/named/Answers.antt": ANSWERS,
+    "crates/told/proofs/total/Invariants.antt": INVARIANTS,
 }
-# An edit's name, what it turns into what, and what it is to come to. Those of one function go into several rounds.
+# An edit's name, what it turns into what, and what it is to come to, a refusal by what. Those of one function go into several
+# rounds.
 CASES = [
-    ("a_sum_turned_round", "x as u32 + 1", "1 + x as u32", verdicts.NOT_REFUSED),
-    ("adds_two", "x as u32 + 1", "x as u32 + 2", verdicts.REFUSED),
-    ("calls_first_what_comes_second", "let first = more(x);", "let second = more(y); let first = more(x);", verdicts.NOT_REFUSED),
-    ("calls_one_twice", "let second = more(y);", "let second = more(x);", verdicts.REFUSED),
-    ("a_sum_beside_a_wrong_callee", "more(x) + 1", "1 + more(x)", verdicts.NOT_REFUSED),
-    ("adds_three", "more(x) + 1", "more(x) + 2", verdicts.REFUSED),
-    ("leaves_out_what_a_proof_names", "let it = more(x);", "let it = x as u32 + 2;", verdicts.NAMES),
-    ("has_another_limit", "6", "9", verdicts.REFUSED),
-    ("turns_a_definition", "2 * n", "4 * n", verdicts.REFUSED),
-    ("says_what_refuses_it", "2 * n", "8 * n", verdicts.REFUSED),
-    ("says_what_does_not_refuse_it", "2 * n", "6 * n", verdicts.REFUSED),
-    ("says_what_would_refuse_another", "2 * n", "n * 2", verdicts.NOT_REFUSED),
-    ("says_what_has_no_answers", "2 * n", "n + n", verdicts.NOT_REFUSED),
-    ("says_what_refuses_what_cannot_be_read", "2 * n", "2 * m", verdicts.BAD),
-    ("sums_to_seven_too", "4 + 3", "2 + 5", verdicts.NOT_REFUSED),
-    ("has_another_type", "1 - 1", "true", verdicts.BAD),
-    ("is_nowhere", "8 + 8", "9 + 9", verdicts.BAD),
+    ("a_sum_turned_round", "x as u32 + 1", "1 + x as u32", NOT_REFUSED, ""),
+    ("adds_two", "x as u32 + 1", "x as u32 + 2", REFUSED, CLAUSE),
+    ("calls_first_what_comes_second", "let first = more(x);", "let second = more(y); let first = more(x);", NOT_REFUSED, ""),
+    ("calls_one_twice", "let second = more(y);", "let second = more(x);", REFUSED, CLAUSE),
+    ("a_sum_beside_a_wrong_callee", "more(x) + 1", "1 + more(x)", NOT_REFUSED, ""),
+    ("adds_three", "more(x) + 1", "more(x) + 2", REFUSED, CLAUSE),
+    ("leaves_out_what_a_proof_names", "let it = more(x);", "let it = x as u32 + 2;", NAMES, ""),
+    ("has_another_limit", "    6", "    9", REFUSED, BY_HAND),
+    ("asks_for_none", "less(x) }", "less(x - 1) }", REFUSED, CONDITION),
+    ("adds_one_more_each_time", "*byte as u64", "*byte as u64 + 1", REFUSED, INVARIANT),
+    ("turns_a_definition", "2 * n", "4 * n", REFUSED, BY_HAND),
+    ("says_what_refuses_it", "2 * n", "8 * n", REFUSED, BY_HAND),
+    ("says_what_does_not_refuse_it", "2 * n", "6 * n", REFUSED, BY_HAND),
+    ("says_what_would_refuse_another", "2 * n", "n * 2", NOT_REFUSED, ""),
+    ("says_what_has_no_answers", "2 * n", "n + n", NOT_REFUSED, ""),
+    ("says_what_refuses_what_cannot_be_read", "2 * n", "2 * m", BAD, ""),
+    ("sums_to_seven_too", "4 + 3", "2 + 5", NOT_REFUSED, ""),
+    ("has_another_type", "1 - 1", "true", BAD, ""),
+    ("is_nowhere", "8 + 8", "9 + 9", BAD, ""),
 ]
+
+# What the prover says of `limit` where a lemma on which it rests came to a limit, and where it is no proof.
+STOPPED = """./proofs/Limits.antt:5:5: error: `of_three`: in its elaboration (it was elaborating the text at 7:12–7:16): stopped at the step limit (50000000 steps a task, the default)
+./proofs/limit/Answers.antt:4:5: error: 1 declaration that depends on `of_three`, which was not admitted, was not checked: returns
+fn told::limit: could not tell
+fn told::seven: proved
+only=2 proved=1
+"""
+NO_PROOF = """./proofs/Limits.antt:6:12: error: `of_three`: expected type `6 ≡ limit_of 3`, but this has type `6 ≡ 6`
+./proofs/limit/Answers.antt:4:5: error: 1 declaration that depends on `of_three`, which was not admitted, was not checked: returns
+fn told::limit: not proved
+fn told::seven: proved
+only=2 proved=1
+"""
+# And of its own answer.
+ANSWER_STOPPED = """./proofs/limit/Answers.antt:5:30: error: `returns`: stopped at the step limit (50000000 steps a task, the default)
+fn told::limit: not proved
+fn told::seven: proved
+only=2 proved=1
+"""
+
+# What a file of the store may hold that isn't what was kept: then it counts for nothing.
+FORGED = ["", "refused", "{}", "[1]", json.dumps({"refused": [CLAUSE, "it"]})]
 
 # The functions that edits say refuse them.
 REFUSED_BY = {
@@ -132,7 +193,7 @@ def crate_in(room):
             file.write(text)
     folder = f"{room}/crates/told/{run.FOLDER}"
     os.makedirs(folder)
-    for name, old, new, _ in CASES:
+    for name, old, new, *_ in CASES:
         path = "specs/Limit.antt" if old in SPECS else "src/lib.rt"
         with open(f"{folder}/{name}.edit", "w", encoding="utf-8") as file:
             file.write(f"file: {path}\nold: {old}\nnew: {new}\n")
@@ -141,14 +202,39 @@ def crate_in(room):
     return rt.rtlib.crates_below(f"{room}/crates")[0]
 
 
-def judged(found):
+def judged(made):
     """Whether each case came to what it must; each that didn't is told."""
     good = []
-    for name, _, _, wanted in CASES:
-        kind, why = found.get(f"told/{name}", ("nothing", ""))
-        good.append(kind == wanted)
-        if kind != wanted:
-            print(f"self-test: {name}: {kind}: {why}; it was to be {wanted}")
+    for name, _, _, *wanted in CASES:
+        kind, why = made.found.get(f"told/{name}", ("nothing", ""))
+        came = [kind, made.grounds.get(f"told/{name}", "")]
+        good.append(came == wanted)
+        if came != wanted:
+            print(f"self-test: {name}: {came}: {why}; it was to be {wanted}")
+    return good
+
+
+def stops(crate):
+    """Whether an edit that says what refuses it isn't told as refused where the prover met a limit of its own alone."""
+    edit = edits.read(crate, f"{crate.folder}/{run.FOLDER}/says_what_refuses_it.edit")
+    trial = trials.Trial(crate, [edit], [edit.refused_by])
+    told = {text: [it.kind for it in trials.of_named(trial, text)[0]] for text in (STOPPED, ANSWER_STOPPED, NO_PROOF)}
+    return [told[STOPPED] == [], told[ANSWER_STOPPED] == [], told[NO_PROOF] == [REFUSED]]
+
+
+def keeps(crate):
+    """Whether what was refused is kept, and nothing else that lies in its place counts."""
+    edit = edits.read(crate, f"{crate.folder}/{run.FOLDER}/adds_two.edit")
+    store = kept.Kept(anew=False)
+    other = edits.read(crate, f"{crate.folder}/{run.FOLDER}/adds_three.edit")
+    good = [store.refused(edit) == [CLAUSE, "ensures"]]
+    whole = kept.text_of(store.place(edit)).decode()
+    for text in [*FORGED, whole[:-2], whole.replace("adds_two", "adds_ten"), kept.text_of(store.place(other)).decode()]:
+        with open(store.place(edit), "w", encoding="utf-8") as file:
+            file.write(text)
+        good.append(store.refused(edit) is None)
+    with open(store.place(edit), "w", encoding="utf-8") as file:
+        file.write(whole)
     return good
 
 
@@ -161,9 +247,9 @@ def guards(crate):
 
 def leads(crate, jobs):
     """Whether a trial that leads, over nothing, refuses what it must and no more, and leaves what the next one begins with."""
-    kinds = {f"told/{name}": kind for name, *_, kind in CASES}
+    kinds = {f"told/{name}": kind for name, _, _, kind, _ in CASES}
     bodies = [it for it in edits.edits_of(crate, run.FOLDER) if functions.turned_by(it)]
-    wanted = {kind: {it.name for it in bodies if kinds[it.name] == kind} for kind in (verdicts.REFUSED, verdicts.NOT_REFUSED)}
+    wanted = {kind: {it.name for it in bodies if kinds[it.name] == kind} for kind in (REFUSED, NOT_REFUSED)}
     planned = trials.planned(crate, [it for it in bodies if any(it.name in them for them in wanted.values())], begins=True)
     found = [trials.tried(it, jobs) for it in planned]
     refused = {it.edit.name for results, _, _ in found for it in results}
@@ -176,11 +262,11 @@ def passed(jobs):
     with tempfile.TemporaryDirectory(prefix="wrong-bodies-") as room:
         kept.STORE = f"{room}/kept"
         crate = crate_in(room)
-        found = run.made([crate], jobs, anew=False).found
-        good = judged(found)
-        good.append(guards(crate))
+        made = run.made([crate], jobs, anew=False)
+        found = made.found
+        good = [*judged(made), *stops(crate), *keeps(crate), guards(crate)]
         with tempfile.TemporaryDirectory(prefix="wrong-bodies-") as other:
             good.append(leads(crate_in(other), jobs))
         left = {it.name for it in run.Run([crate], anew=False).left(crate)}
-        good.append(left == {it for it, (kind, _) in found.items() if kind != verdicts.REFUSED and it != "told/is_nowhere"})
+        good.append(left == {it for it, (kind, _) in found.items() if kind != REFUSED and it != "told/is_nowhere"})
     return good.count(True), good.count(False)

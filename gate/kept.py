@@ -1,14 +1,16 @@
 """What was refused by earlier runs on this machine, by the checksums of all that its trial read."""
 import contextlib
 import hashlib
+import json
 import os
 import threading
 
 from kit import rt
 
 STORE = f"{os.environ.get('XDG_CACHE_HOME') or os.path.expanduser('~/.cache')}/barleynight-wrong-bodies"
-# The parts of this program that a verdict rests on.
-JUDGES = ("edits.py", "functions.py", "kit.py", "trials.py", "verdicts.py")
+HERE = os.path.dirname(os.path.abspath(__file__))
+# The parts of this program, on all of which a verdict rests, but for its own test.
+JUDGES = ("wrong-bodies", *sorted(it for it in os.listdir(HERE) if it.endswith(".py") and not it.endswith("_test.py")))
 
 
 def text_of(file):
@@ -17,7 +19,6 @@ def text_of(file):
         return opened.read()
 
 
-HERE = os.path.dirname(os.path.abspath(__file__))
 JUDGES_SUM = hashlib.sha256(b"".join(text_of(f"{HERE}/{it}") for it in JUDGES)).hexdigest()
 
 
@@ -58,6 +59,12 @@ def stamp_of(crate):
         return rt.stamp_of(crate, {})
 
 
+def whole(edit, place, refused):
+    """What a file of the store holds: the edit, how it was refused, and the sum of both and of the file's name."""
+    told = repr((edit.name, os.path.basename(place), list(refused)))
+    return {"edit": edit.name, "refused": list(refused), "sum": hashlib.sha256(told.encode()).hexdigest()}
+
+
 class Kept:
     """The store, as it stands for the files that the crates have when the run begins."""
 
@@ -86,19 +93,21 @@ class Kept:
         if self.anew:
             return None
         try:
-            return text_of(place).decode() or None
-        except (OSError, ValueError):
+            told = json.loads(text_of(place))
+            return told["refused"] if told == whole(edit, place, told["refused"]) else None
+        except (OSError, ValueError, KeyError, TypeError):
             return None
 
-    def keep(self, edit, why):
-        """Keeps how the prover refused an edit, unless a file that it read was changed since the run began."""
+    def keep(self, edit, refused):
+        """Keeps how the prover refused an edit, and what that rests on, unless a file that it read was changed since the run
+        began."""
         if stamp_of(edit.crate) != self.stamp(edit.crate):
             return
         place = self.place(edit)
         try:
             os.makedirs(STORE, 0o700, exist_ok=True)
             with open(f"{place}.{os.getpid()}", "w", encoding="utf-8") as file:
-                file.write(why)
+                json.dump(whole(edit, place, refused), file)
             os.replace(f"{place}.{os.getpid()}", place)
         except OSError as fault:
             print(f"wrong-bodies: {edit.name} isn't kept: {fault}")

@@ -23,24 +23,25 @@ class Run:
     def __init__(self, crates, anew, proving=None):
         self.kept, self.proving = Kept(anew), proving
         self.edits = {it.name: edits.edits_of(it, FOLDER) for it in crates}
-        self.found, self.checks, self.seconds, self.unproved = {}, Counter(), Counter(), set()
+        self.found, self.grounds, self.checks, self.seconds, self.unproved = {}, {}, Counter(), Counter(), set()
         self.telling = threading.Lock()
 
-    def tell(self, edit, kind, why):
+    def tell(self, edit, kind, why, ground=""):
         """Notes and says what an edit came to."""
         with self.telling:
             self.found[edit.name] = kind, why
-            print(f"{edit.name}: {kind}{': ' if why else ''}{why}", flush=True)
+            self.grounds[edit.name] = ground
+            print(f"{edit.name}: {kind}{' by ' * bool(ground)}{ground}{': ' * bool(why)}{why}", flush=True)
 
     def left(self, crate):
         """The crate's edits that are to be tried: those that can be applied, and that no earlier run refused."""
         left = []
         for edit in self.edits[crate.name]:
-            why = self.kept.refused(edit)
+            kept = self.kept.refused(edit)
             if edit.fault:
                 self.tell(edit, verdicts.BAD, edit.fault)
-            elif why:
-                self.tell(edit, verdicts.REFUSED, f"{why} (kept)")
+            elif kept:
+                self.tell(edit, verdicts.REFUSED, f"{kept[1]} (kept)", kept[0])
             else:
                 left.append(edit)
         return left
@@ -99,8 +100,8 @@ class Run:
                 print(f"{name}: {verdicts.UNTURNED}, beside {', '.join(it.name for it in trial.edits)}", flush=True)
         for it in results:
             if it.kind == verdicts.REFUSED:
-                self.kept.keep(it.edit, it.why)
-            self.tell(it.edit, it.kind, it.why)
+                self.kept.keep(it.edit, (it.ground, it.why))
+            self.tell(it.edit, it.kind, it.why, it.ground)
         return [self.task(crate, it) for it in again]
 
 
@@ -159,6 +160,8 @@ def tried(crates, jobs, anew, proving=None):
     for crate in crates:
         if run.checks[crate.name]:
             print(f"{crate.name}: {len(run.edits[crate.name])} edits, {run.checks[crate.name]} checks, {run.seconds[crate.name]:.0f} s")
+    grounds = Counter(run.grounds.values())
+    print(f"refused by {', '.join(f'{it} {grounds[it]}' for it in verdicts.GROUNDS)}")
     passed = [kind for kind, _ in run.found.values()].count(verdicts.REFUSED)
     for name, (kind, _) in run.found.items():
         if kind != verdicts.REFUSED:

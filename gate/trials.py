@@ -53,11 +53,12 @@ class Trial:
 
 @dataclass
 class Result:
-    """What the trial of an edit came to, and why."""
+    """What the trial of an edit came to, why, and what a refusal rests on."""
 
     edit: object
     kind: str
     why: str
+    ground: str = ""
 
 
 def rounds(pairs):
@@ -152,7 +153,10 @@ def whole(trial):
     found = kinds.get(kind, verdicts.NOT_TRIED)
     if "only because a proof file names" in said:
         found = verdicts.NAMES
-    return Result(edit, found, LABEL.sub("", said))
+    elif "only by a limit of the prover" in said:
+        # (older kits have no kind for it)
+        found = verdicts.AT_LIMIT
+    return Result(edit, found, LABEL.sub("", said), verdicts.ground_told(said) if found == verdicts.REFUSED else "")
 
 
 def lines_of(edit):
@@ -185,13 +189,15 @@ def first_fault(said):
 
 def of_named(trial, said):
     """What the run came to over the functions that an edit says refuse it: they, or lemmas on which they rest, aren't proved; else,
-    or where the edited text can't be read, it is to be tried over the whole crate."""
+    where only a limit of the prover was met, or where the edited text can't be read, it is to be tried over the whole crate."""
     edit = trial.edits[0]
-    kind, why = verdicts.verdict(trial.asked, verdicts.told(said))
+    kind, why, ground = verdicts.verdict(trial.asked, verdicts.told(said))
     lost = verdicts.refuted(said)
     reads = verdicts.ended(said) and not any(rt.unread(line, edit.texts) for line in said.split("\n"))
-    if reads and (kind == verdicts.REFUSED or lost):
-        return [Result(edit, verdicts.REFUSED, why if kind == verdicts.REFUSED else verdicts.clauses(lost))], [], []
+    if reads and kind == verdicts.REFUSED:
+        return [Result(edit, kind, why, ground)], [], []
+    if reads and lost:
+        return [Result(edit, verdicts.REFUSED, verdicts.clauses(lost), verdicts.BY_HAND)], [], []
     return [], [Trial(trial.crate, trial.edits, [()])], []
 
 
@@ -210,9 +216,9 @@ def tried(trial, threads=1):
         return [], parted(trial, said), wrong
     results, again = [], []
     for edit, paths in zip(trial.edits, trial.paths):
-        kind, why = verdicts.verdict(paths, told)
+        kind, why, ground = verdicts.verdict(paths, told)
         if kind == verdicts.REFUSED or kind == verdicts.NAMES and len(trial.edits) == 1:
-            results.append(Result(edit, kind, why))
+            results.append(Result(edit, kind, why, ground))
         elif kind == verdicts.NOT_REFUSED or len(trial.edits) == 1:
             again.append(Trial(trial.crate, [edit], [()]))
         else:

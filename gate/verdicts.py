@@ -13,6 +13,14 @@ UNTURNED = "ISN'T PROVED, though no edit turned it"
 # A try with others says nothing of the edit, so it is tried by itself.
 UNSETTLED = "unsettled"
 
+# What a refusal rests on, and first what says most: a clause of the contract that isn't proved any more; an invariant, of a loop or
+# of a value; what a call or an operation asks for. Where a proof by hand no longer fits, the body may be right all the same.
+CLAUSE = "a clause"
+INVARIANT = "an invariant"
+CONDITION = "a condition of what it calls"
+BY_HAND = "a proof by hand that no longer fits"
+GROUNDS = (CLAUSE, INVARIANT, CONDITION, BY_HAND)
+
 # The declaration that faulty answers hold.
 FAULT = "holds_a_fault"
 # What of a function's search failed, which the prover tells above the function's line.
@@ -25,22 +33,28 @@ ERROR = re.compile(r"^(?:\./)?proofs/(\S+?)/\w+\.antt:\d+:\d+: error: (?:`([^`]+
 PROOF_ERROR = re.compile(r"^(?:\./)?proofs/\S+\.antt:\d+:\d+: error: (?:`([^`]+)`: )?(.*)$", re.M)
 # A proof names what the edit took away, or rests on a proof that does.
 WENT = re.compile(r"has no field|is not in scope|has no `|was not admitted")
+# A proof that came to no end, within the prover's own limits: it says nothing of what it is to prove.
+STOPPED = re.compile(r"stopped at the \w+ limit|ran out of|outgrew the memory limit|came to no verdict")
+# Of what `rt` says of a whole check, what each ground of a refusal has in it, as the prover tells it above the code.
+TOLD_OF_CODE = re.compile(r"note: src/\S+: .*?\b(?:(ensures)|(invariant)|(requires))\b")
 # The last line of a run that came to its end.
 ENDED = re.compile(r"^only=\d+ proved=\d+$", re.M)
 
 
 @dataclass
 class Function:
-    """What the prover said of a function: its state, the goals that it didn't prove, and those that name what went."""
+    """What the prover said of a function: its state, the goals that it didn't prove, those whose proof by hand no longer fits, and
+    those whose proof names what went."""
 
     state: str
     left: list
+    unfit: list
     went: list
 
     @property
     def fails_by_itself(self):
         """Whether it isn't proved for what it does itself, and not only since another function isn't proved."""
-        return self.state != "proved" and bool(self.left or self.went)
+        return self.state != "proved" and bool(self.left or self.unfit or self.went)
 
 
 def folder_of(name):
@@ -59,14 +73,16 @@ def told(text):
         left = [goal for found in LEFT.findall(own) for goal in re.findall(r"`([^`]+)`", found)]
         left += UNMET.findall(text, above, line.start())
         mine, above = [it for it in errors.get(folder_of(name), []) if it[0] != FAULT], line.end()
-        left += [goal or "its proof" for goal, why in mine if not WENT.search(why)]
-        functions[name] = Function(state, left, [goal or why for goal, why in mine if WENT.search(why)])
+        unfit = [goal or "its proof" for goal, why in mine if not WENT.search(why) and not STOPPED.search(why)]
+        functions[name] = Function(state, left, unfit, [goal or why for goal, why in mine if WENT.search(why)])
     return functions
 
 
 def refuted(text):
-    """The goals and lemmas of which a run said that their proof is none, but for those that name what went."""
-    return [goal or "a proof" for goal, why in PROOF_ERROR.findall(text) if goal != FAULT and not WENT.search(why)]
+    """The goals and lemmas of which a run said that their proof is none, but for those that name what went, and those at which a
+    limit of the prover was met."""
+    said = [it for it in PROOF_ERROR.findall(text) if it[0] != FAULT]
+    return [goal or "a proof" for goal, why in said if not WENT.search(why) and not STOPPED.search(why)]
 
 
 def ended(text):
@@ -96,17 +112,39 @@ def clauses(goals):
     return ", ".join(dict.fromkeys(in_words(it) for it in goals))
 
 
+def ground_of(goal):
+    """What a refusal rests on where the prover doesn't find a goal any more."""
+    if goal.startswith("returns"):
+        return CLAUSE
+    return INVARIANT if re.search(r"invariant|(?:^|-)loop-|decreases", goal) else CONDITION
+
+
+def ground(left):
+    """What a refusal rests on, by the goals that the prover doesn't find any more, if there are such: what says most."""
+    return min((ground_of(it) for it in left), key=GROUNDS.index, default=BY_HAND)
+
+
+def ground_told(said):
+    """What a refusal rests on, by what `rt` says of a whole check: it tells one goal, or an error in a proof."""
+    found = TOLD_OF_CODE.search(said)
+    if not found:
+        return CONDITION if "note: src/" in said else BY_HAND
+    return CLAUSE if found[1] else INVARIANT if found[2] else CONDITION
+
+
 def verdict(paths, functions):
-    """What a run says of the edit that turned the functions with these paths, and which goals went unproved."""
+    """What a run says of the edit that turned the functions with these paths, which goals went unproved, and what a refusal rests
+    on."""
     said = [it for name, it in functions.items() if any(is_within(name, path) for path in paths)]
     left = [goal for it in said for goal in it.left]
+    unfit = [goal for it in said for goal in it.unfit]
     went = [goal for it in said for goal in it.went]
     if not said:
-        return UNSETTLED, "nothing was said of its function"
-    if left and all(it.state != "could not tell" for it in said):
-        return REFUSED, clauses(left)
+        return UNSETTLED, "nothing was said of its function", ""
+    if (left or unfit) and all(it.state != "could not tell" for it in said):
+        return REFUSED, clauses(left or unfit), ground(left)
     if went:
-        return NAMES, clauses(went)
+        return NAMES, clauses(went), ""
     if all(it.state == "proved" for it in said):
-        return NOT_REFUSED, "its function is still proved"
-    return UNSETTLED, "its function isn't proved since another isn't"
+        return NOT_REFUSED, "its function is still proved", ""
+    return UNSETTLED, "its function isn't proved since another isn't", ""

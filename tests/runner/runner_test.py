@@ -12,7 +12,8 @@ status, output, errors = {answers!r}.get(" ".join(sys.argv[1:]), (9, "", ""))
 if sys.argv[1:] == ["play", "config", "-"]:
     for line in sys.stdin:
         if line.startswith("0 "):
-            print({reply!r}, flush=True)
+            sys.stdout.write({reply!r})
+            sys.stdout.flush()
 sys.stdout.write(output)
 sys.stderr.write(errors)
 sys.exit(status)
@@ -94,7 +95,7 @@ def written(folder, name, text):
 def fails(chosen, played, folder, name, changed):
     """Whether a file's cases fail with the program that answers so, but for what is changed."""
     answers = {**ANSWERS, **(OF_FAULT if name == "faulty.story" else {}), **changed}
-    program = Program(written(folder, "program", PROGRAM.format(answers=answers, reply="made 1")))
+    program = Program(written(folder, "program", PROGRAM.format(answers=answers, reply="made 1\n")))
     cases, wrong = chosen([f"{folder}/{name}"])
     return bool(wrong) or any(it.faults for case in cases for it in played(case, program))
 
@@ -110,7 +111,7 @@ def looks(chosen, played, folder):
         for name, text in files.items():
             written(folder, name, text)
             cases, wrong = chosen([f"{folder}/{name}"])
-            yield f"{name}: {text!r}", (bool(cases) and not wrong) == is_read
+            yield f"{name}: {text!r}", bool(cases) and not wrong if is_read else bool(wrong)
 
 
 def main(chosen, played):

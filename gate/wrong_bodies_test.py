@@ -1,0 +1,272 @@
+"""A test of the trials, on a crate of its own: what is right isn't told as refused, and what is wrong is."""
+import json
+import os
+import tempfile
+
+import edits
+import functions
+import kept
+import run
+import trials
+from kit import rt
+from verdicts import BAD, BY_HAND, CLAUSE, CONDITION, INVARIANT, NAMES, NOT_REFUSED, REFUSED
+
+LIB = """#![tactic(auto)]
+
+ghost use Rattle.std.specs.Prelude.{◌≡◌, ◌+◌, ◌*◌, ◌≤◌, length};
+ghost use Rattle.told.specs.Limit.{limit_of};
+
+/// One more.
+pub fn more(x: u8) -> u32
+    ensures value { result ≡ x + 1 }
+{
+    x as u32 + 1
+}
+
+/// Two more.
+pub fn two_more(x: u8) -> u32
+    ensures value { result ≡ x + 2 }
+    ensures least { 2 ≤ result }
+{
+    more(x) + 1
+}
+
+/// Both, and one more of each.
+pub fn both(x: u8, y: u8) -> u32
+    ensures value { result ≡ (x + 1) + (y + 1) }
+{
+    let first = more(x);
+    let second = more(y);
+    first + second
+}
+
+/// One more, by a proof that names what it calls.
+pub fn named(x: u8) -> u32
+    ensures value { result ≡ x + 1 }
+{
+    let it = more(x);
+    it
+}
+
+/// The most.
+pub fn limit() -> u32
+    ensures value { result ≡ limit_of 3 }
+{
+    6
+}
+
+/// Nothing.
+pub fn none() -> u32
+    ensures value { result ≡ 0 }
+{
+    1 - 1
+}
+
+/// Seven.
+pub fn seven() -> u32
+    ensures value { result ≡ 7 }
+{
+    4 + 3
+}
+
+/// One less.
+pub fn less(x: u8) -> u8
+    requires some { 1 ≤ x }
+    ensures value { result + 1 ≡ x }
+{
+    x - 1
+}
+
+/// At most 254.
+pub fn few(x: u8) -> u8
+    ensures few { result ≤ 254 }
+{
+    if x > 0 { less(x) } else { 0 }
+}
+
+/// The sum of the bytes.
+pub fn total(bytes: &[u8]) -> u64
+    requires short { length bytes.now ≤ 65536 }
+    ensures most { result ≤ 255 * length bytes.now }
+{
+    let mut sum: u64 = 0;
+    for byte in bytes {
+        sum += *byte as u64;
+    }
+    sum
+}
+"""
+INVARIANTS = """use Rattle.std.proofs.Common.{◌*◌, ◌≤◌}
+use Rattle.told.proofs.total.Given as goal
+
+abbrev pub invariant-loop-byte : goal.invariant-loop-byte
+invariant-loop-byte l = l.sum ≤ 255 * l.byte-index
+"""
+SPECS = "use Prim.Native.Nat.{ℕ, ◌+◌, ◌*◌}\n\nabbrev pub limit_of : ℕ → ℕ\nlimit_of n = 2 * n\n"
+ANSWERS = "use Rattle.told.proofs.named.Goals as goal\n\npub returns : goal.returns\nreturns c = c.more-it.ensures\n"
+LEMMA = """-- The limit of three.
+use Rattle.std.proofs.Common.{◌≡◌, refl}
+use Rattle.told.specs.Limit.{limit_of}
+
+pub of_three : 6 ≡ limit_of 3
+of_three = refl
+"""
+CITES = """use Rattle.told.proofs.Limits.{of_three}
+use Rattle.told.proofs.limit.Goals as goal
+
+pub returns : goal.returns
+returns c = record { value = of_three }
+"""
+FILES = {
+    "crates.txt": "told:\n",
+    "crates/told/src/lib.rt": LIB,
+    "crates/told/specs/Lib.antt": "pub mod Limit\n",
+    "crates/told/specs/Limit.antt": SPECS,
+    "crates/told/proofs/Lib.antt": "pub mod Limits\n",
+    "crates/told/proofs/Limits.antt": LEMMA,
+    "crates/told/proofs/limit/Answers.antt": CITES,
+    "crates/told/proofs/named/Answers.antt": ANSWERS,
+    "crates/told/proofs/total/Invariants.antt": INVARIANTS,
+}
+# An edit's name, what it turns into what, and what it is to come to, a refusal by what. Those of one function go into several
+# rounds.
+CASES = [
+    ("a_sum_turned_round", "x as u32 + 1", "1 + x as u32", NOT_REFUSED, ""),
+    ("adds_two", "x as u32 + 1", "x as u32 + 2", REFUSED, CLAUSE),
+    ("calls_first_what_comes_second", "let first = more(x);", "let second = more(y); let first = more(x);", NOT_REFUSED, ""),
+    ("calls_one_twice", "let second = more(y);", "let second = more(x);", REFUSED, CLAUSE),
+    ("a_sum_beside_a_wrong_callee", "more(x) + 1", "1 + more(x)", NOT_REFUSED, ""),
+    ("adds_three", "more(x) + 1", "more(x) + 2", REFUSED, CLAUSE),
+    ("leaves_out_what_a_proof_names", "let it = more(x);", "let it = x as u32 + 2;", NAMES, ""),
+    ("has_another_limit", "    6", "    9", REFUSED, BY_HAND),
+    ("asks_for_none", "less(x) }", "less(x - 1) }", REFUSED, CONDITION),
+    ("adds_one_more_each_time", "*byte as u64", "*byte as u64 + 1", REFUSED, INVARIANT),
+    ("turns_a_definition", "2 * n", "4 * n", REFUSED, BY_HAND),
+    ("says_what_refuses_it", "2 * n", "8 * n", REFUSED, BY_HAND),
+    ("says_what_does_not_refuse_it", "2 * n", "6 * n", REFUSED, BY_HAND),
+    ("says_what_would_refuse_another", "2 * n", "n * 2", NOT_REFUSED, ""),
+    ("says_what_has_no_answers", "2 * n", "n + n", NOT_REFUSED, ""),
+    ("says_what_refuses_what_cannot_be_read", "2 * n", "2 * m", BAD, ""),
+    ("sums_to_seven_too", "4 + 3", "2 + 5", NOT_REFUSED, ""),
+    ("has_another_type", "1 - 1", "true", BAD, ""),
+    ("is_nowhere", "8 + 8", "9 + 9", BAD, ""),
+]
+
+# What the prover says of `limit` where a lemma on which it rests came to a limit, and where it is no proof.
+STOPPED = """./proofs/Limits.antt:5:5: error: `of_three`: in its elaboration (it was elaborating the text at 7:12–7:16): stopped at the step limit (50000000 steps a task, the default)
+./proofs/limit/Answers.antt:4:5: error: 1 declaration that depends on `of_three`, which was not admitted, was not checked: returns
+fn told::limit: could not tell
+fn told::seven: proved
+only=2 proved=1
+"""
+NO_PROOF = """./proofs/Limits.antt:6:12: error: `of_three`: expected type `6 ≡ limit_of 3`, but this has type `6 ≡ 6`
+./proofs/limit/Answers.antt:4:5: error: 1 declaration that depends on `of_three`, which was not admitted, was not checked: returns
+fn told::limit: not proved
+fn told::seven: proved
+only=2 proved=1
+"""
+# And of its own answer.
+ANSWER_STOPPED = """./proofs/limit/Answers.antt:5:30: error: `returns`: stopped at the step limit (50000000 steps a task, the default)
+fn told::limit: not proved
+fn told::seven: proved
+only=2 proved=1
+"""
+
+# What a file of the store may hold that isn't what was kept: then it counts for nothing.
+FORGED = ["", "refused", "{}", "[1]", json.dumps({"refused": [CLAUSE, "it"]})]
+
+# The functions that edits say refuse them.
+REFUSED_BY = {
+    "says_what_refuses_it": "limit",
+    "says_what_does_not_refuse_it": "seven",
+    "says_what_would_refuse_another": "limit",
+    "says_what_has_no_answers": "seven",
+    "says_what_refuses_what_cannot_be_read": "limit",
+}
+
+
+def crate_in(room):
+    """The crate of this test, written in a folder, with its edits."""
+    for name, text in FILES.items():
+        os.makedirs(os.path.dirname(f"{room}/{name}"), exist_ok=True)
+        with open(f"{room}/{name}", "w", encoding="utf-8") as file:
+            file.write(text)
+    folder = f"{room}/crates/told/{run.FOLDER}"
+    os.makedirs(folder)
+    for name, old, new, *_ in CASES:
+        path = "specs/Limit.antt" if old in SPECS else "src/lib.rt"
+        with open(f"{folder}/{name}.edit", "w", encoding="utf-8") as file:
+            file.write(f"file: {path}\nold: {old}\nnew: {new}\n")
+            if name in REFUSED_BY:
+                file.write(f"refused by: {REFUSED_BY[name]}\n")
+    return rt.rtlib.crates_below(f"{room}/crates")[0]
+
+
+def judged(made):
+    """Whether each case came to what it must; each that didn't is told."""
+    good = []
+    for name, _, _, *wanted in CASES:
+        kind, why = made.found.get(f"told/{name}", ("nothing", ""))
+        came = [kind, made.grounds.get(f"told/{name}", "")]
+        good.append(came == wanted)
+        if came != wanted:
+            print(f"self-test: {name}: {came}: {why}; it was to be {wanted}")
+    return good
+
+
+def stops(crate):
+    """Whether an edit that says what refuses it isn't told as refused where the prover met a limit of its own alone."""
+    edit = edits.read(crate, f"{crate.folder}/{run.FOLDER}/says_what_refuses_it.edit")
+    trial = trials.Trial(crate, [edit], [edit.refused_by])
+    told = {text: [it.kind for it in trials.of_named(trial, text)[0]] for text in (STOPPED, ANSWER_STOPPED, NO_PROOF)}
+    return [told[STOPPED] == [], told[ANSWER_STOPPED] == [], told[NO_PROOF] == [REFUSED]]
+
+
+def keeps(crate):
+    """Whether what was refused is kept, and nothing else that lies in its place counts."""
+    edit = edits.read(crate, f"{crate.folder}/{run.FOLDER}/adds_two.edit")
+    store = kept.Kept(anew=False)
+    other = edits.read(crate, f"{crate.folder}/{run.FOLDER}/adds_three.edit")
+    good = [store.refused(edit) == [CLAUSE, "ensures"]]
+    whole = kept.text_of(store.place(edit)).decode()
+    for text in [*FORGED, whole[:-2], whole.replace("adds_two", "adds_ten"), kept.text_of(store.place(other)).decode()]:
+        with open(store.place(edit), "w", encoding="utf-8") as file:
+            file.write(text)
+        good.append(store.refused(edit) is None)
+    with open(store.place(edit), "w", encoding="utf-8") as file:
+        file.write(whole)
+    return good
+
+
+def guards(crate):
+    """Whether a trial is thrown away in which a function is wrong that it isn't said to turn."""
+    edit = edits.read(crate, f"{crate.folder}/{run.FOLDER}/adds_two.edit")
+    results, _, wrong = trials.tried(trials.Trial(crate, [edit], [("both",)]))
+    return not results and wrong == ["told::more"]
+
+
+def leads(crate, jobs):
+    """Whether a trial that leads, over nothing, refuses what it must and no more, and leaves what the next one begins with."""
+    kinds = {f"told/{name}": kind for name, _, _, kind, _ in CASES}
+    bodies = [it for it in edits.edits_of(crate, run.FOLDER) if functions.turned_by(it)]
+    wanted = {kind: {it.name for it in bodies if kinds[it.name] == kind} for kind in (REFUSED, NOT_REFUSED)}
+    planned = trials.planned(crate, [it for it in bodies if any(it.name in them for them in wanted.values())], begins=True)
+    found = [trials.tried(it, jobs) for it in planned]
+    refused = {it.edit.name for results, _, _ in found for it in results}
+    again = {it.name for _, them, _ in found for trial in them for it in trial.edits}
+    return planned[0].leads and (refused, again) == tuple(wanted.values()) and not any(wrong for *_, wrong in found)
+
+
+def passed(jobs):
+    """How many looks were good, and how many weren't."""
+    with tempfile.TemporaryDirectory(prefix="wrong-bodies-") as room:
+        kept.STORE = f"{room}/kept"
+        crate = crate_in(room)
+        made = run.made([crate], jobs, anew=False)
+        found = made.found
+        good = [*judged(made), *stops(crate), *keeps(crate), guards(crate)]
+        with tempfile.TemporaryDirectory(prefix="wrong-bodies-") as other:
+            good.append(leads(crate_in(other), jobs))
+        left = {it.name for it in run.Run([crate], anew=False).left(crate)}
+        good.append(left == {it for it, (kind, _) in found.items() if kind != REFUSED and it != "told/is_nowhere"})
+    return good.count(True), good.count(False)

@@ -18,8 +18,8 @@ use Rattle.fragmentation.specs.Suffice.{pages_of}
 abbrev pub words_of : (ℕ → ℕ) → ℕ
 words_of blocks = class_sum (λ class. size_of class * blocks class) CLASSES
 
--- Whether blocks of a class are made. How many words the blocks of live objects have at most where a cycle begins, or
--- LEAST_PAGE_FILL for each whole page that they take. How many words of blocks are asked for at most for each quantum,
+-- Of which classes blocks are made; how many words the blocks of live objects have at most where a cycle begins, or
+-- LEAST_PAGE_FILL for each whole page that they take; how many words of blocks are asked for at most for each quantum,
 -- from a cycle's beginning to its sweep's end, where what was left at one quantum may be asked for at a later one; how
 -- many besides; and how many from a cycle's beginning until the next begins.
 pub record Flow : Type 0 where

@@ -105,10 +105,10 @@ pub fn pages_have_words()
     ensures attained { (class : ℕ) × (class < CLASSES) × (size_of class * blocks_in class ≡ LEAST_PAGE_FILL) }
 {}
 
-/// No new object is refused for lack of space in a run that keeps to a flow which fits: where what is live takes at most
-/// so many words whenever a cycle begins, and the program asks, over all size classes together, for at most so many words
-/// for each quantum until a cycle's sweep ends, and for so many from one cycle's beginning to the next. Whatever the sizes
-/// of the objects are, and however these shift.
+/// No new object is refused for lack of space in a run that keeps to a flow which fits: where what is live takes at
+/// most so many words whenever a cycle begins, and the program asks, over all size classes together, for at most so
+/// many words for each quantum until a cycle's sweep ends, and for so many from one cycle's beginning to the next.
+/// Whatever the sizes of the objects are, and however these shift.
 pub fn flow_suffices()
     ensures { (h : HeapState) (es : List Event) (new : Course) (f : Flow) (k : ℕ) → 0 < k → IsOpening h
         → 0 < length h.store.pages → GathersAll h → Runs (opened h) es new

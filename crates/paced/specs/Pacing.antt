@@ -48,8 +48,8 @@ abbrev pub meter_after : FlowMeter → List Event → FlowMeter
 meter_after t [] = t
 meter_after t (e ∷ es) = meter_after (next_meter t e) es
 
--- Events lead from one state to another and pace themselves by the flow, whatever is live, with quanta of its budget; and
--- it goes on counting as strictly as the meter.
+-- Events lead from one state to another and pace themselves by the flow, whatever is live, with quanta of its budget;
+-- and it goes on counting as strictly as the meter.
 pub record Advances (t : FlowMeter) (old new : PacedView) (es : List Event) : Type 0 where
   pub runs : Runs old.course es new.course
   pub paces : (live : ℕ) → AllMetered (Paces (planned_flow live old.plan) old.budget) t es
@@ -65,8 +65,8 @@ pub record Collected (old new : PacedView) : Type 0 where
   pub same : SamePlan old new
   pub history : new.course.history ≡ old.course.history
 
--- How much is left to be done at most before words may be asked for: all of a cycle, where one may have to begin, and the
--- rest of the one that is running.
+-- How much is left to be done at most before words may be asked for: all of a cycle, where one may have to begin, and
+-- the rest of the one that is running.
 abbrev pub work_left : PacedView → ℕ
 work_left v =
     (if v.words == 0 then 0 else cycle_limit v.course.heap + 2)

@@ -24,8 +24,8 @@ fn words_of_shape(shape: &Shape) -> u64
     words
 }
 
-/// The words of the blocks for which a command asks at most, with their headers: those of a new object, also where it is
-/// refused, unless its shape is too large.
+/// The words of the blocks for which a command asks at most, with their headers: those of a new object, also where it
+/// is refused, unless its shape is too large.
 pub fn words_asked(command: &Command) -> u64
     ensures { result ≡ words_of (asks command.now) }
 {

@@ -1,5 +1,5 @@
-//! A heap that keeps a flow by itself: before it does a command, its collector works as much as the plan wants. So a program
-//! that keeps what is live within the flow is never refused for lack of space.
+//! A heap that keeps a flow by itself: before it does a command, its collector works as much as the plan wants. So a
+//! program that keeps what is live within the flow is never refused for lack of space.
 #![tactic(auto)]
 
 pub mod asking;
@@ -7,7 +7,7 @@ mod laws;
 pub mod paced;
 pub mod plan;
 
-pub use laws::paced_heaps_find_room;
+pub use laws::{paced_calls_add_up, paced_heaps_find_room};
 pub use paced::{CallFault, PacedHeap};
 pub use plan::{Plan, flow_fits, planned};
 

@@ -28,8 +28,8 @@ pub enum CallFault {
     NoMemory,
 }
 
-/// A heap with the plan that it keeps. Contracts see the heap with its history, the plan, the budget of a quantum and what is
-/// counted.
+/// A heap with the plan that it keeps. Contracts see the heap with its history, the plan, the budget of a quantum and
+/// what is counted.
 pub struct PacedHeap {
     heap: HeapWithHistory,
     plan: Plan,
@@ -73,9 +73,9 @@ impl Model for PacedHeap {
 }
 
 impl PacedHeap {
-    /// A new heap of a configuration that keeps a plan, with quanta of the configuration's budget. Refused only for lack of
-    /// memory. That the plan fits is for the caller to see (`flow_fits`): with one that doesn't, objects may be refused
-    /// for lack of space.
+    /// A new heap of a configuration that keeps a plan, with quanta of the configuration's budget. Refused only for
+    /// lack of memory. That the plan fits is for the caller to see (`flow_fits`): with one that doesn't, objects may be
+    /// refused for lack of space.
     pub fn new(alloc: Global, config: &Config, plan: Plan) -> Result<PacedHeap, NoMemory>
         ensures { IfOk result (IsJustPaced config.now plan) }
     {
@@ -126,9 +126,9 @@ impl PacedHeap {
         }
     }
 
-    /// Does a command of a mutator, and enters it with its reply. Before it the collector works as much as the plan wants for
-    /// what the command asks: cycles begin, and quanta are spent. Where the command asks for more words than a whole cycle
-    /// has, nothing is done; where memory for the entry is refused, only the collector has worked.
+    /// Does a command of a mutator, and enters it with its reply. Before it the collector works as much as the plan
+    /// wants for what the command asks: cycles begin, and quanta are spent. Where the command asks for more words than
+    /// a whole cycle has, nothing is done; where memory for the entry is refused, only the collector has worked.
     pub fn call(&mut self, mutator: u32, command: Command) -> Result<Receipt, CallFault>
         ensures paced { Paced self.old self.new }
         ensures same { SamePlan self.old self.new }

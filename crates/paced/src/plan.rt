@@ -29,8 +29,8 @@ fn traced_quanta(config: &Config) -> u64
     (roots + arena + (most + 1) * count + (most + 4)) / u64::from(config.budget()) + 1
 }
 
-/// Whether the flow of a plan fits in a configuration, where the blocks of live objects have at most so many words whenever
-/// a cycle begins, or `LEAST_PAGE_FILL` for each whole page that they take.
+/// Whether the flow of a plan fits in a configuration, where the blocks of live objects have at most so many words
+/// whenever a cycle begins, or `LEAST_PAGE_FILL` for each whole page that they take.
 pub fn flow_fits(config: &Config, live_words: u64, plan: &Plan) -> bool
     ensures { IsTrue result ↔ FlowFitsIn config.now (planned_flow live_words plan.now) }
 {
@@ -49,9 +49,9 @@ fn whole_quanta(config: &Config) -> u64
     config.cycle_limit() / u64::from(config.budget() - (LEAST_BUDGET - 1)) + 1
 }
 
-/// The plan with the most words for each quantum whose flow fits in a configuration, of those which have so many for each
-/// quantum that a whole cycle takes at most: so the words of a cycle aren't spent before it has ended. None where there
-/// is none with a word for each quantum. `live_words` is as of `flow_fits`.
+/// The plan with the most words for each quantum whose flow fits in a configuration, of those which have so many for
+/// each quantum that a whole cycle takes at most: so the words of a cycle aren't spent before it has ended. None where
+/// there is none with a word for each quantum. `live_words` is as of `flow_fits`.
 pub fn planned(config: &Config, live_words: u64) -> Option<Plan>
     ensures { IsFastest config.now live_words result }
 {

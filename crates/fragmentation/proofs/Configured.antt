@@ -20,7 +20,7 @@ use Rattle.space.proofs.Roomless.{all_have_room}
 use Rattle.space.proofs.Configured.{pages as same_pages, below as same_limit, defrag as same_defrag, some as has_some, same_spare, same_below}
 use Rattle.fragmentation.specs.Season.{Lives, opening_season, AllKeep}
 use Rattle.fragmentation.specs.Suffice.{GathersAll, WithinPages, WithinBlocks, pages_of, Budget, budget_pages, WithinBudget}
-use Rattle.fragmentation.specs.Flow.{Flow, opening_meter, AllKeepFlow, traced_words, flow_pages, FlowFits}
+use Rattle.fragmentation.specs.Flow.{Flow, opening_meter, KeepsFlow, AllMetered, traced_words, flow_pages, FlowFits}
 use Rattle.fragmentation.specs.Configured.{MovesAll, FitsTogether, FlowFitsIn}
 use Rattle.fragmentation.proofs.Joints.{joint_suffices, joint_suffices_unmoved}
 use Rattle.fragmentation.proofs.Sparses.{sparse_suffices}
@@ -80,11 +80,11 @@ module _ (config : Config) (h : HeapState) (o : IsOpening h) (same : settings_of
       roots : length h.roots ≡ config.mutators * config.slots + config.statics
       roots = ap length o.roots ∙ length-replicate (root_cells h.limits) 0 ∙ ap (λ (s : HeapSettings). root_cells s.limits) same
 
-  pub flow_configured : (f : Flow) → MovesAll config → LEAST_BUDGET ≤ config.collector_ticks * config.rate → AllKeepFlow f (config.collector_ticks * config.rate) (opening_meter h.limits) es → FlowFitsIn config f → AllHaveRoom es
+  pub flow_configured : (f : Flow) → MovesAll config → LEAST_BUDGET ≤ config.collector_ticks * config.rate → AllMetered (KeepsFlow f (config.collector_ticks * config.rate)) (opening_meter h.limits) es → FlowFitsIn config f → AllHaveRoom es
   flow_configured f moves great keeps fits = all_have_room es (opened h) new runs (flow_suffices h es new f (config.collector_ticks * config.rate) (omega (arith, great)) o some (gathers moves) runs keeps fit)
     where
       fit : FlowFits f (config.collector_ticks * config.rate) h
       fit = record {
-        traced = subst (λ z. traced_words f z ≤ f.period) (sym same_unmoved) fits.traced;
+        traced = subst (λ z. traced_words f z ≤ f.cycle_words) (sym same_unmoved) fits.traced;
         enough = subst (λ z. flow_pages f z ≤ length h.store.pages) (sym same_unmoved) (let a = fits.enough in omega (arith, a, pages));
       }

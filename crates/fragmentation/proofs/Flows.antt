@@ -28,34 +28,35 @@ use Rattle.space.proofs.Spending.{limit_stays, same_swept, swept_kept, all_spent
 use Rattle.space.proofs.Moved.{chain_tracing}
 use Rattle.fragmentation.specs.Season.{Season, Lives, opening_season, made_since, season_swept, season_after, AllKeep}
 use Rattle.fragmentation.specs.Suffice.{WithinPages, pages_of, GathersAll}
-use Rattle.fragmentation.specs.Flow.{words_of, Flow, Meter, opening_meter, next_meter, allowed, OnlyUsed, KeepsFlow, AllKeepFlow, traced_words, flow_pages, FlowFits}
+use Rattle.fragmentation.specs.declared.flow.TheConstants.{LEAST_PAGE_FILL}
+use Rattle.fragmentation.specs.Flow.{words_of, Flow, FlowMeter, opening_meter, next_meter, allowed_words, OnlyMade, Paces, KeepsFlow, AllMetered, traced_words, flow_pages, FlowFits}
 use Rattle.fragmentation.proofs.Paging.{pages_none}
 use Rattle.fragmentation.proofs.Budgets.{drop_less}
 use Rattle.fragmentation.proofs.Moving.{moving_suffices}
 use Rattle.fragmentation.proofs.Words.{words_fit, words_more, words_both, words_none}
 
 -- what live objects need where each cycle begins, of those that begin after the nth
-abbrev lives_of : (f : Flow) (k n : ℕ) (es : List Event) (t : Meter) → AllKeepFlow f k t es → Lives
+abbrev lives_of : (f : Flow) (k n : ℕ) (es : List Event) (t : FlowMeter) → AllMetered (KeepsFlow f k) t es → Lives
 lives_of f k n [] t keeps = λ j class. 0
 lives_of f k n (Command_done m c reply ∷ es) t keeps = lives_of f k n es (next_meter t (Command_done m c reply)) keeps.1
-lives_of f k n (Cycle_begun ∷ es) t keeps = λ j. if j == n + 1 then keeps.0.blocks else lives_of f k (n + 1) es (next_meter t Cycle_begun) keeps.1 j
+lives_of f k n (Cycle_begun ∷ es) t keeps = λ j. if j == n + 1 then keeps.0.1.blocks else lives_of f k (n + 1) es (next_meter t Cycle_begun) keeps.1 j
 lives_of f k n (Cycle_on ∷ es) t keeps = lives_of f k n es t keeps.1
 lives_of f k n (Quantum_done budget units phase ∷ es) t keeps = lives_of f k n es (next_meter t (Quantum_done budget units phase)) keeps.1
 lives_of f k n (Quantum_refused budget ∷ es) t keeps = lives_of f k n es t keeps.1
 
 -- what is live is within the flow, by its numbers alone
 record FitsFlow (f : Flow) (blocks : ℕ → ℕ) : Type 0 where
-  few : (1832 * pages_of blocks ≤ f.live) ⊎ (words_of blocks ≤ f.live)
-  only : OnlyUsed f blocks
+  few : (LEAST_PAGE_FILL * pages_of blocks ≤ f.live_words) ⊎ (words_of blocks ≤ f.live_words)
+  only : OnlyMade f blocks
 
 one_of : (b : Bool) (x y : ℕ → ℕ) (f : Flow) → FitsFlow f x → FitsFlow f y → FitsFlow f (if b then x else y)
 one_of true x y f l m = l
 one_of false x y f l m = m
 
-lives_few : (f : Flow) (k n : ℕ) (es : List Event) (t : Meter) (keeps : AllKeepFlow f k t es) (j : ℕ) → FitsFlow f (lives_of f k n es t keeps j)
+lives_few : (f : Flow) (k n : ℕ) (es : List Event) (t : FlowMeter) (keeps : AllMetered (KeepsFlow f k) t es) (j : ℕ) → FitsFlow f (lives_of f k n es t keeps j)
 lives_few f k n [] t keeps j = record { few = inl (let z = pages_none in omega (arith, z)); only = λ class l e. refl }
 lives_few f k n (Command_done m c reply ∷ es) t keeps j = lives_few f k n es (next_meter t (Command_done m c reply)) keeps.1 j
-lives_few f k n (Cycle_begun ∷ es) t keeps j = one_of (j == n + 1) keeps.0.blocks (lives_of f k (n + 1) es (next_meter t Cycle_begun) keeps.1 j) f (record { few = keeps.0.few; only = keeps.0.only }) (lives_few f k (n + 1) es (next_meter t Cycle_begun) keeps.1 j)
+lives_few f k n (Cycle_begun ∷ es) t keeps j = one_of (j == n + 1) keeps.0.1.blocks (lives_of f k (n + 1) es (next_meter t Cycle_begun) keeps.1 j) f (record { few = keeps.0.1.few; only = keeps.0.1.only }) (lives_few f k (n + 1) es (next_meter t Cycle_begun) keeps.1 j)
 lives_few f k n (Cycle_on ∷ es) t keeps j = lives_few f k n es t keeps.1 j
 lives_few f k n (Quantum_done budget units phase ∷ es) t keeps j = lives_few f k n es (next_meter t (Quantum_done budget units phase)) keeps.1 j
 lives_few f k n (Quantum_refused budget ∷ es) t keeps j = lives_few f k n es t keeps.1 j
@@ -66,7 +67,7 @@ words_since count s = words_of (made_since count s)
 
 -- What is kept: how many words were made since the last cycle began, since the one began whose sweep ended last, and in
 -- all that the season counts.
-record IsFlowing (h : HeapState) (f : Flow) (k : ℕ) (live : Lives) (r : Course) (s : Season) (t : Meter) : Type 0 where
+record IsFlowing (h : HeapState) (f : Flow) (k : ℕ) (live : Lives) (r : Course) (s : Season) (t : FlowMeter) : Type 0 where
   graph : s.graph ≡ present_of r
   same : t.graph ≡ present_of r
   tracing : t.tracing ≡ awaits_sweep_end r.heap.phase
@@ -77,15 +78,15 @@ record IsFlowing (h : HeapState) (f : Flow) (k : ℕ) (live : Lives) (r : Course
   last : s.last ≤ length s.graph.objects
   base : s.base ≤ length s.graph.objects
   swept : s.swept ≤ length s.graph.objects
-  words : t.words ≤ f.period
+  words : t.words ≤ f.cycle_words
   since_last : words_since s.last s ≤ t.words
-  since_base : words_since s.base s ≤ (if t.tracing then f.period + t.words else t.words)
+  since_base : words_since s.base s ≤ (if t.tracing then f.cycle_words + t.words else t.words)
   made : ℕ → ℕ
   number : ℕ
   before : (class : ℕ) → class < CLASSES → s.before class ≤ live number class + made class
-  only : OnlyUsed f (made_since 0 s)
-  only_made : OnlyUsed f made
-  total : words_of made + words_since s.swept s ≤ (if t.tracing then 2 * f.period + t.words else f.period + t.words)
+  only : OnlyMade f (made_since 0 s)
+  only_made : OnlyMade f made
+  total : words_of made + words_since s.swept s ≤ (if t.tracing then 2 * f.cycle_words + t.words else f.cycle_words + t.words)
 
 times_next : (n b : ℕ) → (n + 1) * b ≡ n * b + b
 times_next n b = grind arith
@@ -99,41 +100,41 @@ other_number j n l = grind arith
 not_true : (b : Bool) → b ≡ true → b ≡ false → ⊥
 not_true b p q = cc
 
-module _ (h : HeapState) (f : Flow) (k : ℕ) (great : 0 < k) (live : Lives) (lives : (n : ℕ) → FitsFlow f (live n)) (traced : traced_words f (unmoved_quanta h k) ≤ f.period) where
+module _ (h : HeapState) (f : Flow) (k : ℕ) (great : 0 < k) (live : Lives) (lives : (n : ℕ) → FitsFlow f (live n)) (traced : traced_words f (unmoved_quanta h k) ≤ f.cycle_words) where
   abbrev most : ℕ
   most = unmoved_quanta h k
 
   -- no more than `most` quanta are done before a sweep ends
-  few : (r : Course) (s : Season) (t : Meter) → IsCourse r → IsFlowing h f k live r s t → t.tracing ≡ true → (t.quanta + 1) * f.busy + f.over ≤ traced_words f most
+  few : (r : Course) (s : Season) (t : FlowMeter) → IsCourse r → IsFlowing h f k live r s t → t.tracing ≡ true → (t.quanta + 1) * f.quantum_words + f.burst ≤ traced_words f most
   few r s t w i on =
       let at : awaits_sweep_end r.heap.phase ≡ true = sym i.tracing ∙ on in
       let l = swept_kept r.heap (present_of r) (snapshot_of r) w.stands at in
       let same = same_swept h r.heap i.limit i.settings in
       let q = few_quanta k (swept_units h) t.quanta r.heap.units great (i.spent at) (omega (arith, l, same)) in
-      let m = mul-le-mul_right f.busy q in
+      let m = mul-le-mul_right f.quantum_words q in
       omega (arith, m)
 
   -- what is asked for leaves the words that were made within a cycle's
-  asked_few : (r : Course) (s : Season) (t : Meter) → IsCourse r → IsFlowing h f k live r s t → (asked : ℕ) → t.words + asked ≤ allowed f t → t.words + asked ≤ (if t.tracing then traced_words f most else f.period)
+  asked_few : (r : Course) (s : Season) (t : FlowMeter) → IsCourse r → IsFlowing h f k live r s t → (asked : ℕ) → t.words + asked ≤ allowed_words f t → t.words + asked ≤ (if t.tracing then traced_words f most else f.cycle_words)
   asked_few r s t w i asked keeps = by_tracing t.tracing refl keeps
     where
-      by_tracing : (b : Bool) → t.tracing ≡ b → t.words + asked ≤ (if b then (t.quanta + 1) * f.busy + f.over else f.period) → t.words + asked ≤ (if b then traced_words f most else f.period)
+      by_tracing : (b : Bool) → t.tracing ≡ b → t.words + asked ≤ (if b then (t.quanta + 1) * f.quantum_words + f.burst else f.cycle_words) → t.words + asked ≤ (if b then traced_words f most else f.cycle_words)
       by_tracing true e l = let x = few r s t w i e in omega (arith, x, l)
       by_tracing false e l = l
 
   -- of other classes there are none since later either
-  none_since : (s : Season) (count : ℕ) → OnlyUsed f (made_since 0 s) → OnlyUsed f (made_since count s)
+  none_since : (s : Season) (count : ℕ) → OnlyMade f (made_since 0 s) → OnlyMade f (made_since count s)
   none_since s count none class l e = let d = drop_less 0 count s.graph.objects class (omega arith) in let z = none class l e in omega (arith, d, z)
 
   -- a command that keeps to the flow keeps within its pages
-  flow_within : (r : Course) (s : Season) (t : Meter) (m : ℕ) (c : Command) (reply : Reply) → IsCourse r → IsFlowing h f k live r s t → KeepsFlow f k t (Command_done m c reply) → WithinPages (flow_pages f most) s (asked_for s.graph m c)
+  flow_within : (r : Course) (s : Season) (t : FlowMeter) (m : ℕ) (c : Command) (reply : Reply) → IsCourse r → IsFlowing h f k live r s t → Paces f k t (Command_done m c reply) → WithinPages (flow_pages f most) s (asked_for s.graph m c)
   flow_within r s t m c reply w i keeps =
       let a : words_of (asked_for t.graph m c) ≡ words_of (asked_for s.graph m c) = ap (λ z. words_of (asked_for z m c)) (i.same ∙ sym i.graph) in
       let b = words_both (made_since s.swept s) (asked_for s.graph m c) in
       let z = by_tracing t.tracing refl i.total (asked_few r s t w i (words_of (asked_for t.graph m c)) keeps.0) in
-      words_fit s.before (live i.number) i.made (λ class. made_since s.swept s class + asked_for s.graph m c class) f.used f.live (2 * f.period + traced_words f most) i.before none (lives i.number).few (omega (arith, b, z, a))
+      words_fit s.before (live i.number) i.made (λ class. made_since s.swept s class + asked_for s.graph m c class) f.makes f.live_words (2 * f.cycle_words + traced_words f most) i.before none (lives i.number).few (omega (arith, b, z, a))
     where
-      none : (class : ℕ) → class < CLASSES → f.used class ≡ false → (s.before class ≡ 0) × (made_since s.swept s class + asked_for s.graph m c class ≡ 0)
+      none : (class : ℕ) → class < CLASSES → f.makes class ≡ false → (s.before class ≡ 0) × (made_since s.swept s class + asked_for s.graph m c class ≡ 0)
       none class l e =
           let n = i.before class l in
           let x = (lives i.number).only class l e in
@@ -143,13 +144,13 @@ module _ (h : HeapState) (f : Flow) (k : ℕ) (great : 0 < k) (live : Lives) (li
           let q : asked_for t.graph m c class ≡ asked_for s.graph m c class = ap (λ z. asked_for z m c class) (i.same ∙ sym i.graph) in
           (omega (arith, n, x, y), omega (arith, v, u, q))
 
-      by_tracing : (o : Bool) → t.tracing ≡ o → words_of i.made + words_since s.swept s ≤ (if o then 2 * f.period + t.words else f.period + t.words)
-          → t.words + words_of (asked_for t.graph m c) ≤ (if o then traced_words f most else f.period)
-          → words_of i.made + words_since s.swept s + words_of (asked_for t.graph m c) ≤ 2 * f.period + traced_words f most
+      by_tracing : (o : Bool) → t.tracing ≡ o → words_of i.made + words_since s.swept s ≤ (if o then 2 * f.cycle_words + t.words else f.cycle_words + t.words)
+          → t.words + words_of (asked_for t.graph m c) ≤ (if o then traced_words f most else f.cycle_words)
+          → words_of i.made + words_since s.swept s + words_of (asked_for t.graph m c) ≤ 2 * f.cycle_words + traced_words f most
       by_tracing true e l n = omega (arith, l, n)
       by_tracing false e l n = omega (arith, l, n)
 
-  flow_command : (r new : Course) (s : Season) (t : Meter) (m : ℕ) (c : Command) (reply : Reply) → IsCourse r → IsFlowing h f k live r s t → KeepsFlow f k t (Command_done m c reply) → Enters r m c reply new
+  flow_command : (r new : Course) (s : Season) (t : FlowMeter) (m : ℕ) (c : Command) (reply : Reply) → IsCourse r → IsFlowing h f k live r s t → Paces f k t (Command_done m c reply) → Enters r m c reply new
       → IsFlowing h f k live new (season_after live s (Command_done m c reply)) (next_meter t (Command_done m c reply))
   flow_command r new s t m c reply w i keeps e = record {
     graph = enters_graph r new m c reply w e s.graph i.graph;
@@ -164,7 +165,7 @@ module _ (h : HeapState) (f : Flow) (k : ℕ) (great : 0 < k) (live : Lives) (li
     swept = (let l = i.swept in let q = longer in omega (arith, l, q));
     words = within t.tracing (asked_few r s t w i asked keeps.0);
     since_last = (let l = i.since_last in let q = more s.last i.last in omega (arith, l, q));
-    since_base = (let q = more s.base i.base in with_more t.tracing f.period 0 i.since_base q);
+    since_base = (let q = more s.base i.base in with_more t.tracing f.cycle_words 0 i.since_base q);
     made = i.made;
     number = i.number;
     before = i.before;
@@ -191,7 +192,7 @@ module _ (h : HeapState) (f : Flow) (k : ℕ) (great : 0 < k) (live : Lives) (li
       is : next.graph ≡ changed g change
       is = enters_graph r new m c reply w e s.graph i.graph ∙ enters_present r new m c reply w e
 
-      within : (b : Bool) → t.words + asked ≤ (if b then traced_words f most else f.period) → t.words + asked ≤ f.period
+      within : (b : Bool) → t.words + asked ≤ (if b then traced_words f most else f.cycle_words) → t.words + asked ≤ f.cycle_words
       within true l = omega (arith, l, traced)
       within false l = l
 
@@ -220,15 +221,15 @@ module _ (h : HeapState) (f : Flow) (k : ℕ) (great : 0 < k) (live : Lives) (li
       with_more true x y l q = omega (arith, l, q)
       with_more false x y l q = omega (arith, l, q)
 
-      with_all : (b : Bool) → words_of i.made + words_since s.swept s ≤ (if b then 2 * f.period + t.words else f.period + t.words) → words_since s.swept next ≤ words_since s.swept s + asked
-          → words_of i.made + words_since s.swept next ≤ (if b then 2 * f.period + (t.words + asked) else f.period + (t.words + asked))
+      with_all : (b : Bool) → words_of i.made + words_since s.swept s ≤ (if b then 2 * f.cycle_words + t.words else f.cycle_words + t.words) → words_since s.swept next ≤ words_since s.swept s + asked
+          → words_of i.made + words_since s.swept next ≤ (if b then 2 * f.cycle_words + (t.words + asked) else f.cycle_words + (t.words + asked))
       with_all true l q = omega (arith, l, q)
       with_all false l q = omega (arith, l, q)
 
   none_made : (s : Season) → words_since (length s.graph.objects) s ≡ 0
   none_made s = words_none _ (λ class l. ap (λ z. blocks_of z class) (drop_all (length s.graph.objects) s.graph.objects (omega arith)))
 
-  flow_begins : (r new : Course) (s : Season) (t : Meter) → IsFlowing h f k live r s t → Begins r new → IsFlowing h f k live new (season_after live s Cycle_begun) (next_meter t Cycle_begun)
+  flow_begins : (r new : Course) (s : Season) (t : FlowMeter) → IsFlowing h f k live r s t → Begins r new → IsFlowing h f k live new (season_after live s Cycle_begun) (next_meter t Cycle_begun)
   flow_begins r new s t i e = record {
     graph = i.graph ∙ sym (begins_present r new e);
     same = i.same ∙ sym (begins_present r new e);
@@ -254,15 +255,15 @@ module _ (h : HeapState) (f : Flow) (k : ℕ) (great : 0 < k) (live : Lives) (li
       off : t.tracing ≡ false
       off = i.tracing ∙ ap awaits_sweep_end e.idle
 
-      by_base : (b : Bool) → b ≡ false → words_since s.base s ≤ (if b then f.period + t.words else t.words) → words_since s.base s ≤ f.period + 0
+      by_base : (b : Bool) → b ≡ false → words_since s.base s ≤ (if b then f.cycle_words + t.words else t.words) → words_since s.base s ≤ f.cycle_words + 0
       by_base true z l = absurd (cc)
       by_base false z l = let x = i.words in omega (arith, l, x)
 
-      by_total : (b : Bool) → b ≡ false → words_of i.made + words_since s.swept s ≤ (if b then 2 * f.period + t.words else f.period + t.words) → words_of i.made + words_since s.swept s ≤ 2 * f.period + 0
+      by_total : (b : Bool) → b ≡ false → words_of i.made + words_since s.swept s ≤ (if b then 2 * f.cycle_words + t.words else f.cycle_words + t.words) → words_of i.made + words_since s.swept s ≤ 2 * f.cycle_words + 0
       by_total true z l = absurd (cc)
       by_total false z l = let x = i.words in omega (arith, l, x)
 
-  flow_quantum : (r new : Course) (budget units : ℕ) (phase : Phase) (s : Season) (t : Meter) → IsCourse r → IsFlowing h f k live r s t → k ≤ budget → Collects r budget units phase new
+  flow_quantum : (r new : Course) (budget units : ℕ) (phase : Phase) (s : Season) (t : FlowMeter) → IsCourse r → IsFlowing h f k live r s t → k ≤ budget → Collects r budget units phase new
       → IsFlowing h f k live new (season_after live s (Quantum_done budget units phase)) (next_meter t (Quantum_done budget units phase))
   flow_quantum r new budget units phase s t w i enough q = by_phase (awaits_sweep_end phase) refl
     where
@@ -298,13 +299,13 @@ module _ (h : HeapState) (f : Flow) (k : ℕ) (great : 0 < k) (live : Lives) (li
         swept = i.swept;
         words = i.words;
         since_last = i.since_last;
-        since_base = subst (λ b. words_since s.base s ≤ (if b then f.period + t.words else t.words)) at i.since_base;
+        since_base = subst (λ b. words_since s.base s ≤ (if b then f.cycle_words + t.words else t.words)) at i.since_base;
         made = i.made;
         number = i.number;
         before = i.before;
         only = i.only;
         only_made = i.only_made;
-        total = subst (λ b. words_of i.made + words_since s.swept s ≤ (if b then 2 * f.period + t.words else f.period + t.words)) at i.total;
+        total = subst (λ b. words_of i.made + words_since s.swept s ≤ (if b then 2 * f.cycle_words + t.words else f.cycle_words + t.words)) at i.total;
       }
         where
           now : awaits_sweep_end new.heap.phase ≡ true
@@ -337,7 +338,7 @@ module _ (h : HeapState) (f : Flow) (k : ℕ) (great : 0 < k) (live : Lives) (li
         before = λ class l. omega arith;
         only = i.only;
         only_made = none_since s s.base i.only;
-        total = (let z = none_made s in let b = subst (λ b. words_since s.base s ≤ (if b then f.period + t.words else t.words)) at i.since_base in omega (arith, z, b));
+        total = (let z = none_made s in let b = subst (λ b. words_since s.base s ≤ (if b then f.cycle_words + t.words else t.words)) at i.since_base in omega (arith, z, b));
       }
 
       -- after it
@@ -355,13 +356,13 @@ module _ (h : HeapState) (f : Flow) (k : ℕ) (great : 0 < k) (live : Lives) (li
         swept = i.swept;
         words = i.words;
         since_last = i.since_last;
-        since_base = subst (λ b. words_since s.base s ≤ (if b then f.period + t.words else t.words)) at i.since_base;
+        since_base = subst (λ b. words_since s.base s ≤ (if b then f.cycle_words + t.words else t.words)) at i.since_base;
         made = i.made;
         number = i.number;
         before = i.before;
         only = i.only;
         only_made = i.only_made;
-        total = subst (λ b. words_of i.made + words_since s.swept s ≤ (if b then 2 * f.period + t.words else f.period + t.words)) at i.total;
+        total = subst (λ b. words_of i.made + words_since s.swept s ≤ (if b then 2 * f.cycle_words + t.words else f.cycle_words + t.words)) at i.total;
       }
 
       by_tracing : (b : Bool) → s.tracing ≡ b → awaits_sweep_end phase ≡ false → IsFlowing h f k live new (if b then season_swept live s else s) (record t { tracing = false; quanta = t.quanta + 1 })
@@ -381,32 +382,32 @@ module _ (h : HeapState) (f : Flow) (k : ℕ) (great : 0 < k) (live : Lives) (li
   cycles_stay s false true = refl
   cycles_stay s false false = refl
 
-  flows_keep : (es : List Event) (r new : Course) (s : Season) (t : Meter) → IsCourse r → IsFlowing h f k live r s t → Runs r es new → (keeps : AllKeepFlow f k t es) → Agrees s (lives_of f k s.cycles es t keeps) → AllKeep (WithinPages (flow_pages f most)) live s es
+  flows_keep : (es : List Event) (r new : Course) (s : Season) (t : FlowMeter) → IsCourse r → IsFlowing h f k live r s t → Runs r es new → (keeps : AllMetered (KeepsFlow f k) t es) → Agrees s (lives_of f k s.cycles es t keeps) → AllKeep (WithinPages (flow_pages f most)) live s es
   flows_keep [] r new s t w i runs keeps agrees = tt
   flows_keep (Command_done m c reply ∷ es) r new s t w i runs keeps agrees = (
-    flow_within r s t m c reply w i keeps.0,
-    flows_keep es runs.0 new _ _ (does_course r (Command_done m c reply) runs.0 w runs.1) (flow_command r runs.0 s t m c reply w i keeps.0 runs.1) runs.2 keeps.1 agrees,
+    flow_within r s t m c reply w i keeps.0.0,
+    flows_keep es runs.0 new _ _ (does_course r (Command_done m c reply) runs.0 w runs.1) (flow_command r runs.0 s t m c reply w i keeps.0.0 runs.1) runs.2 keeps.1 agrees,
   )
   flows_keep (Cycle_begun ∷ es) r new s t w i runs keeps agrees = (
-    subst (LiveWithin s.graph) (sym first) (subst (λ z. LiveWithin z keeps.0.blocks) (i.same ∙ sym i.graph) keeps.0.within),
+    subst (LiveWithin s.graph) (sym first) (subst (λ z. LiveWithin z keeps.0.1.blocks) (i.same ∙ sym i.graph) keeps.0.1.within),
     flows_keep es runs.0 new _ _ (does_course r Cycle_begun runs.0 w runs.1) (flow_begins r runs.0 s t i runs.1) runs.2 keeps.1 (λ j l. later j l),
   )
     where
       rest : Lives
       rest = lives_of f k (s.cycles + 1) es (next_meter t Cycle_begun) keeps.1
 
-      first : live (s.cycles + 1) ≡ keeps.0.blocks
-      first = agrees (s.cycles + 1) (omega arith) ∙ ap (λ b. if b then keeps.0.blocks else rest (s.cycles + 1)) (same_number (s.cycles + 1))
+      first : live (s.cycles + 1) ≡ keeps.0.1.blocks
+      first = agrees (s.cycles + 1) (omega arith) ∙ ap (λ b. if b then keeps.0.1.blocks else rest (s.cycles + 1)) (same_number (s.cycles + 1))
 
       later : (j : ℕ) → s.cycles + 1 < j → live j ≡ rest j
-      later j l = agrees j (omega (arith, l)) ∙ ap (λ b. if b then keeps.0.blocks else rest j) (other_number j (s.cycles + 1) l)
+      later j l = agrees j (omega (arith, l)) ∙ ap (λ b. if b then keeps.0.1.blocks else rest j) (other_number j (s.cycles + 1) l)
   flows_keep (Cycle_on ∷ es) r new s t w i runs keeps agrees = (
     tt,
     flows_keep es runs.0 new s t (does_course r Cycle_on runs.0 w runs.1) (subst (λ z. IsFlowing h f k live z s t) (sym runs.1.1) i) runs.2 keeps.1 agrees,
   )
   flows_keep (Quantum_done budget units phase ∷ es) r new s t w i runs keeps agrees = (
     tt,
-    flows_keep es runs.0 new _ _ (does_course r (Quantum_done budget units phase) runs.0 w runs.1) (flow_quantum r runs.0 budget units phase s t w i keeps.0 runs.1) runs.2 keeps.1 (λ j l. agrees j (subst (λ z. z < j) same_cycles l) ∙ ap (λ z. lives_of f k z es (next_meter t (Quantum_done budget units phase)) keeps.1 j) (sym same_cycles)),
+    flows_keep es runs.0 new _ _ (does_course r (Quantum_done budget units phase) runs.0 w runs.1) (flow_quantum r runs.0 budget units phase s t w i keeps.0.0 runs.1) runs.2 keeps.1 (λ j l. agrees j (subst (λ z. z < j) same_cycles l) ∙ ap (λ z. lives_of f k z es (next_meter t (Quantum_done budget units phase)) keeps.1 j) (sym same_cycles)),
   )
     where
       same_cycles : (season_after live s (Quantum_done budget units phase)).cycles ≡ s.cycles
@@ -446,7 +447,7 @@ opening_flowing h f k live o = record {
     nothing : words_of (λ class. 0) ≡ 0
     nothing = words_none _ (λ class l. refl)
 
-pub flow_suffices : (h : HeapState) (es : List Event) (new : Course) (f : Flow) (k : ℕ) → 0 < k → IsOpening h → 0 < length h.store.pages → GathersAll h → Runs (opened h) es new → AllKeepFlow f k (opening_meter h.limits) es
+pub flow_suffices : (h : HeapState) (es : List Event) (new : Course) (f : Flow) (k : ℕ) → 0 < k → IsOpening h → 0 < length h.store.pages → GathersAll h → Runs (opened h) es new → AllMetered (KeepsFlow f k) (opening_meter h.limits) es
     → FlowFits f k h → EveryNewFindsRoom es
 flow_suffices h es new f k great o some all runs keeps fits =
     moving_suffices h es new live o some all runs

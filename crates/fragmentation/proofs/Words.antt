@@ -9,8 +9,9 @@ use Rattle.size_classes.proofs.Table.{blocks_some}
 use Rattle.heap_model.specs.Pages.{whole_pages}
 use Rattle.space.specs.Space.{class_sum}
 use Rattle.space.proofs.Counts.{class_sum_le, class_sum_both, zeros}
+use Rattle.fragmentation.specs.declared.flow.TheConstants.{LEAST_PAGE_FILL, PARTLY_FILLED_PAGES}
 use Rattle.fragmentation.specs.Suffice.{gathered_pages, pages_of}
-use Rattle.fragmentation.specs.Flow.{words_of, kinds}
+use Rattle.fragmentation.specs.Flow.{words_of, classes_made}
 use Rattle.fragmentation.proofs.Paging.{whole_more, whole_none, whole_both}
 
 -- each number below n passes
@@ -32,9 +33,14 @@ all_below_at p (suc n) k h l =
     elim (lt_or_eq k n (omega arith)) [ inl e ↦ subst (λ m. p m ≡ true) e parts.0 | inr b ↦ all_below_at p n k parts.1 b ]
 
 -- the blocks of a page have at least this many words
-pub page_words_least : (k : ℕ) → k < CLASSES → 1832 ≤ size_of k * blocks_in k
+pub page_words_least : (k : ℕ) → k < CLASSES → LEAST_PAGE_FILL ≤ size_of k * blocks_in k
 unfolding size_of blocks_in
-page_words_least k h = leb-true 1832 (size_of k * blocks_in k) (all_below_at (λ k. leb 1832 (size_of k * blocks_in k)) CLASSES k refl h)
+page_words_least k h = leb-true LEAST_PAGE_FILL (size_of k * blocks_in k) (all_below_at (λ k. leb LEAST_PAGE_FILL (size_of k * blocks_in k)) CLASSES k refl h)
+
+-- of one class no more
+pub page_words_attained : (k : ℕ) × (k < CLASSES) × (size_of k * blocks_in k ≡ LEAST_PAGE_FILL)
+unfolding size_of blocks_in
+page_words_attained = (36, omega arith, refl)
 
 -- the whole pages of a class but one are filled
 filled : (b n q : ℕ) → 0 < b → q * b ≤ n + (b - 1) → (q ≡ 0) ⊎ ((p : ℕ) × (q ≡ p + 1) × (p * b ≤ n))
@@ -44,13 +50,13 @@ filled b n (suc p) some l = inr (p, omega arith, (let d : suc p * b ≡ p * b + 
     times : (p b : ℕ) → suc p * b ≡ p * b + b
     times p b = grind arith
 
-filled_words : (s b n q : ℕ) → 0 < b → 1832 ≤ s * b → q * b ≤ n + (b - 1) → 1832 * q ≤ s * n + 1832
+filled_words : (s b n q : ℕ) → 0 < b → LEAST_PAGE_FILL ≤ s * b → q * b ≤ n + (b - 1) → LEAST_PAGE_FILL * q ≤ s * n + LEAST_PAGE_FILL
 filled_words s b n q some least l = by_filled (filled b n q some l)
   where
     swap : (p : ℕ) → p * (s * b) ≡ s * (p * b)
     swap p = grind arith
 
-    by_filled : (q ≡ 0) ⊎ ((p : ℕ) × (q ≡ p + 1) × (p * b ≤ n)) → 1832 * q ≤ s * n + 1832
+    by_filled : (q ≡ 0) ⊎ ((p : ℕ) × (q ≡ p + 1) × (p * b ≤ n)) → LEAST_PAGE_FILL * q ≤ s * n + LEAST_PAGE_FILL
     by_filled (inl e) = omega (arith, e)
     by_filled (inr w) =
         let e = w.1 in
@@ -59,7 +65,7 @@ filled_words s b n q some least l = by_filled (filled b n q some l)
         let x = swap w.0 in
         omega (arith, e, m, o, x)
 
-class_words : (k n : ℕ) → k < CLASSES → 1832 * whole_pages k n ≤ size_of k * n + 1832
+class_words : (k n : ℕ) → k < CLASSES → LEAST_PAGE_FILL * whole_pages k n ≤ size_of k * n + LEAST_PAGE_FILL
 class_words k n l = filled_words (size_of k) (blocks_in k) n (whole_pages k n) (blocks_some k l) (page_words_least k l) (div-mul-le_self (n + (blocks_in k - 1)) (blocks_in k))
 
 times_sum : (c : ℕ) (f : ℕ → ℕ) (n : ℕ) → class_sum (λ k. c * f k) n ≡ c * class_sum f n
@@ -70,7 +76,7 @@ times_sum c f (suc n) = let r = times_sum c f n in let d : c * (class_sum f n + 
     spread a b c = grind arith
 
 -- what lives of a class, and is made of it, in words and in pages
-class_live : (k live made : ℕ) (by_pages : Bool) → k < CLASSES → 1832 * whole_pages k (live + made) ≤ (if by_pages then 1832 * whole_pages k live else size_of k * live) + size_of k * made + 1832
+class_live : (k live made : ℕ) (by_pages : Bool) → k < CLASSES → LEAST_PAGE_FILL * whole_pages k (live + made) ≤ (if by_pages then LEAST_PAGE_FILL * whole_pages k live else size_of k * live) + size_of k * made + LEAST_PAGE_FILL
 class_live k live made true l =
     let p : whole_pages k (live + made) ≤ whole_pages k live + whole_pages k made = whole_both (blocks_in k) live made (blocks_some k l) in
     let w = class_words k made l in
@@ -84,11 +90,11 @@ class_live k live made false l =
     spread a b c = grind arith
 
 abbrev live_part : Bool → (ℕ → ℕ) → ℕ → ℕ
-live_part by_pages live k = if by_pages then 1832 * whole_pages k (live k) else size_of k * live k
+live_part by_pages live k = if by_pages then LEAST_PAGE_FILL * whole_pages k (live k) else size_of k * live k
 
 -- the pages of a class whose blocks were gathered, and of those that are made since
-class_fits : (k before live made more : ℕ) (by_pages used : Bool) → k < CLASSES → before ≤ live + made → (used ≡ false → (before ≡ 0) × (more ≡ 0))
-    → 1832 * (gathered_pages k before + whole_pages k more) ≤ (if by_pages then 1832 * whole_pages k live else size_of k * live) + size_of k * made + size_of k * more + 5496 * (if used then 1 else 0)
+class_fits : (k before live made more : ℕ) (by_pages makes : Bool) → k < CLASSES → before ≤ live + made → (makes ≡ false → (before ≡ 0) × (more ≡ 0))
+    → LEAST_PAGE_FILL * (gathered_pages k before + whole_pages k more) ≤ (if by_pages then LEAST_PAGE_FILL * whole_pages k live else size_of k * live) + size_of k * made + size_of k * more + (PARTLY_FILLED_PAGES * LEAST_PAGE_FILL) * (if makes then 1 else 0)
 class_fits k before live made more by_pages true l b none =
     let w = class_live k live made by_pages l in
     let m = whole_more k before (live + made) l b in
@@ -108,8 +114,8 @@ class_fits k before live made more by_pages false l b none =
     below : (b : ℕ) → 0 < b → nat_lt 0 b ≡ true
     below b l = grind arith
 
-live_parts : (live : ℕ → ℕ) (most : ℕ) → (1832 * pages_of live ≤ most) ⊎ (words_of live ≤ most) → (b : Bool) × (class_sum (live_part b live) CLASSES ≤ most)
-live_parts live most (inl l) = (true, (let e = times_sum 1832 (λ k. whole_pages k (live k)) CLASSES in omega (arith, e, l)))
+live_parts : (live : ℕ → ℕ) (most : ℕ) → (LEAST_PAGE_FILL * pages_of live ≤ most) ⊎ (words_of live ≤ most) → (b : Bool) × (class_sum (live_part b live) CLASSES ≤ most)
+live_parts live most (inl l) = (true, (let e = times_sum LEAST_PAGE_FILL (λ k. whole_pages k (live k)) CLASSES in omega (arith, e, l)))
 live_parts live most (inr l) = (false, l)
 
 minus : (n m : ℕ) → m ≤ n → (j : ℕ) × (n ≡ j + m)
@@ -120,26 +126,26 @@ minus (suc n) (suc m) g = let r = minus n m (omega (arith, g)) in (r.0, (let e =
 order : (n m : ℕ) → (n ≤ m) ⊎ (m ≤ n)
 order n m = grind arith
 
-in_pages : (n words more : ℕ) → 1832 * n ≤ words + 1832 * more → n ≤ words / 1832 + more
+in_pages : (n words more : ℕ) → LEAST_PAGE_FILL * n ≤ words + LEAST_PAGE_FILL * more → n ≤ words / LEAST_PAGE_FILL + more
 in_pages n words more l = elim (order n more) [
   | inl e ↦ omega (arith, e)
-  | inr g ↦ (let j = minus n more g in let e = j.1 in let q = le-div j.0 words 1832 (omega arith) (let z : 1832 * n ≡ j.0 * 1832 + 1832 * more = omega (arith, e) in omega (arith, z, l)) in omega (arith, q, e))
+  | inr g ↦ (let j = minus n more g in let e = j.1 in let q = le-div j.0 words LEAST_PAGE_FILL (omega arith) (let z : LEAST_PAGE_FILL * n ≡ j.0 * LEAST_PAGE_FILL + LEAST_PAGE_FILL * more = omega (arith, e) in omega (arith, z, l)) in omega (arith, q, e))
 ]
 
 -- The pages that were gathered, and those that were opened since, by the words of what was live, of what was made, and of
 -- what is made since.
-pub words_fit : (before live made more : ℕ → ℕ) (used : ℕ → Bool) (most words : ℕ) → ((k : ℕ) → k < CLASSES → before k ≤ live k + made k) → ((k : ℕ) → k < CLASSES → used k ≡ false → (before k ≡ 0) × (more k ≡ 0))
-    → (1832 * pages_of live ≤ most) ⊎ (words_of live ≤ most) → words_of made + words_of more ≤ words → class_sum (λ k. gathered_pages k (before k) + whole_pages k (more k)) CLASSES ≤ (most + words) / 1832 + 3 * kinds used
-words_fit before live made more used most words needs none few fits =
+pub words_fit : (before live made more : ℕ → ℕ) (makes : ℕ → Bool) (most words : ℕ) → ((k : ℕ) → k < CLASSES → before k ≤ live k + made k) → ((k : ℕ) → k < CLASSES → makes k ≡ false → (before k ≡ 0) × (more k ≡ 0))
+    → (LEAST_PAGE_FILL * pages_of live ≤ most) ⊎ (words_of live ≤ most) → words_of made + words_of more ≤ words → class_sum (λ k. gathered_pages k (before k) + whole_pages k (more k)) CLASSES ≤ (most + words) / LEAST_PAGE_FILL + PARTLY_FILLED_PAGES * classes_made makes
+words_fit before live made more makes most words needs none few fits =
     let p = live_parts live most few in
-    let l = class_sum_le (λ k. 1832 * (gathered_pages k (before k) + whole_pages k (more k))) (λ k. live_part p.0 live k + size_of k * made k + size_of k * more k + 5496 * (if used k then 1 else 0)) CLASSES (λ k b. class_fits k (before k) (live k) (made k) (more k) p.0 (used k) b (needs k b) (none k b)) in
-    let t = times_sum 1832 (λ k. gathered_pages k (before k) + whole_pages k (more k)) CLASSES in
-    let u = times_sum 5496 (λ k. if used k then 1 else 0) CLASSES in
-    let a = class_sum_both (λ k. live_part p.0 live k + size_of k * made k + size_of k * more k) (λ k. 5496 * (if used k then 1 else 0)) CLASSES in
+    let l = class_sum_le (λ k. LEAST_PAGE_FILL * (gathered_pages k (before k) + whole_pages k (more k))) (λ k. live_part p.0 live k + size_of k * made k + size_of k * more k + (PARTLY_FILLED_PAGES * LEAST_PAGE_FILL) * (if makes k then 1 else 0)) CLASSES (λ k b. class_fits k (before k) (live k) (made k) (more k) p.0 (makes k) b (needs k b) (none k b)) in
+    let t = times_sum LEAST_PAGE_FILL (λ k. gathered_pages k (before k) + whole_pages k (more k)) CLASSES in
+    let u = times_sum (PARTLY_FILLED_PAGES * LEAST_PAGE_FILL) (λ k. if makes k then 1 else 0) CLASSES in
+    let a = class_sum_both (λ k. live_part p.0 live k + size_of k * made k + size_of k * more k) (λ k. (PARTLY_FILLED_PAGES * LEAST_PAGE_FILL) * (if makes k then 1 else 0)) CLASSES in
     let c = class_sum_both (λ k. live_part p.0 live k + size_of k * made k) (λ k. size_of k * more k) CLASSES in
     let d = class_sum_both (live_part p.0 live) (λ k. size_of k * made k) CLASSES in
     let y = p.1 in
-    in_pages (class_sum (λ k. gathered_pages k (before k) + whole_pages k (more k)) CLASSES) (most + words) (3 * kinds used) (omega (arith, l, t, u, a, c, d, y, fits))
+    in_pages (class_sum (λ k. gathered_pages k (before k) + whole_pages k (more k)) CLASSES) (most + words) (PARTLY_FILLED_PAGES * classes_made makes) (omega (arith, l, t, u, a, c, d, y, fits))
 
 -- more blocks have no fewer words
 pub words_more : (f g : ℕ → ℕ) → ((k : ℕ) → k < CLASSES → f k ≤ g k) → words_of f ≤ words_of g

@@ -24,5 +24,5 @@ FitsTogether c blocks =
 -- A flow fits in a configuration: up to its sweep's end a cycle makes no more than may be made until the next one, and
 -- there are as many pages as it takes.
 pub record FlowFitsIn (c : Config) (f : Flow) : Type 0 where
-  pub traced : traced_words f (unmoved_quanta_at c c.pages) ≤ f.period
+  pub traced : traced_words f (unmoved_quanta_at c c.pages) ≤ f.cycle_words
   pub enough : flow_pages f (unmoved_quanta_at c c.pages) ≤ c.pages

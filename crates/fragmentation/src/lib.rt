@@ -5,7 +5,7 @@ ghost use Rattle.std.specs.Prelude.{◌≡◌, ℕ, ◌+◌, ◌*◌, ◌<◌, �
 ghost use Rattle.graph_heap.specs.declared.command.Change.{Change};
 ghost use Rattle.graph_heap.specs.Graph.{Graph};
 ghost use Rattle.size_classes.specs.declared.class.TheConstants.{CLASSES};
-ghost use Rattle.size_classes.specs.Sizes.{blocks_in};
+ghost use Rattle.size_classes.specs.Sizes.{size_of, blocks_in};
 ghost use Rattle.size_classes.specs.declared.config.Config.{Config};
 ghost use Rattle.size_classes.specs.declared.config.TheConstants.{LEAST_BUDGET};
 ghost use Rattle.heap_model.specs.declared.phase.Phase.TheVariants as phases;
@@ -29,8 +29,13 @@ ghost use Rattle.fragmentation.specs.Tight.{IsTight, staying_pages};
 ghost use Rattle.fragmentation.specs.Gathering.{IsGathering, AreTight};
 ghost use Rattle.fragmentation.specs.Configured.{MovesAll, FitsTogether, FlowFitsIn};
 ghost use Rattle.fragmentation.specs.Season.{Lives, opening_season, AllKeep};
-ghost use Rattle.fragmentation.specs.Flow.{Flow, opening_meter, AllKeepFlow, FlowFits};
+ghost use Rattle.fragmentation.specs.declared.flow.TheConstants.{LEAST_PAGE_FILL};
+ghost use Rattle.fragmentation.specs.Flow.{Flow, opening_meter, KeepsFlow, AllMetered, FlowFits};
 ghost use Rattle.fragmentation.specs.Suffice.{GathersAll, WithinPages, WithinBlocks, sparse_pages, pages_of, Budget, budget_pages, WithinBudget};
+
+mod flow;
+
+pub use flow::{LEAST_PAGE_FILL, PARTLY_FILLED_PAGES};
 
 /// A tight class has as few pages that aren't evacuating as its allocated blocks on them need.
 pub fn tight_pages_are_fewest()
@@ -94,14 +99,20 @@ pub fn budget_suffices()
         → budget_pages b ≤ length h.store.pages → EveryNewFindsRoom es }
 {}
 
-/// So where live objects take at most some number of whole pages whenever a cycle begins, and the program makes, all
-/// size classes together, at most so many words for each quantum until a cycle's sweep ends and so many from one
-/// cycle's beginning to the next, no new object is refused for lack of space, where these fit in the pages that there
-/// are: whatever the sizes of the objects are, and however these change.
+/// The blocks of a page have at least `LEAST_PAGE_FILL` words, whatever its class, and those of one class no more.
+pub fn pages_have_words()
+    ensures least { (class : ℕ) → class < CLASSES → LEAST_PAGE_FILL ≤ size_of class * blocks_in class }
+    ensures attained { (class : ℕ) × (class < CLASSES) × (size_of class * blocks_in class ≡ LEAST_PAGE_FILL) }
+{}
+
+/// No new object is refused for lack of space in a run that keeps to a flow which fits: where what is live takes at
+/// most so many words whenever a cycle begins, and the program asks, over all size classes together, for at most so
+/// many words for each quantum until a cycle's sweep ends, and for so many from one cycle's beginning to the next.
+/// Whatever the sizes of the objects are, and however these shift.
 pub fn flow_suffices()
     ensures { (h : HeapState) (es : List Event) (new : Course) (f : Flow) (k : ℕ) → 0 < k → IsOpening h
         → 0 < length h.store.pages → GathersAll h → Runs (opened h) es new
-        → AllKeepFlow f k (opening_meter h.limits) es → FlowFits f k h → EveryNewFindsRoom es }
+        → AllMetered (KeepsFlow f k) (opening_meter h.limits) es → FlowFits f k h → EveryNewFindsRoom es }
 {}
 
 /// The space bound for a demand that is taken together, whatever moves: in every run that keeps, at each command, what
@@ -150,6 +161,6 @@ pub fn configured_pages_suffice()
     ensures flow { (config : Config) (h : HeapState) (es : List Event) (new : Course) (f : Flow) → 1 ≤ config.pages
         → LEAST_BUDGET ≤ config.collector_ticks * config.rate → IsOpening h → settings_of h ≡ settings_by config
         → MovesAll config → Runs (opened h) es new
-        → AllKeepFlow f (config.collector_ticks * config.rate) (opening_meter h.limits) es → FlowFitsIn config f
-        → AllHaveRoom es }
+        → AllMetered (KeepsFlow f (config.collector_ticks * config.rate)) (opening_meter h.limits) es
+        → FlowFitsIn config f → AllHaveRoom es }
 {}

@@ -14,7 +14,7 @@ use Rattle.space.specs.Pace.{opening_beat, AllKeepPace}
 use Rattle.space.proofs.Configured.{demand_configured, pace_configured}
 use Rattle.fragmentation.specs.Season.{opening_season, AllKeep}
 use Rattle.fragmentation.specs.Suffice.{WithinPages, WithinBlocks, WithinBudget}
-use Rattle.fragmentation.specs.Flow.{opening_meter, AllKeepFlow}
+use Rattle.fragmentation.specs.Flow.{opening_meter, KeepsFlow, AllMetered}
 use Rattle.fragmentation.proofs.Configured.{joint_configured, moving_configured, budget_configured, flow_configured}
 use Rattle.machine.specs.Space.{SpaceSuffices, FindsSpace, FoundSpace}
 
@@ -29,7 +29,7 @@ space_suffices config h es new o same runs =
       joint = λ blocks live keeps fits. joint_configured config h o same one es new live runs blocks (subst (λ (l : Limits). AllKeep (WithinBlocks blocks live) live (opening_season l) es) limits keeps) fits;
       moving = λ live moves keeps. moving_configured config h o same one es new live runs moves (subst (λ (l : Limits). AllKeep (WithinPages config.pages) live (opening_season l) es) limits keeps);
       budget = λ b live moves lives keeps fits. budget_configured config h o same one es new live runs b moves lives (subst (λ (l : Limits). AllKeep (WithinBudget b) live (opening_season l) es) limits keeps) fits;
-      flow = λ f moves keeps fits. flow_configured config h o same one es new (λ n class. 0) runs f moves config.budget_in_range.0 (subst (λ (l : Limits). AllKeepFlow f (config.collector_ticks * config.rate) (opening_meter l) es) limits keeps) fits;
+      flow = λ f moves keeps fits. flow_configured config h o same one es new (λ n class. 0) runs f moves config.budget_in_range.0 (subst (λ (l : Limits). AllMetered (KeepsFlow f (config.collector_ticks * config.rate)) (opening_meter l) es) limits keeps) fits;
     }
 
 pub finds_space : (r : Course) → FindsSpace r

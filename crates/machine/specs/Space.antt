@@ -14,7 +14,7 @@ use Rattle.space.specs.Fitting.{Fits, FitsIn}
 use Rattle.space.specs.Room.{AllHaveRoom}
 use Rattle.fragmentation.specs.Season.{Lives, opening_season, AllKeep}
 use Rattle.fragmentation.specs.Suffice.{WithinPages, WithinBlocks, pages_of, Budget, budget_pages, WithinBudget}
-use Rattle.fragmentation.specs.Flow.{Flow, opening_meter, AllKeepFlow}
+use Rattle.fragmentation.specs.Flow.{Flow, opening_meter, KeepsFlow, AllMetered}
 use Rattle.fragmentation.specs.Configured.{MovesAll, FitsTogether, FlowFitsIn}
 
 -- What a configuration promises of these events: no reply is the refusal for lack of space, where the events keep to a
@@ -34,7 +34,7 @@ pub record SpaceSuffices (config : Config) (es : List Event) : Type 0 where
       → AllKeep (WithinBudget b) live (opening_season (limits_of config)) es → budget_pages b ≤ config.pages
       → AllHaveRoom es
   pub flow : (f : Flow) → MovesAll config
-      → AllKeepFlow f (config.collector_ticks * config.rate) (opening_meter (limits_of config)) es
+      → AllMetered (KeepsFlow f (config.collector_ticks * config.rate)) (opening_meter (limits_of config)) es
       → FlowFitsIn config f → AllHaveRoom es
 
 -- a heap of a configuration that was just made, without a history

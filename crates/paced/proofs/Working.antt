@@ -17,55 +17,62 @@ use Rattle.space.specs.Tally.{awaits_sweep_end}
 use Rattle.space.specs.Pace.{in_cycle}
 use Rattle.space.specs.Room.{asks}
 use Rattle.space.proofs.Spending.{limit_stays}
-use Rattle.fragmentation.specs.Flow.{words_of, Flow, Meter, next_meter}
+use Rattle.fragmentation.specs.Flow.{words_of, FlowMeter, next_meter, Paces, AllMetered}
 use Rattle.fragmentation.proofs.Words.{words_more}
 use Rattle.machine.proofs.Courses.{runs_then}
 use Rattle.machine.specs.declared.collector.BudgetOutOfRange.{BudgetOutOfRange}
 use Rattle.machine.specs.declared.collector.Spent.{Spent}
 use Rattle.machine.specs.HeapWithHistory.{quantum_done}
-use Rattle.paced.specs.Pacing.{PacedView, flow_of, Meets, SameFlow, AllPace, meter_after, Paced, left_of, MayAsk}
+use Rattle.paced.specs.Pacing.{PacedView, planned_flow, IsAsStrict, SamePlan, meter_after, Paced, Collected, work_left, MayAsk}
 
 -- events one after the other
-pace_then : (f : Flow) (k : ℕ) (es fs : List Event) (t : Meter) → AllPace f k t es → AllPace f k (meter_after t es) fs → AllPace f k t (es ++ fs)
-pace_then f k [] fs t p q = q
-pace_then f k (e ∷ es) fs t p q = (p.0, pace_then f k es fs (next_meter t e) p.1 q)
+metered_then : (Passes : FlowMeter → Event → Type 0) (es fs : List Event) (t : FlowMeter) → AllMetered Passes t es → AllMetered Passes (meter_after t es) fs → AllMetered Passes t (es ++ fs)
+metered_then Passes [] fs t p q = q
+metered_then Passes (e ∷ es) fs t p q = (p.0, metered_then Passes es fs (next_meter t e) p.1 q)
 
-meter_then : (es fs : List Event) (t : Meter) → meter_after t (es ++ fs) ≡ meter_after (meter_after t es) fs
+meter_then : (es fs : List Event) (t : FlowMeter) → meter_after t (es ++ fs) ≡ meter_after (meter_after t es) fs
 meter_then [] fs t = refl
 meter_then (e ∷ es) fs t = meter_then es fs (next_meter t e)
 
-same_flow : (old new : PacedView) (live : ℕ) → SameFlow old new → flow_of new live ≡ flow_of old live
-same_flow old new live s = ap (λ b. record { used = λ class. true; live = live; busy = b; over = 0; period = new.period }) s.busy ∙ ap (λ p. record { used = λ class. true; live = live; busy = old.busy; over = 0; period = p }) s.period
+pub same_then : (old mid new : PacedView) → SamePlan old mid → SamePlan mid new → SamePlan old new
+same_then old mid new s u = record { plan = u.plan ∙ s.plan; budget = u.budget ∙ s.budget }
 
-pub same_then : (old mid new : PacedView) → SameFlow old mid → SameFlow mid new → SameFlow old new
-same_then old mid new s u = record { busy = u.busy ∙ s.busy; period = u.period ∙ s.period; budget = u.budget ∙ s.budget }
-
-pub same_here : (v : PacedView) → SameFlow v v
-same_here v = record { busy = refl; period = refl; budget = refl }
-
-pub paced_here : (v : PacedView) → Paced v v
-paced_here v t m = ([], record { runs = refl; paces = λ live. tt; meets = m })
-
-pub paced_then : (old mid new : PacedView) → SameFlow old mid → Paced old mid → Paced mid new → Paced old new
+pub paced_then : (old mid new : PacedView) → SamePlan old mid → Paced old mid → Paced mid new → Paced old new
 paced_then old mid new s p q t m =
     let x = p t m in
-    let y = q (meter_after t x.0) x.1.meets in (
+    let y = q (meter_after t x.0) x.1.strict in (
       x.0 ++ y.0,
       record {
         runs = runs_then x.0 y.0 old.course mid.course new.course x.1.runs y.1.runs;
-        paces = λ live. pace_then (flow_of old live) old.budget x.0 y.0 t (x.1.paces live) (subst (λ k. AllPace (flow_of old live) k (meter_after t x.0) y.0) s.budget (subst (λ f. AllPace f mid.budget (meter_after t x.0) y.0) (same_flow old mid live s) (y.1.paces live)));
-        meets = subst (λ z. Meets z new) (sym (meter_then x.0 y.0 t)) y.1.meets;
+        paces = λ live. metered_then (Paces (planned_flow live old.plan) old.budget) x.0 y.0 t (x.1.paces live) (subst (λ k. AllMetered (Paces (planned_flow live old.plan) k) (meter_after t x.0) y.0) s.budget (subst (λ p. AllMetered (Paces (planned_flow live p) mid.budget) (meter_after t x.0) y.0) s.plan (y.1.paces live)));
+        strict = subst (λ z. IsAsStrict z new) (sym (meter_then x.0 y.0 t)) y.1.strict;
       },
     )
 
--- nothing was done
-pub rests : (old new : PacedView) → new.course ≡ old.course → new.words ≡ old.words → new.quanta ≡ old.quanta → Paced old new
+-- nothing was done at all
+pub collected_here : (v : PacedView) → Collected v v
+collected_here v = record {
+  paced = λ t m. ([], record { runs = refl; paces = λ live. tt; strict = m });
+  same = record { plan = refl; budget = refl };
+  history = refl;
+}
+
+-- the collector worked on
+pub collected_then : (old mid new : PacedView) → Collected old mid → Collected mid new → Collected old new
+collected_then old mid new a b = record {
+  paced = paced_then old mid new a.same a.paced b.paced;
+  same = same_then old mid new a.same b.same;
+  history = b.history ∙ a.history;
+}
+
+-- nothing was done on the heap
+rests : (old new : PacedView) → new.course ≡ old.course → new.words ≡ old.words → new.quanta ≡ old.quanta → Paced old new
 rests old new same words quanta t m = (
   [],
   record {
     runs = same;
     paces = λ live. tt;
-    meets = record {
+    strict = record {
       graph = m.graph ∙ ap present_of (sym same);
       tracing = m.tracing ∙ ap (λ (r : Course). awaits_sweep_end r.heap.phase) (sym same);
       words = (let l = m.words in omega (arith, l, words));
@@ -74,14 +81,21 @@ rests old new same words quanta t m = (
   },
 )
 
+pub collected_none : (old new : PacedView) → SamePlan old new → new.course ≡ old.course → new.words ≡ old.words → new.quanta ≡ old.quanta → Collected old new
+collected_none old new plan same words quanta = record {
+  paced = rests old new same words quanta;
+  same = plan;
+  history = ap (λ (r : Course). r.history) same;
+}
+
 -- a cycle begins
-pub begin_works : (old new : PacedView) → Begins old.course new.course → new.words ≡ 0 → new.quanta ≡ 0 → Paced old new
-begin_works old new b words quanta t m = (
+begin_paces : (old new : PacedView) → Begins old.course new.course → new.words ≡ 0 → new.quanta ≡ 0 → Paced old new
+begin_paces old new b words quanta t m = (
   Cycle_begun ∷ [],
   record {
     runs = (new.course, b, refl);
     paces = λ live. (tt, tt);
-    meets = record {
+    strict = record {
       graph = m.graph ∙ sym (begins_present old.course new.course b);
       tracing = sym (ap (λ (z : HeapState). awaits_sweep_end z.phase) b.heap);
       words = omega arith;
@@ -90,15 +104,18 @@ begin_works old new b words quanta t m = (
   },
 )
 
+pub begin_works : (old new : PacedView) → SamePlan old new → Begins old.course new.course → new.words ≡ 0 → new.quanta ≡ 0 → Collected old new
+begin_works old new same b words quanta = record { paced = begin_paces old new b words quanta; same = same; history = b.history }
+
 is_none : (n : ℕ) → n ≡ 0 → (n == 0) ≡ true
 is_none n e = ap (λ z. z == 0) e
 
 not_none : (n : ℕ) → 0 < n → (n == 0) ≡ false
 not_none n l = grind arith
 
-left_low : (v : PacedView) → v.words ≡ 0 → left_of v ≤ cycle_limit v.course.heap + 1
+left_low : (v : PacedView) → v.words ≡ 0 → work_left v ≤ cycle_limit v.course.heap + 1
 left_low v e =
-    let x : left_of v ≡ 0 + (if in_cycle v.course.heap.phase then cycle_limit v.course.heap - v.course.heap.units + 1 else 0) = ap (λ b. (if b then 0 else cycle_limit v.course.heap + 2) + (if in_cycle v.course.heap.phase then cycle_limit v.course.heap - v.course.heap.units + 1 else 0)) (is_none v.words e) in
+    let x : work_left v ≡ 0 + (if in_cycle v.course.heap.phase then cycle_limit v.course.heap - v.course.heap.units + 1 else 0) = ap (λ b. (if b then 0 else cycle_limit v.course.heap + 2) + (if in_cycle v.course.heap.phase then cycle_limit v.course.heap - v.course.heap.units + 1 else 0)) (is_none v.words e) in
     let y = by_on (in_cycle v.course.heap.phase) in
     omega (arith, x, y)
   where
@@ -106,12 +123,12 @@ left_low v e =
     by_on true = omega arith
     by_on false = omega arith
 
-left_high : (v : PacedView) → 0 < v.words → cycle_limit v.course.heap + 2 ≤ left_of v
+left_high : (v : PacedView) → 0 < v.words → cycle_limit v.course.heap + 2 ≤ work_left v
 left_high v l =
-    let x : left_of v ≡ cycle_limit v.course.heap + 2 + (if in_cycle v.course.heap.phase then cycle_limit v.course.heap - v.course.heap.units + 1 else 0) = ap (λ b. (if b then 0 else cycle_limit v.course.heap + 2) + (if in_cycle v.course.heap.phase then cycle_limit v.course.heap - v.course.heap.units + 1 else 0)) (not_none v.words l) in
+    let x : work_left v ≡ cycle_limit v.course.heap + 2 + (if in_cycle v.course.heap.phase then cycle_limit v.course.heap - v.course.heap.units + 1 else 0) = ap (λ b. (if b then 0 else cycle_limit v.course.heap + 2) + (if in_cycle v.course.heap.phase then cycle_limit v.course.heap - v.course.heap.units + 1 else 0)) (not_none v.words l) in
     omega (arith, x)
 
-pub begin_less : (old new : PacedView) → Begins old.course new.course → new.words ≡ 0 → (in_cycle old.course.heap.phase ≡ true) ⊎ (0 < old.words) → left_of new < left_of old
+pub begin_less : (old new : PacedView) → Begins old.course new.course → new.words ≡ 0 → (in_cycle old.course.heap.phase ≡ true) ⊎ (0 < old.words) → work_left new < work_left old
 begin_less old new b words (inl on) = absurd (let z : false ≡ true = sym (ap in_cycle b.idle) ∙ on in cc)
 begin_less old new b words (inr some) =
     let l = left_low new words in
@@ -120,13 +137,13 @@ begin_less old new b words (inr some) =
     omega (arith, l, g, e)
 
 -- a quantum is spent on a cycle that runs
-pub quantum_works : (old new : PacedView) (units : ℕ) (phase : Phase) → IsCourse old.course → old.course.heap.phase ≢ phases.Idle → Collects old.course old.budget units phase new.course → new.words ≡ old.words → new.quanta ≤ old.quanta + 1 → Paced old new
-quantum_works old new units phase w busy q words quanta t m = (
+quantum_paces : (old new : PacedView) (units : ℕ) (phase : Phase) → IsCourse old.course → old.course.heap.phase ≢ phases.Idle → Collects old.course old.budget units phase new.course → new.words ≡ old.words → new.quanta ≤ old.quanta + 1 → Paced old new
+quantum_paces old new units phase w busy q words quanta t m = (
   Cycle_on ∷ Quantum_done old.budget units phase ∷ [],
   record {
     runs = (old.course, (busy, refl), (new.course, q, refl));
     paces = λ live. (tt, (omega arith, tt));
-    meets = record {
+    strict = record {
       graph = m.graph ∙ sym (collects_present old.course new.course old.budget units phase w q);
       tracing = sym (ap awaits_sweep_end q.ends);
       words = (let l = m.words in omega (arith, l, words));
@@ -135,6 +152,9 @@ quantum_works old new units phase w busy q words quanta t m = (
   },
 )
 
+quantum_works : (old new : PacedView) (units : ℕ) (phase : Phase) → SamePlan old new → IsCourse old.course → old.course.heap.phase ≢ phases.Idle → Collects old.course old.budget units phase new.course → new.words ≡ old.words → new.quanta ≤ old.quanta + 1 → Collected old new
+quantum_works old new units phase same w busy q words quanta = record { paced = quantum_paces old new units phase w busy q words quanta; same = same; history = q.history }
+
 runs_on : (p : Phase) → p ≢ phases.Idle → in_cycle p ≡ true
 runs_on phases.Idle n = absurd (n refl)
 runs_on (phases.Roots next) n = refl
@@ -142,7 +162,7 @@ runs_on (phases.Marking part cell) n = refl
 runs_on (phases.Sweeping page block) n = refl
 runs_on (phases.Moving m) n = refl
 
-pub quantum_less : (old new : PacedView) (units : ℕ) (phase : Phase) → IsCourse old.course → IsCourse new.course → old.course.heap.phase ≢ phases.Idle → Collects old.course old.budget units phase new.course → 256 ≤ old.budget → (phase ≡ phases.Idle) ⊎ (old.budget < units + 256) → new.words ≡ old.words → left_of new < left_of old
+pub quantum_less : (old new : PacedView) (units : ℕ) (phase : Phase) → IsCourse old.course → IsCourse new.course → old.course.heap.phase ≢ phases.Idle → Collects old.course old.budget units phase new.course → 256 ≤ old.budget → (phase ≡ phases.Idle) ⊎ (old.budget < units + 256) → new.words ≡ old.words → work_left new < work_left old
 quantum_less old new units phase w z busy q some ends words =
     let limit : cycle_limit new.course.heap ≡ cycle_limit old.course.heap = limit_stays old.course (Quantum_done old.budget units phase) new.course q in
     let low = stands_limit old.course.heap (present_of old.course) (snapshot_of old.course) w.stands in
@@ -164,13 +184,13 @@ quantum_less old new units phase w z busy q some ends words =
     by_end (inr l) low high total limit = by_on (in_cycle new.course.heap.phase) (omega (arith, l, some)) high total limit
 
 -- the budget is one that a quantum may have
-pub spent_works : (old new : PacedView) (mid : Course) (result : Result Spent BudgetOutOfRange) → IsCourse old.course → IsBudget old.budget → (old.course.heap.phase ≢ phases.Idle) × (mid ≡ old.course) → Does mid (quantum_done old.budget result) new.course
-    → new.words ≡ old.words → new.quanta ≤ old.quanta + 1 → Paced old new
-spent_works old new mid (Ok spent) w b busy does words quanta = quantum_works old new spent.units spent.phase w busy.0 (subst (λ r. Collects r old.budget spent.units spent.phase new.course) busy.1 does) words quanta
-spent_works old new mid (Err refused) w b busy does words quanta = absurd (does.0 b)
+pub spent_works : (old new : PacedView) (mid : Course) (result : Result Spent BudgetOutOfRange) → SamePlan old new → IsCourse old.course → IsBudget old.budget → (old.course.heap.phase ≢ phases.Idle) × (mid ≡ old.course) → Does mid (quantum_done old.budget result) new.course
+    → new.words ≡ old.words → new.quanta ≤ old.quanta + 1 → Collected old new
+spent_works old new mid (Ok spent) same w b busy does words quanta = quantum_works old new spent.units spent.phase same w busy.0 (subst (λ r. Collects r old.budget spent.units spent.phase new.course) busy.1 does) words quanta
+spent_works old new mid (Err refused) same w b busy does words quanta = absurd (does.0 b)
 
 pub spent_less : (old new : PacedView) (mid : Course) (result : Result Spent BudgetOutOfRange) → IsCourse old.course → IsBudget old.budget → (old.course.heap.phase ≢ phases.Idle) × (mid ≡ old.course) → Does mid (quantum_done old.budget result) new.course
-    → IfOk result (λ s. (s.phase ≡ phases.Idle) ⊎ (old.budget < s.units + 256)) → new.words ≡ old.words → left_of new < left_of old
+    → IfOk result (λ s. (s.phase ≡ phases.Idle) ⊎ (old.budget < s.units + 256)) → new.words ≡ old.words → work_left new < work_left old
 spent_less old new mid (Ok spent) w b busy does ends words =
     let q = subst (λ r. Collects r old.budget spent.units spent.phase new.course) busy.1 does in
     quantum_less old new spent.units spent.phase w (does_course old.course (Quantum_done old.budget spent.units spent.phase) new.course w q) busy.0 q b.0 ends words
@@ -183,8 +203,8 @@ command_works old new m c reply words w e is less may grown quanta t x = (
   Command_done m c reply ∷ [],
   record {
     runs = (new.course, e, refl);
-    paces = λ live. (within, tt);
-    meets = record {
+    paces = λ live. ((within, λ class l none. absurd (cc)), tt);
+    strict = record {
       graph = enters_graph old.course new.course m c reply w e t.graph x.graph;
       tracing = x.tracing ∙ ap awaits_sweep_end (sym (change_left old.course.heap new.course.heap (present_of old.course) (change_by (room_for old.course.heap c) (present_of old.course) m c) e.change).phase);
       words = (let l = x.words in omega (arith, l, asked, is, grown));
@@ -203,14 +223,14 @@ command_works old new m c reply words w e is less may grown quanta t x = (
     on (phases.Sweeping page block) a = refl
     on (phases.Moving m) a = absurd (cc)
 
-    by_tracing : (b : Bool) → t.tracing ≡ b → t.words + words_of (asked_for t.graph m c) ≤ (if b then (t.quanta + 1) * old.busy + 0 else old.period)
+    by_tracing : (b : Bool) → t.tracing ≡ b → t.words + words_of (asked_for t.graph m c) ≤ (if b then (t.quanta + 1) * old.plan.quantum_words + 0 else old.plan.cycle_words)
     by_tracing true a =
-        let d = may.due (on old.course.heap.phase (sym x.tracing ∙ a)) in
+        let d = may.quanta (on old.course.heap.phase (sym x.tracing ∙ a)) in
         let l = x.words in
         let q : old.quanta + 1 ≤ t.quanta + 1 = (let n = x.quanta in omega (arith, n)) in
-        let p = mul-le-mul_right old.busy q in
+        let p = mul-le-mul_right old.plan.quantum_words q in
         omega (arith, d, l, p, asked, is)
-    by_tracing false a = let d = may.period in let l = x.words in omega (arith, d, l, asked, is)
+    by_tracing false a = let d = may.cycle in let l = x.words in omega (arith, d, l, asked, is)
 
-    within : t.words + words_of (asked_for t.graph m c) ≤ (if t.tracing then (t.quanta + 1) * old.busy + 0 else old.period)
+    within : t.words + words_of (asked_for t.graph m c) ≤ (if t.tracing then (t.quanta + 1) * old.plan.quantum_words + 0 else old.plan.cycle_words)
     within = by_tracing t.tracing refl

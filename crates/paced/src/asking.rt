@@ -1,5 +1,5 @@
 //! How many words a command asks for.
-ghost use Rattle.std.specs.Prelude.{◌≡◌, ◌≤◌, if◌then◌else◌};
+ghost use Rattle.std.specs.Prelude.{◌≡◌, if◌then◌else◌};
 ghost use Rattle.graph_heap.specs.Shape.{fits};
 ghost use Rattle.size_classes.specs.Need.{needed};
 ghost use Rattle.space.specs.Room.{asks};
@@ -10,8 +10,7 @@ use size_classes::{CLASSES, Class, Need, parts_of};
 
 /// The words of the blocks that an object of a shape needs; none where the shape is too large.
 fn words_of_shape(shape: &Shape) -> u64
-    ensures words { result ≡ words_of (λ class. if fits shape.now then needed shape.now class else 0) }
-    ensures within { result ≤ 42000000000000 }
+    ensures { result ≡ words_of (λ class. if fits shape.now then needed shape.now class else 0) }
 {
     let Some(parts) = parts_of(shape) else {
         return 0;
@@ -25,10 +24,10 @@ fn words_of_shape(shape: &Shape) -> u64
     words
 }
 
-/// The words of the blocks for which a command asks at most: those of a new object.
+/// The words of the blocks for which a command asks at most, with their headers: those of a new object, also where it
+/// is refused, unless its shape is too large.
 pub fn words_asked(command: &Command) -> u64
-    ensures words { result ≡ words_of (asks command.now) }
-    ensures within { result ≤ 42000000000000 }
+    ensures { result ≡ words_of (asks command.now) }
 {
     match command {
         Command::New { dst: _, shape } => words_of_shape(shape),

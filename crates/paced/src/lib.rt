@@ -1,5 +1,5 @@
-//! A heap that keeps a flow by itself: before a new object is made it begins cycles, and spends quanta, as they are due.
-//! So a program that keeps what is live within the flow is never refused for lack of space.
+//! A heap that keeps a flow by itself: before it does a command, its collector works as much as the plan wants. So a
+//! program that keeps what is live within the flow is never refused for lack of space.
 #![tactic(auto)]
 
 pub mod asking;
@@ -7,8 +7,8 @@ mod laws;
 pub mod paced;
 pub mod plan;
 
-pub use laws::paced_heaps_find_room;
-pub use paced::{PacedHeap, Refused};
+pub use laws::{paced_calls_add_up, paced_heaps_find_room};
+pub use paced::{CallFault, PacedHeap};
 pub use plan::{Plan, flow_fits, planned};
 
 #[cfg(test)]
@@ -17,9 +17,9 @@ mod tests {
     use graph_heap::{Command, Reply, Shape};
     use size_classes::{Config, Settings};
 
-    /// Objects of many sizes are made, an array among them, and none is refused.
+    /// A plan of a configuration, and commands on its heap through some cycles; then one above the words of a cycle.
     #[test]
-    fn none_is_refused(rt: HostRuntime) {
+    fn a_paced_heap_is_made_and_asked(rt: HostRuntime) {
         let settings = Settings {
             pages: 300,
             slots: 8,
@@ -31,33 +31,23 @@ mod tests {
         let Ok(config) = Config::check(&settings) else {
             panic!(rt; "the settings are good");
         };
-        let Some(plan) = planned(&config, 100 * 1832) else {
+        let Some(plan) = planned(&config, 183200) else {
             panic!(rt; "a flow fits");
         };
-        assert_eq!(rt;
-            plan,
-            Plan {
-                busy: 163,
-                period: 66830
-            }
-        );
-        let Ok(heap) = PacedHeap::new(rt.alloc(), &config, plan.busy, plan.period) else {
+        assert!(rt; plan.quantum_words == 163 && plan.cycle_words == 66830);
+        let Ok(heap) = PacedHeap::new(rt.alloc(), &config, plan) else {
             panic!(rt; "there is memory");
         };
         let mut heap = heap;
-        for n in 0..30000u32 {
-            let shape = match n % 1000 {
-                0 => Shape::WordArray(20000),
-                _ => Shape::Plain {
-                    refs: n % 3,
-                    words: n % 200,
-                },
+        for n in 0..100u32 {
+            let shape = Shape::WordArray(20000);
+            let Ok(receipt) = heap.call(0, Command::New { dst: 0, shape }) else {
+                panic!(rt; "there is memory");
             };
-            let command = Command::New { dst: n % 8, shape };
-            let Ok(receipt) = heap.call(0, command) else {
-                panic!(rt; "not above the period");
-            };
-            assert_eq!(rt; receipt.entry().reply, Reply::Made(u64::from(n) + 1));
+            assert!(rt; receipt.entry().reply == Reply::Made(u64::from(n) + 1));
         }
+        let shape = Shape::WordArray(70000);
+        let above = heap.call(0, Command::New { dst: 0, shape });
+        assert!(rt; above == Err(CallFault::AboveCycleWords));
     }
 }

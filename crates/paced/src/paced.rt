@@ -1,10 +1,14 @@
 //! The heap that keeps a flow.
-ghost use Rattle.std.specs.Prelude.{◌≡◌, ◌⊎◌, ◌<◌, ◌≤◌, ◌^◌, true, false, IfOk};
+ghost use Rattle.std.specs.Prelude.{◌≡◌, ◌⊎◌, ◌<◌, ◌≤◌, true, false, IfOk, OnErr, Err};
 ghost use Rattle.heap_model.specs.Event.{Command_done};
 ghost use Rattle.space.specs.Pace.{in_cycle};
-ghost use Rattle.paced.specs.Pacing.{SameFlow, Paced, left_of, MayAsk, EndsWith, Opens};
+ghost use Rattle.space.specs.Room.{asks};
+ghost use Rattle.fragmentation.specs.Flow.{words_of};
+ghost use Rattle.paced.specs.declared.paced.CallFault.TheVariants as faults;
+ghost use Rattle.paced.specs.Pacing.{Paced, Collected, SamePlan, work_left, MayAsk, EndsWith, IsJustPaced};
 
 use crate::asking::words_asked;
+use crate::plan::Plan;
 use graph_heap::{Command, NoMemory};
 use heap_model::phase::Phase;
 use machine::{HeapWithHistory, Receipt};
@@ -13,29 +17,27 @@ use std::alloc::Global;
 use std::marker::Model;
 use thiserror::Error;
 
-/// Why a command isn't done. Nothing has changed but that the collector may have gone on.
+/// Why a command wasn't done. The collector may have worked all the same.
 #[derive(Clone, Copy, Debug, PartialEq, Eq, Error)]
-pub enum Refused {
-    /// The object has more words than may be made from one cycle's beginning to the next.
-    #[error("above the period")]
-    AbovePeriod,
+pub enum CallFault {
+    /// The blocks of the new object have more words than the plan has for a whole cycle.
+    #[error("object above the words of a cycle")]
+    AboveCycleWords,
     /// Memory for the history was refused.
     #[error("no memory")]
     NoMemory,
 }
 
-/// A heap with the numbers of a flow that it keeps.
+/// A heap with the plan that it keeps. Contracts see the heap with its history, the plan, the budget of a quantum and
+/// what is counted.
 pub struct PacedHeap {
     heap: HeapWithHistory,
-    /// Words for each quantum of a cycle.
-    busy: u64,
-    /// Words from one cycle's beginning to the next.
-    period: u64,
-    /// The budget of a quantum.
+    plan: Plan,
+    /// The budget of a quantum, in units.
     budget: u32,
-    /// The words that were asked for since the last cycle began.
+    /// Words of blocks that were asked for since the last cycle began.
     words: u64,
-    /// The quanta that were done since then.
+    /// Quanta that were done since then.
     quanta: u64,
 }
 
@@ -43,8 +45,7 @@ impl Drop for PacedHeap {
     fn drop(self) {
         let PacedHeap {
             heap,
-            busy: _,
-            period: _,
+            plan: _,
             budget: _,
             words: _,
             quanta: _,
@@ -53,7 +54,7 @@ impl Drop for PacedHeap {
 }
 
 impl Model for PacedHeap {
-    ghost use Rattle.std.specs.Prelude.{◌<◌, ◌≤◌, ◌^◌};
+    ghost use Rattle.std.specs.Prelude.{◌≤◌};
     ghost use Rattle.heap_model.specs.Event.{IsCourse, IsBudget};
     ghost use Rattle.paced.specs.Pacing.{PacedView};
 
@@ -62,33 +63,26 @@ impl Model for PacedHeap {
     ghost view = { λ a. record {
       course = a.heap.course;
       room = a.heap.room;
-      busy = a.busy;
-      period = a.period;
+      plan = a.plan;
       budget = a.budget;
       words = a.words;
       quanta = a.quanta;
     } };
 
-    ghost invariant = { λ a. IsCourse a.heap.course × IsBudget a.budget × (a.words ≤ a.period) × (a.period < 2 ^ 62) };
+    ghost invariant = { λ a. IsCourse a.heap.course × IsBudget a.budget × (a.words ≤ a.plan.cycle_words) };
 }
 
 impl PacedHeap {
-    /// A new heap that keeps a flow: so many words for each quantum of the configuration's budget, and so many from one
-    /// cycle's beginning to the next. Refused only for lack of memory.
-    pub fn new(
-        alloc: Global,
-        config: &Config,
-        busy: u64,
-        period: u64,
-    ) -> Result<PacedHeap, NoMemory>
-        requires { period < 2 ^ 62 }
-        ensures { IfOk result (Opens config.now busy period) }
+    /// A new heap of a configuration that keeps a plan, with quanta of the configuration's budget. Refused only for
+    /// lack of memory. That the plan fits is for the caller to see (`flow_fits`): with one that doesn't, objects may be
+    /// refused for lack of space.
+    pub fn new(alloc: Global, config: &Config, plan: Plan) -> Result<PacedHeap, NoMemory>
+        ensures { IfOk result (IsJustPaced config.now plan) }
     {
         let heap = HeapWithHistory::new(alloc, config)?;
         Ok(PacedHeap {
             heap,
-            busy,
-            period,
+            plan,
             budget: config.budget(),
             words: 0,
             quanta: 0,
@@ -97,24 +91,28 @@ impl PacedHeap {
 
     /// Whether this many words may be asked for now.
     fn allows(&self, words: u64) -> bool
-        requires { words ≤ self.now.period }
+        requires { words ≤ self.now.plan.cycle_words }
         ensures yes { result ≡ true → MayAsk self.now words }
         ensures no { result ≡ false → (in_cycle self.now.course.heap.phase ≡ true) ⊎ (0 < self.now.words) }
     {
-        let after = self.words + words;
-        if after > self.period {
+        let Some(after) = self.words.checked_add(words) else {
+            return false;
+        };
+        if after > self.plan.cycle_words {
             return false;
         }
-        let due = self.quanta.saturating_add(1).saturating_mul(self.busy);
+        let due = self
+            .quanta
+            .saturating_add(1)
+            .saturating_mul(self.plan.quantum_words);
         matches!(self.heap.heap().phase(), Phase::Idle) || after <= due
     }
 
     /// Begins a cycle, or spends a quantum on the one that is running.
     fn work(&mut self)
-        ensures paced { Paced self.old self.new }
-        ensures same { SameFlow self.old self.new }
+        ensures collected { Collected self.old self.new }
         ensures less { (in_cycle self.old.course.heap.phase ≡ true) ⊎ (0 < self.old.words)
-            → left_of self.new < left_of self.old }
+            → work_left self.new < work_left self.old }
     {
         match self.heap.begin() {
             Ok(()) => {
@@ -128,23 +126,28 @@ impl PacedHeap {
         }
     }
 
-    /// Does a command of a mutator. Before it, cycles are begun and quanta spent as they are due for what the command asks
-    /// for, so that events are done which keep the flow.
-    pub fn call(&mut self, mutator: u32, command: Command) -> Result<Receipt, Refused>
+    /// Does a command of a mutator, and enters it with its reply. Before it the collector works as much as the plan
+    /// wants for what the command asks: cycles begin, and quanta are spent. Where the command asks for more words than
+    /// a whole cycle has, nothing is done; where memory for the entry is refused, only the collector has worked.
+    pub fn call(&mut self, mutator: u32, command: Command) -> Result<Receipt, CallFault>
         ensures paced { Paced self.old self.new }
-        ensures same { SameFlow self.old self.new }
+        ensures same { SamePlan self.old self.new }
         ensures command { IfOk result (λ r. (r.entry.mutator ≡ mutator) × (r.entry.command ≡ command)) }
         ensures done { IfOk result (λ r. EndsWith self.old self.new (Command_done mutator command r.entry.reply)) }
+        ensures above { self.old.plan.cycle_words < words_of (asks command)
+            → (result ≡ Err faults.AboveCycleWords) × (self.new ≡ self.old) }
+        ensures within { result ≡ Err faults.AboveCycleWords → self.old.plan.cycle_words < words_of (asks command) }
+        ensures err { OnErr result (Collected self.old self.new) }
     {
         let words = words_asked(&command);
-        if words > self.period {
-            return Err(Refused::AbovePeriod);
+        if words > self.plan.cycle_words {
+            return Err(CallFault::AboveCycleWords);
         }
         while !self.allows(words) {
             self.work();
         }
         let Ok(receipt) = self.heap.call(mutator, command) else {
-            return Err(Refused::NoMemory);
+            return Err(CallFault::NoMemory);
         };
         self.words += words;
         Ok(receipt)

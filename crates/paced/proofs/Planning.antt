@@ -1,0 +1,89 @@
+-- The plan that is chosen is the one with the most words for each quantum.
+use Rattle.std.proofs.Common.{◌≡◌, ℕ, ◌+◌, ◌-◌, ◌*◌, ◌/◌, ◌<◌, ◌≤◌, true, Some, None, sym, subst, arith, refl}
+use Rattle.std.proofs.lemmas.Nat.{le-div}
+use Rattle.std.proofs.Math.Nat.{div-mul-le_self, mul-le-mul_left, mul-le-mul_right, lt-div-mul-add}
+use Rattle.size_classes.specs.declared.class.TheConstants.{CLASSES, PAGE_WORDS}
+use Rattle.size_classes.specs.declared.config.Config.{Config}
+use Rattle.size_classes.specs.declared.config.TheConstants.{LEAST_BUDGET}
+use Rattle.size_classes.specs.Config.{cycle_limit_of}
+use Rattle.size_classes.specs.Sizes.{size_of, blocks_in}
+use Rattle.space.specs.Fitting.{swept_at, unmoved_quanta_at}
+use Rattle.fragmentation.specs.declared.flow.TheConstants.{LEAST_PAGE_FILL, PARTLY_FILLED_PAGES}
+use Rattle.fragmentation.specs.Flow.{classes_made}
+use Rattle.paced.specs.Planning.{cycle_quanta, FitsEvenly, IsFastest}
+
+-- of more, divided by less, comes no less
+div_more : (x y c d : ℕ) → 0 < d → x ≤ y → d ≤ c → x / c ≤ y / d
+div_more x y c d some l g = le-div (x / c) y d some (let m = mul-le-mul_left (x / c) g in let v = div-mul-le_self x c in omega (arith, m, v, l))
+
+most : blocks_in 0 ≡ 512
+unfolding size_of blocks_in
+most = refl
+
+-- roots, marking and sweeping spend no more than a whole cycle
+swept_less : (c : Config) → swept_at c c.pages ≤ cycle_limit_of c
+swept_less c = subst (λ b. c.mutators * c.slots + c.statics + PAGE_WORDS * c.pages + (b + 1) * c.pages + (b + 4) ≤ cycle_limit_of c) (sym most) (less (c.mutators * c.slots) c.statics c.pages ((c.defrag_pages + CLASSES) * c.pages) c.pages_in_range.0)
+  where
+    less : (r s p x : ℕ) → 1 ≤ p → r + s + PAGE_WORDS * p + (512 + 1) * p + (512 + 4) ≤ r + s + 3 * (PAGE_WORDS * p) + x + 4
+    less r s p x one = omega (arith, one)
+
+-- nor do they take more quanta
+traced_less : (c : Config) → unmoved_quanta_at c c.pages ≤ cycle_quanta c
+traced_less c =
+    let b = c.budget_in_range.0 in
+    let d = div_more (swept_at c c.pages) (cycle_limit_of c) (c.collector_ticks * c.rate) (c.collector_ticks * c.rate - (LEAST_BUDGET - 1)) (omega (arith, b)) (swept_less c) (omega arith) in
+    omega (arith, d)
+
+-- the words for which there is room besides what is live
+abbrev pub room_of : ℕ → ℕ → ℕ
+room_of live pages = (pages + 1 - PARTLY_FILLED_PAGES * CLASSES) * LEAST_PAGE_FILL - live - 1
+
+abbrev pub share_of : Config → ℕ
+share_of c = 2 * cycle_quanta c + unmoved_quanta_at c c.pages
+
+spread : (b w q : ℕ) → b * (2 * w + q) ≡ 2 * (b * w) + q * b
+spread b w q = grind arith
+
+all_classes : classes_made (λ class. true) ≡ CLASSES
+all_classes = refl
+
+-- what has room fits
+has_room : (c : Config) (live words : ℕ) → live + words * share_of c < (c.pages + 1 - PARTLY_FILLED_PAGES * CLASSES) * LEAST_PAGE_FILL → FitsEvenly c live words
+has_room c live words l = record {
+  traced = (let m = mul-le-mul_right words (traced_less c) in let e = turned words (cycle_quanta c) in omega (arith, m, e));
+  enough = (
+      let e = spread words (cycle_quanta c) (unmoved_quanta_at c c.pages) in
+      let d = div-mul-le_self (live + (2 * (words * cycle_quanta c) + (unmoved_quanta_at c c.pages * words + 0))) LEAST_PAGE_FILL in
+      let k = all_classes in
+      omega (arith, e, d, k, l));
+}
+  where
+    turned : (x y : ℕ) → y * x ≡ x * y
+    turned x y = grind arith
+
+-- and what fits has room
+fits_room : (c : Config) (live words : ℕ) → FitsEvenly c live words → words * share_of c ≤ room_of live c.pages
+fits_room c live words f =
+    let e = spread words (cycle_quanta c) (unmoved_quanta_at c c.pages) in
+    let d : live + (2 * (words * cycle_quanta c) + (unmoved_quanta_at c c.pages * words + 0)) < (live + (2 * (words * cycle_quanta c) + (unmoved_quanta_at c c.pages * words + 0))) / LEAST_PAGE_FILL * LEAST_PAGE_FILL + LEAST_PAGE_FILL = lt-div-mul-add (omega arith) in
+    let k = all_classes in
+    let g = f.enough in
+    omega (arith, e, d, k, g)
+
+fits_most : (c : Config) (live words : ℕ) → FitsEvenly c live words → words ≤ room_of live c.pages / share_of c
+fits_most c live words f = le-div words (room_of live c.pages) (share_of c) (omega arith) (fits_room c live words f)
+
+pub none_fits : (c : Config) (live words : ℕ) → words ≡ room_of live c.pages / share_of c → words ≡ 0 → IsFastest c live None
+none_fits c live words is none = λ more f. (let m = fits_most c live more f in omega (arith, m, is, none))
+
+pub fastest_fits : (c : Config) (live words : ℕ) → words ≡ room_of live c.pages / share_of c → 1 ≤ words → IsFastest c live (Some (record { quantum_words = words; cycle_words = words * cycle_quanta c }))
+fastest_fits c live words is some = (some, refl, has_room c live words fits, λ more f. (let m = fits_most c live more f in omega (arith, m, is)))
+  where
+    within : words * share_of c ≤ room_of live c.pages
+    within = subst (λ z. z * share_of c ≤ room_of live c.pages) (sym is) (div-mul-le_self (room_of live c.pages) (share_of c))
+
+    above : 1 * share_of c ≤ words * share_of c
+    above = mul-le-mul_right (share_of c) some
+
+    fits : live + words * share_of c < (c.pages + 1 - PARTLY_FILLED_PAGES * CLASSES) * LEAST_PAGE_FILL
+    fits = let w = within in let a = above in omega (arith, w, a)

@@ -1,5 +1,5 @@
 -- A run that keeps to a flow keeps within its pages.
-use Rattle.std.proofs.Common.{◌≡◌, ℕ, ◌+◌, ◌*◌, ◌<◌, ◌≤◌, ◌⊎◌, inl, Bool, true, false, ◌==◌, if◌then◌else◌, List, [], ◌∷◌, length, drop, ap, ◌∙◌, sym, subst, arith, refl}
+use Rattle.std.proofs.Common.{◌≡◌, ℕ, ◌+◌, ◌*◌, ◌<◌, ◌≤◌, Bool, true, false, ◌==◌, if◌then◌else◌, List, [], ◌∷◌, length, drop, ap, ◌∙◌, sym, subst, arith, refl}
 use Rattle.std.proofs.lemmas.List.{drop_all}
 use Rattle.std.proofs.Math.Nat.{mul-le-mul_right}
 use Rattle.graph_heap.specs.declared.command.Command.{Command}
@@ -27,66 +27,12 @@ use Rattle.space.proofs.Pacing.{more_since, command_less}
 use Rattle.space.proofs.Spending.{limit_stays, same_swept, swept_kept, all_spent, few_quanta}
 use Rattle.space.proofs.Moved.{chain_tracing}
 use Rattle.fragmentation.specs.Season.{Season, Lives, opening_season, made_since, season_swept, season_after, AllKeep}
-use Rattle.fragmentation.specs.Suffice.{WithinPages, pages_of, GathersAll}
-use Rattle.fragmentation.specs.declared.flow.TheConstants.{LEAST_PAGE_FILL}
+use Rattle.fragmentation.specs.Suffice.{WithinPages, GathersAll}
 use Rattle.fragmentation.specs.Flow.{words_of, Flow, FlowMeter, opening_meter, next_meter, allowed_words, OnlyMade, Paces, KeepsFlow, AllMetered, traced_words, flow_pages, FlowFits}
-use Rattle.fragmentation.proofs.Paging.{pages_none}
 use Rattle.fragmentation.proofs.Budgets.{drop_less}
 use Rattle.fragmentation.proofs.Moving.{moving_suffices}
+use Rattle.fragmentation.proofs.Flowing.{lives_of, FitsFlow, lives_few, words_since, IsFlowing, opening_flowing}
 use Rattle.fragmentation.proofs.Words.{words_fit, words_more, words_both, words_none}
-
--- what live objects need where each cycle begins, of those that begin after the nth
-abbrev lives_of : (f : Flow) (k n : ℕ) (es : List Event) (t : FlowMeter) → AllMetered (KeepsFlow f k) t es → Lives
-lives_of f k n [] t keeps = λ j class. 0
-lives_of f k n (Command_done m c reply ∷ es) t keeps = lives_of f k n es (next_meter t (Command_done m c reply)) keeps.1
-lives_of f k n (Cycle_begun ∷ es) t keeps = λ j. if j == n + 1 then keeps.0.1.blocks else lives_of f k (n + 1) es (next_meter t Cycle_begun) keeps.1 j
-lives_of f k n (Cycle_on ∷ es) t keeps = lives_of f k n es t keeps.1
-lives_of f k n (Quantum_done budget units phase ∷ es) t keeps = lives_of f k n es (next_meter t (Quantum_done budget units phase)) keeps.1
-lives_of f k n (Quantum_refused budget ∷ es) t keeps = lives_of f k n es t keeps.1
-
--- what is live is within the flow, by its numbers alone
-record FitsFlow (f : Flow) (blocks : ℕ → ℕ) : Type 0 where
-  few : (LEAST_PAGE_FILL * pages_of blocks ≤ f.live_words) ⊎ (words_of blocks ≤ f.live_words)
-  only : OnlyMade f blocks
-
-one_of : (b : Bool) (x y : ℕ → ℕ) (f : Flow) → FitsFlow f x → FitsFlow f y → FitsFlow f (if b then x else y)
-one_of true x y f l m = l
-one_of false x y f l m = m
-
-lives_few : (f : Flow) (k n : ℕ) (es : List Event) (t : FlowMeter) (keeps : AllMetered (KeepsFlow f k) t es) (j : ℕ) → FitsFlow f (lives_of f k n es t keeps j)
-lives_few f k n [] t keeps j = record { few = inl (let z = pages_none in omega (arith, z)); only = λ class l e. refl }
-lives_few f k n (Command_done m c reply ∷ es) t keeps j = lives_few f k n es (next_meter t (Command_done m c reply)) keeps.1 j
-lives_few f k n (Cycle_begun ∷ es) t keeps j = one_of (j == n + 1) keeps.0.1.blocks (lives_of f k (n + 1) es (next_meter t Cycle_begun) keeps.1 j) f (record { few = keeps.0.1.few; only = keeps.0.1.only }) (lives_few f k (n + 1) es (next_meter t Cycle_begun) keeps.1 j)
-lives_few f k n (Cycle_on ∷ es) t keeps j = lives_few f k n es t keeps.1 j
-lives_few f k n (Quantum_done budget units phase ∷ es) t keeps j = lives_few f k n es (next_meter t (Quantum_done budget units phase)) keeps.1 j
-lives_few f k n (Quantum_refused budget ∷ es) t keeps j = lives_few f k n es t keeps.1 j
-
--- the words of what was made since the first `count`
-abbrev words_since : ℕ → Season → ℕ
-words_since count s = words_of (made_since count s)
-
--- What is kept: how many words were made since the last cycle began, since the one began whose sweep ended last, and in
--- all that the season counts.
-record IsFlowing (h : HeapState) (f : Flow) (k : ℕ) (live : Lives) (r : Course) (s : Season) (t : FlowMeter) : Type 0 where
-  graph : s.graph ≡ present_of r
-  same : t.graph ≡ present_of r
-  tracing : t.tracing ≡ awaits_sweep_end r.heap.phase
-  alike : s.tracing ≡ awaits_sweep_end r.heap.phase
-  limit : cycle_limit r.heap ≡ cycle_limit h
-  settings : settings_of r.heap ≡ settings_of h
-  spent : awaits_sweep_end r.heap.phase ≡ true → t.quanta * k ≤ r.heap.units
-  last : s.last ≤ length s.graph.objects
-  base : s.base ≤ length s.graph.objects
-  swept : s.swept ≤ length s.graph.objects
-  words : t.words ≤ f.cycle_words
-  since_last : words_since s.last s ≤ t.words
-  since_base : words_since s.base s ≤ (if t.tracing then f.cycle_words + t.words else t.words)
-  made : ℕ → ℕ
-  number : ℕ
-  before : (class : ℕ) → class < CLASSES → s.before class ≤ live number class + made class
-  only : OnlyMade f (made_since 0 s)
-  only_made : OnlyMade f made
-  total : words_of made + words_since s.swept s ≤ (if t.tracing then 2 * f.cycle_words + t.words else f.cycle_words + t.words)
 
 times_next : (n b : ℕ) → (n + 1) * b ≡ n * b + b
 times_next n b = grind arith
@@ -416,36 +362,6 @@ module _ (h : HeapState) (f : Flow) (k : ℕ) (great : 0 < k) (live : Lives) (li
     tt,
     flows_keep es runs.0 new s t (does_course r (Quantum_refused budget) runs.0 w runs.1) (subst (λ z. IsFlowing h f k live z s t) (sym runs.1.1) i) runs.2 keeps.1 agrees,
   )
-
--- at the opening nothing was made
-opening_flowing : (h : HeapState) (f : Flow) (k : ℕ) (live : Lives) → IsOpening h → IsFlowing h f k live (opened h) (opening_season h.limits) (opening_meter h.limits)
-opening_flowing h f k live o = record {
-  graph = refl;
-  same = refl;
-  tracing = sym (ap awaits_sweep_end o.phase);
-  alike = sym (ap awaits_sweep_end o.phase);
-  limit = refl;
-  settings = refl;
-  spent = λ on. omega arith;
-  last = omega arith;
-  base = omega arith;
-  swept = omega arith;
-  words = omega arith;
-  since_last = (let z = none in omega (arith, z));
-  since_base = (let z = none in omega (arith, z));
-  made = λ class. 0;
-  number = 0;
-  before = λ class l. omega arith;
-  only = λ class l e. refl;
-  only_made = λ class l e. refl;
-  total = (let z = none in let y = nothing in omega (arith, z, y));
-}
-  where
-    none : words_since 0 (opening_season h.limits) ≡ 0
-    none = words_none _ (λ class l. refl)
-
-    nothing : words_of (λ class. 0) ≡ 0
-    nothing = words_none _ (λ class l. refl)
 
 pub flow_suffices : (h : HeapState) (es : List Event) (new : Course) (f : Flow) (k : ℕ) → 0 < k → IsOpening h → 0 < length h.store.pages → GathersAll h → Runs (opened h) es new → AllMetered (KeepsFlow f k) (opening_meter h.limits) es
     → FlowFits f k h → EveryNewFindsRoom es

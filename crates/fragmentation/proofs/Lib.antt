@@ -16,6 +16,7 @@ pub mod Counted
 pub mod Moving
 pub mod Budgets
 pub mod Words
+pub mod Flowing
 pub mod Flows
 pub mod Joints
 pub mod IsSparse

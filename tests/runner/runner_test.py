@@ -27,6 +27,7 @@ ENTRY = "0 new 0 plain 1 0 => made 1\n"
 FILES = {
     "right.story": f"{CONFIG}{ASKED}typed\n",
     "faulty.story": f"{CONFIG}{ASKED}jump\nfault 4 line 3: not an event\ntyped\n",
+    "same.runs": "$ help\n> ..\n$ more\nas before\n",
     "shown.md": "# It\n\n    $ bin/metronome help\n    help\n    $ bin/metronome help | grep -c other\n    0\n",
 }
 # How the program answers that is right, with each file.
@@ -39,6 +40,7 @@ ANSWERS = {
     "mmu config - 5": (0, "window 5 least 5 bound 1 permille 1000\n", ""),
     "play config -": (0, "", ""),
     "help": (0, "help\n", ""),
+    "more": (0, "help\n", ""),
 }
 OF_FAULT = {
     "play config text": (4, "made 1\n", FAULT),
@@ -68,6 +70,9 @@ WRONG = [
     ("faulty.story", "inspect config sound --after 2", (0, REPORT.replace("objects 1", "objects 2"), "")),
     ("faulty.story", "mmu config - 5", (0, "window 5 least 4 bound 1 permille 1000\n", "")),
     ("faulty.story", "play config -", (0, "", "")),
+    ("same.runs", "more", (0, "help\nmore\n", "")),
+    ("same.runs", "more", (9, "help\n", "")),
+    ("same.runs", "more", (0, "help\n", "noise\n")),
     ("shown.md", "help", (7, "help\n", "")),
     ("shown.md", "help", (0, "", "help\n")),
     ("shown.md", "help", (0, "help\nmore\n", "")),

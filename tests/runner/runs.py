@@ -26,6 +26,7 @@ class Run:
     beside: str = ""
     writes: int | None = None
     merges: bool = False
+    before: object = None
 
     def play(self, program):
         """Makes the run; what came of it."""
@@ -56,10 +57,7 @@ class Run:
         ended = program.run(words, folder, given)
         if ended.status != self.status:
             yield f"  status: expected {self.status}, got {ended.status}"
-        for what, most in (("output", given.room), ("errors", given.errors_room)):
-            wanted, got = getattr(self, what)[:most], getattr(ended, what)
-            if not is_as_wanted(wanted, got):
-                yield difference(what, wanted, got)
+        yield from self.faults_of_output(program, folder, given, ended)
         if self.writes is not None:
             written = len(streams.writes(program, words, folder, given.given))
             if written != self.writes:
@@ -68,6 +66,19 @@ class Run:
             checked = program.run(["check", words[1], "-"], folder, Streams(ended.output))
             if checked.status or not is_merge(given.given.splitlines(), ended.output.splitlines()):
                 yield difference("a merge of the scripts that check accepts", given.given, ended.output)
+
+
+    def faults_of_output(self, program, folder, given, ended):
+        """What is wrong with what the run wrote."""
+        if not is_as_wanted(self.errors[: given.errors_room], ended.errors):
+            yield difference("errors", self.errors[: given.errors_room], ended.errors)
+        if self.before is not None:
+            words, before = self.before.called()
+            wanted = program.run(words, folder, before).output
+            if ended.output != wanted:
+                yield difference("output", wanted, ended.output)
+        elif not is_as_wanted(self.output[: given.room], ended.output):
+            yield difference("output", self.output[: given.room], ended.output)
 
 
 def read(path):
@@ -91,6 +102,8 @@ def read(path):
             runs[-1].writes = int(rest)
         elif line.text == "merge" and runs:
             runs[-1].merges = True
+        elif line.text == "as before" and len(runs) > 1:
+            runs[-1].before = runs[-2]
         elif file:
             # (lines of one name, one below the other, are a file, in place of the last one of that name)
             files[file[1]] = (files[file[1]] if last == file[1] else b"") + lines.data(file[2] or "")

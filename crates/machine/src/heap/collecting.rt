@@ -78,7 +78,7 @@ impl Heap {
         ensures begins { Begins self.old self.new result }
         ensures agrees { (g : Graph) → Agrees self.old g → Agrees self.new g }
     {
-        if !matches!(self.raw.phase, Phase::Idle) {
+        if !self.raw.phase.is_idle() {
             return Err(Busy);
         }
         self.raw.mark_parity = !self.raw.mark_parity;

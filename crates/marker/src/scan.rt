@@ -1,4 +1,4 @@
-//! One step of the roots and of marking.
+//! Steps of the roots and of marking.
 ghost use Rattle.std.specs.Prelude.{◌≡◌, ◌≢◌, ◌-◌, ◌+◌, ◌<◌, ◌≤◌, ◌^◌, ℕ, [], length, slice_index, true, IfSome, IsNone};
 ghost use Rattle.heap_model.specs.Store.{is_allocated, record_of};
 ghost use Rattle.heap_model.specs.State.{seen, width_at};
@@ -28,28 +28,25 @@ struct Step {
     units: u32,
 }
 
-/// Scans a root cell: it is corrected to the main copy, and that is shaded. Where all were scanned,
-/// marking begins. Each costs one unit.
+/// Scans a root cell, at one unit: it is corrected to the main copy, and that is shaded.
 #[inline(always)]
 fn scan_root(heap: &mut HeapFields, next: usize)
     requires heap { AreHeapFields heap.old }
     requires phase { heap.old.phase ≡ phases.Roots next }
+    requires within { next < length heap.old.roots.cells }
     ensures acts { Action (state_of heap.old) 1 (state_of heap.new) }
-    ensures goes { next < length heap.old.roots.cells → heap.new.phase ≡ phases.Roots (next + 1) }
+    ensures phase { heap.new.phase ≡ phases.Roots (next + 1) }
     ensures cells { length heap.new.roots.cells ≡ length heap.old.roots.cells }
     ensures buffers { heap.new.grey.buffers ≡ heap.old.grey.buffers }
 {
-    if next >= heap.roots.cells().len() {
-        return heap.go_to(1, Phase::Marking { part: 0, cell: 0 });
-    }
     let main = heap.nodes.resolve(heap.roots.get(next)).reference;
     heap.roots.set(next, main);
     shade(heap, main);
     heap.go_to(1, Phase::Roots { next: next + 1 });
 }
 
-/// Scans root cells, as many as are left or as there is room for; where none is left, marking begins. Each of these
-/// costs one unit. Answers the units.
+/// Scans root cells in order, from one on, as many as are left or as there is room for; where none is left, marking
+/// begins. Each of these costs one unit. Answers the units.
 pub fn scan_roots(heap: &mut HeapFields, next: usize, room: u32) -> u32
     requires heap { AreHeapFields heap.old }
     requires phase { heap.old.phase ≡ phases.Roots next }
@@ -58,7 +55,11 @@ pub fn scan_roots(heap: &mut HeapFields, next: usize, room: u32) -> u32
     ensures buffers { heap.new.grey.buffers ≡ heap.old.grey.buffers }
 {
     let left = heap.roots.cells().len().saturating_sub(next);
-    let count = left.max(1).min(room as usize);
+    if left == 0 {
+        heap.go_to(1, Phase::Marking { part: 0, cell: 0 });
+        return 1;
+    }
+    let count = left.min(room as usize);
     let mut scanned = 0;
     while scanned < count {
         scan_root(heap, next + scanned);

@@ -9,7 +9,7 @@ use Rattle.size_classes.specs.Sizes.{blocks_in}
 use Rattle.pages.specs.declared.bits.BitRow.{BitRow}
 use Rattle.pages.specs.declared.page.PageRecord.{PageRecord}
 use Rattle.pages.specs.BitRow.{has_bit, room_of}
-use Rattle.pages.specs.Index.{row_at, OfClass, row_usable, row_free, row_free_on, bit, class_bit, class_room, IsIndex}
+use Rattle.pages.specs.Index.{row_at, OfClass, row_usable, row_free, row_free_on, bit, class_bit, room_of_class, IsIndex}
 use Rattle.pages.proofs.Threading.{blocks_most}
 
 -- a page of a class counts for no other
@@ -74,10 +74,10 @@ module _ (rows : List (Option PageRecord)) (usable : List BitRow) (free : BitRow
   pages_after n e = let s = sum_by-set (λ o. bit (row_free o)) rows page row None below in omega (arith, s, e, b.pages_are)
 
   module _ (one new : BitRow) (read : one ≡ get_or usable class one) (set_here : has_bit new page ≡ bit (row_usable class row)) (set_others : (i : ℕ) → i ≢ page → has_bit new i ≡ has_bit one i) (set_room : room_of new ≡ room_of one) where
-    wide_after : (c : ℕ) → c < CLASSES → length (set rows page row) ≤ class_room (set usable class new) c
+    wide_after : (c : ℕ) → c < CLASSES → length (set rows page row) ≤ room_of_class (set usable class new) c
     wide_after c hc =
         let was = b.wide c hc in
-        let rooms : class_room (set usable class new) c ≡ class_room usable c =
+        let rooms : room_of_class (set usable class new) c ≡ room_of_class usable c =
         ap (λ (l : List ℕ). get_or l c 0) (map-set room_of usable class new) ∙ elim (cases_eq c class) [
           | inl same ↦
               (let a : get_or (set (map room_of usable) class (room_of new)) class 0 ≡ room_of new = get_or-set_same (map room_of usable) class (room_of new) 0 (omega (arith, length-map usable room_of, b.classes, known)) in
@@ -159,7 +159,7 @@ module _ (rows : List (Option PageRecord)) (pages : List (Option PageRecord)) (s
   pub row_room : (class number : ℕ) → class < CLASSES → number ≡ class → (one : BitRow) → one ≡ get_or usable number one → page < room_of one
   row_room class number known is one read =
       let w = b.wide class known in
-      let e : class_room usable class ≡ room_of one = get_or-map room_of usable class one 0 (omega (arith, b.classes, known)) ∙ ap room_of (sym (read ∙ ap (λ n. get_or usable n one) is)) in
+      let e : room_of_class usable class ≡ room_of one = get_or-map room_of usable class one 0 (omega (arith, b.classes, known)) ∙ ap room_of (sym (read ∙ ap (λ n. get_or usable n one) is)) in
       omega (arith, w, e, low)
 
   pub free_room : page < room_of free
@@ -364,7 +364,7 @@ none_counted : (n : ℕ) → count_by row_free (replicate n None) ≡ n
 none_counted zero = refl
 none_counted (suc n) = let s = sum_by-cons (λ o. bit (row_free o)) None (replicate n None) in omega (arith, s, none_counted n)
 
-pub fresh_book : (n : ℕ) (usable : List BitRow) (free : BitRow) → n ≤ 4096 → length usable ≡ CLASSES → ((c : ℕ) → c < CLASSES → n ≤ class_room usable c) → n ≤ room_of free → ((c k : ℕ) → c < CLASSES → class_bit usable c k ≡ 0) → ((k : ℕ) → k < n → has_bit free k ≡ 1) → ((k : ℕ) → n ≤ k → has_bit free k ≡ 0)
+pub fresh_book : (n : ℕ) (usable : List BitRow) (free : BitRow) → n ≤ 4096 → length usable ≡ CLASSES → ((c : ℕ) → c < CLASSES → n ≤ room_of_class usable c) → n ≤ room_of free → ((c k : ℕ) → c < CLASSES → class_bit usable c k ≡ 0) → ((k : ℕ) → k < n → has_bit free k ≡ 1) → ((k : ℕ) → n ≤ k → has_bit free k ≡ 0)
     → IsIndex (replicate n None) usable free (replicate CLASSES 0) n
 fresh_book n usable free few long wide free_wide none some past =
     let size : length (replicate {A = Option PageRecord} n None) ≡ n = length-replicate n None in

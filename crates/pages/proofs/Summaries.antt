@@ -1,8 +1,8 @@
 -- Rows of bits, level by level.
-use Rattle.std.proofs.Common.{◌≡◌, ◌≢◌, ℕ, ◌+◌, ◌*◌, ◌/◌, ◌%◌, ◌^◌, ◌<◌, ◌≤◌, Bool, true, false, not, eqb, cond, List, length, replicate, get_or, set, Option, Some, None, ap, ◌∙◌, sym, inl, inr, arith, w64}
+use Rattle.std.proofs.Common.{◌≡◌, ◌≢◌, ℕ, ◌+◌, ◌*◌, ◌/◌, ◌%◌, ◌^◌, ◌<◌, ◌≤◌, Bool, true, false, cond, List, length, replicate, get_or, set, Option, Some, None, ap, ◌∙◌, sym, inl, inr, arith, w64}
 use Rattle.std.specs.Int.{bit_at}
 use Rattle.std.proofs.lemmas.Bool.{cases_eq, cases_lt}
-use Rattle.std.proofs.lemmas.List.{length-set, length-replicate, get_or-replicate, get_or_past, get_or-set_same, get_or-set_other}
+use Rattle.std.proofs.lemmas.List.{length-replicate, get_or-replicate, get_or_past, get_or-set_same, get_or-set_other}
 use Rattle.std.proofs.lemmas.Nat.Bits.{bit_at-zero, bit_at-trailing_zeros}
 use Rattle.pages.specs.Bits.{bit_in, word_bit, IsSummary, IsLowest, IsLowestBut}
 
@@ -48,16 +48,17 @@ pub lowest_by : (words : List ℕ) (w j : ℕ) → ((v : ℕ) → v < w → get_
     → ((i : ℕ) → i < j → bit_at (get_or words w 0) i ≡ 0) → IsLowest words (Some (64 * w + j))
 lowest_by words w j before few here first =
     let at : (64 * w + j) / 64 ≡ w = omega (arith, few) in
-    let place : (64 * w + j) % 64 ≡ j = omega (arith, few) in
-    (ap (λ n. bit_at (get_or words n 0) ((64 * w + j) % 64)) at ∙ ap (bit_at (get_or words w 0)) place ∙ here,
-     λ i l. elim (cases_lt (i / 64) w) [
-       | inl below ↦ zero_word words i (before (i / 64) below)
-       | inr past ↦ (let e : i / 64 ≡ w = omega (arith, l, few, past) in
-           ap (λ n. bit_at (get_or words n 0) (i % 64)) e ∙ first (i % 64) (omega (arith, l, e)))
-     ])
+    let place : (64 * w + j) % 64 ≡ j = omega (arith, few) in (
+      ap (λ n. bit_at (get_or words n 0) ((64 * w + j) % 64)) at ∙ ap (bit_at (get_or words w 0)) place ∙ here,
+      λ i l. elim (cases_lt (i / 64) w) [
+        | inl below ↦ zero_word words i (before (i / 64) below)
+        | inr past ↦ (let e : i / 64 ≡ w = omega (arith, l, few, past) in
+            ap (λ n. bit_at (get_or words n 0) (i % 64)) e ∙ first (i % 64) (omega (arith, l, e)))
+      ],
+    )
 
 pub none_by : (words : List ℕ) → ((v : ℕ) → get_or words v 0 ≡ 0) → IsLowest words None
-none_by words zero k = zero_word words k (zero (k / 64))
+none_by words zero = (tt, λ k _. zero_word words k (zero (k / 64)))
 
 -- a level and the one above it
 module _ (words above : List ℕ) (s : IsSummary words above) where
@@ -65,7 +66,7 @@ module _ (words above : List ℕ) (s : IsSummary words above) where
   word_none w e = word_zero (get_or words w 0) (sym (s.each w) ∙ e)
 
   pub none_below : IsLowest above None → IsLowest words None
-  none_below none k = zero_word words k (word_none (k / 64) (none (k / 64)))
+  none_below none = (tt, λ k _. zero_word words k (word_none (k / 64) (none.1 (k / 64) tt)))
 
   pub some_there : (w : ℕ) → IsLowest above (Some w) → 0 < get_or words w 0
   some_there w low = word_some (get_or words w 0) (sym (s.each w) ∙ low.0)
@@ -78,6 +79,11 @@ module _ (words above : List ℕ) (s : IsSummary words above) where
 
   pub there : (w : ℕ) → IsLowest above (Some w) → w < length words
   there w low = word_there w (some_there w low)
+
+  -- a bit that is found in the level above is of a word that is there
+  pub found : (w j : ℕ) → ((v : ℕ) → v < w → get_or above v 0 ≡ 0) → j < 64 → bit_at (get_or above w 0) j ≡ 1
+      → ((i : ℕ) → i < j → bit_at (get_or above w 0) i ≡ 0) → 64 * w + j < length words
+  found w j before few here first = there (64 * w + j) (lowest_by above w j before few here first)
 
   pub lowest_below : (w j : ℕ) → IsLowest above (Some w) → j < 64 → bit_at (get_or words w 0) j ≡ 1
       → ((i : ℕ) → i < j → bit_at (get_or words w 0) i ≡ 0) → IsLowest words (Some (64 * w + j))
@@ -176,25 +182,25 @@ zeros n w = elim (cases_lt w n) [
 ]
 
 pub none_set : (n : ℕ) → IsLowest (replicate {A = ℕ} n 0) None
-none_set n k = zero_word (replicate {A = ℕ} n 0) k (zeros n (k / 64))
+none_set n = none_by (replicate {A = ℕ} n 0) (zeros n)
 
 pub none_summed : (n m : ℕ) → n ≤ 64 * m → IsSummary (replicate {A = ℕ} n 0) (replicate {A = ℕ} m 0)
 none_summed n m few = record {
   room = omega (arith, few, length-replicate {A = ℕ} n 0, length-replicate {A = ℕ} m 0);
-  each = λ w. none_set m w ∙ sym (bit_zero (get_or (replicate {A = ℕ} n 0) w 0) (zeros n w));
+  each = λ w. (none_set m).1 w tt ∙ sym (bit_zero (get_or (replicate {A = ℕ} n 0) w 0) (zeros n w));
 }
 
 -- the lowest bit once bit k is another
 pub but_put : (words words' : List ℕ) (k : ℕ) (was : Option ℕ) → IsLowest words was → ((i : ℕ) → i ≢ k → bit_in words' i ≡ bit_in words i) → IsLowestBut words' k was
-but_put words words' k None low others = λ i ne. others i ne ∙ low i
+but_put words words' k None low others = (tt, λ i _ ne. others i ne ∙ low.1 i tt)
 but_put words words' k (Some f) low others = (λ ne. others f ne ∙ low.0, λ i l ne. others i ne ∙ low.1 i l)
 
 module _ (words : List ℕ) (k : ℕ) where
   pub first_one : bit_in words k ≡ 1 → IsLowestBut words k None → IsLowest words (Some k)
-  first_one here but = (here, λ i l. but i (omega (arith, l)))
+  first_one here but = (here, λ i l. but.1 i tt (omega (arith, l)))
 
   pub none_left : bit_in words k ≡ 0 → IsLowestBut words k None → IsLowest words None
-  none_left here but = λ i. elim (cases_eq i k) [ inl e ↦ ap (bit_in words) e ∙ here | inr ne ↦ but i ne ]
+  none_left here but = (tt, λ i _. elim (cases_eq i k) [ inl e ↦ ap (bit_in words) e ∙ here | inr ne ↦ but.1 i tt ne ])
 
   pub lower_one : (f : ℕ) → k ≤ f → bit_in words k ≡ 1 → IsLowestBut words k (Some f) → IsLowest words (Some k)
   lower_one f le here but = (here, λ i l. but.1 i (omega (arith, l, le)) (omega (arith, l)))

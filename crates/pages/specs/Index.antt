@@ -16,7 +16,7 @@ abbrev pub OfClass : ℕ → Option PageRecord → Type 0
 OfClass class None = Unit {0}
 OfClass class (Some r) = r.class ≡ class
 
--- of the class, not leaving, with a free block
+-- of the class, not evacuating, with a free block
 abbrev pub row_usable : ℕ → Option PageRecord → Bool
 row_usable class None = false
 row_usable class (Some r) = (r.class == class) && (not r.evacuating && nat_lt r.allocated (blocks_in r.class))
@@ -36,7 +36,7 @@ abbrev pub row_choosable : ℕ → Option PageRecord → Bool
 row_choosable class None = false
 row_choosable class (Some r) = (r.class == class) && (not r.evacuating && not r.is_target)
 
--- in use by the class, not leaving, with a free block
+-- in use by the class, not evacuating, with a free block
 abbrev pub HasFree : ℕ → Option PageRecord → Type 0
 HasFree class o = IsSomeAnd o (λ r. (r.class ≡ class) × (r.evacuating ≡ false) × (r.allocated < blocks_in r.class))
 
@@ -48,9 +48,9 @@ bit b = if b then 1 else 0
 abbrev pub class_bit : List BitRow → ℕ → ℕ → ℕ
 class_bit usable class k = slice_index (map (λ r. has_bit r k) usable) class
 
--- how many bits the row of a class has
-abbrev pub class_room : List BitRow → ℕ → ℕ
-class_room usable class = slice_index (map room_of usable) class
+-- how many bits the row of a class has room for
+abbrev pub room_of_class : List BitRow → ℕ → ℕ
+room_of_class usable class = slice_index (map room_of usable) class
 
 -- the bits and the numbers are those of the rows
 pub record IsIndex (rows : List (Option PageRecord)) (usable : List BitRow) (free : BitRow) (free_blocks : List ℕ)
@@ -58,7 +58,7 @@ pub record IsIndex (rows : List (Option PageRecord)) (usable : List BitRow) (fre
   pub few : length rows ≤ MOST_PAGES
   pub classes : length usable ≡ CLASSES
   pub counts : length free_blocks ≡ CLASSES
-  pub wide : (class : ℕ) → class < CLASSES → length rows ≤ class_room usable class
+  pub wide : (class : ℕ) → class < CLASSES → length rows ≤ room_of_class usable class
   pub free_wide : length rows ≤ room_of free
   pub usable_bits : (class k : ℕ) → class < CLASSES → class_bit usable class k ≡ bit (row_usable class (row_at rows k))
   pub free_bits : (k : ℕ) → k < length rows → has_bit free k ≡ bit (row_free (row_at rows k))

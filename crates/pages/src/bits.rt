@@ -1,14 +1,14 @@
 //! A row of bits, one for each page.
 ghost use Rattle.std.specs.Prelude.{◌≡◌, ◌≢◌, ℕ, ◌<◌, ◌≤◌, ◌^◌, IfOk, IfSome, IsNone, if◌then◌else◌, length};
-ghost use Rattle.pages.specs.Bits.{IsSummary, IsLowest, lowest_prop};
+ghost use Rattle.std.proofs.Props.{props};
+ghost use Rattle.pages.specs.Bits.{IsSummary, IsLowest};
 
-use crate::levels::{lowest_then, put_lowest};
-
+use crate::levels::{WORD_BITS, lowest_once_put, put_bit};
 use graph_heap::NoMemory;
 use std::alloc::Global;
 
-/// Bits, 64 to a word, with two levels above: a bit for each word that isn't 0, and a bit for each word of those that
-/// isn't 0. The lowest bit that is set is kept beside them.
+/// A row of bits in three levels: words; groups, with a bit for each word that isn't 0; tops, with a bit for each group
+/// that isn't 0. The lowest bit that is set is kept beside them.
 #[derive(Drop)]
 pub struct BitRow {
     words: Vec<u64>,
@@ -18,7 +18,7 @@ pub struct BitRow {
     ghost few: { (length words.items < 2 ^ 32) × (length groups.items < 2 ^ 32) },
     ghost grouped: { IsSummary words.items groups.items },
     ghost topped: { IsSummary groups.items tops.items },
-    ghost kept: { IsLowest words.items lowest } by { lowest_prop words.items lowest },
+    ghost kept: { IsLowest words.items lowest } by { Prim.hlevel props },
 }
 
 impl BitRow {
@@ -29,10 +29,9 @@ impl BitRow {
         ensures none { IfOk result (λ r. (k : ℕ) → has_bit r k ≡ 0) }
         ensures room { IfOk result (λ r. bits ≤ room_of r) }
     {
-        let bits = bits as usize;
-        let words = vec![in alloc; 0; bits / 64 + 1]?;
-        let groups = vec![in alloc; 0; bits / 4096 + 1]?;
-        let tops = vec![in alloc; 0; bits / 262144 + 1]?;
+        let words = vec![in alloc; 0; (bits as usize).div_ceil(WORD_BITS)]?;
+        let groups = vec![in alloc; 0; words.len().div_ceil(WORD_BITS)]?;
+        let tops = vec![in alloc; 0; groups.len().div_ceil(WORD_BITS)]?;
         Ok(BitRow {
             words,
             groups,
@@ -52,8 +51,8 @@ impl BitRow {
         let words = self.words.as_mut_slice();
         let groups = self.groups.as_mut_slice();
         let tops = self.tops.as_mut_slice();
-        put_lowest(words, groups, tops, k, on);
-        self.lowest = lowest_then(words, groups, tops, self.lowest, k, on);
+        put_bit(words, groups, tops, k, on);
+        self.lowest = lowest_once_put(words, groups, tops, self.lowest, k, on);
     }
 
     /// Gives a bit another value. Where it has that one, nothing is written.

@@ -1,14 +1,17 @@
-//! Bits in words, and the levels above them: a bit for each word that isn't 0.
+//! The levels of a row of bits: how a bit is written in all three, and how the lowest is found by them.
 ghost use Rattle.std.specs.Prelude.{◌≡◌, ◌≢◌, ℕ, ◌<◌, ◌≤◌, ◌*◌, ◌/◌, ◌%◌, ◌^◌, if◌then◌else◌, slice_index, length, IfSome, IsNone, true, false};
 ghost use Rattle.std.specs.Int.{bit_at};
 ghost use Rattle.pages.specs.Bits.{bit_in, word_bit, IsSummary, IsLowest, IsLowestBut};
 
+/// How many bits a word has.
+pub const WORD_BITS: usize = 64;
+
 /// A word with one bit set or cleared.
 #[inline(always)]
 fn with_bit(word: u64, k: u32, on: bool) -> u64
-    requires { k < 64 }
+    requires { k < WORD_BITS }
     ensures here { bit_at result k ≡ (if on then 1 else 0) }
-    ensures others { (i : ℕ) → i < 64 → i ≢ k → bit_at result i ≡ bit_at word i }
+    ensures others { (i : ℕ) → i < WORD_BITS → i ≢ k → bit_at result i ≡ bit_at word i }
 {
     if on {
         word | (1 << k)
@@ -21,36 +24,36 @@ fn with_bit(word: u64, k: u32, on: bool) -> u64
 #[inline(always)]
 fn lowest(word: u64) -> usize
     requires { 0 < word }
-    ensures within { result < 64 }
+    ensures within { result < WORD_BITS }
     ensures here { bit_at word result ≡ 1 }
     ensures first { (i : ℕ) → i < result → bit_at word i ≡ 0 }
 {
     word.trailing_zeros() as usize
 }
 
-/// Sets a bit or clears it, and answers whether the bit of its word in the level above has to become the same.
+/// Sets a bit of one level or clears it. Answers whether the bit of its word in the level above has to become the same.
 #[inline(always)]
 fn put(words: &mut [u64], k: usize, on: bool) -> bool
-    requires { k < 64 * length words.old }
+    requires { k < WORD_BITS * length words.old }
     ensures len { length words.new ≡ length words.old }
     ensures here { bit_in words.new k ≡ (if on then 1 else 0) }
     ensures others { (i : ℕ) → i ≢ k → bit_in words.new i ≡ bit_in words.old i }
-    ensures words { (w : ℕ) → w ≢ k / 64 → slice_index words.new w ≡ slice_index words.old w }
-    ensures changed { result ≡ true → word_bit (slice_index words.new (k / 64)) ≡ (if on then 1 else 0) }
+    ensures words { (w : ℕ) → w ≢ k / WORD_BITS → slice_index words.new w ≡ slice_index words.old w }
+    ensures changed { result ≡ true → word_bit (slice_index words.new (k / WORD_BITS)) ≡ (if on then 1 else 0) }
     ensures kept { result ≡ false
-        → word_bit (slice_index words.new (k / 64)) ≡ word_bit (slice_index words.old (k / 64)) }
+        → word_bit (slice_index words.new (k / WORD_BITS)) ≡ word_bit (slice_index words.old (k / WORD_BITS)) }
 {
-    let at = k / 64;
+    let at = k / WORD_BITS;
     let old = words[at];
-    let word = with_bit(old, (k % 64) as u32, on);
+    let word = with_bit(old, (k % WORD_BITS) as u32, on);
     words[at] = word;
     if on { old == 0 } else { word == 0 }
 }
 
-/// Sets a bit of the middle level or clears it, and keeps the highest.
+/// Sets a bit of the groups or clears it, and has the tops say so.
 #[inline(always)]
-fn put_middle(groups: &mut [u64], tops: &mut [u64], k: usize, on: bool)
-    requires within { k < 64 * length groups.old }
+fn put_group_bit(groups: &mut [u64], tops: &mut [u64], k: usize, on: bool)
+    requires within { k < WORD_BITS * length groups.old }
     requires tops { IsSummary groups.old tops.old }
     ensures len { (length groups.new ≡ length groups.old) × (length tops.new ≡ length tops.old) }
     ensures here { bit_in groups.new k ≡ (if on then 1 else 0) }
@@ -58,14 +61,14 @@ fn put_middle(groups: &mut [u64], tops: &mut [u64], k: usize, on: bool)
     ensures tops { IsSummary groups.new tops.new }
 {
     if put(groups, k, on) {
-        put(tops, k / 64, on);
+        put(tops, k / WORD_BITS, on);
     }
 }
 
-/// Sets a bit or clears it, and keeps the levels above.
+/// Sets a bit of the words or clears it, and has the groups and the tops say so.
 #[inline(always)]
-pub fn put_lowest(words: &mut [u64], groups: &mut [u64], tops: &mut [u64], k: usize, on: bool)
-    requires within { k < 64 * length words.old }
+pub fn put_bit(words: &mut [u64], groups: &mut [u64], tops: &mut [u64], k: usize, on: bool)
+    requires within { k < WORD_BITS * length words.old }
     requires groups { IsSummary words.old groups.old }
     requires tops { IsSummary groups.old tops.old }
     ensures len { (length words.new ≡ length words.old) × (length groups.new ≡ length groups.old)
@@ -76,7 +79,7 @@ pub fn put_lowest(words: &mut [u64], groups: &mut [u64], tops: &mut [u64], k: us
     ensures tops { IsSummary groups.new tops.new }
 {
     if put(words, k, on) {
-        put_middle(groups, tops, k / 64, on);
+        put_group_bit(groups, tops, k / WORD_BITS, on);
     }
 }
 
@@ -95,47 +98,47 @@ fn first_word(words: &[u64]) -> Option<usize>
     None
 }
 
-/// The lowest bit of the middle level that is set, where none is up to bit k.
+/// The lowest bit of the groups that is set, where none is up to bit k.
 #[inline(always)]
-fn lowest_middle(groups: &[u64], tops: &[u64], k: usize) -> Option<usize>
-    requires within { k < 64 * length groups.now }
+fn lowest_group_bit(groups: &[u64], tops: &[u64], k: usize) -> Option<usize>
+    requires within { k < WORD_BITS * length groups.now }
     requires small { length groups.now < 2 ^ 32 }
     requires tops { IsSummary groups.now tops.now }
     requires none { (i : ℕ) → i ≤ k → bit_in groups.now i ≡ 0 }
     ensures { IsLowest groups.now result }
 {
-    let at = k / 64;
+    let at = k / WORD_BITS;
     let group = groups[at];
     if group != 0 {
-        return Some(64 * at + lowest(group));
+        return Some(WORD_BITS * at + lowest(group));
     }
     let top = first_word(tops)?;
-    let at = 64 * top + lowest(tops[top]);
-    Some(64 * at + lowest(groups[at]))
+    let at = WORD_BITS * top + lowest(tops[top]);
+    Some(WORD_BITS * at + lowest(groups[at]))
 }
 
-/// The lowest bit that is set, where none is up to bit k.
+/// The lowest bit of the words that is set, where none is up to bit k.
 #[inline(always)]
-fn lowest_above(words: &[u64], groups: &[u64], tops: &[u64], k: usize) -> Option<usize>
-    requires within { k < 64 * length words.now }
+fn lowest_bit(words: &[u64], groups: &[u64], tops: &[u64], k: usize) -> Option<usize>
+    requires within { k < WORD_BITS * length words.now }
     requires small { (length words.now < 2 ^ 32) × (length groups.now < 2 ^ 32) }
     requires groups { IsSummary words.now groups.now }
     requires tops { IsSummary groups.now tops.now }
     requires none { (i : ℕ) → i ≤ k → bit_in words.now i ≡ 0 }
     ensures { IsLowest words.now result }
 {
-    let at = k / 64;
+    let at = k / WORD_BITS;
     let word = words[at];
     if word != 0 {
-        return Some(64 * at + lowest(word));
+        return Some(WORD_BITS * at + lowest(word));
     }
-    let at = lowest_middle(groups, tops, at)?;
-    Some(64 * at + lowest(words[at]))
+    let at = lowest_group_bit(groups, tops, at)?;
+    Some(WORD_BITS * at + lowest(words[at]))
 }
 
-/// The lowest bit that is set once bit k was written, from what it was before.
+/// The lowest bit of the words that is set, once bit k was written, from what it was before.
 #[inline(always)]
-pub fn lowest_then(
+pub fn lowest_once_put(
     words: &[u64],
     groups: &[u64],
     tops: &[u64],
@@ -145,7 +148,7 @@ pub fn lowest_then(
 ) -> Option<usize>
     requires groups { IsSummary words.now groups.now }
     requires tops { IsSummary groups.now tops.now }
-    requires within { k < 64 * length words.now }
+    requires within { k < WORD_BITS * length words.now }
     requires small { (length words.now < 2 ^ 32) × (length groups.now < 2 ^ 32) }
     requires here { bit_in words.now k ≡ (if on then 1 else 0) }
     requires was { IsLowestBut words.now k was }
@@ -158,7 +161,7 @@ pub fn lowest_then(
         return if first < k { Some(first) } else { Some(k) };
     }
     if k == first {
-        return lowest_above(words, groups, tops, k);
+        return lowest_bit(words, groups, tops, k);
     }
     Some(first)
 }

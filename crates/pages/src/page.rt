@@ -15,7 +15,7 @@ pub struct PageRecord {
     pub is_target: bool,
 }
 
-/// Whether a page is of its class, not leaving, and has a free block.
+/// Whether a page is of its class, isn't evacuating, and has a free block.
 pub fn is_usable(class: Class, row: Option<PageRecord>) -> bool
     requires { OfClass class row }
     ensures { result ≡ row_usable class row }

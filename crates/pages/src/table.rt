@@ -28,7 +28,7 @@ pub struct Block {
 }
 
 /// The pages of a heap: a record for each that is in use; for each class a bit for each page that isn't
-/// leaving and has a free block, and how many such blocks there are; a bit for each free page, and how
+/// evacuating and has a free block, and how many such blocks there are; a bit for each free page, and how
 /// many there are. Contracts see the list of the records. With the words of the arena they are the pages.
 #[derive(Drop)]
 pub struct PageTable {
@@ -281,9 +281,8 @@ impl PageTable {
         self.update(page, row.class, Some(row));
     }
 
-    /// Closes a page, as the sweeper does when it has looked at all its blocks: the marks leaving and
-    /// receiving go, and if no block is allocated the page becomes free. Whatever words the table goes together
-    /// with, it still does.
+    /// Closes a page, as the sweeper does when it has looked at all its blocks: it is no longer evacuating or a target,
+    /// and if no block is allocated it becomes free. Whatever words the table goes together with, it still does.
     pub fn close_page(&mut self, page: usize)
         requires { page < length self.old }
         ensures together { (words : List ℕ) → Together self.old words → Together self.new words }

@@ -1,4 +1,4 @@
-use Rattle.std.proofs.Common.{◌≡◌, ◌<◌, arith, cond, sym, ap, ◌∙◌}
+use Rattle.std.proofs.Common.{arith}
 use Rattle.pages.proofs.Summaries.{kept_off}
 use Rattle.pages.proofs.levels.put.Goals as goal
 

@@ -1,11 +1,11 @@
-use Rattle.std.proofs.Common.{◌≡◌, ℕ, ◌+◌, ◌<◌, ◌≤◌, inl, inr, ◌++◌, ◌∷◌, [], List, length, replicate, Option, None, rules, arith, sym, subst, ap, ◌∙◌}
+use Rattle.std.proofs.Common.{◌≡◌, ℕ, ◌+◌, ◌≤◌, inl, inr, ◌++◌, ◌∷◌, [], List, length, replicate, Option, None, rules, arith, sym, subst, ap, ◌∙◌}
 use Rattle.std.proofs.lemmas.Bool.{cases_eq}
 use Rattle.std.proofs.lemmas.List.{length_push}
 use Rattle.pages.specs.declared.bits.BitRow.{BitRow}
 use Rattle.pages.specs.declared.page.PageRecord.{PageRecord}
 use Rattle.size_classes.specs.declared.class.TheConstants.{CLASSES}
 use Rattle.pages.specs.BitRow.{has_bit, room_of}
-use Rattle.pages.specs.Index.{class_bit, class_room, IsIndex}
+use Rattle.pages.specs.Index.{class_bit, room_of_class, IsIndex}
 use Rattle.pages.proofs.Indexing.{fresh_book, each_more}
 use Rattle.pages.proofs.table.PageTable.new.Goals as goal
 
@@ -14,7 +14,7 @@ classes-preserved c =
     let e : c.push-in-classes.new.self.items ≡ c.classes.usable.items ++ c.in_ok-one.one ∷ [] = search rules in
     record {
       long = ap (λ (l : List BitRow). length l) e ∙ length_push c.classes.usable.items c.in_ok-one.one ∙ ap (λ n. n + 1) c.classes.invariant.long;
-      wide = λ x h. subst (λ (l : List BitRow). c.args.pages ≤ class_room l x) (sym e) (each_more c.classes.usable.items c.classes.counter c.in_ok-one.one room_of (λ n. c.args.pages ≤ n) c.classes.invariant.long c.classes.invariant.wide c.in_ok-one.ensures.room x h);
+      wide = λ x h. subst (λ (l : List BitRow). c.args.pages ≤ room_of_class l x) (sym e) (each_more c.classes.usable.items c.classes.counter c.in_ok-one.one room_of (λ n. c.args.pages ≤ n) c.classes.invariant.long c.classes.invariant.wide c.in_ok-one.ensures.room x h);
       none = λ x k h. subst (λ (l : List BitRow). class_bit l x k ≡ 0) (sym e) (each_more c.classes.usable.items c.classes.counter c.in_ok-one.one (λ r. has_bit r k) (λ n. n ≡ 0) c.classes.invariant.long (λ y. c.classes.invariant.none y k) (c.in_ok-one.ensures.none k) x h);
     }
 

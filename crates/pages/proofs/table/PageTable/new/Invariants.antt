@@ -1,7 +1,7 @@
 use Rattle.std.proofs.Common.{◌≡◌, ℕ, ◌<◌, ◌≤◌, length, replicate, Option, None}
 use Rattle.pages.specs.declared.page.PageRecord.{PageRecord}
 use Rattle.pages.specs.BitRow.{has_bit, room_of}
-use Rattle.pages.specs.Index.{class_bit, class_room}
+use Rattle.pages.specs.Index.{class_bit, room_of_class}
 use Rattle.pages.proofs.table.PageTable.new.Given as goal
 
 abbrev pub invariant-rows : goal.invariant-rows
@@ -10,7 +10,7 @@ invariant-rows l = l.rows.items ≡ replicate {A = Option PageRecord} l.counter 
 abbrev pub invariant-classes : goal.invariant-classes
 invariant-classes l = record {
   long : length l.usable.items ≡ l.counter;
-  wide : (c : ℕ) → c < l.counter → l.fn.pages ≤ class_room l.usable.items c;
+  wide : (c : ℕ) → c < l.counter → l.fn.pages ≤ room_of_class l.usable.items c;
   none : (c k : ℕ) → c < l.counter → class_bit l.usable.items c k ≡ 0;
 }
 

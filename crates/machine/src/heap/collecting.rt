@@ -18,6 +18,7 @@ use heap_model::phase::Phase;
 use marker::{scan_parts, scan_roots};
 use nodes::HeapFields;
 use satb_barrier::flush_all;
+use size_classes::{LEAST_BUDGET, MOST_BUDGET};
 use sweeper::sweep_next;
 
 /// Does the next actions of the collector, one or more of the same kind, and answers true, if their units fit in
@@ -90,13 +91,13 @@ impl Heap {
 
     /// Spends units of a budget: what mutators recorded goes into the list of grey parts, and then the next
     /// action is done while its units fit in what is left, until no cycle is running. It never begins a cycle.
-    /// Refused outside 256 to 1000000 units, and then nothing changes.
+    /// Refused outside `LEAST_BUDGET` to `MOST_BUDGET`, and then nothing changes.
     pub fn quantum(&mut self, budget: u32) -> Result<Spent, BudgetOutOfRange>
         ensures spends { Spends self.old budget self.new result }
         ensures ends { IfOk result (λ s. (s.phase ≡ phases.Idle) ⊎ (budget < s.units + 256)) }
         ensures agrees { (g : Graph) → Agrees self.old g → Agrees self.new g }
     {
-        if budget < 256 || 1_000_000 < budget {
+        if budget < LEAST_BUDGET || MOST_BUDGET < budget {
             return Err(BudgetOutOfRange);
         }
         flush_all(&mut self.raw);

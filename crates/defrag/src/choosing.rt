@@ -3,19 +3,20 @@ ghost use Rattle.std.specs.Prelude.{◌≡◌, ◌-◌, ◌<◌, ◌≤◌, ◌^
 ghost use Rattle.size_classes.specs.declared.class.TheConstants.{CLASSES};
 ghost use Rattle.heap_model.specs.Action.{candidate_after, emptier, is_chosen};
 ghost use Rattle.heap_model.specs.Action.{Action, AtPass};
+ghost use Rattle.heap_model.specs.declared.cost.TheConstants.{LOOK};
 ghost use Rattle.heap_model.specs.declared.phase.Phase.TheVariants as phases;
 ghost use Rattle.heap_model.specs.declared.phase.Moving.TheVariants as moves;
 ghost use Rattle.nodes.specs.Acting.{Acts};
 ghost use Rattle.nodes.specs.HeapFields.{state_of, AreHeapFields};
 ghost use Rattle.defrag.specs.Looking.{looked_on};
 
+use heap_model::cost::{LOOK, TURN};
 use heap_model::phase::{Candidate, Moving, Phase};
 use nodes::{BlockStore, HeapFields};
 use size_classes::{CLASSES, Class};
 
 /// Does the next steps of a pass: looks at the class's next pages before the last, as many as are left or as
 /// there is room for; where none is left, the look at the last one; after the last class the end of moving.
-/// Each costs one unit. Answers the units.
 pub fn pass_next(
     heap: &mut HeapFields,
     class: u32,
@@ -23,21 +24,19 @@ pub fn pass_next(
     candidate: Option<Candidate>,
     chosen: u32,
     room: u32,
-) -> u32
+)
     requires heap { AreHeapFields heap.old }
     requires phase { heap.old.phase ≡ phases.Moving (moves.Pass class page candidate chosen) }
     requires room { 0 < room }
-    ensures acts { Acts heap.old room heap.new result }
+    ensures acts { Acts heap.old room heap.new }
     ensures grey { heap.new.grey ≡ heap.old.grey }
 {
     if class >= CLASSES as u32 {
-        heap.go_to(1, Phase::Idle);
-        return 1;
+        return heap.charge(TURN, Phase::Idle);
     }
     let left = heap.nodes.pages().saturating_sub(page as usize + 1);
     if left == 0 {
-        look_next(heap, class, page, candidate, chosen);
-        return 1;
+        return look_next(heap, class, page, candidate, chosen);
     }
     let count = left.min(room as usize) as u32;
     let next = page + count;
@@ -47,12 +46,11 @@ pub fn pass_next(
         candidate: look_on(&heap.nodes, Class::new(class as u8), page, next, candidate),
         chosen,
     };
-    heap.go_to(count, Phase::Moving(place));
-    count
+    heap.charge(count * LOOK, Phase::Moving(place));
 }
 
 /// Looks at a page in a pass of a class, with the best page so far. After a look at the last page the best
-/// one is chosen, if its blocks find a place on the class's other pages. It costs one unit.
+/// one is chosen, if its blocks find a place on the class's other pages.
 pub fn look_next(
     heap: &mut HeapFields,
     class: u32,
@@ -65,14 +63,14 @@ pub fn look_next(
     requires class { class < CLASSES }
     requires page { page < length heap.old.nodes.pages }
     requires chosen { chosen < 2 ^ 31 }
-    ensures acts { Action (state_of heap.old) 1 (state_of heap.new) }
+    ensures acts { Action (state_of heap.old) LOOK (state_of heap.new) }
     ensures grey { heap.new.grey ≡ heap.old.grey }
 {
     let number = Class::new(class as u8);
     let candidate = consider(&heap.nodes, number, page, candidate);
     if (page as usize) + 1 < heap.nodes.pages() {
-        return heap.go_to(
-            1,
+        return heap.charge(
+            LOOK,
             Phase::Moving(Moving::Pass {
                 class,
                 page: page + 1,
@@ -84,8 +82,8 @@ pub fn look_next(
     match candidate {
         Some(found) if is_chosen(&heap.nodes, number, found) => {
             heap.nodes.mark_evacuating(found.page as usize);
-            heap.go_to(
-                1,
+            heap.charge(
+                LOOK,
                 Phase::Moving(Moving::Emptying {
                     class,
                     page: found.page,
@@ -94,8 +92,8 @@ pub fn look_next(
                 }),
             )
         }
-        _ => heap.go_to(
-            1,
+        _ => heap.charge(
+            LOOK,
             Phase::Moving(Moving::Pass {
                 class: class + 1,
                 page: 0,

@@ -24,7 +24,7 @@ use Rattle.heap_model.specs.Placed.{KeepsPages, IsPlaced}
 use Rattle.heap_model.specs.Marks.{AreClosed}
 use Rattle.heap_model.specs.Standing.{Represents}
 use Rattle.heap_model.specs.Taking.{Takes}
-use Rattle.heap_model.specs.Change.{Records, HasCell, place_of, DoesChange, Does_nothing, Does_root, Does_ref, Does_word, Does_new, Does_join, Does_leave, Clears, Clears_none, Clears_next}
+use Rattle.heap_model.specs.Change.{Records, HasCell, DoesChange, Does_nothing, Does_root, Does_ref, Does_word, Does_new, Does_join, Does_leave, Clears, Clears_none, Clears_next}
 use Rattle.heap_model.proofs.Cut.{part_at, column_at, part_below, column_below}
 use Rattle.heap_model.proofs.Agreements.{consistent_agrees, part_kept}
 use Rattle.heap_model.proofs.Sameness.{known_root, known_ref, length-nulled}
@@ -100,8 +100,8 @@ stands_live h p s a b w e =
 
 -- a reference cell
 stands_ref : (h k : HeapState) (present snapshot : Graph) (id i value address y : ℕ) (new : Store) → Represents h present snapshot → Reaches present id → i < length (object_of present.objects id).refs → IsKnown present value
-    → HasCell h present id i address → Records h (get_or (record_of h.store address).cells (place_of present id i) 0) k → IsMain (seen h) y (name_of value)
-    → Writes k.store new address (with_cell (record_of k.store address) (place_of present id i) y) → Represents (record k { store = new }) (changed present (changes.Ref id i value)) snapshot
+    → HasCell h present id i address → Records h (get_or (record_of h.store address).cells (column_in i) 0) k → IsMain (seen h) y (name_of value)
+    → Writes k.store new address (with_cell (record_of k.store address) (column_in i) y) → Represents (record k { store = new }) (changed present (changes.Ref id i value)) snapshot
 stands_ref h k p s id i value address y new w reaches l known at r main writes =
     let c = w.consistent in
     let o = object_of p.objects id in
@@ -111,7 +111,7 @@ stands_ref h k p s id i value address y new w reaches l known at r main writes =
     let v = stands_records h k p s _ (get_or o.refs i 0) w r (known_ref p id i (inr reaches) l) reads in
     let cells = records_cells h k _ address r copy.allocated in
     let at' = records_main h k _ (address + 1) _ r at in
-    let recorded = subst (λ z. IsRecorded k (get_or z (place_of p id i) 0)) (sym cells) (records_recorded h k _ _ r reads) in
+    let recorded = subst (λ z. IsRecorded k (get_or z (column_in i) 0)) (sym cells) (records_recorded h k _ _ r reads) in
     let c1 = ref_written k p s new address y id i value v.consistent reaches l at' recorded known (records_main h k _ y (name_of value) r main) writes in
     let sum = cells_sum o (c.cells id) in
     let below : part_at o i < count_of o = part_below o i l in
@@ -120,9 +120,9 @@ stands_ref h k p s id i value address y new w reaches l known at r main writes =
     let within = column_within k p s v.consistent address n (part_kept k p s v.consistent id (part_at o i) reaches below) at'' below in
     let column : column_at o i < width_of o (part_at o i) = column_below o i l in
     let column' : column_at o i < width_at (record_of k.store address) = subst (λ z. column_at o i < z) (sym within.0) column in
-    let wide : place_of p id i < width_at (record_of k.store address) = subst (λ z. column_in i < width_at (record_of k.store address)) sum column' in
-    let inside : place_of p id i < length (record_of k.store address).cells = (let e = within.1 in omega arith) in
-    stands_same k (record k { store = new }) p s (changed p (changes.Ref id i value)) v c1 writes.pages (ref_more k new address (place_of p id i) y writes inside wide)
+    let wide : column_in i < width_at (record_of k.store address) = subst (λ z. column_in i < width_at (record_of k.store address)) sum column' in
+    let inside : column_in i < length (record_of k.store address).cells = (let e = within.1 in omega arith) in
+    stands_same k (record k { store = new }) p s (changed p (changes.Ref id i value)) v c1 writes.pages (ref_more k new address (column_in i) y writes inside wide)
 
 -- a new object
 stands_new : (h k : HeapState) (present snapshot : Graph) (cell id : ℕ) (shape : Shape) (new : Store) (at : ℕ → ℕ) → Represents h present snapshot → cell < length present.roots → id ≡ length present.objects + 1 → fits shape ≡ true
@@ -146,7 +146,7 @@ stands_changed h after p s c w f Does_nothing = w
 stands_changed h after p s c w f (Does_root cell id y k r i) = stands_root h k p s cell id y w f.0 f.1 r i
 stands_changed h after p s c w f (Does_ref id i value address y k new at r main writes) = stands_ref h k p s id i value address y new w f.0 f.2 f.3 at r main writes
 stands_changed h after p s c w f (Does_word id i word address new at writes) =
-    stands_same h (record h { store = new }) p s (changed p (changes.Word id i word)) w (word_written h p s new address id i word w.consistent f.0 f.2 at writes) writes.pages (word_more h new address (place_of p id i) word writes)
+    stands_same h (record h { store = new }) p s (changed p (changes.Word id i word)) w (word_written h p s new address id i word w.consistent f.0 f.2 at writes) writes.pages (word_more h new address (column_in i) word writes)
 stands_changed h after p s c w f (Does_new cell id shape k new at r makes takes) = stands_new h k p s cell id shape new at w f.0 f.1 f.2 r makes takes
 stands_changed h after p s c w f (Does_join m) = stands_live h p s (set h.live m true) (set p.live m true) w (ap (λ z. set z m true) w.consistent.live)
 stands_changed h after p s c w f (Does_leave m k clears) =

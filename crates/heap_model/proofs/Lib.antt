@@ -2,6 +2,7 @@ pub mod Edits
 pub mod Stays
 pub mod Parts
 pub mod Acts
+pub mod Phases
 pub mod Hops
 pub mod Kept
 pub mod Trace

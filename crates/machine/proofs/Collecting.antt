@@ -1,21 +1,23 @@
 -- A cycle that begins, and a turn of actions.
-use Rattle.std.proofs.Common.{◌≡◌, ◌≢◌, ℕ, ◌+◌, ◌<◌, ◌≤◌, ◌^◌, ◌⊎◌, inl, inr, Bool, true, false, length, refl, ap, ◌∙◌, subst, sym, arith}
+use Rattle.std.proofs.Common.{◌≡◌, ◌≢◌, ℕ, ◌+◌, ◌-◌, ◌<◌, ◌≤◌, ◌^◌, ◌⊎◌, inl, inr, Bool, true, false, length, refl, ap, ◌∙◌, subst, sym, arith}
 use Rattle.graph_heap.specs.Graph.{Graph}
 use Rattle.heap_model.specs.declared.phase.Phase.TheVariants as phases
-use Rattle.heap_model.specs.declared.phase.Moving.{Moving}
 use Rattle.heap_model.specs.State.{HeapState}
 use Rattle.heap_model.specs.Agreement.{Agrees}
 use Rattle.heap_model.specs.Action.{Action, Relinks, Chain, Nothing_done, Then, begun}
 use Rattle.heap_model.specs.Pages.{ArePages}
 use Rattle.heap_model.specs.Store.{Store}
 use Rattle.heap_model.specs.Written.{records}
-use Rattle.heap_model.specs.QuantumSpending.{NextCosts, Of_other, QuantumSpends}
+use Rattle.heap_model.specs.QuantumSpending.{QuantumSpends}
 use Rattle.heap_model.proofs.Agreements.{consistent_agrees}
 use Rattle.heap_model.proofs.Sameness.{told, agrees_alike}
 use Rattle.heap_model.proofs.Bound.{same_limit}
-use Rattle.heap_model.proofs.Costs.{turn_left}
+use Rattle.heap_model.proofs.Costs.{turn_left, some_cost}
 use Rattle.heap_model.proofs.Relinked.{relinked_count, stands_relinked}
 use Rattle.heap_model.proofs.Stood.{stands_chain, stands_begun}
+use Rattle.heap_model.proofs.Turns.{chain_units}
+use Rattle.nodes.specs.Acting.{Acts, ActsIn}
+use Rattle.nodes.proofs.Chains.{then_chain, heap_after_chain}
 use Rattle.nodes.proofs.Keeping.{relinked_twice}
 use Rattle.nodes.specs.declared.heap_fields.HeapFields.{HeapFields}
 use Rattle.nodes.specs.Grey.{grey_in}
@@ -35,9 +37,47 @@ pub chain_agrees : (h after : HeapState) → IsHeap h → (units : ℕ) → Chai
 chain_agrees h after w units chain g a =
     agrees_alike after w.present g (consistent_agrees after w.present w.snapshot (stands_chain h after units w.present w.snapshot w.stands chain).consistent) (told h w.present g (present_agrees h w) a)
 
--- where no block is moved the next action costs one unit
-pub costs_one : (h : HeapState) → h.phase ≢ phases.Idle → ((place : Moving) → h.phase ≢ phases.Moving place) → NextCosts h 1
-costs_one h busy still = Of_other busy (λ p n. still _ n.phase)
+-- Actions were done, and a step does further ones: what was spent in all is what the units rose by.
+module _ (a b d : HeapFields) (budget spent : ℕ) (first : Chain (state_of a) spent (state_of b)) where
+  pub record SpendsOn : Type 0 where
+    pub more : a.units ≤ d.units
+    pub rises : spent < d.units - a.units
+    pub within : d.units - a.units ≤ budget
+    pub chain : Chain (state_of a) (d.units - a.units) (state_of d)
+    pub heap : AreHeapFields d
+
+  pub spends_on : AreHeapFields b → spent < budget → Acts b (budget - spent) d → d.grey.buffers ≡ b.grey.buffers → SpendsOn
+  spends_on w left acts same =
+      let cost = acts.0 in
+      let some = acts.2 in
+      let room = acts.3 in
+      let whole = then_chain (state_of a) (state_of b) (state_of d) spent cost first acts.1 in
+      let units : d.units ≡ a.units + (spent + cost) = chain_units (state_of a) (state_of d) (spent + cost) whole in
+      let is : spent + cost ≡ d.units - a.units = omega (arith, units) in
+      record {
+        more = omega (arith, units);
+        rises = omega (arith, is, some);
+        within = omega (arith, is, room, left);
+        chain = subst (λ n. Chain (state_of a) n (state_of d)) is whole;
+        heap = heap_after_chain b d w cost acts.1 (ap length same);
+      }
+
+-- a turn ends where nothing is left of its budget, or where the next action doesn't fit in what is left
+pub spent_all : (h after : HeapState) (budget spent : ℕ) → Chain h spent after → spent ≤ budget → budget ≤ spent → ArePages after.store.pages → QuantumSpends h budget after spent
+spent_all h after budget spent chain within all w = record {
+  chain = chain;
+  within = within;
+  ends = elim (some_cost after w) [ inl e ↦ inl e | inr n ↦ inr (n.0, n.1, (let some = n.2 in omega (arith, some, all))) ];
+}
+
+pub spent_most : (a b d : HeapFields) (budget spent : ℕ) → Chain (state_of a) spent (state_of b) → spent ≤ budget → ActsIn b (budget - spent) d false → QuantumSpends (state_of a) budget (state_of d) spent
+spent_most a b d budget spent chain within none =
+    subst (λ (x : HeapFields). QuantumSpends (state_of a) budget (state_of x) spent) (sym none.0)
+    (record {
+      chain = chain;
+      within = within;
+      ends = elim none.1 [ inl e ↦ inl e | inr n ↦ inr (n.0, n.1, (let dear = n.2 in omega (arith, dear, within))) ];
+    })
 
 -- a heap whose blocks are threaded anew stays one
 pub relinked_heap : (h : HeapState) (s : Store) → IsHeap h → Relinks h.store s → IsHeap (record h { store = s })

@@ -7,7 +7,7 @@ use thiserror::Error;
 #[error("busy")]
 pub struct Busy;
 
-/// The budget of a quantum isn't 256 to 1000000 units. Its number among the refusals is 12.
+/// The budget of a quantum isn't `LEAST_BUDGET` to `MOST_BUDGET`. Its number among the refusals is 12.
 #[derive(Clone, Copy, Debug, PartialEq, Eq, Error)]
 #[error("budget out of range")]
 pub struct BudgetOutOfRange;

@@ -3,12 +3,14 @@ ghost use Rattle.std.specs.Prelude.{◌≡◌, ◌≢◌, ◌-◌, ◌+◌, ◌<
 ghost use Rattle.heap_model.specs.Store.{is_allocated, record_of};
 ghost use Rattle.heap_model.specs.State.{seen, width_at};
 ghost use Rattle.heap_model.specs.Action.{Action, Chain, goes_to};
+ghost use Rattle.heap_model.specs.declared.cost.TheConstants.{SCAN, TURN};
 ghost use Rattle.heap_model.specs.declared.phase.Phase.TheVariants as phases;
 ghost use Rattle.nodes.specs.Acting.{Acts};
 ghost use Rattle.nodes.specs.Grey.{in_buffers};
 ghost use Rattle.nodes.specs.HeapFields.{state_of, AreHeapFields};
 ghost use Rattle.marker.specs.Scanning.{scanning, IsScanning, Scans};
 
+use heap_model::cost::{SCAN, TURN};
 use heap_model::phase::Phase;
 use nodes::{BlockStore, HeapFields};
 use satb_barrier::{pop_grey, shade};
@@ -28,13 +30,13 @@ struct Step {
     units: u32,
 }
 
-/// Scans a root cell, at one unit: it is corrected to the main copy, and that is shaded.
+/// Scans a root cell: it is corrected to the main copy, and that is shaded.
 #[inline(always)]
 fn scan_root(heap: &mut HeapFields, next: usize)
     requires heap { AreHeapFields heap.old }
     requires phase { heap.old.phase ≡ phases.Roots next }
     requires within { next < length heap.old.roots.cells }
-    ensures acts { Action (state_of heap.old) 1 (state_of heap.new) }
+    ensures acts { Action (state_of heap.old) SCAN (state_of heap.new) }
     ensures phase { heap.new.phase ≡ phases.Roots (next + 1) }
     ensures cells { length heap.new.roots.cells ≡ length heap.old.roots.cells }
     ensures buffers { heap.new.grey.buffers ≡ heap.old.grey.buffers }
@@ -42,22 +44,21 @@ fn scan_root(heap: &mut HeapFields, next: usize)
     let main = heap.nodes.resolve(heap.roots.get(next)).reference;
     heap.roots.set(next, main);
     shade(heap, main);
-    heap.go_to(1, Phase::Roots { next: next + 1 });
+    heap.charge(SCAN, Phase::Roots { next: next + 1 });
 }
 
 /// Scans root cells in order, from one on, as many as are left or as there is room for; where none is left, marking
-/// begins. Each of these costs one unit. Answers the units.
-pub fn scan_roots(heap: &mut HeapFields, next: usize, room: u32) -> u32
+/// begins.
+pub fn scan_roots(heap: &mut HeapFields, next: usize, room: u32)
     requires heap { AreHeapFields heap.old }
     requires phase { heap.old.phase ≡ phases.Roots next }
     requires room { 0 < room }
-    ensures acts { Acts heap.old room heap.new result }
+    ensures acts { Acts heap.old room heap.new }
     ensures buffers { heap.new.grey.buffers ≡ heap.old.grey.buffers }
 {
     let left = heap.roots.cells().len().saturating_sub(next);
     if left == 0 {
-        heap.go_to(1, Phase::Marking { part: 0, cell: 0 });
-        return 1;
+        return heap.charge(TURN, Phase::Marking { part: 0, cell: 0 });
     }
     let count = left.min(room as usize);
     let mut scanned = 0;
@@ -65,35 +66,30 @@ pub fn scan_roots(heap: &mut HeapFields, next: usize, room: u32) -> u32
         scan_root(heap, next + scanned);
         scanned += 1;
     }
-    count as u32
 }
 
 /// Goes on with marking, as far as there is room for: scans the reference cells of the part in scan, then takes a
-/// grey part and scans its header, and so on; where no part is grey, sweeping begins. Each of these costs one unit.
-/// Answers the units. The buffers are empty.
-pub fn scan_parts(heap: &mut HeapFields, part: u64, cell: u32, room: u32) -> u32
+/// grey part and scans its header, and so on; where no part is grey, sweeping begins. The buffers are empty.
+pub fn scan_parts(heap: &mut HeapFields, part: u64, cell: u32, room: u32)
     requires heap { AreHeapFields heap.old }
     requires buffers { in_buffers heap.old.grey.buffers ≡ [] }
     requires phase { heap.old.phase ≡ phases.Marking part cell }
     requires room { 0 < room }
-    ensures acts { Acts heap.old room heap.new result }
+    ensures acts { Acts heap.old room heap.new }
     ensures buffers { heap.new.grey.buffers ≡ heap.old.grey.buffers }
 {
     let mut scan = scan_at(heap, part, cell as usize);
     let mut units = 0;
     while units < room {
         let Some(step) = scan_next(heap, scan, room - units) else {
-            units += 1;
-            heap.go_to(units, Phase::Sweeping { page: 0, block: 0 });
-            return units;
+            return heap.charge(units + TURN, Phase::Sweeping { page: 0, block: 0 });
         };
         scan = step.scan;
         units += step.units;
     }
     let part = scan.part;
     let cell = scan.cell as u32;
-    heap.go_to(units, Phase::Marking { part, cell });
-    units
+    heap.charge(units, Phase::Marking { part, cell });
 }
 
 /// A part in scan, at a cell.
@@ -125,8 +121,8 @@ fn scan_next(heap: &mut HeapFields, scan: Scan, room: u32) -> Option<Step>
     ensures count { IfSome result (λ r. (0 < r.units) × (r.units ≤ room)) }
     ensures width { IfSome result (λ r. r.scan.width ≡ (seen (state_of heap.new)).width r.scan.part) }
     ensures ends { IsNone result → (units : ℕ)
-        → Action (state_of (scanning heap.old scan.part scan.cell units)) 1
-        (goes_to (state_of (scanning heap.new scan.part scan.cell units)) 1 (phases.Sweeping 0 0)) }
+        → Action (state_of (scanning heap.old scan.part scan.cell units)) TURN
+        (goes_to (state_of (scanning heap.new scan.part scan.cell units)) TURN (phases.Sweeping 0 0)) }
     ensures buffers { heap.new.grey.buffers ≡ heap.old.grey.buffers }
     ensures same { heap.new ≡ record heap.old { nodes = heap.new.nodes; grey = heap.new.grey } }
 {
@@ -134,7 +130,7 @@ fn scan_next(heap: &mut HeapFields, scan: Scan, room: u32) -> Option<Step>
         let count = (scan.width - scan.cell).min(room as usize);
         scan_cells(heap, scan.part, scan.cell, count);
         let cell = scan.cell + count;
-        let units = count as u32;
+        let units = count as u32 * SCAN;
         return Some(Step {
             scan: Scan { cell, ..scan },
             units,
@@ -142,7 +138,7 @@ fn scan_next(heap: &mut HeapFields, scan: Scan, room: u32) -> Option<Step>
     }
     let part = pop_grey(heap)?;
     let scan = scan_at(heap, part, 0);
-    Some(Step { scan, units: 1 })
+    Some(Step { scan, units: SCAN })
 }
 
 /// Scans `count` reference cells of a part, from one on.

@@ -49,8 +49,8 @@ heap_after_chain a b w units chain count = record {
 }
 
 -- one action within the room
-pub runs_once : (a b : HeapFields) (room cost : ℕ) → AreHeapFields a → Action (state_of a) cost (state_of b) → cost ≤ room → Acts a room b cost
-runs_once a b room cost w action within = (one_action (state_of a) (state_of b) cost action, (action_cost (state_of a) (state_of b) cost w.heap.stands.pages action).0, within)
+pub runs_once : (a b : HeapFields) (room cost : ℕ) → AreHeapFields a → Action (state_of a) cost (state_of b) → cost ≤ room → Acts a room b
+runs_once a b room cost w action within = (cost, one_action (state_of a) (state_of b) cost action, (action_cost (state_of a) (state_of b) cost w.heap.stands.pages action).0, within)
 
 -- steps of one unit each, that change nothing but the phase
 pub steps_on : (h : HeapState) (at : ℕ → Phase) (n : ℕ) → h.phase ≡ at 0 → ((k u : ℕ) → k < n → Action (record h { phase = at k; units = u }) 1 (record h { phase = at (k + 1); units = u + 1 }))

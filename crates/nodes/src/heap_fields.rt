@@ -53,8 +53,8 @@ impl HeapFields {
         })
     }
 
-    /// The collector goes on to another phase, with more units spent.
-    pub fn go_to(&mut self, cost: u32, phase: Phase)
+    /// Charges a cycle units of work, after which the collector stands at this place of a phase.
+    pub fn charge(&mut self, cost: u32, phase: Phase)
         requires { self.old.units + cost < 2 ^ 64 }
         ensures { self.new ≡ record self.old { phase = phase; units = self.old.units + cost } }
     {

@@ -9,7 +9,6 @@ ghost use Rattle.nodes.specs.Grey.{grey_in, in_buffers, buffer_of, inserted, wit
 ghost use Rattle.nodes.specs.HeapFields.{state_of, AreHeapFields};
 ghost use Rattle.satb_barrier.specs.Recording.{with_room};
 
-use crate::shading::records;
 use nodes::HeapFields;
 
 /// Puts an allocated part that isn't grey into the list, as its first.
@@ -92,7 +91,7 @@ pub fn flush_all(heap: &mut HeapFields)
     ensures same { heap.new ≡ record heap.old { nodes = heap.new.nodes; grey = heap.new.grey } }
     ensures rests { written.records heap.old.phase ≡ false → heap.new ≡ heap.old }
 {
-    if !records(heap.phase) {
+    if !heap.phase.records() {
         return;
     }
     for mutator in 0..heap.roots.limits().mutators {

@@ -5,14 +5,12 @@ ghost use Rattle.heap_model.specs.Change.{Records};
 ghost use Rattle.heap_model.specs.Grey.{AreGrey};
 ghost use Rattle.heap_model.specs.State.{seen};
 ghost use Rattle.heap_model.specs.Store.{is_allocated};
-ghost use Rattle.heap_model.specs.Written as written;
 ghost use Rattle.nodes.specs.Referent.{CanFollow};
 ghost use Rattle.nodes.specs.HeapFields.{state_of, AreHeapFields};
 ghost use Rattle.nodes.specs.GreyAllocated.{AreAllocated};
 ghost use Rattle.satb_barrier.specs.Recording.{buffers_after};
 
 use crate::list::{make_room, push_grey};
-use heap_model::phase::Phase;
 use nodes::HeapFields;
 
 /// Whether a part is marked, by reference: whether its colour is the one that means so. Null always is.
@@ -24,13 +22,6 @@ pub fn is_marked(heap: &HeapFields, reference: u64) -> bool
         || heap
             .nodes
             .has_colour(reference as usize - 1, heap.mark_parity)
-}
-
-/// Whether a phase is one in which what is overwritten is recorded: roots and marking.
-pub fn records(phase: Phase) -> bool
-    ensures { result ≡ written.records phase }
-{
-    matches!(phase, Phase::Roots { .. } | Phase::Marking { .. })
 }
 
 /// Shades a main copy, or null: if it isn't marked yet, it gets the colour that means marked, and goes
@@ -64,7 +55,7 @@ pub fn record(heap: &mut HeapFields, mutator: u32, reference: u64)
     ensures allocated { AreAllocated heap.new }
     ensures same { heap.new ≡ record heap.old { nodes = heap.new.nodes; grey = heap.new.grey } }
 {
-    if !records(heap.phase) {
+    if !heap.phase.records() {
         return;
     }
     let main = heap.nodes.resolve(reference).reference;

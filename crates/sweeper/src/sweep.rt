@@ -8,24 +8,23 @@ ghost use Rattle.nodes.specs.Pages.{blocks_on};
 ghost use Rattle.nodes.specs.Acting.{Acts};
 ghost use Rattle.nodes.specs.HeapFields.{state_of, AreHeapFields};
 
+use heap_model::cost::{CLOSE, LOOK, TURN};
 use heap_model::phase::{Moving, Phase};
 use nodes::{BlockStore, HeapFields};
 
 /// Looks at the next blocks of a page, as many as are left or as there is room for: a block that is allocated and
 /// whose colour isn't the one that means marked is freed. Where none is left, it closes the page, and the
-/// free pages right after it for which there is room; where all pages are closed, it ends the sweep. Each of
-/// these costs one unit. Answers the units.
-pub fn sweep_next(heap: &mut HeapFields, page: u32, block: u32, room: u32) -> u32
+/// free pages right after it for which there is room; where all pages are closed, it ends the sweep.
+pub fn sweep_next(heap: &mut HeapFields, page: u32, block: u32, room: u32)
     requires heap { AreHeapFields heap.old }
     requires phase { heap.old.phase ≡ phases.Sweeping page block }
     requires room { 0 < room }
-    ensures acts { Acts heap.old room heap.new result }
+    ensures acts { Acts heap.old room heap.new }
     ensures grey { heap.new.grey ≡ heap.old.grey }
 {
     if page as usize >= heap.nodes.pages() {
         let next = after_sweep(heap);
-        heap.go_to(1, next);
-        return 1;
+        return heap.charge(TURN, next);
     }
     let left = heap
         .nodes
@@ -33,21 +32,19 @@ pub fn sweep_next(heap: &mut HeapFields, page: u32, block: u32, room: u32) -> u3
         .saturating_sub(block as usize);
     if left > 0 {
         let count = left.min(room as usize) as u32;
-        sweep_blocks(heap, page, block, count);
-        return count;
+        return sweep_blocks(heap, page, block, count);
     }
-    close_pages(heap, page, block, room)
+    close_pages(heap, page, block, room);
 }
 
 /// Closes a page whose blocks are all swept, and the free pages right after it for which there is room.
-/// Answers how many.
-fn close_pages(heap: &mut HeapFields, page: u32, block: u32, room: u32) -> u32
+fn close_pages(heap: &mut HeapFields, page: u32, block: u32, room: u32)
     requires heap { AreHeapFields heap.old }
     requires phase { heap.old.phase ≡ phases.Sweeping page block }
     requires page { page < length heap.old.nodes.pages }
     requires looked { blocks_on (page_at heap.old.nodes.pages page) ≤ block }
     requires room { 0 < room }
-    ensures acts { Acts heap.old room heap.new result }
+    ensures acts { Acts heap.old room heap.new }
     ensures grey { heap.new.grey ≡ heap.old.grey }
 {
     heap.nodes.close_page(page as usize);
@@ -58,8 +55,7 @@ fn close_pages(heap: &mut HeapFields, page: u32, block: u32, room: u32) -> u32
         page: next,
         block: 0,
     };
-    heap.go_to(next - page, place);
-    next - page
+    heap.charge((next - page) * CLOSE, place);
 }
 
 /// The first page from one on, up to another, that isn't free; the other where all are.
@@ -90,7 +86,7 @@ fn sweep_blocks(heap: &mut HeapFields, page: u32, block: u32, count: u32)
     heap.nodes
         .sweep(page as usize, block as usize, count as usize, colour);
     let block = block + count;
-    heap.go_to(count, Phase::Sweeping { page, block });
+    heap.charge(count * LOOK, Phase::Sweeping { page, block });
 }
 
 /// The phase after a sweep: moving begins where pages may be emptied, and fewer are free than the

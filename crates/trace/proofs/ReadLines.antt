@@ -10,6 +10,7 @@ use Rattle.std.proofs.lemmas.List.{get_or_append_left}
 use Rattle.std.proofs.lemmas.Str.Parse.{digit_at, numerals_by_value, tells_digits, IsNumeralModel}
 use Rattle.graph_heap.specs.declared.command.Command.{Command}
 use Rattle.quanta.specs.declared.schedule.TheConstants.{CLOCK_LIMIT}
+use Rattle.size_classes.specs.declared.config.TheConstants.{LEAST_BUDGET, MOST_BUDGET}
 use Rattle.trace.specs.declared.line.Line.{Line}
 use Rattle.trace.specs.declared.line.Line.TheVariants as lines
 use Rattle.trace.specs.declared.version.Version.{Version}
@@ -35,8 +36,8 @@ collector_found version bytes l e = elim (chosen (bytes_eq bytes (codes "begin")
   | inl h ↦ told (Spells version bytes) lines.Begin l ((bytes_eq-Decides bytes (codes "begin")).0 h.0) h.1
   | inr r ↦ bind_parts (cut_at 32 bytes) _ l r.1 (λ c ec e1. bind_parts (number_in 64 c.1) _ l e1 (λ n en e2.
       let t = number_in-Some 64 n c.1 en in
-      elim (chosen (bytes_eq c.0 (codes "quantum") && (leb 256 n && leb n 1000000)) _ _ l e2) [
-        | inl h ↦ let a = all_parts _ _ _ h.0 in told (Spells version bytes) (lines.Quantum n) l (cut_at-Some 32 bytes c ec ∙ named c.0 c.1 (codes "quantum") n a.0 t.1, leb-true 256 n a.1, leb-true n 1000000 a.2) h.1
+      elim (chosen (bytes_eq c.0 (codes "quantum") && (leb LEAST_BUDGET n && leb n MOST_BUDGET)) _ _ l e2) [
+        | inl h ↦ let a = all_parts _ _ _ h.0 in told (Spells version bytes) (lines.Quantum n) l (cut_at-Some 32 bytes c ec ∙ named c.0 c.1 (codes "quantum") n a.0 t.1, leb-true LEAST_BUDGET n a.1, leb-true n MOST_BUDGET a.2) h.1
         | inr s ↦ elim (chosen (bytes_eq c.0 (codes "tick") && (leb 1 n && leb n CLOCK_LIMIT)) _ _ l s.1) [
           | inl h ↦ let a = all_parts _ _ _ h.0 in told (Spells version bytes) (lines.Tick n) l (cut_at-Some 32 bytes c ec ∙ named c.0 c.1 (codes "tick") n a.0 t.1, leb-true 1 n a.1, leb-true n CLOCK_LIMIT a.2) h.1
           | inr s ↦ absurd (cc s.1)
@@ -75,11 +76,11 @@ command_only version m c small fits is =
     by_digit version (decimal m) (32 ∷ command_text c) (decimal_nonempty m (narrow m small)) d.0 d.1
     ∙ ap (λ o. o >>= λ a. Some (lines.Command a.0 a.1)) ((exact_mutator_and_command version).only (m, c) (small, (fits, is)))
 
-quantum_only : (version : Version) (n : ℕ) → 256 ≤ n → n ≤ 1000000 → line_in version (codes "quantum " ++ decimal n) ≡ Some (lines.Quantum n)
+quantum_only : (version : Version) (n : ℕ) → LEAST_BUDGET ≤ n → n ≤ MOST_BUDGET → line_in version (codes "quantum " ++ decimal n) ≡ Some (lines.Quantum n)
 unfolding line_in collector_in
 quantum_only version n low high =
     let small : n < 2 ^ 64 = omega arith in
-    rw (cut_at-spelled 32 (codes "quantum") (decimal n) (lacks 32 (codes "quantum") refl), number_in-spelled 64 n (decimal n) small small refl, le-leb 256 n low, le-leb n 1000000 high) refl
+    rw (cut_at-spelled 32 (codes "quantum") (decimal n) (lacks 32 (codes "quantum") refl), number_in-spelled 64 n (decimal n) small small refl, le-leb LEAST_BUDGET n low, le-leb n MOST_BUDGET high) refl
 
 tick_only : (version : Version) (n : ℕ) → 1 ≤ n → n ≤ CLOCK_LIMIT → line_in version (codes "tick " ++ decimal n) ≡ Some (lines.Tick n)
 unfolding line_in collector_in

@@ -13,6 +13,7 @@ use Rattle.graph_heap.specs.declared.command.Refusal.TheVariants as refusals
 use Rattle.graph_heap.specs.declared.command.Entry.{Entry}
 use Rattle.graph_heap.specs.Refusal.{refusal_number}
 use Rattle.quanta.specs.declared.schedule.TheConstants.{CLOCK_LIMIT}
+use Rattle.size_classes.specs.declared.config.TheConstants.{LEAST_BUDGET, MOST_BUDGET}
 use Rattle.trace.specs.Spelling.{is_skipped, keyword_text}
 use Rattle.trace.specs.declared.entry.EntryLine.{EntryLine}
 use Rattle.trace.specs.declared.entry.EntryLine.TheVariants as entry_lines
@@ -159,7 +160,7 @@ unfoldable pub collector_in : List ℕ → Option Line
 collector_in bytes = if bytes_eq bytes (codes "begin") then Some lines.Begin else (do
   c ← cut_at 32 bytes
   n ← number_in 64 c.1
-  if bytes_eq c.0 (codes "quantum") && (nat_le 256 n && nat_le n 1000000) then Some (lines.Quantum n) else
+  if bytes_eq c.0 (codes "quantum") && (nat_le LEAST_BUDGET n && nat_le n MOST_BUDGET) then Some (lines.Quantum n) else
       if bytes_eq c.0 (codes "tick") && (nat_le 1 n && nat_le n CLOCK_LIMIT) then Some (lines.Tick n) else None)
 
 -- a line that isn't skipped, by its first byte: a digit, or something else

@@ -10,6 +10,7 @@ use Rattle.graph_heap.specs.declared.command.Reply.TheVariants as replies
 use Rattle.graph_heap.specs.declared.command.Entry.{Entry}
 use Rattle.graph_heap.specs.Refusal.{refusal_number}
 use Rattle.quanta.specs.declared.schedule.TheConstants.{CLOCK_LIMIT}
+use Rattle.size_classes.specs.declared.config.TheConstants.{LEAST_BUDGET, MOST_BUDGET}
 use Rattle.trace.specs.declared.entry.EntryLine.{EntryLine}
 use Rattle.trace.specs.declared.entry.EntryLine.TheVariants as entry_lines
 use Rattle.trace.specs.declared.commands.Keyword.{Keyword}
@@ -129,8 +130,8 @@ Spells version bytes lines.Skip = IsTrue (is_skipped bytes)
 Spells version bytes (lines.Command mutator command) = (bytes ≡ command_line mutator command) × (mutator < 2 ^ 32)
     × CommandFits command × IsOf command version
 Spells version bytes lines.Begin = bytes ≡ codes "begin"
-Spells version bytes (lines.Quantum budget) = (bytes ≡ codes "quantum " ++ decimal budget) × (256 ≤ budget)
-    × (budget ≤ 1000000)
+Spells version bytes (lines.Quantum budget) = (bytes ≡ codes "quantum " ++ decimal budget)
+    × (LEAST_BUDGET ≤ budget) × (budget ≤ MOST_BUDGET)
 Spells version bytes (lines.Tick ticks) = (bytes ≡ codes "tick " ++ decimal ticks) × (1 ≤ ticks) × (ticks ≤ CLOCK_LIMIT)
 
 -- a reply

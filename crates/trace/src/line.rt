@@ -13,6 +13,7 @@ use crate::text_line::TextLine;
 use crate::version::Version;
 use graph_heap::Command;
 use quanta::CLOCK_LIMIT;
+use size_classes::{LEAST_BUDGET, MOST_BUDGET};
 
 /// What a line of a trace says.
 #[derive(Clone, Copy, Debug, PartialEq, Eq)]
@@ -39,7 +40,8 @@ fn collector_line(bytes: &[u8]) -> Option<Line>
     }
     let (name, rest) = cut(b' ', bytes)?;
     let n = u64::read(rest)?;
-    if name == b"quantum".as_slice() && 256 <= n && n <= 1000000 {
+    let budgets = u64::from(LEAST_BUDGET)..=u64::from(MOST_BUDGET);
+    if name == b"quantum".as_slice() && budgets.contains(&n) {
         Some(Line::Quantum(n as u32))
     } else if name == b"tick".as_slice() && 1 <= n && n <= CLOCK_LIMIT {
         Some(Line::Tick(n))

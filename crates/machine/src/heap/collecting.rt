@@ -18,25 +18,26 @@ use heap_model::phase::Phase;
 use marker::{scan_parts, scan_roots};
 use nodes::HeapFields;
 use satb_barrier::flush_all;
+use size_classes::{LEAST_BUDGET, MOST_BUDGET};
 use sweeper::sweep_next;
 
-/// Does the next actions of the collector, one or more of the same kind, if their units fit in the room that
-/// is left, and answers them. Nothing changes where they don't, or where no cycle is running. The buffers are
-/// empty.
-fn act(heap: &mut HeapFields, room: u32) -> Option<u32>
+/// Does the next actions of the collector, one or more of the same kind, and answers true, if their units fit in
+/// the room that is left. Nothing changes where they don't, or where no cycle is running. The buffers are empty.
+fn act(heap: &mut HeapFields, room: u32) -> bool
     requires heap { AreHeapFields heap.old }
     requires buffers { in_buffers heap.old.grey.buffers ≡ [] }
+    requires room { 0 < room }
     ensures acts { ActsIn heap.old room heap.new result }
     ensures buffers { heap.new.grey.buffers ≡ heap.old.grey.buffers }
 {
     match heap.phase {
-        Phase::Idle => None,
-        Phase::Moving(place) => move_next(heap, place, room),
-        _ if room == 0 => None,
-        Phase::Roots { next } => Some(scan_roots(heap, next, room)),
-        Phase::Marking { part, cell } => Some(scan_parts(heap, part, cell, room)),
-        Phase::Sweeping { page, block } => Some(sweep_next(heap, page, block, room)),
+        Phase::Idle => return false,
+        Phase::Roots { next } => scan_roots(heap, next, room),
+        Phase::Marking { part, cell } => scan_parts(heap, part, cell, room),
+        Phase::Sweeping { page, block } => sweep_next(heap, page, block, room),
+        Phase::Moving(place) => return move_next(heap, place, room),
     }
+    true
 }
 
 /// Does actions while their units fit in what is left of a budget, until no cycle is running, and answers the
@@ -47,11 +48,12 @@ fn spend(heap: &mut HeapFields, budget: u32) -> u32
     ensures raw { AreHeapFields heap.new }
     ensures turn { QuantumSpends (state_of heap.old) budget (state_of heap.new) result }
 {
-    let mut units = 0;
-    while let Some(cost) = act(heap, budget - units) {
-        units += cost;
+    let before = heap.units;
+    let mut spent = 0;
+    while spent < budget && act(heap, budget - spent) {
+        spent = (heap.units - before) as u32;
     }
-    units
+    spent
 }
 
 impl Heap {
@@ -78,7 +80,7 @@ impl Heap {
         ensures begins { Begins self.old self.new result }
         ensures agrees { (g : Graph) → Agrees self.old g → Agrees self.new g }
     {
-        if !matches!(self.raw.phase, Phase::Idle) {
+        if !self.raw.phase.is_idle() {
             return Err(Busy);
         }
         self.raw.mark_parity = !self.raw.mark_parity;
@@ -89,13 +91,13 @@ impl Heap {
 
     /// Spends units of a budget: what mutators recorded goes into the list of grey parts, and then the next
     /// action is done while its units fit in what is left, until no cycle is running. It never begins a cycle.
-    /// Refused outside 256 to 1000000 units, and then nothing changes.
+    /// Refused outside `LEAST_BUDGET` to `MOST_BUDGET`, and then nothing changes.
     pub fn quantum(&mut self, budget: u32) -> Result<Spent, BudgetOutOfRange>
         ensures spends { Spends self.old budget self.new result }
         ensures ends { IfOk result (λ s. (s.phase ≡ phases.Idle) ⊎ (budget < s.units + 256)) }
         ensures agrees { (g : Graph) → Agrees self.old g → Agrees self.new g }
     {
-        if budget < 256 || 1_000_000 < budget {
+        if budget < LEAST_BUDGET || MOST_BUDGET < budget {
             return Err(BudgetOutOfRange);
         }
         flush_all(&mut self.raw);

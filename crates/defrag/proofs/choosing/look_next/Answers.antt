@@ -12,25 +12,25 @@ use Rattle.defrag.proofs.Looks.{looks, chooses, chooses_none}
 use Rattle.defrag.proofs.choosing.look_next.Goals as goal
 use Rattle.defrag.proofs.choosing.look_next.Goals.{in_default-via-in-Some+else-is_chosen, in_default-via-in_default}
 
-pub go_to-requires : goal.go_to-requires
-go_to-requires c = let u = units_small c.args.heap.now c.requires.heap in omega arith
+pub charge-requires : goal.charge-requires
+charge-requires c = let u = units_small c.args.heap.now c.requires.heap in omega arith
 
-pub go_to-requires-in-Some : goal.go_to-requires-in-Some
-go_to-requires-in-Some c = let u = units_small c.args.heap.now c.requires.heap in omega arith
+pub charge-requires-in-Some : goal.charge-requires-in-Some
+charge-requires-in-Some c = let u = units_small c.args.heap.now c.requires.heap in omega arith
 
-pub go_to-requires-in_default : goal.go_to-requires-in_default
-go_to-requires-in_default c = let u = units_small c.args.heap.now c.requires.heap in omega arith
+pub charge-requires-in_default : goal.charge-requires-in_default
+charge-requires-in_default c = let u = units_small c.args.heap.now c.requires.heap in omega arith
 
 pub returns-then-page-pages-clause-acts : goal.returns-then-page-pages-clause-acts
 returns-then-page-pages-clause-acts c =
-    subst (λ (x : HeapFields). Action (state_of c.args.heap.now) 1 (state_of x)) (sym c.go_to.ensures)
+    subst (λ (x : HeapFields). Action (state_of c.args.heap.now) 1 (state_of x)) (sym c.charge.ensures)
     (looks c.args.class c.args.page c.args.candidate c.requires.class c.args.heap.now.nodes c.consider-candidate.result
     (subst (λ k. c.consider-candidate.result ≡ candidate_after c.args.heap.now.nodes.pages k c.args.page c.args.candidate) c.new-number.ensures c.consider-candidate.ensures) (state_of c.args.heap.now) c.args.chosen refl c.requires.pass
     (omega (arith, c.pages.ensures.pages, c.if-page-pages.true)))
 
 pub returns-in-Some-clause-acts : goal.returns-in-Some-clause-acts
 returns-in-Some-clause-acts c =
-    subst (λ (x : HeapFields). Action (state_of c.args.heap.now) 1 (state_of x)) (sym c.go_to-in-Some.ensures)
+    subst (λ (x : HeapFields). Action (state_of c.args.heap.now) 1 (state_of x)) (sym c.charge-in-Some.ensures)
     (subst (λ (h : HeapState). Action (state_of c.args.heap.now) 1 (goes_to h 1 (phases.Moving (moves.Emptying c.args.class c.in-Some.found.page 0 (c.args.chosen + 1))))) (sym (store_still c.args.heap.now c.requires.heap (passing (state_of c.args.heap.now) c.args.class c.args.page c.args.candidate c.args.chosen c.requires.pass) c.mark_evacuating.new.self))
     (chooses c.args.class c.args.page c.args.candidate c.requires.class c.args.heap.now.nodes c.consider-candidate.result
     (subst (λ k. c.consider-candidate.result ≡ candidate_after c.args.heap.now.nodes.pages k c.args.page c.args.candidate) c.new-number.ensures c.consider-candidate.ensures) (state_of c.args.heap.now) c.args.chosen refl c.requires.pass
@@ -40,7 +40,7 @@ returns-in-Some-clause-acts c =
 
 pub returns-in_default-clause-acts : goal.returns-in_default-clause-acts
 returns-in_default-clause-acts c =
-    subst (λ (x : HeapFields). Action (state_of c.args.heap.now) 1 (state_of x)) (sym c.go_to-in_default.ensures)
+    subst (λ (x : HeapFields). Action (state_of c.args.heap.now) 1 (state_of x)) (sym c.charge-in_default.ensures)
     (chooses_none c.args.class c.args.page c.args.candidate c.requires.class c.args.heap.now.nodes c.consider-candidate.result
     (subst (λ k. c.consider-candidate.result ≡ candidate_after c.args.heap.now.nodes.pages k c.args.page c.args.candidate) c.new-number.ensures c.consider-candidate.ensures) (state_of c.args.heap.now) c.args.chosen refl c.requires.pass
     (omega (arith, c.pages.ensures.pages, c.requires.page, c.if-page-pages.false))

@@ -1,4 +1,5 @@
-use Rattle.std.proofs.Common.{◌≡◌, ◌+◌, ◌-◌, ◌<◌, ◌≤◌, ◌∙◌, ap, subst, sym, arith}
+use Rattle.std.proofs.Common.{◌≡◌, ◌+◌, ◌-◌, ◌*◌, ◌<◌, ◌≤◌, ◌∙◌, ap, subst, sym, arith}
+use Rattle.heap_model.specs.declared.cost.TheConstants.{LOOK}
 use Rattle.heap_model.specs.declared.phase.Phase.TheVariants as phases
 use Rattle.heap_model.specs.declared.phase.Moving.TheVariants as moves
 use Rattle.heap_model.specs.Action.{Action, Chain, goes_to, In_pass, No_class, Ends_moving}
@@ -14,18 +15,18 @@ use Rattle.defrag.proofs.choosing.pass_next.Goals as goal
 pub look_next-requires-clause-pass : goal.look_next-requires-clause-pass
 look_next-requires-clause-pass c = In_pass c.args.class c.args.page c.args.candidate c.args.chosen c.requires.phase
 
-pub go_to-requires : goal.go_to-requires
-go_to-requires c = let u = units_small c.args.heap.now c.requires.heap in omega arith
+pub charge-requires : goal.charge-requires
+charge-requires c = let u = units_small c.args.heap.now c.requires.heap in omega arith
 
-pub go_to-requires-2 : goal.go_to-requires-2
-go_to-requires-2 c = let u = units_small c.args.heap.now c.requires.heap in omega arith
+pub charge-requires-2 : goal.charge-requires-2
+charge-requires-2 c = let u = units_small c.args.heap.now c.requires.heap in omega arith
 
 pub returns-then-class-clause-acts : goal.returns-then-class-clause-acts
 returns-then-class-clause-acts c =
     let a = c.args.heap.now in
     let most = (subst (IsWithin (state_of a)) c.requires.phase c.requires.heap.heap.stands.within).1 in
-    runs_once a c.go_to.new.self c.args.room 1 c.requires.heap
-    (subst (λ (x : HeapFields). Action (state_of a) 1 (state_of x)) (sym c.go_to.ensures)
+    runs_once a c.charge.new.self c.args.room 1 c.requires.heap
+    (subst (λ (x : HeapFields). Action (state_of a) 1 (state_of x)) (sym c.charge.ensures)
     (Ends_moving (No_class c.args.page c.args.candidate c.args.chosen (subst (λ z. a.phase ≡ phases.Moving (moves.Pass z c.args.page c.args.candidate c.args.chosen)) (omega (arith, c.if-class.true, most)) c.requires.phase))))
     c.requires.room
 
@@ -40,9 +41,11 @@ returns-clause-acts c =
     let some : 0 < n = omega (arith, c.min-count.ensures, left, room) in
     let found : looked_on a.nodes.pages c.args.class page best n ≡ c.look_on.result =
     sym (c.look_on.ensures ∙ ap (λ k. looked_on a.nodes.pages k page best (page + n - page)) c.new.ensures ∙ ap (looked_on a.nodes.pages c.args.class page best) (let e : page + n - page ≡ n = omega arith in e)) in (
-      subst (λ (x : HeapFields). Chain h n (state_of x)) (sym c.go_to-2.ensures)
+      n,
+      subst (λ (x : HeapFields). Chain h n (state_of x)) (sym c.charge-2.ensures)
+          (subst (λ m. Chain h n (goes_to h m (phases.Moving (moves.Pass c.args.class (page + n) c.look_on.result c.args.chosen)))) (let e : n ≡ n * LOOK = omega arith in e)
           (subst (λ b. Chain h n (goes_to h n (phases.Moving (moves.Pass c.args.class (page + n) b c.args.chosen)))) found
-          (looks_run h c.args.class page best c.args.chosen n c.requires.phase (omega (arith, low)) (omega (arith, few, left, pages, c.saturating_sub-left.ensures)))),
+          (looks_run h c.args.class page best c.args.chosen n c.requires.phase (omega (arith, low)) (omega (arith, few, left, pages, c.saturating_sub-left.ensures))))),
       some,
       omega (arith, c.min-count.ensures),
     )

@@ -1,4 +1,4 @@
-use Rattle.std.proofs.Common.{inr, refl, sym, subst, arith}
+use Rattle.std.proofs.Common.{sym, subst, arith}
 use Rattle.heap_model.specs.Action.{Action, Ends_moving}
 use Rattle.nodes.specs.declared.heap_fields.HeapFields.{HeapFields}
 use Rattle.nodes.specs.HeapFields.{state_of}
@@ -6,18 +6,15 @@ use Rattle.nodes.proofs.Chains.{runs_once}
 use Rattle.nodes.proofs.Standing.{units_small}
 use Rattle.defrag.proofs.moving.page_done.Goals as goal
 
-pub returns-then-room-eq0-clause-acts : goal.returns-then-room-eq0-clause-acts
-returns-then-room-eq0-clause-acts c = (refl, inr (1, c.requires.next, (let e = c.if-room-eq0.true in omega arith)))
-
-pub go_to-requires : goal.go_to-requires
-go_to-requires c = let u = units_small c.args.heap.now c.requires.heap in omega arith
+pub charge-requires : goal.charge-requires
+charge-requires c = let u = units_small c.args.heap.now c.requires.heap in omega arith
 
 pub returns-else-chosen-heap-clause-acts : goal.returns-else-chosen-heap-clause-acts
 returns-else-chosen-heap-clause-acts c =
     let a = c.args.heap.now in
-    runs_once a c.go_to.new.self c.args.room 1 c.requires.heap
-    (subst (λ (x : HeapFields). Action (state_of a) 1 (state_of x)) (sym c.go_to.ensures) (Ends_moving (c.requires.ends (let e = c.if-chosen-heap.false in omega arith))))
-    (let e = c.if-room-eq0.false in omega arith)
+    runs_once a c.charge.new.self 1 1 c.requires.heap
+    (subst (λ (x : HeapFields). Action (state_of a) 1 (state_of x)) (sym c.charge.ensures) (Ends_moving (c.requires.ends (let e = c.if-chosen-heap.false in omega arith))))
+    (omega arith)
 
 pub returns-then-chosen-heap-clause-acts : goal.returns-then-chosen-heap-clause-acts
-returns-then-chosen-heap-clause-acts c = runs_once c.args.heap.now c.look_next.new.heap c.args.room 1 c.requires.heap c.look_next.ensures.acts (let e = c.if-room-eq0.false in omega arith)
+returns-then-chosen-heap-clause-acts c = runs_once c.args.heap.now c.look_next.new.heap 1 1 c.requires.heap c.look_next.ensures.acts (omega arith)

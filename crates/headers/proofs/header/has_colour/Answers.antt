@@ -16,4 +16,4 @@ bit_told b false small = elim (cases_eq b 0) [
 ]
 
 pub returns : goal.returns
-returns c = ap (eqb (4 * (c.args.word / 4 % 2))) c.bit.ensures ∙ bit_told (c.args.word / 4 % 2) c.args.colour (omega arith)
+returns c = ap (λ n. eqb n c.bit.result) c.bit_in.ensures ∙ ap (eqb (4 * (c.args.word / 4 % 2))) c.bit.ensures ∙ bit_told (c.args.word / 4 % 2) c.args.colour (omega arith)

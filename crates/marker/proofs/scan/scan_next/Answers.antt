@@ -1,5 +1,6 @@
-use Rattle.std.proofs.Common.{◌≡◌, ◌+◌, ◌-◌, true, ap, ◌∙◌, sym, subst, refl, arith}
+use Rattle.std.proofs.Common.{◌≡◌, ◌+◌, ◌-◌, ◌*◌, true, ap, ◌∙◌, sym, subst, refl, arith}
 use Rattle.heap_model.specs.Action.{Action, Chain, goes_to}
+use Rattle.heap_model.specs.declared.cost.TheConstants.{SCAN}
 use Rattle.heap_model.specs.declared.phase.Phase.TheVariants as phases
 use Rattle.heap_model.specs.State.{seen}
 use Rattle.heap_model.specs.Store.{is_allocated}
@@ -28,7 +29,10 @@ overflow_add-cell c =
     omega (arith, s, c.if-scan.true, c.requires.width, width_there c.args.heap.now c.args.scan.part ne)
 
 pub returns-then-scan-clause-scans : goal.returns-then-scan-clause-scans
-returns-then-scan-clause-scans c = λ u. c.scan_cells.ensures.acts u
+returns-then-scan-clause-scans c =
+    let at = c.args.scan in let count = c.min-count.result in λ u.
+    subst (λ n. Chain (state_of (scanning c.args.heap.now at.part at.cell u)) n (state_of (scanning c.scan_cells.new.heap at.part (at.cell + count) (u + n)))) (let e : count ≡ count * SCAN = omega arith in e)
+    (c.scan_cells.ensures.acts u)
 
 pub returns-then-scan-clause-width : goal.returns-then-scan-clause-width
 returns-then-scan-clause-width c =

@@ -37,8 +37,8 @@ scan_next-requires-clause-buffers c = ap in_buffers c.loop-units.invariant.2 ∙
 pub scan_next-requires-clause-width : goal.scan_next-requires-clause-width
 scan_next-requires-clause-width c = c.loop-units.invariant.1
 
-pub go_to-requires : goal.go_to-requires
-go_to-requires c =
+pub charge-requires : goal.charge-requires
+charge-requires c =
     let i = c.loop-units.invariant in let u = units_small c.args.heap.now c.requires.heap in
     omega (arith, u, ap (λ (x : HeapFields). x.units) c.scan_next.ensures.same, ap (λ (x : HeapFields). x.units) i.3, c.loop-units-test.true)
 
@@ -55,8 +55,9 @@ loop-units-preserved c =
 pub returns-in_default-clause-acts : goal.returns-in_default-clause-acts
 returns-in_default-clause-acts c =
     let i = c.loop-units.invariant in let a = c.args.heap.now in let n = c.loop-units.units in let k = c.scan_next.new.heap in (
-      ended a c.go_to.new.self k c.loop-units.scan.part c.loop-units.scan.cell n (state_of (scanning c.loop-units.heap c.loop-units.scan.part c.loop-units.scan.cell (a.units + n))) i.0
-          (ap (λ (x : HeapFields). x.units) c.scan_next.ensures.same ∙ ap (λ (x : HeapFields). x.units) i.3) (c.scan_next.ensures.ends (ap is_some c.in_default.is) (a.units + n)) c.go_to.ensures,
+      n + 1,
+      ended a c.charge.new.self k c.loop-units.scan.part c.loop-units.scan.cell n (state_of (scanning c.loop-units.heap c.loop-units.scan.part c.loop-units.scan.cell (a.units + n))) i.0
+          (ap (λ (x : HeapFields). x.units) c.scan_next.ensures.same ∙ ap (λ (x : HeapFields). x.units) i.3) (c.scan_next.ensures.ends (ap is_some c.in_default.is) (a.units + n)) c.charge.ensures,
       omega arith,
       omega (arith, c.loop-units-test.true),
     )
@@ -67,15 +68,16 @@ overflow_cast-cell-2 c =
     let place = scanning c.loop-units.heap at.part at.cell (a.units + c.loop-units.units) in
     let s = place_small c.loop-units.heap at.part at.cell (a.units + c.loop-units.units, heap_after_chain a place c.requires.heap c.loop-units.units i.0 (ap length i.2)) in omega (arith, s)
 
-pub go_to-requires-2 : goal.go_to-requires-2
-go_to-requires-2 c =
+pub charge-requires-2 : goal.charge-requires-2
+charge-requires-2 c =
     let i = c.loop-units.invariant in let u = units_small c.args.heap.now c.requires.heap in omega (arith, u, ap (λ (x : HeapFields). x.units) i.3, i.4)
 
 pub returns-clause-acts : goal.returns-clause-acts
 returns-clause-acts c =
     let i = c.loop-units.invariant in let a = c.args.heap.now in let n = c.loop-units.units in
     let same = ap (λ (x : HeapFields). x.units) i.3 in (
-      subst (λ (x : HeapFields). Chain (state_of a) n (state_of x)) (sym c.go_to-2.ensures)
+      n,
+      subst (λ (x : HeapFields). Chain (state_of a) n (state_of x)) (sym c.charge-2.ensures)
           (subst (λ u. Chain (state_of a) n (state_of (scanning c.loop-units.heap c.loop-units.scan.part c.loop-units.scan.cell u))) (let e : a.units + n ≡ c.loop-units.heap.units + n = omega (arith, same) in e) i.0),
       omega (arith, c.requires.room, c.loop-units-test.false),
       i.4,

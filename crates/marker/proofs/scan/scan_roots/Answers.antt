@@ -8,8 +8,8 @@ use Rattle.marker.proofs.scan.scan_roots.Goals as goal
 
 pub returns-then-left-eq0-clause-acts : goal.returns-then-left-eq0-clause-acts
 returns-then-left-eq0-clause-acts c =
-    runs_once c.args.heap.now c.go_to.new.self c.args.room 1 c.requires.heap
-    (subst (λ (x : HeapFields). Action (state_of c.args.heap.now) 1 (state_of x)) (sym c.go_to.ensures)
+    runs_once c.args.heap.now c.charge.new.self c.args.room 1 c.requires.heap
+    (subst (λ (x : HeapFields). Action (state_of c.args.heap.now) 1 (state_of x)) (sym c.charge.ensures)
     (Ends_roots c.args.next c.requires.phase (omega (arith, c.if-left-eq0.true, c.saturating_sub-left.ensures, ap length c.cells.ensures))))
     (omega (arith, c.requires.room))
 

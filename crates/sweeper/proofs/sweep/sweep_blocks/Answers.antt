@@ -1,5 +1,6 @@
-use Rattle.std.proofs.Common.{◌+◌, ap, sym, subst, refl, arith}
+use Rattle.std.proofs.Common.{◌≡◌, ◌+◌, ◌*◌, ap, sym, subst, refl, arith}
 use Rattle.heap_model.specs.Action.{Chain, goes_to}
+use Rattle.heap_model.specs.declared.cost.TheConstants.{LOOK}
 use Rattle.heap_model.specs.Pages.{page_at}
 use Rattle.heap_model.specs.declared.phase.Phase.TheVariants as phases
 use Rattle.heap_model.specs.State.{HeapState}
@@ -19,6 +20,7 @@ overflow_add-block c = let f = blocks_few c.args.heap.now.nodes.pages c.requires
 pub returns-clause-acts : goal.returns-clause-acts
 returns-clause-acts c =
     let a = c.args.heap.now in let h = state_of a in let n = c.args.count in
-    subst (λ (x : HeapFields). Chain h n (state_of x)) (sym c.go_to.ensures)
+    subst (λ (x : HeapFields). Chain h n (state_of x)) (sym c.charge.ensures)
+    (subst (λ m. Chain h n (goes_to (state_of (record a { nodes = c.sweep.new.self })) m (phases.Sweeping c.args.page (c.args.block + n)))) (let e : n ≡ n * LOOK = omega arith in e)
     (subst (λ (k : HeapState). Chain h n (goes_to k n (phases.Sweeping c.args.page (c.args.block + n)))) (sym (store_still a c.requires.heap (ap records c.requires.phase) c.sweep.new.self))
-    (c.sweep.ensures h refl refl c.requires.phase))
+    (c.sweep.ensures h refl refl c.requires.phase)))

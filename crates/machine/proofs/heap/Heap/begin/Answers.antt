@@ -4,17 +4,14 @@ use Rattle.heap_model.specs.State.{HeapState}
 use Rattle.heap_model.specs.Agreement.{Agrees}
 use Rattle.heap_model.specs.Action.{begun}
 use Rattle.heap_model.specs.Written.{records}
+use Rattle.heap_model.proofs.Phases.{idle_is}
 use Rattle.nodes.specs.Grey.{grey_in}
 use Rattle.nodes.specs.HeapFields.{state_of, IsHeap}
 use Rattle.machine.proofs.Collecting.{begun_heap, begun_agrees}
-use Rattle.machine.proofs.heap.Heap.begin.Goals.{in-Idle, in_default}
 use Rattle.machine.proofs.heap.Heap.begin.Goals as goal
 
 idle : (c : goal.After-self-3-1) → c.self.inside.raw.phase ≡ phases.Idle
-idle c = elim c.match-matches.branch [
-  | in-Idle w ↦ w.in-Idle.is
-  | in_default w ↦ absurd (let z = c.if-not-matches.false in let y = w.matches-is in cc)
-]
+idle c = idle_is _ (sym c.is_idle.ensures ∙ c.if-not-is_idle.false)
 
 -- no part is grey
 none : (c : goal.After-self-3-1) → grey_in c.self.inside.raw.nodes c.self.inside.raw.grey ≡ []

@@ -15,10 +15,10 @@ spend-units-requires-clause-heap c =
 turn : (c : goal.After-result-1) → QuantumSpends (state_of c.self.inside.raw) c.args.budget (state_of c.spend-units.new.heap) c.spend-units.result
 turn c =
     let e = c.flush_all.ensures in
-    flushed_turn c.self.inside.raw c.flush_all.new.heap c.self.invariant e.same e.grey e.links e.rests (state_of c.spend-units.new.heap) c.args.budget c.spend-units.result (omega (arith, c.if-budget-lt256.false)) c.spend-units.ensures.raw.heap.stands.pages c.spend-units.ensures.turn
+    flushed_turn c.self.inside.raw c.flush_all.new.heap c.self.invariant e.same e.grey e.links e.rests (state_of c.spend-units.new.heap) c.args.budget c.spend-units.result (omega (arith, c.if-budget-lt-LEAST_BUDGET.false)) c.spend-units.ensures.raw.heap.stands.pages c.spend-units.ensures.turn
 
 pub returns-clause-spends : goal.returns-clause-spends
-returns-clause-spends c = ((omega (arith, c.if-budget-lt256.false), omega (arith, c.if-budget-gt1000000.false)), subst (λ (h : HeapState). QuantumSpends h c.args.budget (state_of c.spend-units.new.heap) c.spend-units.result) c.self.view_is (turn c), refl)
+returns-clause-spends c = ((omega (arith, c.if-budget-lt-LEAST_BUDGET.false), omega (arith, c.if-budget-gt-MOST_BUDGET.false)), subst (λ (h : HeapState). QuantumSpends h c.args.budget (state_of c.spend-units.new.heap) c.spend-units.result) c.self.view_is (turn c), refl)
 
 pub returns-clause-ends : goal.returns-clause-ends
 returns-clause-ends c = turn_left (state_of c.flush_all.new.heap) (state_of c.spend-units.new.heap) c.args.budget c.spend-units.result c.spend-units.ensures.raw.heap.stands.pages c.spend-units.ensures.turn

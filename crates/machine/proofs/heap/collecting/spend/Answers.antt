@@ -1,23 +1,54 @@
-use Rattle.std.proofs.Common.{◌+◌, ◌-◌, ◌<◌, length, refl, ap, ◌∙◌, arith}
+use Rattle.std.proofs.Common.{◌-◌, ◌<◌, refl, ap, ◌∙◌, subst, sym, arith}
 use Rattle.heap_model.specs.Action.{Nothing_done}
-use Rattle.nodes.specs.HeapFields.{state_of}
-use Rattle.nodes.proofs.Chains.{then_chain, heap_after_chain}
+use Rattle.nodes.specs.Grey.{in_buffers}
+use Rattle.nodes.specs.HeapFields.{state_of, AreHeapFields}
+use Rattle.nodes.specs.declared.heap_fields.HeapFields.{HeapFields}
+use Rattle.machine.proofs.Collecting.{SpendsOn, spends_on, spent_all, spent_most}
 use Rattle.machine.proofs.heap.collecting.spend.Goals as goal
 
-pub loop-cost-init : goal.loop-cost-init
-loop-cost-init c = (Nothing_done, omega arith, c.requires.heap, refl)
+pub loop-spent-init : goal.loop-spent-init
+loop-spent-init c = (Nothing_done, omega arith, c.requires.heap, refl)
 
-pub loop-cost-smaller : goal.loop-cost-smaller
-loop-cost-smaller c =
-    let a = c.in-Some.ensures.acts in let some = a.1 in let room = a.2 in
-    let l : c.args.budget - (c.loop-cost.units + c.in-Some.cost) < c.args.budget - c.loop-cost.units = omega (arith, some, room) in l
+pub act-requires-clause-heap : goal.act-requires-clause-heap
+act-requires-clause-heap c = c.loop-spent.invariant.2
 
-pub loop-cost-preserved : goal.loop-cost-preserved
-loop-cost-preserved c =
-    let i = c.loop-cost.invariant in let a = c.in-Some.ensures.acts in
-    let room = a.2 in (
-      then_chain (state_of c.args.heap.now) (state_of c.loop-cost.heap) (state_of c.act.new.heap) c.loop-cost.units c.in-Some.cost i.0 a.0,
-      omega (arith, room),
-      heap_after_chain c.loop-cost.heap c.act.new.heap i.2 c.in-Some.cost a.0 (ap length c.in-Some.ensures.buffers),
-      c.in-Some.ensures.buffers ∙ i.3,
-    )
+pub act-requires-clause-buffers : goal.act-requires-clause-buffers
+act-requires-clause-buffers c = ap in_buffers c.loop-spent.invariant.3 ∙ c.requires.buffers
+
+pub overflow_sub-spent : goal.overflow_sub-spent
+overflow_sub-spent c =
+    let i = c.loop-spent.invariant in
+    (spends_on c.args.heap.now c.loop-spent.heap c.act.new.heap c.args.budget c.loop-spent.spent i.0 i.2 c.loop-spent-test.true c.if-act.ensures.acts c.if-act.ensures.buffers).more
+
+-- what was spent after one more step
+on : (c : goal.After-row_known-1) → SpendsOn c.args.heap.now c.loop-spent.heap c.act.new.heap c.args.budget c.loop-spent.spent c.loop-spent.invariant.0
+on c =
+    let i = c.loop-spent.invariant in
+    spends_on c.args.heap.now c.loop-spent.heap c.act.new.heap c.args.budget c.loop-spent.spent i.0 i.2 c.loop-spent-test.true c.if-act.ensures.acts c.if-act.ensures.buffers
+
+pub overflow_cast-spent : goal.overflow_cast-spent
+overflow_cast-spent c = let w = (on c).within in omega (arith, w, c.ranges.budget.fits)
+
+pub loop-spent-smaller : goal.loop-spent-smaller
+loop-spent-smaller c =
+    let r = (on c).rises in let w = (on c).within in
+    let l : c.args.budget - (c.act.new.heap.units - c.args.heap.now.units) < c.args.budget - c.loop-spent.spent = omega (arith, r, w) in l
+
+pub loop-spent-preserved : goal.loop-spent-preserved
+loop-spent-preserved c = ((on c).chain, (on c).within, (on c).heap, c.if-act.ensures.buffers ∙ c.loop-spent.invariant.3)
+
+pub returns-else-act-clause-raw : goal.returns-else-act-clause-raw
+returns-else-act-clause-raw c = subst AreHeapFields (sym c.if-act.ensures.acts.0) c.loop-spent.invariant.2
+
+pub returns-else-act-clause-turn : goal.returns-else-act-clause-turn
+returns-else-act-clause-turn c =
+    let i = c.loop-spent.invariant in
+    spent_most c.args.heap.now c.loop-spent.heap c.act.new.heap c.args.budget c.loop-spent.spent i.0 i.1 c.if-act.ensures.acts
+
+pub returns-after-loop-spent-clause-raw : goal.returns-after-loop-spent-clause-raw
+returns-after-loop-spent-clause-raw c = c.loop-spent.invariant.2
+
+pub returns-after-loop-spent-clause-turn : goal.returns-after-loop-spent-clause-turn
+returns-after-loop-spent-clause-turn c =
+    let i = c.loop-spent.invariant in
+    spent_all (state_of c.args.heap.now) (state_of c.loop-spent.heap) c.args.budget c.loop-spent.spent i.0 i.1 (omega (arith, c.loop-spent-test.false)) i.2.heap.stands.pages

@@ -1,6 +1,5 @@
 pub mod Stepping
 pub mod Logging
-pub mod Lining
+pub mod Seeing
 pub mod Entering
-pub mod Texts
 pub mod Columns

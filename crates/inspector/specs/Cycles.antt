@@ -6,7 +6,8 @@ use Rattle.nodes.specs.Copies.{copies_in}
 use Rattle.nodes.specs.declared.block_store.counting.Copies.{Copies}
 use Rattle.inspector.specs.declared.cycles.cycle.Cycle.{Cycle}
 use Rattle.inspector.specs.declared.cycles.cycle.Sweep.{Sweep}
-use Rattle.inspector.specs.Steps.{Step, begins, works, ends_sweep, ends_cycle}
+use Rattle.player.specs.Steps.{Step}
+use Rattle.inspector.specs.Steps.{begins, works, ends_sweep, ends_cycle}
 use Rattle.inspector.specs.Made.{makes, blocks_made, entered_since}
 
 -- a number, as far as 64 bits can hold it

@@ -1,7 +1,6 @@
 -- What a log holds of the steps of a run so far.
 use Rattle.std.specs.Prelude.{◌≡◌, ◌≢◌, ℕ, true, List, [], ◌∷◌, ◌++◌, length, Option, Some, None, count_by}
 use Rattle.heap_model.specs.Event.{Course}
-use Rattle.heap_model.specs.State.{HeapState}
 use Rattle.heap_model.specs.Pages.{free_pages}
 use Rattle.nodes.specs.Copies.{copies_in}
 use Rattle.nodes.specs.declared.block_store.counting.Copies.{Copies}
@@ -10,10 +9,11 @@ use Rattle.inspector.specs.declared.cycles.open.Base.{Base}
 use Rattle.inspector.specs.declared.cycles.open.End.{End}
 use Rattle.inspector.specs.declared.cycles.open.Open.{Open}
 use Rattle.inspector.specs.declared.cycles.open.Start.{Start}
-use Rattle.inspector.specs.declared.cycles.turn.Mark.{Mark}
 use Rattle.inspector.specs.declared.cycles.turn.QuantumEffect.{QuantumEffect}
 use Rattle.inspector.specs.declared.cycles.log.Log.{Log}
-use Rattle.inspector.specs.Steps.{Step, begins, works, ends_sweep, ends_cycle}
+use Rattle.player.specs.Observing.{Run}
+use Rattle.player.specs.Steps.{Step}
+use Rattle.inspector.specs.Steps.{begins, works, ends_sweep, ends_cycle}
 use Rattle.inspector.specs.Cycles.{counted, behind_last, copies_at, units_by, longest_of, end_of, SweptBy, AreCycles}
 
 -- how long the history was at a moment; at the start it was empty
@@ -31,11 +31,6 @@ pub record IsBaseAt (swept ended : Option Course) (b : Base) : Type 0 where
 -- what is known of the last sweep and the last cycle that steps ended
 abbrev pub IsBase : List Step → Base → Type 0
 IsBase steps b = IsBaseAt (behind_last ends_sweep None steps) (behind_last ends_cycle None steps) b
-
--- where the collector of a heap is
-pub record IsMark (h : HeapState) (m : Mark) : Type 0 where
-  pub phase : m.phase ≡ h.phase
-  pub units : m.units ≡ h.units
 
 -- what a step was to the cycle that it found
 pub record IsQuantumEffect (s : Step) (t : QuantumEffect) : Type 0 where
@@ -94,3 +89,7 @@ IsOpenIn steps now closed (Some o) = HasOpen steps now closed o
 pub record IsLog (steps : List Step) (now : Course) (log : Log) : Type 0 where
   pub base : IsBase steps log.base
   pub cycles : IsOpenIn steps now log.closed.items log.last
+
+-- a log that has seen a run
+abbrev pub HasLogged : Run → Log → Type 0
+HasLogged run log = IsLog run.steps run.now log

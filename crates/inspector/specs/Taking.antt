@@ -6,10 +6,10 @@ use Rattle.trace.specs.Streams.{Given}
 use Rattle.player.specs.declared.style.Style.TheVariants.{Nothing}
 use Rattle.player.specs.New.{IsNew}
 use Rattle.player.specs.Player.{PlayerState}
+use Rattle.player.specs.Observing.{brought, StopsNew}
 use Rattle.player.specs.Playing.{Session, session, Played}
-use Rattle.player.specs.Alongside.{brought, StopsNew}
+use Rattle.player.specs.Steps.{Step, steps_in}
 use Rattle.inspector.specs.declared.cycles.cycle.Cycles.{Cycles}
-use Rattle.inspector.specs.Steps.{Step, steps_in}
 use Rattle.inspector.specs.Cycles.{AreCycles}
 
 -- the steps of the run that played an input

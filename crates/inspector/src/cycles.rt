@@ -2,11 +2,11 @@
 mod cycle;
 mod log;
 mod made;
+mod observing;
 mod open;
 mod taking;
 mod text;
 mod turn;
-mod watch;
 
 pub use cycle::{Cycle, Cycles, Sweep};
 pub use taking::take_cycles;

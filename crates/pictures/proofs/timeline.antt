@@ -1,2 +1,2 @@
 pub mod Along
-pub mod Lines
+pub mod Seeing

@@ -1,9 +1,10 @@
 -- What a sampler holds along a run.
-use Rattle.std.specs.Prelude.{◌≡◌, ℕ, ◌+◌, ◌*◌, ◌^◌, ◌<◌, ◌≤◌, List, length}
+use Rattle.std.specs.Prelude.{◌≡◌, ℕ, ◌+◌, ◌*◌, ◌^◌, ◌<◌, ◌≤◌, List, ◌∷◌, length}
 use Rattle.pictures.specs.declared.sample.Sample.{Sample}
 use Rattle.pictures.specs.declared.over_time.TheConstants.{MOST_SAMPLES}
 use Rattle.pictures.specs.declared.timeline.sampler.Sampler.{Sampler}
-use Rattle.pictures.specs.Samples.{Moment, AreSamples}
+use Rattle.player.specs.Observing.{Moment, moment, Run}
+use Rattle.pictures.specs.Samples.{AreSamples}
 
 -- These are the samples of moments, and `since` moments came after the last that was sampled. No smaller power of two
 -- would do as the stride of this many moments.
@@ -20,6 +21,6 @@ pub record AreTaken (moments : List Moment) (samples : List Sample) (stride sinc
 abbrev pub IsAlong : List Moment → Sampler → Type 0
 IsAlong moments s = AreTaken moments s.samples.items.items s.samples.stride s.since
 
--- a sampler along at most this many moments
-abbrev pub IsAlongFew : ℕ → Sampler → Type 0
-IsAlongFew most s = (moments : List Moment) × IsAlong moments s × (length moments ≤ most)
+-- a sampler that has seen a run: it is along the moment before the first line and those after lines of events
+abbrev pub HasSampled : Run → Sampler → Type 0
+HasSampled run = IsAlong (moment 0 run.first.heap ∷ run.moments)

@@ -9,8 +9,8 @@ use Rattle.trace.specs.declared.version.Version.{Version}
 use Rattle.trace.specs.LinesProcessed.{LinesDone}
 use Rattle.trace.specs.TextLine.{Text}
 use Rattle.player.specs.declared.style.Style.TheVariants.{Nothing}
-use Rattle.player.specs.Playing.{Session, PlaysLine, is_event}
-use Rattle.player.specs.Alongside.{brought}
+use Rattle.player.specs.Playing.{Session, PlaysLine}
+use Rattle.player.specs.Observing.{Moment, moment, moments_in, brought}
 use Rattle.pictures.specs.declared.sample.Sample.{Sample}
 use Rattle.pictures.specs.declared.over_time.TheConstants.{MOST_SAMPLES}
 use Rattle.pictures.specs.OverTime.{sample_of}
@@ -20,27 +20,9 @@ abbrev pub is_idle : Phase → Bool
 is_idle phases.Idle = true
 is_idle phase = false
 
--- a heap, and after how many lines
-pub record Moment : Type 0 where
-  pub line : ℕ
-  pub heap : HeapState
-
--- the moment of a heap after this many lines
-abbrev pub moment : ℕ → HeapState → Moment
-moment line heap = record { line = line; heap = heap }
-
 -- a sample of a moment: the objects are counted where no cycle runs
 abbrev pub sampled : Moment → Sample
 sampled m = sample_of m.heap m.line (is_idle m.heap.phase)
-
--- the moment after the line of an event; another line has none
-abbrev pub moment_after : Text → HeapState → List Moment
-moment_after text heap = if is_event text.bytes then moment text.number heap ∷ [] else []
-
--- the moments of a line that was played
-abbrev pub moments_in : (text : Text) (old : Session) (events : List Event) (new : Session)
-    → PlaysLine Nothing text old events new → List Moment
-moments_in text old events new goes = moment_after text new.player.course.heap
 
 -- The moments of lines that were played: the one before them, and the one after each line of an event.
 abbrev pub moments_along : {old new : Session} {lines : List (List ℕ)} {version : Version} {events : List Event}

@@ -1,5 +1,5 @@
 //! A trace is played on a new heap, and samples of the heap are taken along the run.
-mod line;
+mod observing;
 mod sampler;
 mod samples;
 mod taking;

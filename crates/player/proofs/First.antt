@@ -11,7 +11,6 @@ use Rattle.trace.specs.LineReader.{Lines}
 use Rattle.trace.specs.LinesProcessed.{LinesProcessed, ProcessingEnds}
 use Rattle.trace.specs.declared.version.Version.{Version}
 use Rattle.graph_heap.specs.declared.command.Command.{Command}
-use Rattle.machine.specs.declared.recorded.Receipt.{Receipt}
 use Rattle.trace.specs.Numbered.{LineRead}
 use Rattle.trace.specs.Spelling.{version_line, Spells, is_skipped}
 use Rattle.trace.specs.TextLine.{Text, IsVersionLine}
@@ -22,8 +21,9 @@ use Rattle.trace.proofs.Exact.{same_Some}
 use Rattle.trace.proofs.ReadLines.{unread}
 use Rattle.trace.proofs.GoingOver.{SoFar}
 use Rattle.player.specs.declared.style.Style.{Style}
-use Rattle.player.specs.Player.{PlayerState}
-use Rattle.player.specs.Playing.{Session, session, PlaysLine, StopsText, Played, PlayedFirst, PlayedUpTo, is_event, says_event, EndAtEvent, entry_of, LineDone, LinePlayed, written_of, IsWrittenUpTo}
+use Rattle.heap_model.specs.Event.{Event}
+use Rattle.player.specs.Player.{PlayerState, DoesLine, entries_in}
+use Rattle.player.specs.Playing.{Session, session, PlaysLine, StopsText, Played, PlayedFirst, PlayedUpTo, is_event, says_event, EndAtEvent, LinePlayed, written_of, IsWrittenUpTo}
 use Rattle.player.proofs.Behind.{behind_fewer}
 use Rattle.player.proofs.Closing.{cut, no_part, grows_longer}
 use Rattle.player.proofs.Lines.{enters_nothing, played}
@@ -56,17 +56,16 @@ line_read text version (lines.Quantum budget) spells only = event_read text vers
 line_read text version (lines.Tick n) spells only = event_read text version (lines.Tick n) spells only refl
 
 -- the outcome of the text of a line that was read and done
-pub went : (style : Style) (text : Text) (taken taken' : List ℕ) (line : Line) (old new : PlayerState) (receipt : Option Receipt) (event : Bool) → LineRead text (Ok (Some line)) → LineDone line text.number old new (Ok receipt)
-    → taken' ≡ taken ++ written_of style (entry_of receipt) → event ≡ says_event line → LinePlayed style text (session old taken) (session new taken') (Ok event)
-went style text taken taken' line old new receipt event read done written is =
-    (done.0, inr (read.0, (line, read.1, (done.1, written ∙ ap (λ t. taken ++ written_of style t) (sym done.2)))), is ∙ line_read text.bytes text.version line read.1 read.2)
+pub went : (style : Style) (text : Text) (taken taken' : List ℕ) (line : Line) (old new : PlayerState) (es : List Event) (event : Bool) → LineRead text (Ok (Some line)) → DoesLine old line es new
+    → taken' ≡ taken ++ written_of style (entries_in es) → event ≡ says_event line → LinePlayed style text (session old taken) (session new taken') (Ok event)
+went style text taken taken' line old new es event read does written is =
+    (es, inr (read.0, (line, read.1, (does, written))), is ∙ line_read text.bytes text.version line read.1 read.2)
 
 -- the same of a line that is no command, of which nothing is written
-pub went_on : (style : Style) (text : Text) (taken : List ℕ) (line : Line) (old new : PlayerState) (receipt : Option Receipt) (event : Bool) → LineRead text (Ok (Some line)) → LineDone line text.number old new (Ok receipt)
+pub went_on : (style : Style) (text : Text) (taken : List ℕ) (line : Line) (old new : PlayerState) (es : List Event) (event : Bool) → LineRead text (Ok (Some line)) → DoesLine old line es new
     → ((m : ℕ) (c : Command) → line ≢ lines.Command m c) → event ≡ says_event line → LinePlayed style text (session old taken) (session new taken) (Ok event)
-went_on style text taken line old new receipt event read done other is =
-    let none = sym (enters_nothing old line done.0 new done.1 other) ∙ done.2 in
-    went style text taken taken line old new receipt event read done (sym (append-nil taken) ∙ ap (λ t. taken ++ written_of style t) none) is
+went_on style text taken line old new es event read does other is =
+    went style text taken taken line old new es event read does (sym (append-nil taken) ∙ ap (λ t. taken ++ written_of style t) (sym (enters_nothing old line es new does other))) is
 
 pub told_read : (text : Text) → IsVersionLine text → false ≡ is_event text.bytes
 told_read text told = sym (ap is_event told.1)

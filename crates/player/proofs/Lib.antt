@@ -3,6 +3,7 @@ pub mod First
 pub mod Lines
 pub mod Ticking
 pub mod Closing
-pub mod Alongside
 pub mod Behind
 pub mod Promised
+pub mod Seeing
+pub mod LinesSeen

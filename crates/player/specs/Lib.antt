@@ -3,4 +3,5 @@ pub mod New
 pub mod Playing
 pub mod Ticking
 pub mod Closing
-pub mod Alongside
+pub mod Steps
+pub mod Observing

@@ -17,7 +17,6 @@ use Rattle.trace.specs.Streams.{Given, GrowsByPart, text_of}
 use Rattle.trace.specs.TextLine.{Text}
 use Rattle.heap_model.specs.Event.{Event, Runs}
 use Rattle.quanta.specs.declared.schedule.TheConstants.{CLOCK_LIMIT}
-use Rattle.machine.specs.declared.recorded.Receipt.{Receipt}
 use Rattle.player.specs.Player.{PlayerState, QuantaDue, DoesLine, entries_in}
 use Rattle.player.specs.declared.style.Style.{Style}
 use Rattle.player.specs.declared.style.Style.TheVariants.{Replies, Entries, Nothing}
@@ -156,18 +155,7 @@ abbrev pub PlayedUpTo : Option ℕ → Style → Given → Session → Session �
 PlayedUpTo None = Played
 PlayedUpTo (Some n) = PlayedFirst n
 
--- the entry of a receipt, where there is one
-abbrev pub entry_of : Option Receipt → List Entry
-entry_of None = []
-entry_of (Some receipt) = receipt.entry ∷ []
-
--- The outcome of a line of this number, whatever the style and the text before it; and that of a line's text.
-abbrev pub LineDone : Line → ℕ → PlayerState → PlayerState → Result (Option Receipt) TextFault → Type 0
-LineDone line number old new (Ok receipt) = (es : List Event) × DoesLine old line es new
-    × (entries_in es ≡ entry_of receipt)
-LineDone line number old new (Err fault) = (style : Style) (taken : List ℕ)
-    → Stops style fault line number (session old taken) (session new taken)
-
+-- The outcome of a line's text: whether it is that of an event.
 abbrev pub LinePlayed : Style → Text → Session → Session → Result Bool TextFault → Type 0
 LinePlayed style text old new (Ok event) =
     (es : List Event) × PlaysLine style text old es new × (event ≡ is_event text.bytes)

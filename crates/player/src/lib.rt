@@ -4,12 +4,17 @@
 
 mod laws;
 mod line;
+mod observed;
+mod observer;
+mod observing;
 mod player;
 mod playing;
 mod style;
 
 pub use laws::plays_are_promised;
-pub use line::{do_line, is_event};
+pub use observed::Observed;
+pub use observer::{Mark, Observer};
+pub use observing::observe;
 pub use player::{Player, TickFault};
 pub use playing::{play, play_first};
 pub use style::Style;

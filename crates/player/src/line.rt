@@ -5,12 +5,13 @@ ghost use Rattle.trace.specs.TextLine.{text_in};
 ghost use Rattle.trace.specs.declared.version.Version.TheVariants as versions;
 ghost use Rattle.player.specs.Player.{HasBudget};
 ghost use Rattle.player.specs.declared.style.Style.TheVariants as styles;
-ghost use Rattle.player.specs.Playing.{session, written_line, written_version, says_event, LineDone, LinePlayed};
+ghost use Rattle.player.specs.Playing.{session, written_line, written_version, says_event, LinePlayed};
+ghost use Rattle.player.specs.Observing.{observed, LineObserved};
 
+use crate::observer::Observer;
 use crate::player::Player;
 use crate::style::Style;
 use graph_heap::Entry;
-use machine::Receipt;
 use trace::{Line, TextFault, TextLine, WriteBuffer, read_numbered, version_line, write_entry};
 
 /// Adds the line of an entry to what waits. It stands apart so that its 256 bytes aren't cleared for each reply.
@@ -52,30 +53,35 @@ fn add_version(waiting: &mut WriteBuffer, style: Style)
     }
 }
 
-/// Does what a line of this number says. Answers the receipt of a command.
+/// Does what a line of this number says, and tells the observer of its events.
 #[inline(always)]
-pub fn do_line(line: Line, number: u64, player: &mut Player) -> Result<Option<Receipt>, TextFault>
+pub fn do_line<O: Observer>(
+    line: Line,
+    number: u64,
+    player: &mut Player,
+    observer: &mut O,
+) -> Result<(), TextFault>
     requires { HasBudget line }
-    ensures done { LineDone line number player.old player.new result }
+    ensures done { LineObserved O.has_seen O.may_be_refused line number (observed player.old observer.old)
+        (observed player.new observer.new) result }
     // No write is in it that could fail, and no read.
     ensures calls { (writes_failed result ≡ 0) × (reads_failed result ≡ 0) }
 {
     match line {
-        Line::Skip => Ok(None),
-        Line::Command { mutator, command } => Ok(Some(player.call(mutator, command)?)),
-        Line::Begin => {
-            player.begin();
-            Ok(None)
+        Line::Skip => {}
+        Line::Command { mutator, command } => {
+            let receipt = player.call(mutator, command)?;
+            observer.command_done(receipt.entry())?;
         }
-        Line::Quantum(budget) => {
-            player.quantum(budget);
-            Ok(None)
+        Line::Begin => player.begin(number, observer)?,
+        Line::Quantum(budget) => player.quantum(budget, observer),
+        Line::Tick(ticks) => {
+            if let Err(why) = player.tick(ticks, observer) {
+                return Err(why.at_line(number));
+            }
         }
-        Line::Tick(ticks) => match player.tick(ticks) {
-            Ok(()) => Ok(None),
-            Err(why) => Err(why.at_line(number)),
-        },
     }
+    Ok(())
 }
 
 /// Whether a line says an event: all do but those that are skipped.
@@ -112,6 +118,6 @@ pub fn play_line(
         add_line(waiting, style, receipt.entry());
         return Ok(true);
     }
-    do_line(line, text.number, player)?;
+    do_line(line, text.number, player, &mut ())?;
     Ok(is_event(line))
 }

@@ -1,13 +1,16 @@
 //! A player: a heap with its history, and the schedule of its collector.
-ghost use Rattle.std.specs.Prelude.{◌≡◌, ◌≤◌, [], ◌∷◌, ◌↔◌, IfOk, IfErr, IsTrue};
+ghost use Rattle.std.specs.Prelude.{◌≡◌, ◌≤◌, [], ◌∷◌, ◌↔◌, IfOk, IfErr, IsTrue, OnErr, OnOk};
 ghost use Rattle.heap_model.specs.declared.phase.Phase.TheVariants as phases;
 ghost use Rattle.heap_model.specs.Event.{IsBudget, Command_done, Does};
 ghost use Rattle.quanta.specs.Timetable as timetables;
 ghost use Rattle.trace.specs.declared.line.Line.{Line};
+ghost use Rattle.trace.specs.declared.line.Line.TheVariants as lines;
 ghost use Rattle.player.specs.New.{IsNew};
 ghost use Rattle.player.specs.Player.{DoesLine};
-ghost use Rattle.player.specs.Ticking.{DueDone, Ticked, Begun, Spent};
+ghost use Rattle.player.specs.Observing.{observed, LineSeen, SeesDue, SeesQuantum, TicksSeen};
+ghost use Rattle.player.specs.Ticking.{DueDone, Spent};
 
+use crate::observer::{Mark, Observer};
 use graph_heap::{Command, NoMemory};
 use heap_model::phase::Phase;
 use machine::{HeapWithHistory, Receipt};
@@ -136,17 +139,24 @@ impl Player {
         self.recorded.call(mutator, command)
     }
 
-    /// Begins a cycle, and its schedule. A cycle that is running already goes on.
-    pub fn begin(&mut self)
-        ensures { Begun self.old self.new }
+    /// Begins a cycle, and its schedule, for the line of this number, once the observer is told. A cycle that is running
+    /// already goes on. Where memory is refused to the observer, nothing has changed.
+    pub fn begin<O: Observer>(&mut self, number: u64, observer: &mut O) -> Result<(), NoMemory>
+        ensures begun { OnOk result (LineSeen O.has_seen number lines.Begin (observed self.old observer.old)
+            (observed self.new observer.new)) }
+        ensures same { OnErr result (self.new ≡ self.old) }
+        ensures err { OnErr result O.may_be_refused }
     {
+        observer.begins(number, &self.recorded)?;
         if self.recorded.begin().is_ok() {
             self.schedule.start_cycle();
         }
+        Ok(())
     }
 
     /// Spends units of a budget. Where the quantum ends in idle, the schedule's cycle ends.
-    pub fn quantum(&mut self, budget: u32)
+    #[inline(always)]
+    fn spend(&mut self, budget: u32)
         requires { IsBudget budget }
         ensures { Spent self.old budget self.new }
     {
@@ -156,10 +166,28 @@ impl Player {
         }
     }
 
-    /// Does the quantum that is due below a time, with its interval. Answers whether there was one.
-    pub fn due_quantum(&mut self, until: u64) -> Result<bool, NoMemory>
+    /// Spends units of a budget, and tells the observer. Where the quantum ends in idle, the schedule's cycle ends.
+    pub fn quantum<O: Observer>(&mut self, budget: u32, observer: &mut O)
+        requires { IsBudget budget }
+        ensures spent { Spent self.old budget self.new }
+        ensures seen { SeesQuantum O.has_seen budget (observed self.old observer.old)
+            (observed self.new observer.new) }
+    {
+        let before = Mark::from_heap(self.recorded.heap());
+        self.spend(budget);
+        observer.quantum_done(&before, budget, &self.recorded);
+    }
+
+    /// Does the quantum that is due below a time, with its interval, and tells the observer. Answers whether there was
+    /// one.
+    pub fn due_quantum<O: Observer>(
+        &mut self,
+        until: u64,
+        observer: &mut O,
+    ) -> Result<bool, NoMemory>
         requires { until ≤ CLOCK_LIMIT }
         ensures done { DueDone until self.old self.new result }
+        ensures seen { SeesDue O.has_seen (observed self.old observer.old) (observed self.new observer.new) result }
         ensures ticks { 1 ≤ self.old.timetable.collector_ticks }
     {
         let budget = self.budget;
@@ -168,20 +196,20 @@ impl Player {
         };
         self.schedule.reserve()?;
         self.schedule.place();
-        self.quantum(budget);
+        self.quantum(budget, observer);
         Ok(true)
     }
 
     /// Lets ticks pass: the quanta that are due in them are done, in order and each with its
-    /// interval, while the cycle runs; then the clock moves.
-    pub fn tick(&mut self, ticks: u64) -> Result<(), TickFault>
-        ensures { Ticked ticks self.old self.new result }
+    /// interval, while the cycle runs, and the observer is told of each; then the clock moves.
+    pub fn tick<O: Observer>(&mut self, ticks: u64, observer: &mut O) -> Result<(), TickFault>
+        ensures { TicksSeen O.has_seen ticks (observed self.old observer.old) (observed self.new observer.new) result }
     {
         if ticks > CLOCK_LIMIT - self.schedule.now() {
             return Err(TickFault::ClockSpent);
         }
         let until = self.schedule.now() + ticks;
-        while self.due_quantum(until)? {}
+        while self.due_quantum(until, observer)? {}
         self.schedule.advance(ticks).unwrap();
         Ok(())
     }

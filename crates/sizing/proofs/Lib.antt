@@ -10,7 +10,6 @@ pub mod Shifting
 pub mod Asking
 pub mod Metering
 pub mod Summing
-pub mod Playing
-pub mod Texts
+pub mod Seeing
 pub mod Cycles
 pub mod Promising

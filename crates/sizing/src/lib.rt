@@ -10,9 +10,9 @@ mod measuring;
 mod meter;
 mod most;
 mod needed;
+mod observing;
 mod page_counts;
 mod phases;
-mod run;
 mod season;
 
 pub use load_file::{DocumentFault, Field, FieldPath, LoadFault, fields_are_in_order, read_load};

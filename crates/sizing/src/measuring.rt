@@ -5,10 +5,11 @@ ghost use Rattle.trace.specs.Streams.{Stays, given_by};
 ghost use Rattle.sizing.specs.Measuring.{TraceMeasured};
 
 use crate::measured::Measured;
-use crate::run::MeteredPlayer;
+use crate::meter::Meter;
+use player::{Observed, Player, observe};
 use size_classes::Config;
 use std::alloc::Global;
-use trace::{Source, TextFault, each_line};
+use trace::{Source, TextFault};
 
 /// What a trace needs on a new heap of a configuration: its lines are played, one after the other, and nothing
 /// is written. The run keeps to what is answered, and to nothing that is less in some number. Where the configuration
@@ -24,7 +25,10 @@ pub fn measure<S: Source>(
     ensures reads { S.failures source.new ≡ S.failures source.old + reads_failed result }
     ensures input { reads_failed result ≡ 0 → Stays (S.input source.old) (S.input source.new) }
 {
-    let mut run = MeteredPlayer::new(alloc, config)?;
-    each_line(source, &mut run)?;
-    Ok(run.meter.measured())
+    let mut run = Observed {
+        player: Player::new(alloc, config)?,
+        observer: Meter::new(alloc, &config.limits())?,
+    };
+    observe(source, &mut run)?;
+    Ok(run.observer.measured())
 }

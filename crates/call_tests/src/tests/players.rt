@@ -34,7 +34,7 @@ fn ticks_end_where_memory_is_refused(rt: HostRuntime) -> Result<(), Fail> {
     let mut source = MemorySource::new(trace.as_bytes());
     let mut sink = MemorySink::new(rt.alloc());
     play(&mut source, &mut sink, &mut player, Style::Nothing)?;
-    let ended = player.tick(200);
+    let ended = player.tick(200, &mut ());
     let placed = player.schedule().intervals().len() as u64;
     let now = player.schedule().now();
     match ended {

@@ -1,16 +1,19 @@
 //! The cycles of a run so far.
-ghost use Rattle.std.specs.Prelude.{◌≡◌, true, false, ◌++◌, ◌∷◌, [], List, OnOk};
+ghost use Rattle.std.specs.Prelude.{◌≡◌, true, false, ◌++◌, ◌∷◌, [], List, IfOk, OnOk};
 ghost use Rattle.heap_model.specs.Event.{Course};
-ghost use Rattle.inspector.specs.Steps.{Step, begins, is_quantum};
+ghost use Rattle.player.specs.Observing.{IsMark};
+ghost use Rattle.player.specs.Steps.{Step};
+ghost use Rattle.inspector.specs.Steps.{begins, is_quantum};
 ghost use Rattle.inspector.specs.Cycles.{AreCycles};
-ghost use Rattle.inspector.specs.Log.{IsMark, IsQuantumEffect, AreCounted, IsOpenIn, IsLog};
+ghost use Rattle.inspector.specs.Log.{IsQuantumEffect, AreCounted, IsOpenIn, IsLog};
 
-use crate::cycles::cycle::Cycle;
+use crate::cycles::cycle::{Cycle, Cycles};
 use crate::cycles::open::{Base, Open};
-use crate::cycles::turn::{Mark, QuantumEffect};
+use crate::cycles::turn::QuantumEffect;
 use graph_heap::NoMemory;
 use machine::{Heap, HeapWithHistory};
 use nodes::Copies;
+use player::Mark;
 use std::alloc::Global;
 
 /// The cycles of a run so far: those that another followed, and the last one.
@@ -86,5 +89,14 @@ impl Log {
         self.close(recorded.heap())?;
         self.last = Some(Open::new(line, &self.base, recorded));
         Ok(())
+    }
+
+    /// The cycles of a run that ends at this heap; the last one is still running, or no other follows it.
+    pub fn cycles(mut self, heap: &Heap) -> Result<Cycles, NoMemory>
+        ensures { IfOk result (λ cycles. (steps : List Step) (now : Course) → IsLog steps now self → now.heap ≡ heap.now
+            → AreCycles steps cycles.items.items) }
+    {
+        self.close(heap)?;
+        Ok(Cycles { items: self.closed })
     }
 }

@@ -5,10 +5,11 @@ ghost use Rattle.trace.specs.Streams.{Stays, given_by};
 ghost use Rattle.inspector.specs.Taking.{CyclesTaken};
 
 use crate::cycles::cycle::Cycles;
-use crate::cycles::watch::Watch;
+use crate::cycles::log::Log;
+use player::{Observed, Player, observe};
 use size_classes::Config;
 use std::alloc::Global;
-use trace::{Source, TextFault, each_line};
+use trace::{Source, TextFault};
 
 /// Plays the lines of a trace on a new heap of a configuration, one after the other, writes nothing of them, and
 /// answers the cycles of the run, with the figures of each. A fault is that with which playing the trace ends; or
@@ -22,7 +23,10 @@ pub fn take_cycles<S: Source>(
     ensures reads { S.failures source.new ≡ S.failures source.old + reads_failed result }
     ensures input { reads_failed result ≡ 0 → Stays (S.input source.old) (S.input source.new) }
 {
-    let mut watch = Watch::new(alloc, config)?;
-    each_line(source, &mut watch)?;
-    Ok(watch.cycles()?)
+    let mut run = Observed {
+        player: Player::new(alloc, config)?,
+        observer: Log::new(alloc),
+    };
+    observe(source, &mut run)?;
+    Ok(run.observer.cycles(run.player.recorded().heap())?)
 }

@@ -1,20 +1,15 @@
 //! What a quantum was to the cycle that it found.
 ghost use Rattle.std.specs.Prelude.{◌≡◌, true};
 ghost use Rattle.nodes.specs.Copies.{copies_in};
-ghost use Rattle.inspector.specs.Log.{IsMark, IsQuantumEffect};
-ghost use Rattle.inspector.specs.Steps.{Step, is_quantum};
+ghost use Rattle.player.specs.Observing.{IsMark};
+ghost use Rattle.player.specs.Steps.{Step};
+ghost use Rattle.inspector.specs.Log.{IsQuantumEffect};
+ghost use Rattle.inspector.specs.Steps.{is_quantum};
 
-use heap_model::phase::Phase;
 use machine::Heap;
 use nodes::Copies;
+use player::Mark;
 use sizing::{awaits_sweep_end, in_cycle};
-
-/// Where the collector of a heap is: its phase, and the units of the cycle.
-#[derive(Clone, Copy, Debug, PartialEq, Eq)]
-pub struct Mark {
-    pub phase: Phase,
-    pub units: u64,
-}
 
 /// What a quantum was to the cycle that it found.
 #[derive(Clone, Copy, Debug, PartialEq, Eq)]
@@ -27,18 +22,6 @@ pub struct QuantumEffect {
     pub ends_cycle: bool,
     /// The units that it spent on the cycle.
     pub units: u64,
-}
-
-impl Mark {
-    /// Where the collector of a heap is now.
-    pub fn from_heap(heap: &Heap) -> Mark
-        ensures { IsMark heap.now result }
-    {
-        Mark {
-            phase: heap.phase(),
-            units: heap.units(),
-        }
-    }
 }
 
 impl QuantumEffect {

@@ -4,7 +4,8 @@ use Rattle.std.proofs.lemmas.Bool.{cases_order}
 use Rattle.std.proofs.lemmas.Option.{slice_get_past, slice_get_cases, slice_get-get_or}
 use Rattle.pictures.specs.declared.over_time.TheConstants.{MOST_SAMPLES}
 use Rattle.pictures.specs.declared.sample.Sample.{Sample}
-use Rattle.pictures.specs.Samples.{Moment, sampled, AreSamples, IsStride}
+use Rattle.player.specs.Observing.{Moment}
+use Rattle.pictures.specs.Samples.{sampled, AreSamples, IsStride}
 use Rattle.pictures.specs.Sampler.{AreTaken}
 
 -- the last of a list, and those before it

@@ -1,6 +1,7 @@
 //! Taking samples at even distances.
 ghost use Rattle.std.specs.Prelude.{◌≡◌, ◌<◌, ◌^◌, ◌++◌, ◌∷◌, [], List, length, IfOk, OnOk};
-ghost use Rattle.pictures.specs.Samples.{Moment, moment, sampled};
+ghost use Rattle.player.specs.Observing.{Moment, moment};
+ghost use Rattle.pictures.specs.Samples.{sampled};
 ghost use Rattle.pictures.specs.Sampler.{IsAlong};
 
 use crate::timeline::samples::Samples;

@@ -1,22 +1,37 @@
-use Rattle.std.proofs.Common.{[], ◌∷◌, refl, sym, subst, Ok, None}
-use Rattle.heap_model.specs.Event.{Quantum_done}
+use Rattle.std.proofs.Common.{sym, subst, refl}
 use Rattle.trace.specs.declared.line.Line.{Line}
-use Rattle.trace.specs.declared.line.Line.TheVariants as lines
-use Rattle.player.specs.Player.{PlayerState, DoesLine, Skips, Spends}
-use Rattle.player.specs.Playing.{LineDone}
-use Rattle.player.proofs.Lines.{ticks_enter_nothing}
+use Rattle.player.specs.Observing.{observed, LineSeen}
+use Rattle.player.proofs.Seeing.{skip_seen, command_seen, quantum_seen, ticks_passed}
 use Rattle.player.proofs.line.do_line.Goals as goal
 
 pub returns-in-Skip-clause-done : goal.returns-in-Skip-clause-done
-returns-in-Skip-clause-done c = ([], subst (λ (line : Line). DoesLine c.args.player.now line [] c.args.player.now) (sym c.in-Skip.is) Skips, refl)
+returns-in-Skip-clause-done g c =
+    let o = observed c.args.player.now c.args.observer.now in
+    subst (λ (line : Line). LineSeen g.O.Observer.has_seen c.args.number line o o) (sym c.in-Skip.is) (skip_seen g.O.Observer.has_seen c.args.number o)
+
+pub returns-in_ok-command_done-in-Command-clause-done : goal.returns-in_ok-command_done-in-Command-clause-done
+returns-in_ok-command_done-in-Command-clause-done g c =
+    let old = observed c.args.player.now c.args.observer.now in
+    let new = observed c.call.new.self c.command_done.new.self in
+    let call = c.in_ok-receipt-in-Command.ensures in
+    subst (λ (line : Line). LineSeen g.O.Observer.has_seen c.args.number line old new) (sym c.in-Command.is)
+    (command_seen g.O.Observer.has_seen c.args.number old new c.in-Command.mutator c.in-Command.command c.in_ok-receipt-in-Command.receipt.entry c.entry.result.now c.entry.ensures call.does call.entry.0 call.entry.1
+    c.in_ok-command_done-in-Command.ensures.seen)
+
+pub returns-in_ok-begin-in-Begin-clause-done : goal.returns-in_ok-begin-in-Begin-clause-done
+returns-in_ok-begin-in-Begin-clause-done g c =
+    subst (λ (line : Line). LineSeen g.O.Observer.has_seen c.args.number line (observed c.args.player.now c.args.observer.now) (observed c.begin.new.self c.begin.new.observer)) (sym c.in-Begin.is) c.in_ok-begin-in-Begin.ensures.begun
 
 pub returns-in-Quantum-clause-done : goal.returns-in-Quantum-clause-done
-returns-in-Quantum-clause-done c =
-    let s = c.quantum.ensures in
-    let does = Quantum_done c.in-Quantum.budget s.0 s.1 ∷ [] in
-    (does, subst (λ (line : Line). DoesLine c.args.player.now line does c.quantum.new.self) (sym c.in-Quantum.is) (subst (λ (x : PlayerState). DoesLine c.args.player.now (lines.Quantum c.in-Quantum.budget) does x) (sym s.4) (Spends c.in-Quantum.budget s.0 s.1 s.2 s.3)), refl)
+returns-in-Quantum-clause-done g c =
+    let old = observed c.args.player.now c.args.observer.now in
+    let new = observed c.quantum.new.self c.quantum.new.observer in
+    subst (λ (line : Line). LineSeen g.O.Observer.has_seen c.args.number line old new) (sym c.in-Quantum.is)
+    (quantum_seen g.O.Observer.has_seen c.args.number c.in-Quantum.budget old new c.quantum.ensures.spent c.quantum.ensures.seen)
 
-pub returns-in-Ok-clause-done : goal.returns-in-Ok-clause-done
-returns-in-Ok-clause-done c =
-    let t = c.in-Ok.ensures in
-    (t.0, subst (λ (line : Line). DoesLine c.args.player.now line t.0 c.tick.new.self) (sym c.in-Tick.is) t.1, ticks_enter_nothing c.args.player.now c.tick.new.self c.in-Tick.ticks t.0 t.1)
+pub returns-in_default-clause-done : goal.returns-in_default-clause-done
+returns-in_default-clause-done g c =
+    let old = observed c.args.player.now c.args.observer.now in
+    let new = observed c.tick.new.self c.tick.new.observer in
+    subst (λ (line : Line). LineSeen g.O.Observer.has_seen c.args.number line old new) (sym c.in-Tick.is)
+    (ticks_passed g.O.Observer.has_seen c.in-Tick.ticks old new c.tick.result c.tick.ensures (λ why. c.in_default.not-Err why) c.args.number)

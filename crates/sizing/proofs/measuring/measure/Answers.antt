@@ -1,33 +1,44 @@
-use Rattle.std.proofs.Common.{[]}
+use Rattle.std.proofs.Common.{[], subst}
 use Rattle.std.proofs.lemmas.Result.{err_from_is_err_and}
-use Rattle.player.specs.Playing.{session}
+use Rattle.heap_model.specs.Event.{Runs}
+use Rattle.heap_model.specs.ReachedFrom.{opened}
 use Rattle.size_classes.specs.declared.config.TheConstants.{LEAST_BUDGET}
+use Rattle.player.specs.Observing.{observed}
+use Rattle.player.specs.Playing.{session}
+use Rattle.player.proofs.LinesSeen.{events_brought, stops_new}
+use Rattle.sizing.specs.Measured.{IsMeasured}
+use Rattle.sizing.specs.Measuring.{HasMeasured}
 use Rattle.sizing.proofs.Promising.{run_budgets, promised}
-use Rattle.sizing.proofs.Texts.{lines_measured, lines_played, stops_measured}
+use Rattle.sizing.proofs.Seeing.{nothing_measured}
 use Rattle.sizing.proofs.measuring.measure.Goals as goal
 
-pub returns-in_err-each_line-clause-measured : goal.returns-in_err-each_line-clause-measured
-returns-in_err-each_line-clause-measured g c =
-    let p = err_from_is_err_and c.from_residual-in_err-each_line.result c.from_residual-in_err-each_line.ensures.1 in
-    let run = c.in_ok-run.run' in
-    rw (p.1, p.2) (stops_measured run c.in_ok-run.ensures.measured _ c.each_line.new.handler c.args.config.now c.in_err-each_line.field-0.0 c.in_err-each_line.ensures.handled c.in_ok-run.ensures.player)
+pub observe-requires : goal.observe-requires
+observe-requires g c =
+    nothing_measured c.args.config.now c.limits.result c.in_ok-new.field-0 c.in_ok-new-2.field-0 c.in_ok-new.ensures c.limits.ensures c.in_ok-new-2.ensures
+
+pub returns-in_err-observe-clause-measured : goal.returns-in_err-observe-clause-measured
+returns-in_err-observe-clause-measured g c =
+    let p = err_from_is_err_and c.from_residual-in_err-observe.result c.from_residual-in_err-observe.ensures.1 in
+    rw (p.1, p.2) (stops_new HasMeasured c.args.config.now _ (observed c.in_ok-new.field-0 c.in_ok-new-2.field-0) c.observe.new.run c.in_err-observe.field-0.0 c.in_err-observe.ensures.observed c.in_ok-new.ensures)
 
 pub measured-requires : goal.measured-requires
 measured-requires g c =
-    let a = lines_measured c.in_ok-run.run' c.in_ok-run.ensures.measured _ c.each_line.new.handler _ c.in_ok-each_line.ensures.handled in
-    (a.knows.measures.needs.budget LEAST_BUDGET).0 (run_budgets a.events _ _ a.knows.runs)
+    let seen = c.in_ok-observe.ensures.observed.1 in
+    (seen.measures.needs.budget LEAST_BUDGET).0 (run_budgets _ _ _ seen.runs)
 
 pub returns-clause-measured : goal.returns-clause-measured
 returns-clause-measured g c =
-    let first = c.in_ok-run.run' in
-    let new = c.in_ok-run.ensures in
-    let a = lines_measured first new.measured _ c.each_line.new.handler _ c.in_ok-each_line.ensures.handled in
-    let is = c.measured.ensures _ _ _ a.knows.measures in
+    let p = c.in_ok-new.field-0 in
+    let new = c.in_ok-new.ensures in
+    let o = c.in_ok-observe.ensures.observed in
+    let seen = o.1 in
+    let same = events_brought _ _ _ _ _ o.0.over.done in
+    let is = subst (λ es. IsMeasured p.course.heap.limits es c.measured.result) same (c.measured.ensures _ _ _ seen.measures) in
     record {
-      old = first.player;
-      new = session c.each_line.new.handler.player [];
-      played = lines_played first new.measured _ c.each_line.new.handler _ a;
-      is_new = new.player;
+      old = p;
+      new = session c.observe.new.run.player [];
+      played = o.0;
+      is_new = new;
       is = is;
-      promises = promised c.args.config.now first.player.course.heap a.events _ c.measured.result new.player.heap new.player.settings a.knows.runs is;
+      promises = promised c.args.config.now p.course.heap o.0.over.events _ c.measured.result new.heap new.settings (subst (λ es. Runs (opened p.course.heap) es c.observe.new.run.player.course) same seen.runs) is;
     }

@@ -1,21 +1,26 @@
 use Rattle.std.proofs.Common.{ap, subst, Ok, true}
 use Rattle.quanta.specs.Timetable.{Timetable, with_reserved}
+use Rattle.player.specs.Observing.{observed, SeesDue}
 use Rattle.player.specs.Player.{PlayerState, player_of}
 use Rattle.player.specs.Ticking.{DueDone}
 use Rattle.player.proofs.Doing.{due_placed, due_done, due_refused}
 use Rattle.player.proofs.player.Player.due_quantum.Goals as goal
 
 pub returns-in_err-reserve-clause-done : goal.returns-in_err-reserve-clause-done
-returns-in_err-reserve-clause-done c =
+returns-in_err-reserve-clause-done g c =
     let p = player_of c.self.inside in
     let f = c.in-Some.ensures.found in
     subst (λ (x : PlayerState). DueDone c.args.until x (record p { timetable = with_reserved c.reserve.new.self 0 }) c.from_residual.result) c.self.view_is
     (due_refused p c.args.until c.in-Some._due (with_reserved c.reserve.new.self 0) c.from_residual.result c.from_residual.ensures.0 f.0 f.1 (ap (λ (t : Timetable). with_reserved t 0) c.reserve.ensures.kept))
 
 pub returns-clause-done : goal.returns-clause-done
-returns-clause-done c =
+returns-clause-done g c =
     let p = player_of c.self.inside in
     let f = c.in-Some.ensures.found in
     let e = due_placed c.self.inside.schedule c.reserve.new.self c.place.new.self c.in-Some._due c.reserve.ensures.kept f.0 c.place.ensures.placed in
     subst (λ (x : PlayerState). DueDone c.args.until x c.quantum.new.self (Ok true)) c.self.view_is
-    (due_done p c.quantum.new.self c.args.until c.in-Some._due (with_reserved c.place.new.self 0) f.0 f.1 e c.quantum.ensures)
+    (due_done p c.quantum.new.self c.args.until c.in-Some._due (with_reserved c.place.new.self 0) f.0 f.1 e c.quantum.ensures.spent)
+
+pub returns-clause-seen : goal.returns-clause-seen
+returns-clause-seen g c =
+    subst (λ (x : PlayerState). SeesDue g.O.Observer.has_seen (observed x c.args.observer.now) (observed c.quantum.new.self c.quantum.new.observer) (Ok true)) c.self.view_is c.quantum.ensures.seen

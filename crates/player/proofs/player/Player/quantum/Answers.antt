@@ -1,20 +1,10 @@
-use Rattle.std.proofs.Common.{◌≡◌, false, true, ◌∙◌, sym, subst}
-use Rattle.quanta.specs.Timetable.{with_reserved}
-use Rattle.player.specs.Player.{PlayerState, player_of}
-use Rattle.player.specs.Ticking.{Spent}
-use Rattle.player.proofs.Doing.{quantum_line, ended, went_on}
+use Rattle.std.proofs.Common.{sym, subst, ap, ◌∙◌}
+use Rattle.heap_model.specs.Event.{Course}
+use Rattle.player.specs.Observing.{IsMark}
+use Rattle.player.specs.Player.{PlayerState}
 use Rattle.player.proofs.player.Player.quantum.Goals as goal
 
-pub returns-then-is_idle : goal.returns-then-is_idle
-returns-then-is_idle c =
-    let p = player_of c.self.inside in
-    subst (λ (x : PlayerState). Spent x c.args.budget (record p { course = c.quantum.new.self.course; timetable = with_reserved c.end_cycle.new.self 0 })) c.self.view_is
-    (quantum_line p c.args.budget c.quantum.new.self.course (with_reserved c.end_cycle.new.self 0) c.unwrap-spent.result c.quantum.result c.unwrap-spent.ensures c.quantum.ensures.does
-    (ended c.unwrap-spent.result.phase c.self.inside.schedule c.end_cycle.new.self (c.is_idle.ensures.0 c.if-is_idle.true) c.end_cycle.ensures))
-
-pub returns-else-is_idle : goal.returns-else-is_idle
-returns-else-is_idle c =
-    let p = player_of c.self.inside in
-    subst (λ (x : PlayerState). Spent x c.args.budget (record p { course = c.quantum.new.self.course })) c.self.view_is
-    (quantum_line p c.args.budget c.quantum.new.self.course p.timetable c.unwrap-spent.result c.quantum.result c.unwrap-spent.ensures c.quantum.ensures.does
-    (went_on c.unwrap-spent.result.phase c.self.inside.schedule (λ e. let z : false ≡ true = sym c.if-is_idle.false ∙ c.is_idle.ensures.1 e in cc)))
+pub returns-clause-seen : goal.returns-clause-seen
+returns-clause-seen g c = λ s is before after.
+    let heap = c.heap.ensures.heap ∙ ap (λ (x : PlayerState). x.course.heap) c.self.view_is ∙ ap (λ (r : Course). r.heap) (sym before) in
+    c.quantum_done.ensures.seen s is (subst (λ h. IsMark h c.from_heap-before.result) heap c.from_heap-before.ensures) (after ∙ ap (λ (x : PlayerState). x.course) (sym c.self-2.view_is))

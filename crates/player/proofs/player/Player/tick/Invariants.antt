@@ -1,12 +1,18 @@
-use Rattle.std.proofs.Common.{◌+◌, ◌≡◌, ◌≤◌, List}
-use Rattle.heap_model.specs.Event.{Event}
+use Rattle.std.proofs.Common.{◌+◌, ◌≡◌, ◌≤◌}
 use Rattle.quanta.specs.declared.schedule.TheConstants.{CLOCK_LIMIT}
-use Rattle.player.specs.Player.{QuantaDue}
+use Rattle.player.specs.Observing.{observed}
+use Rattle.player.proofs.Seeing.{QuantaSeen}
 use Rattle.player.proofs.Ticking.{left_until}
 use Rattle.player.proofs.player.Player.tick.Given as goal
 
+-- the observer has seen the quanta so far, and the clock stands still
 abbrev pub invariant-loop : goal.invariant-loop
-invariant-loop l = (l.until ≤ CLOCK_LIMIT) × (l.until ≡ l.fn.self.timetable.clock + l.ticks) × (l.self.timetable.clock ≡ l.fn.self.timetable.clock) × (es : List Event) × QuantaDue l.until l.fn.self es l.self
+invariant-loop g l = record {
+  within : l.until ≤ CLOCK_LIMIT;
+  is : l.until ≡ l.fn.self.timetable.clock + l.ticks;
+  clock : l.self.timetable.clock ≡ l.fn.self.timetable.clock;
+  seen : QuantaSeen g.O.Observer.has_seen l.until (observed l.fn.self l.fn.observer) (observed l.self l.observer);
+}
 
 abbrev pub decreases-loop : goal.decreases-loop
-decreases-loop l = left_until l.until l.self.timetable.due
+decreases-loop g l = left_until l.until l.self.timetable.due

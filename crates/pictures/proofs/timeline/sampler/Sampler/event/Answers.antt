@@ -1,5 +1,6 @@
 use Rattle.std.proofs.Common.{◌≡◌, ◌+◌, length, [], ◌∷◌, ◌++◌, refl, sym, ◌∙◌, subst, arith}
-use Rattle.pictures.specs.Samples.{moment, sampled}
+use Rattle.player.specs.Observing.{moment}
+use Rattle.pictures.specs.Samples.{sampled}
 use Rattle.pictures.specs.Sampler.{AreTaken}
 use Rattle.pictures.specs.declared.timeline.sampler.Sampler.{Sampler}
 use Rattle.pictures.proofs.timeline.Along.{one_passed, one_taken, one_thinned, pushed}

@@ -1,0 +1,32 @@
+//! The meter, as what observes a run.
+ghost use Rattle.sizing.specs.Measuring.{HasMeasured};
+
+use crate::meter::Meter;
+use graph_heap::{Entry, NoMemory};
+use machine::HeapWithHistory;
+use player::{Mark, Observer};
+
+impl Observer for Meter {
+    ghost has_seen = { HasMeasured };
+
+    ghost may_be_refused = { Unit {0} };
+
+    fn command_done(&mut self, entry: &Entry) -> Result<(), NoMemory> {
+        self.command(entry)
+    }
+
+    fn begins(&mut self, _number: u64, _recorded: &HeapWithHistory) -> Result<(), NoMemory> {
+        if self.is_on() {
+            return Ok(());
+        }
+        self.begun()
+    }
+
+    fn quantum_done(&mut self, _before: &Mark, budget: u32, recorded: &HeapWithHistory) {
+        self.quanta(budget, recorded.heap().phase());
+    }
+
+    fn line_done(&mut self, _number: u64, _recorded: &HeapWithHistory) -> Result<(), NoMemory> {
+        Ok(())
+    }
+}

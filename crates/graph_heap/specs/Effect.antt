@@ -178,6 +178,16 @@ reply_of room g m c = (settled (effect_of room g m c)).0
 unfoldable pub next_of : Bool → Graph → ℕ → Command → Graph
 next_of room g m c = changed g (settled (effect_of room g m c)).1
 
+-- the change adds an object
+abbrev pub AddsObject : Change → Type 0
+AddsObject (changes.New cell id shape) = Unit {0}
+AddsObject _ = ⊥
+
+-- the reply tells that an object is made
+abbrev pub TellsMade : Reply → Type 0
+TellsMade (replies.Made id) = Unit {0}
+TellsMade _ = ⊥
+
 -- One step: the reply and the graph heap after it are those of the command. Room is the one thing
 -- that the graph heap leaves open.
 abbrev pub IsStep : Graph → ℕ → Command → Reply → Graph → Type 0

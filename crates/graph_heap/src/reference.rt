@@ -3,7 +3,7 @@ ghost use Rattle.std.specs.Prelude.{true, ◌≡◌, ◌↔◌, IfOk, IsOkAnd, O
 ghost use Rattle.graph_heap.specs.Shape as shapes;
 ghost use Rattle.graph_heap.specs.Graph.{changed, opening};
 ghost use Rattle.graph_heap.specs.Effect as effect;
-ghost use Rattle.graph_heap.specs.Effect.{admitted_effect, effect_of, fitting, reply_of, next_of};
+ghost use Rattle.graph_heap.specs.Effect.{admitted_effect, effect_of, fitting, reply_of, next_of, AddsObject, TellsMade};
 ghost use Rattle.graph_heap.specs.Reference.{referent_at};
 ghost use Rattle.graph_heap.specs.History as history;
 ghost use Rattle.graph_heap.specs.History.{IsEntryOf, after_entry};
@@ -83,6 +83,7 @@ impl Reference {
     fn apply(&mut self, change: &Change) -> Result<(), NoMemory>
         ensures ok { OnOk result (self.new ≡ changed self.old change.now) }
         ensures err { OnErr result (self.new ≡ self.old) }
+        ensures made { OnErr result (AddsObject change.now) }
     {
         match *change {
             Change::Nothing => {}
@@ -129,6 +130,7 @@ impl Reference {
     fn reply_and_change(&self, room: bool, mutator: u32, command: &Command) -> (Reply, Change)
         ensures reply { result.0 ≡ reply_of room self.now mutator command.now }
         ensures change { changed self.now result.1 ≡ next_of room self.now mutator command.now }
+        ensures made { AddsObject result.1 → TellsMade result.0 }
     {
         match self.plan(room, mutator, command) {
             Ok(x) => x,
@@ -323,6 +325,8 @@ impl Reference {
         ensures reply { IfOk result (λ r. r ≡ reply_of true self.old mutator command.now) }
         ensures ok { OnOk result (self.new ≡ next_of true self.old mutator command.now) }
         ensures err { OnErr result (self.new ≡ self.old) }
+        // Memory is refused only where an object is to be made.
+        ensures made { OnErr result (TellsMade (reply_of true self.old mutator command.now)) }
     {
         let (reply, change) = self.reply_and_change(true, mutator, command);
         self.apply(&change)?;
@@ -335,6 +339,8 @@ impl Reference {
         ensures yes { IsOkAnd result (λ yes. IsTrue yes) → self.new ≡ after_entry self.old entry.now }
         ensures no { IsOkAnd result (λ yes. ¬ IsTrue yes) → self.new ≡ self.old }
         ensures err { OnErr result (self.new ≡ self.old) }
+        // Memory is refused only where the entry is a step that makes an object.
+        ensures made { OnErr result (IsEntryOf self.old entry.now × TellsMade entry.now.reply) }
     {
         let room = had_room_of(&entry.reply);
         let (reply, change) = self.reply_and_change(room, entry.mutator, &entry.command);

@@ -4,7 +4,7 @@ from specs import read_specs
 from tree import Place, crates
 
 # The calls whose contracts are the headline: of each its crate, its type and its name.
-HEADLINE = [("machine", "HeapWithHistory", "new"), ("machine", "HeapWithHistory", "run")]
+HEADLINE = [("machine", "Recorded", "new"), ("machine", "Recorded", "run")]
 
 # The first of the crates that a user of the program meets; those before it are the core.
 FIRST_OUTER = "heap_server"

@@ -5,11 +5,11 @@ use Rattle.graph_heap.specs.declared.command.Shape.TheVariants.{Plain, RefArray,
 use Rattle.graph_heap.specs.declared.command.Refusal.TheVariants.{BadIndex, WrongKind}
 use Rattle.size_classes.specs.Parts.{part_in, column_in}
 use Rattle.heap_model.specs.Cut.{width_in}
-use Rattle.arraylets.specs.CellPosition.{ref_place, word_place}
+use Rattle.arraylets.specs.CellPosition.{ref_position, word_position}
 
 -- cell i of an array of n references, and of n words, stands in this part, as this cell of it
 abbrev Stands : ℕ → ℕ → ℕ → ℕ → Type 0
-Stands n i part cell = (ref_place (RefArray n) i ≡ Ok (record { part = part; cell = cell })) × (word_place (WordArray n) i ≡ Ok (record { part = part; cell = cell }))
+Stands n i part cell = (ref_position (RefArray n) i ≡ Ok (record { part = part; cell = cell })) × (word_position (WordArray n) i ≡ Ok (record { part = part; cell = cell }))
 
 -- one piece
 one_piece : Stands 252 0 0 0 × Stands 252 251 0 251
@@ -37,13 +37,13 @@ unfolding part_in column_in width_in
 most_spines = ((refl, refl), (refl, refl))
 
 -- an object of two references and three words has its words behind its references
-plain : (ref_place (Plain 2 3) 1 ≡ Ok (record { part = 0; cell = 1 })) × (word_place (Plain 2 3) 2 ≡ Ok (record { part = 0; cell = 4 }))
+plain : (ref_position (Plain 2 3) 1 ≡ Ok (record { part = 0; cell = 1 })) × (word_position (Plain 2 3) 2 ≡ Ok (record { part = 0; cell = 4 }))
 unfolding part_in column_in width_in
 plain = (refl, refl)
 
 -- what isn't there
-past_the_end : (word_place (WordArray 505) 505 ≡ Err BadIndex) × (ref_place (Plain 2 3) 2 ≡ Err BadIndex) × (word_place (Plain 2 3) 3 ≡ Err BadIndex)
+past_the_end : (word_position (WordArray 505) 505 ≡ Err BadIndex) × (ref_position (Plain 2 3) 2 ≡ Err BadIndex) × (word_position (Plain 2 3) 3 ≡ Err BadIndex)
 past_the_end = (refl, refl, refl)
 
-another_kind : (word_place (RefArray 505) 0 ≡ Err WrongKind) × (ref_place (WordArray 505) 0 ≡ Err WrongKind)
+another_kind : (word_position (RefArray 505) 0 ≡ Err WrongKind) × (ref_position (WordArray 505) 0 ≡ Err WrongKind)
 another_kind = (refl, refl)

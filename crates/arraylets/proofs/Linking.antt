@@ -6,7 +6,7 @@ use Rattle.std.proofs.Math.Nat.{eq-zero-or-pos}
 use Rattle.graph_heap.specs.declared.command.Shape.{Shape}
 use Rattle.graph_heap.specs.declared.command.Shape.TheVariants.{Plain, RefArray, WordArray}
 use Rattle.graph_heap.specs.Shape.{fits}
-use Rattle.size_classes.specs.Parts.{cells_of, pieces_of, spines_of, parts_in, part_cells, part_words, holder_of, seat_of}
+use Rattle.size_classes.specs.Parts.{cells_of, pieces_of, spines_of, parts_in, part_cells, part_words, spine_of, spine_cell_of}
 use Rattle.size_classes.specs.Sizes.{class_for}
 use Rattle.size_classes.proofs.Cutting.{Pieces, Spines, pieces_are, spines_are, referrers_are, count_most}
 use Rattle.heap_model.specs.Block.{BlockRecord, with_cell, new_record}
@@ -28,8 +28,8 @@ pub links_then : (s t u : Store) → ((b : ℕ) → is_allocated s b ≡ true �
 links_then s t u still x y = record { len = y.len ∙ x.len; each = λ b h. y.each b (still b h) ∙ x.each b h }
 
 -- a block stays allocated where another is added
-pub added_allocated : (s t : Store) (a : ℕ) (node : BlockRecord) → Adds s t a node → (b : ℕ) → is_allocated s b ≡ true → is_allocated t b ≡ true
-added_allocated s t a node added b h = added.same b (λ e. clash (ap (is_allocated s) (sym e) ∙ h) added.free) ∙ h
+pub added_allocated : (s t : Store) (a : ℕ) (block : BlockRecord) → Adds s t a block → (b : ℕ) → is_allocated s b ≡ true → is_allocated t b ≡ true
+added_allocated s t a block added b h = added.same b (λ e. clash (ap (is_allocated s) (sym e) ∙ h) added.free) ∙ h
   where
     clash : {b : Bool} → b ≡ true → b ≡ false → ⊥
     clash p q = cc
@@ -73,30 +73,30 @@ parts_few shape part f l =
 spines_most : (n k s : ℕ) → Pieces n k → Spines k s → n ≤ 4000000 → s ≤ 64
 spines_most n k s a b l = grind arith
 
-pub spine_in : (n part : ℕ) → n ≤ 4000000 → 0 < part → part < parts_in n → (holder_of n part < part) × (holder_of n part < 64) × (seat_of n part < part_cells n (holder_of n part))
+pub spine_in : (n part : ℕ) → n ≤ 4000000 → 0 < part → part < parts_in n → (spine_of n part < part) × (spine_of n part < 64) × (spine_cell_of n part < part_cells n (spine_of n part))
 spine_in n part few some below =
     let q = referrers_are n (pieces_of n) (spines_of n) (pieces_are n) (spines_are n) part some below in
     let most = spines_most n (pieces_of n) (spines_of n) (pieces_are n) (spines_are n) few in
     (q.1, omega (arith, q.0, most), q.2)
 
 spine_before : (shape : Shape) (part : ℕ) → fits shape ≡ true → 0 < part → part < parts_in (cells_of shape)
-    → (holder_of (cells_of shape) part < part) × (holder_of (cells_of shape) part < 64) × (seat_of (cells_of shape) part < part_cells (cells_of shape) (holder_of (cells_of shape) part))
+    → (spine_of (cells_of shape) part < part) × (spine_of (cells_of shape) part < 64) × (spine_cell_of (cells_of shape) part < part_cells (cells_of shape) (spine_of (cells_of shape) part))
 spine_before shape part f some below = spine_in (cells_of shape) part (cells_few shape f) some below
 
 -- a part is written into its spine
-module _ (n : ℕ) (s t : Store) (spines : List ℕ) (part spine cell address : ℕ) (es : spine ≡ holder_of n part) (ec : cell ≡ seat_of n part) where
-  pub spine_allocated : is_allocated s (get_or spines (holder_of n part) 0) ≡ true → is_allocated s (get_or spines spine 0) ≡ true
+module _ (n : ℕ) (s t : Store) (spines : List ℕ) (part spine cell address : ℕ) (es : spine ≡ spine_of n part) (ec : cell ≡ spine_cell_of n part) where
+  pub spine_allocated : is_allocated s (get_or spines (spine_of n part) 0) ≡ true → is_allocated s (get_or spines spine 0) ≡ true
   spine_allocated h = subst (λ k. is_allocated s (get_or spines k 0) ≡ true) (sym es) h
 
-  pub cell_within : n ≤ 4000000 → 0 < part → part < parts_in n → length (record_of s (get_or spines (holder_of n part) 0)).cells ≡ part_cells n (holder_of n part) → cell < length (record_of s (get_or spines spine 0)).cells
+  pub cell_within : n ≤ 4000000 → 0 < part → part < parts_in n → length (record_of s (get_or spines (spine_of n part) 0)).cells ≡ part_cells n (spine_of n part) → cell < length (record_of s (get_or spines spine 0)).cells
   cell_within few some below cells =
       subst (λ k. cell < length (record_of s (get_or spines k 0)).cells) (sym es)
-      (subst (λ c. c < length (record_of s (get_or spines (holder_of n part) 0)).cells) (sym ec) (subst (λ l. seat_of n part < l) (sym cells) (spine_in n part few some below).2))
+      (subst (λ c. c < length (record_of s (get_or spines (spine_of n part) 0)).cells) (sym ec) (subst (λ l. spine_cell_of n part < l) (sym cells) (spine_in n part few some below).2))
 
-  pub linked_by : 0 < part → Writes s t (get_or spines spine 0) (with_cell (record_of s (get_or spines spine 0)) cell (address + 1)) → LinksPart n s (get_or spines (holder_of n part) 0) part address t
+  pub linked_by : 0 < part → Writes s t (get_or spines spine 0) (with_cell (record_of s (get_or spines spine 0)) cell (address + 1)) → LinksPart n s (get_or spines (spine_of n part) 0) part address t
   linked_by some w = record {
     root = λ e. absurd (omega (arith, some, e));
-    written = λ l. subst (λ k. Writes s t (get_or spines k 0) (with_cell (record_of s (get_or spines k 0)) (seat_of n part) (address + 1))) es
+    written = λ l. subst (λ k. Writes s t (get_or spines k 0) (with_cell (record_of s (get_or spines k 0)) (spine_cell_of n part) (address + 1))) es
         (subst (λ i. Writes s t (get_or spines spine 0) (with_cell (record_of s (get_or spines spine 0)) i (address + 1))) ec w);
   }
 
@@ -109,7 +109,7 @@ linked_pages n s spine part address t w = elim (eq-zero-or-pos part) [ inl e ↦
 pub record MakesPart (old : Store) (object : OneObject) (spines : ℕ → ℕ) (part address : ℕ) (new : Store) : Type 0 where
   pub between : Store
   pub added : Adds old between address (part_of object part address)
-  pub linked : LinksPart (cells_of object.shape) between (spines (holder_of (cells_of object.shape) part)) part address new
+  pub linked : LinksPart (cells_of object.shape) between (spines (spine_of (cells_of object.shape) part)) part address new
 
 -- one part is made
 module _ (old new : Store) (shape : Shape) (colour : Bool) (id : ℕ) (spines : ℕ → ℕ) (part address : ℕ) (w : MakesPart old (made shape colour id) spines part address new) where
@@ -123,9 +123,9 @@ module _ (old new : Store) (shape : Shape) (colour : Bool) (id : ℕ) (spines : 
   part_allocated b h = then_written (λ s. is_allocated s b ≡ true) (added_allocated old w.between address _ w.added b h) (λ l k. allocated_pages w.between new b (w.linked.written l).pages ∙ k)
 
   written_stands : (b k : ℕ) → 0 < part → (length (record_of w.between b).cells ≡ part_cells (cells_of shape) k) → is_allocated w.between b ≡ true → length (record_of new b).cells ≡ part_cells (cells_of shape) k
-  written_stands b k l e h = elim (same_or b (spines (holder_of (cells_of shape) part))) [
+  written_stands b k l e h = elim (same_or b (spines (spine_of (cells_of shape) part))) [
     | inl same ↦
-        ap (λ z. length (record_of new z).cells) same ∙ ap (λ (x : BlockRecord). length x.cells) (w.linked.written l).here ∙ length-set (record_of w.between (spines (holder_of (cells_of shape) part))).cells (seat_of (cells_of shape) part) (address + 1)
+        ap (λ z. length (record_of new z).cells) same ∙ ap (λ (x : BlockRecord). length x.cells) (w.linked.written l).here ∙ length-set (record_of w.between (spines (spine_of (cells_of shape) part))).cells (spine_cell_of (cells_of shape) part) (address + 1)
         ∙ ap (λ z. length (record_of w.between z).cells) (sym same) ∙ e
     | inr apart ↦ ap (λ (x : BlockRecord). length x.cells) ((w.linked.written l).others b h apart) ∙ e
   ]
@@ -142,8 +142,8 @@ module _ (old new : Store) (shape : Shape) (colour : Bool) (id : ℕ) (spines : 
 
 -- the addresses of parts that aren't made yet may be any
 module _ (old : Store) (shape : Shape) (colour : Bool) (id : ℕ) (at at' : ℕ → ℕ) (f : fits shape ≡ true) where
-  abbrev spine_of : ℕ → ℕ
-  spine_of part = holder_of (cells_of shape) part
+  abbrev spine_here : ℕ → ℕ
+  spine_here part = spine_of (cells_of shape) part
 
   making_at : (parts : ℕ) (new : Store) → parts ≤ parts_in (cells_of shape) → ((p : ℕ) → p < parts → at p ≡ at' p) → Making old (made shape colour id) at parts new → Making old (made shape colour id) at' parts new
   making_at parts new few same Nothing_made = Nothing_made
@@ -152,8 +152,8 @@ module _ (old : Store) (shape : Shape) (colour : Bool) (id : ℕ) (at at' : ℕ 
       (subst (λ b. Adds s t b (new_record b (record { shape = shape; part = k; colour = colour }) id)) (same k (omega arith)) a)
       none
       (λ l. let q = spine_before shape k f l (omega arith) in
-      subst (λ b. Writes t u b (with_cell (record_of t b) (seat_of (cells_of shape) k) (at' k + 1))) (same (spine_of k) (let x = q.0 in omega arith))
-      (subst (λ z. Writes t u (at (spine_of k)) (with_cell (record_of t (at (spine_of k))) (seat_of (cells_of shape) k) (z + 1))) (same k (omega arith)) (some l)))
+      subst (λ b. Writes t u b (with_cell (record_of t b) (spine_cell_of (cells_of shape) k) (at' k + 1))) (same (spine_here k) (let x = q.0 in omega arith))
+      (subst (λ z. Writes t u (at (spine_here k)) (with_cell (record_of t (at (spine_here k))) (spine_cell_of (cells_of shape) k) (z + 1))) (same k (omega arith)) (some l)))
 
 pub taking_at : (cells : ℕ) (at at' : ℕ → ℕ) (old : List (Option Page)) (parts : ℕ) (new : List (Option Page)) → ((p : ℕ) → p < parts → at p ≡ at' p) → Takes cells at old parts new → Takes cells at' old parts new
 taking_at cells at at' old parts new same Nothing_taken = Nothing_taken
@@ -182,17 +182,17 @@ none_made old shape colour id spines = record {
 -- one part more
 module _ (old s t : Store) (shape : Shape) (colour : Bool) (id : ℕ) (spines spines' : List ℕ) (part address : ℕ) (f : fits shape ≡ true) (below : part < parts_in (cells_of shape)) (m : Made old shape colour id spines part s) where
   -- the spine that refers to the part stands
-  pub spine_stands : 0 < part → (is_allocated s (get_or spines (holder_of (cells_of shape) part) 0) ≡ true)
-      × (length (record_of s (get_or spines (holder_of (cells_of shape) part) 0)).cells ≡ part_cells (cells_of shape) (holder_of (cells_of shape) part))
+  pub spine_stands : 0 < part → (is_allocated s (get_or spines (spine_of (cells_of shape) part) 0) ≡ true)
+      × (length (record_of s (get_or spines (spine_of (cells_of shape) part) 0)).cells ≡ part_cells (cells_of shape) (spine_of (cells_of shape) part))
   spine_stands l =
       let q = spine_before shape part f l below in
-      let e = m.known (holder_of (cells_of shape) part) q.0 q.1 in
-      subst (λ b. (is_allocated s b ≡ true) × (length (record_of s b).cells ≡ part_cells (cells_of shape) (holder_of (cells_of shape) part))) (sym e) (m.stands (holder_of (cells_of shape) part) q.0)
+      let e = m.known (spine_of (cells_of shape) part) q.0 q.1 in
+      subst (λ b. (is_allocated s b ≡ true) × (length (record_of s b).cells ≡ part_cells (cells_of shape) (spine_of (cells_of shape) part))) (sym e) (m.stands (spine_of (cells_of shape) part) q.0)
 
   -- also when the part was added
-  pub spine_later : (u : Store) (node : BlockRecord) → Adds s u address node → 0 < part → (is_allocated u (get_or spines (holder_of (cells_of shape) part) 0) ≡ true)
-      × (length (record_of u (get_or spines (holder_of (cells_of shape) part) 0)).cells ≡ part_cells (cells_of shape) (holder_of (cells_of shape) part))
-  spine_later u node added l = let q = spine_stands l in (added_allocated s u address node added _ q.0, ap (λ (x : BlockRecord). length x.cells) (added.others _ q.0) ∙ q.1)
+  pub spine_later : (u : Store) (block : BlockRecord) → Adds s u address block → 0 < part → (is_allocated u (get_or spines (spine_of (cells_of shape) part) 0) ≡ true)
+      × (length (record_of u (get_or spines (spine_of (cells_of shape) part) 0)).cells ≡ part_cells (cells_of shape) (spine_of (cells_of shape) part))
+  spine_later u block added l = let q = spine_stands l in (added_allocated s u address block added _ q.0, ap (λ (x : BlockRecord). length x.cells) (added.others _ q.0) ∙ q.1)
 
   module _ (w : MakesPart s (made shape colour id) (λ p. get_or spines p 0) part address t)
       (taken : (class : ℕ) × (index : ℕ) × (class_for (part_words (cells_of shape) part) ≡ Some class) × TakesBlock s.pages class (address / 2048) index t.pages)
@@ -209,12 +209,12 @@ module _ (old s t : Store) (shape : Shape) (colour : Bool) (id : ℕ) (spines sp
     before : (p : ℕ) → p < part → m.at p ≡ at' p
     before p l = at_other p (λ e. absurd (omega arith))
 
-    links : 0 < part → Writes w.between t (at' (holder_of (cells_of shape) part)) (with_cell (record_of w.between (at' (holder_of (cells_of shape) part))) (seat_of (cells_of shape) part) (at' part + 1))
+    links : 0 < part → Writes w.between t (at' (spine_of (cells_of shape) part)) (with_cell (record_of w.between (at' (spine_of (cells_of shape) part))) (spine_cell_of (cells_of shape) part) (at' part + 1))
     links l =
         let q = spine_before shape part f l below in
-        let e : get_or spines (holder_of (cells_of shape) part) 0 ≡ at' (holder_of (cells_of shape) part) = m.known (holder_of (cells_of shape) part) q.0 q.1 ∙ before (holder_of (cells_of shape) part) q.0 in
-        subst (λ b. Writes w.between t b (with_cell (record_of w.between b) (seat_of (cells_of shape) part) (at' part + 1))) e
-        (subst (λ z. Writes w.between t (get_or spines (holder_of (cells_of shape) part) 0) (with_cell (record_of w.between (get_or spines (holder_of (cells_of shape) part) 0)) (seat_of (cells_of shape) part) (z + 1))) (sym at_here) (w.linked.written l))
+        let e : get_or spines (spine_of (cells_of shape) part) 0 ≡ at' (spine_of (cells_of shape) part) = m.known (spine_of (cells_of shape) part) q.0 q.1 ∙ before (spine_of (cells_of shape) part) q.0 in
+        subst (λ b. Writes w.between t b (with_cell (record_of w.between b) (spine_cell_of (cells_of shape) part) (at' part + 1))) e
+        (subst (λ z. Writes w.between t (get_or spines (spine_of (cells_of shape) part) 0) (with_cell (record_of w.between (get_or spines (spine_of (cells_of shape) part) 0)) (spine_cell_of (cells_of shape) part) (z + 1))) (sym at_here) (w.linked.written l))
 
     pub one_more : Made old shape colour id spines' (part + 1) t
     one_more = record {

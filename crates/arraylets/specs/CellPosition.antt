@@ -6,19 +6,19 @@ use Rattle.graph_heap.specs.declared.command.Refusal.TheVariants as refusals
 use Rattle.graph_heap.specs.Shape.{ref_cells, word_cells, takes_refs, takes_words}
 use Rattle.size_classes.specs.Parts.{cells_of, part_in, column_in}
 use Rattle.heap_model.specs.Cut.{width_in}
-use Rattle.arraylets.specs.declared.place.CellPosition.{CellPosition}
+use Rattle.arraylets.specs.declared.position.CellPosition.{CellPosition}
 
 -- reference cell i: in its part, where references stand first
-abbrev pub ref_place : Shape → ℕ → Result CellPosition Refusal
-ref_place shape i =
+abbrev pub ref_position : Shape → ℕ → Result CellPosition Refusal
+ref_position shape i =
     if takes_refs shape
     then (if nat_lt i (ref_cells shape) then Ok (record { part = part_in (cells_of shape) i; cell = column_in i })
     else Err refusals.BadIndex)
     else Err refusals.WrongKind
 
 -- word cell i: in its part, after the references
-abbrev pub word_place : Shape → ℕ → Result CellPosition Refusal
-word_place shape i =
+abbrev pub word_position : Shape → ℕ → Result CellPosition Refusal
+word_position shape i =
     if takes_words shape
     then (if nat_lt i (word_cells shape)
     then Ok (record {

@@ -4,7 +4,7 @@ ghost use Rattle.graph_heap.specs.declared.command.Shape.{Shape};
 ghost use Rattle.graph_heap.specs.declared.command.TheConstants.{ARRAY_CELLS};
 ghost use Rattle.graph_heap.specs.Shape.{fits};
 ghost use Rattle.size_classes.specs.Sizes.{class_for};
-ghost use Rattle.size_classes.specs.Parts.{cells_of, parts_in, part_cells, part_words, holder_of};
+ghost use Rattle.size_classes.specs.Parts.{cells_of, parts_in, part_cells, part_words, spine_of};
 ghost use Rattle.size_classes.specs.Need.{needed};
 ghost use Rattle.heap_model.specs.Block.{new_record};
 ghost use Rattle.heap_model.specs.Pages.{has_room, TakesBlock};
@@ -16,7 +16,7 @@ ghost use Rattle.nodes.specs.Links.{KeepsLinks};
 ghost use Rattle.arraylets.specs.Made.{LinksPart};
 
 use graph_heap::Shape;
-use nodes::BlockStore;
+use nodes::Nodes;
 use size_classes::{Parts, class_of, parts_of};
 
 /// How many spines an object has at most: of an array of 4000000 cells, the root spine and 63 others.
@@ -28,7 +28,7 @@ type Spines = [usize; SPINES];
 /// Makes a part of an object, for which and for the parts after it there is room.
 #[inline(always)]
 fn make_part(
-    nodes: &mut BlockStore,
+    nodes: &mut Nodes,
     shape: Shape,
     parts: &Parts,
     part: u32,
@@ -57,14 +57,14 @@ fn make_part(
 
 /// Writes a part that was made into the spine that refers to it, which stands already. Nothing refers to part 0.
 #[inline(always)]
-fn link(nodes: &mut BlockStore, parts: &Parts, spines: &Spines, part: u32, block: usize)
+fn link(nodes: &mut Nodes, parts: &Parts, spines: &Spines, part: u32, block: usize)
     requires few { parts.now ≤ ARRAY_CELLS }
     requires part { part < parts_in parts.now }
     requires within { block ≤ 8388608 }
-    requires allocated { 0 < part → is_allocated nodes.old (slice_index spines.now (holder_of parts.now part)) ≡ true }
-    requires cells { 0 < part → length (record_of nodes.old (slice_index spines.now (holder_of parts.now part))).cells
-        ≡ part_cells parts.now (holder_of parts.now part) }
-    ensures linked { LinksPart parts.now nodes.old (slice_index spines.now (holder_of parts.now part)) part block
+    requires allocated { 0 < part → is_allocated nodes.old (slice_index spines.now (spine_of parts.now part)) ≡ true }
+    requires cells { 0 < part → length (record_of nodes.old (slice_index spines.now (spine_of parts.now part))).cells
+        ≡ part_cells parts.now (spine_of parts.now part) }
+    ensures linked { LinksPart parts.now nodes.old (slice_index spines.now (spine_of parts.now part)) part block
         nodes.new }
     ensures links { KeepsLinks nodes.old nodes.new }
 {
@@ -90,13 +90,7 @@ fn note(spines: &mut Spines, part: u32, block: usize)
 
 /// Makes the parts of an object, in rising part number. Answers the address of part 0.
 #[inline(never)]
-fn make_parts(
-    nodes: &mut BlockStore,
-    shape: Shape,
-    parts: &Parts,
-    colour: bool,
-    identity: u64,
-) -> usize
+fn make_parts(nodes: &mut Nodes, shape: Shape, parts: &Parts, colour: bool, identity: u64) -> usize
     requires fits { fits shape ≡ true }
     requires parts { parts.now ≡ cells_of shape }
     requires room { has_room nodes.old.pages (needed_from (cells_of shape) 0 (parts_in (cells_of shape))) ≡ true }
@@ -117,7 +111,7 @@ fn make_parts(
 /// Makes an object, for whose parts there is room: all cells are null or 0. Each part but part 0 is
 /// written into its spine as soon as it is made. Answers the address of its part 0.
 #[inline(always)]
-pub fn new_object(nodes: &mut BlockStore, shape: Shape, colour: bool, identity: u64) -> usize
+pub fn new_object(nodes: &mut Nodes, shape: Shape, colour: bool, identity: u64) -> usize
     requires fits { fits shape ≡ true }
     requires room { has_room nodes.old.pages (needed shape) ≡ true }
     ensures made { (at : ℕ → ℕ) × (at 0 ≡ result) × MakesObject nodes.old shape colour identity at nodes.new

@@ -156,7 +156,7 @@ fn chosen<T: Copy>(
     word: &str,
     choices: &[(&str, T)],
     argument: &str,
-    told: &str,
+    expected: &str,
 ) -> Result<T, WordsFault>
     ensures { IfOk result (λ choice. Any (λ row. (row.0.now ≡ word.now) × (row.1 ≡ choice)) choices.now) }
 {
@@ -165,7 +165,7 @@ fn chosen<T: Copy>(
             return Ok(*choice);
         }
     }
-    let why = format_args!("invalid value '{word}' for '{argument}': it is {told}");
+    let why = format_args!("invalid value '{word}' for '{argument}': it is {expected}");
     Err(refused(alloc, why))
 }
 
@@ -252,8 +252,8 @@ fn picture(alloc: Global, name: &str) -> Result<Picture, WordsFault>
         ("pages", Picture::Pages),
         ("utilisation", Picture::Utilisation),
     ];
-    let told = "none of graph, pages, time and utilisation";
-    chosen(alloc, name, &pictures, "--as <PICTURE>", told)
+    let expected = "none of graph, pages, time and utilisation";
+    chosen(alloc, name, &pictures, "--as <PICTURE>", expected)
 }
 
 /// The ticks of each window: there is at least one.

@@ -8,11 +8,11 @@ ghost use Rattle.heap_model.specs.declared.phase.Phase.TheVariants as phases;
 ghost use Rattle.heap_model.specs.declared.phase.Moving.TheVariants as moves;
 ghost use Rattle.nodes.specs.Acting.{Acts};
 ghost use Rattle.nodes.specs.HeapFields.{state_of, AreHeapFields};
-ghost use Rattle.defrag.specs.Looking.{looked_on};
+ghost use Rattle.defrag.specs.Candidates.{candidate_after_pages};
 
 use heap_model::cost::{LOOK, TURN};
 use heap_model::phase::{Candidate, Moving, Phase};
-use nodes::{BlockStore, HeapFields};
+use nodes::{HeapFields, Nodes};
 use size_classes::{CLASSES, Class};
 
 /// Does the next steps of a pass: looks at the class's next pages before the last, as many as are left or as
@@ -81,7 +81,7 @@ pub fn look_next(
     }
     match candidate {
         Some(found) if is_chosen(&heap.nodes, number, found) => {
-            heap.nodes.mark_evacuating(found.page as usize);
+            heap.nodes.leave(found.page as usize);
             heap.charge(
                 LOOK,
                 Phase::Moving(Moving::Emptying {
@@ -106,7 +106,7 @@ pub fn look_next(
 
 /// The candidate after looks at the pages from one up to another.
 fn look_on(
-    nodes: &BlockStore,
+    nodes: &Nodes,
     class: Class,
     from: u32,
     end: u32,
@@ -114,7 +114,7 @@ fn look_on(
 ) -> Option<Candidate>
     requires from { from ≤ end }
     requires within { end ≤ length nodes.now.pages }
-    ensures { result ≡ looked_on nodes.now.pages class from best (end - from) }
+    ensures { result ≡ candidate_after_pages nodes.now.pages class from best (end - from) }
 {
     let mut candidate = best;
     for page in from..end {
@@ -124,19 +124,14 @@ fn look_on(
 }
 
 /// The candidate after a look at a page.
-fn consider(
-    nodes: &BlockStore,
-    class: Class,
-    page: u32,
-    best: Option<Candidate>,
-) -> Option<Candidate>
+fn consider(nodes: &Nodes, class: Class, page: u32, best: Option<Candidate>) -> Option<Candidate>
     requires { page < length nodes.now.pages }
     ensures { result ≡ candidate_after nodes.now.pages class page best }
 {
     if !nodes.is_choosable(class, page as usize) {
         return best;
     }
-    let allocated = nodes.allocated(page as usize) as u32;
+    let allocated = nodes.held(page as usize) as u32;
     Some(emptier(best, Candidate { page, allocated }))
 }
 
@@ -151,7 +146,7 @@ fn emptier(best: Option<Candidate>, candidate: Candidate) -> Candidate
 }
 
 /// Whether the blocks of a candidate find a place on the class's other pages.
-fn is_chosen(nodes: &BlockStore, class: Class, candidate: Candidate) -> bool
+fn is_chosen(nodes: &Nodes, class: Class, candidate: Candidate) -> bool
     ensures { result ≡ is_chosen nodes.now.pages class (Some candidate) }
 {
     let page = candidate.page as usize;
@@ -161,5 +156,5 @@ fn is_chosen(nodes: &BlockStore, class: Class, candidate: Candidate) -> bool
     let elsewhere = nodes
         .free_blocks(class)
         .saturating_sub(nodes.free_on(class, page));
-    nodes.allocated(page) <= elsewhere
+    nodes.held(page) <= elsewhere
 }

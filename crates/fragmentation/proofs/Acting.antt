@@ -15,14 +15,14 @@ use Rattle.heap_model.specs.State.{HeapState}
 use Rattle.heap_model.specs.Marks.{HasNoMark, AreClosed}
 use Rattle.heap_model.specs.Placed.{IsPlaced}
 use Rattle.heap_model.specs.Settings.{HeapSettings, settings_of}
-use Rattle.heap_model.specs.Standing.{Represents, is_sweeping}
+use Rattle.heap_model.specs.Represents.{Represents, is_sweeping}
 use Rattle.heap_model.specs.Change.{DoesChange, Does_nothing, Does_root, Does_ref, Does_word, Does_new, Does_join, Does_leave}
 use Rattle.heap_model.specs.Action.{Relinks, Action, Chain, Nothing_done, Then, Scans_root, Ends_roots, Scans_header, Scans_cell, Ends_marking, Frees_block, Passes_block, Closes_page, Ends_sweep, Looks_at_page, Chooses_page, Chooses_none, Moves_block, Ends_moving, MovingDone, No_class, No_page, goes_to, after_sweep, is_sparse, is_choosable}
 use Rattle.heap_model.proofs.Marks.{no_mark}
 use Rattle.heap_model.proofs.Recording.{records_stay}
-use Rattle.heap_model.proofs.Relinked.{stands_relinked, relinked_settings}
+use Rattle.heap_model.proofs.Relinked.{represents_relinked, relinked_settings}
 use Rattle.heap_model.proofs.Settings.{action_settings}
-use Rattle.heap_model.proofs.Stood.{stands_action}
+use Rattle.heap_model.proofs.Stood.{represents_action}
 use Rattle.space.specs.Demand.{asked_by}
 use Rattle.space.specs.Tally.{awaits_sweep_end}
 use Rattle.space.specs.Counts.{main_blocks, used_pages}
@@ -95,7 +95,7 @@ left_action h after cost g s need st ga all census same (Ends_moving done) w = e
 
 -- a heap that goes on
 pub record IsGoing (h : HeapState) (present snapshot : Graph) : Type 0 where
-  pub stands : Represents h present snapshot
+  pub represents : Represents h present snapshot
   pub tidy : IsTidy h.store present.objects
   pub gathering : IsGathering h.store.pages (length h.store.pages) h.phase
   pub all : GathersAll h
@@ -108,15 +108,15 @@ gathers_settings h k e w = record {
 
 going_action : (h after : HeapState) (cost : ℕ) (present snapshot : Graph) → IsGoing h present snapshot → Action h cost after → IsGoing after present snapshot
 going_action h after cost g s w a = record {
-  stands = stands_action h after cost g s w.stands a;
-  tidy = tidy_action h after cost g s g.objects w.stands a w.tidy;
-  gathering = gather_action h after cost w.stands.pages w.stands.closed w.gathering a;
+  represents = represents_action h after cost g s w.represents a;
+  tidy = tidy_action h after cost g s g.objects w.represents a w.tidy;
+  gathering = gather_action h after cost w.represents.pages w.represents.closed w.gathering a;
   all = gathers_settings h after (action_settings h after cost a) w.all;
 }
 
 going_relinked : (h : HeapState) (linked : Store) (present snapshot : Graph) → Relinks h.store linked → IsGoing h present snapshot → IsGoing (record h { store = linked }) present snapshot
 going_relinked h linked g s links w = record {
-  stands = stands_relinked h linked links g s w.stands;
+  represents = represents_relinked h linked links g s w.represents;
   tidy = tidy_same h.store linked g.objects (shrinks_keeps h.store linked links.blocks) links.pages w.tidy;
   gathering = gather_same h.store.pages linked.pages h.phase h.phase links.pages refl w.gathering;
   all = gathers_settings h (record h { store = linked }) (relinked_settings h linked links) w.all;
@@ -158,7 +158,7 @@ sparse_always h some all = both _ _ (lt 0 h.defrag_pages (let a = all.all in ome
 
 -- how far a heap has got in a quantum: whether its cycle's sweep has still to end, how few pages there are, and what is left
 pub record Advances (on : Bool) (h : HeapState) (first made need : ℕ → ℕ) : Type 0 where
-  pub tracing : awaits_sweep_end h.phase ≡ on
+  pub awaiting_sweep_end : awaits_sweep_end h.phase ≡ on
   pub few : IsFew h.store.pages h.phase first made
   pub left : IsLeftover h.store h.phase need
 
@@ -171,12 +171,12 @@ pub record Behind (h : HeapState) (old new : ℕ → ℕ) : Type 0 where
 stage_action : (on : Bool) (h after : HeapState) (cost : ℕ) (present snapshot : Graph) (first made need : ℕ → ℕ) → IsGoing h present snapshot → (awaits_sweep_end h.phase ≡ false → (class : ℕ) → class < CLASSES → main_blocks h.store.pages class ≤ need class)
     → Action h cost after → awaits_sweep_end after.phase ≡ on → Advances on h first made need → Advances on after first made need
 stage_action on h after cost present snapshot first made need g census a e w =
-    let same : awaits_sweep_end after.phase ≡ awaits_sweep_end h.phase = e ∙ sym w.tracing in
-    record { tracing = e; few = few_action h after cost first made g.stands.pages same a w.few; left = left_action h after cost present snapshot need g.stands g.gathering g.all census same a w.left }
+    let same : awaits_sweep_end after.phase ≡ awaits_sweep_end h.phase = e ∙ sym w.awaiting_sweep_end in
+    record { awaiting_sweep_end = e; few = few_action h after cost first made g.represents.pages same a w.few; left = left_action h after cost present snapshot need g.represents g.gathering g.all census same a w.left }
 
 stage_relinked : (on : Bool) (h : HeapState) (linked : Store) (first made need : ℕ → ℕ) → Relinks h.store linked → Advances on h first made need → Advances on (record h { store = linked }) first made need
 stage_relinked on h linked first made need links w = record {
-  tracing = w.tracing;
+  awaiting_sweep_end = w.awaiting_sweep_end;
   few = subst (λ z. IsFew z h.phase first made) (sym links.pages) w.few;
   left = leftover_same h.store linked h.phase need (shrinks_keeps h.store linked links.blocks) links.pages w.left;
 }
@@ -204,20 +204,20 @@ chain_out h after spent (Then u cost j k linked chain links action) x = stays_ou
 
 module _ (present snapshot : Graph) (first made old new : ℕ → ℕ) (census : (k : HeapState) → IsGoing k present snapshot → awaits_sweep_end k.phase ≡ false → (class : ℕ) → class < CLASSES → main_blocks k.store.pages class ≤ new class) where
   step_behind : (h after : HeapState) (cost : ℕ) (from made : ℕ → ℕ) → IsGoing h present snapshot → Action h cost after → Advances false h from made new → Advances false after from made new
-  step_behind h after cost from made g a w = stage_action false h after cost present snapshot from made new g (census h g) a (stays_out h after cost a w.tracing) w
+  step_behind h after cost from made g a w = stage_action false h after cost present snapshot from made new g (census h g) a (stays_out h after cost a w.awaiting_sweep_end) w
 
   sweep_ends : (h after : HeapState) → IsGoing h present snapshot → LeavesSweep h after → Advances true h first made old → Behind after old new
   sweep_ends h after g l w = subst (λ z. Behind z old new) (sym l.after_is) (subst (λ z. Behind (goes_to h 1 z) old new) (sym moving) (record {
     first = used_pages h.store.pages;
     most = λ class small. (let u = used class h.store.pages in let n = none_evacuating h.store.pages none in let f = settled_used h.store class (old class) (settled class small) in omega (arith, u.0, u.1, n, f));
-    stage = record { tracing = refl; few = few_starts h.store.pages _ (λ class. refl); left = record { moved = λ class small. inl (none_leaves h.store class none); count = omega arith } };
+    stage = record { awaiting_sweep_end = refl; few = few_starts h.store.pages _ (λ class. refl); left = record { moved = λ class small. inl (none_leaves h.store class none); count = omega arith } };
   }))
     where
       moving : after_sweep h ≡ phases.Moving (moves.Pass 0 0 None 0)
-      moving = ap (λ b. if b then phases.Moving (moves.Pass 0 0 None 0) else phases.Idle) (sparse_always h g.stands.some g.all)
+      moving = ap (λ b. if b then phases.Moving (moves.Pass 0 0 None 0) else phases.Idle) (sparse_always h g.represents.some g.all)
 
       none : (k : ℕ) → HasNoMark (page_at h.store.pages k)
-      none = no_mark h.store.pages l.page (subst (AreClosed h.store.pages) l.phase g.stands.closed) l.all
+      none = no_mark h.store.pages l.page (subst (AreClosed h.store.pages) l.phase g.represents.closed) l.all
 
       settled : (class : ℕ) → class < CLASSES → IsSettled h.store class (old class)
       settled = at_phase h.store h.phase (phases.Sweeping l.page l.block) old l.phase w.left
@@ -227,8 +227,8 @@ module _ (present snapshot : Graph) (first made old new : ℕ → ℕ) (census :
   came_action h after cost g a (inl w) = by_tracing (awaits_sweep_end after.phase) refl
     where
       by_tracing : (b : Bool) → awaits_sweep_end after.phase ≡ b → (Advances true after first made old ⊎ Behind after old new)
-      by_tracing true e = inl (stage_action true h after cost present snapshot first made old g (λ x. absurd (not_both _ w.tracing x)) a e w)
-      by_tracing false e = inr (sweep_ends h after g (leaves_sweep h after cost a w.tracing e) w)
+      by_tracing true e = inl (stage_action true h after cost present snapshot first made old g (λ x. absurd (not_both _ w.awaiting_sweep_end x)) a e w)
+      by_tracing false e = inr (sweep_ends h after g (leaves_sweep h after cost a w.awaiting_sweep_end e) w)
 
   came_relinked : (h : HeapState) (linked : Store) → Relinks h.store linked → (Advances true h first made old ⊎ Behind h old new) → (Advances true (record h { store = linked }) first made old ⊎ Behind (record h { store = linked }) old new)
   came_relinked h linked links (inl w) = inl (stage_relinked true h linked first made old links w)

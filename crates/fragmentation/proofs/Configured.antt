@@ -19,13 +19,13 @@ use Rattle.space.specs.Room.{AllHaveRoom}
 use Rattle.space.proofs.Roomless.{all_have_room}
 use Rattle.space.proofs.Configured.{pages as same_pages, below as same_limit, defrag as same_defrag, some as has_some, same_spare, same_below}
 use Rattle.fragmentation.specs.Season.{Lives, opening_season, AllKeep}
-use Rattle.fragmentation.specs.Suffice.{GathersAll, WithinPages, WithinBlocks, pages_of, Budget, budget_pages, WithinBudget}
+use Rattle.fragmentation.specs.Suffice.{GathersAll, WithinPages, WithinBlocks, pages_of, PageDemand, demand_pages, WithinPageDemand}
 use Rattle.fragmentation.specs.Flow.{Flow, opening_meter, KeepsFlow, AllMetered, traced_words, flow_pages, FlowFits}
 use Rattle.fragmentation.specs.Configured.{MovesAll, FitsTogether, FlowFitsIn}
 use Rattle.fragmentation.proofs.Joints.{joint_suffices, joint_suffices_unmoved}
 use Rattle.fragmentation.proofs.Sparses.{sparse_suffices}
 use Rattle.fragmentation.proofs.Moving.{moving_suffices}
-use Rattle.fragmentation.proofs.Budgets.{budget_suffices}
+use Rattle.fragmentation.proofs.PageDemands.{page_demand_suffices}
 use Rattle.fragmentation.proofs.Flows.{flow_suffices}
 
 -- a page of the smallest class has the most blocks
@@ -71,8 +71,8 @@ module _ (config : Config) (h : HeapState) (o : IsOpening h) (same : settings_of
   moving_configured moves keeps =
       all_have_room es (opened h) new runs (moving_suffices h es new live o some (gathers moves) runs (subst (λ z. AllKeep (WithinPages z) live (opening_season h.limits) es) (sym pages) keeps))
 
-  pub budget_configured : (b : Budget) → MovesAll config → ((n : ℕ) → pages_of (live n) ≤ b.live) → AllKeep (WithinBudget b) live (opening_season h.limits) es → budget_pages b ≤ config.pages → AllHaveRoom es
-  budget_configured b moves lives keeps fits = all_have_room es (opened h) new runs (budget_suffices h es new b live o some (gathers moves) runs lives keeps (omega (arith, fits, pages)))
+  pub page_demand_configured : (b : PageDemand) → MovesAll config → ((n : ℕ) → pages_of (live n) ≤ b.live) → AllKeep (WithinPageDemand b) live (opening_season h.limits) es → demand_pages b ≤ config.pages → AllHaveRoom es
+  page_demand_configured b moves lives keeps fits = all_have_room es (opened h) new runs (page_demand_suffices h es new b live o some (gathers moves) runs lives keeps (omega (arith, fits, pages)))
 
   same_unmoved : unmoved_quanta h (config.collector_ticks * config.rate) ≡ unmoved_quanta_at config config.pages
   same_unmoved = ap (λ z. z / (config.collector_ticks * config.rate) + 1) (swept_by (length h.roots) (length h.store.pages) config roots pages)

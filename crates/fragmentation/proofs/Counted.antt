@@ -18,13 +18,13 @@ use Rattle.heap_model.specs.Pages.{Page, ArePages, page_at, has_room}
 use Rattle.heap_model.specs.Store.{Store, is_allocated}
 use Rattle.heap_model.specs.State.{HeapState}
 use Rattle.heap_model.specs.Opening.{IsOpening}
-use Rattle.heap_model.specs.Standing.{Represents}
+use Rattle.heap_model.specs.Represents.{Represents}
 use Rattle.heap_model.specs.Action.{Chain, Nothing_done, Then}
-use Rattle.heap_model.specs.Event.{Course, Event, Command_done, Cycle_begun, Cycle_on, Quantum_done, Quantum_refused, Enters, Begins, Collects, Does, Runs, IsCourse, present_of, snapshot_of, room_for, change_by}
+use Rattle.heap_model.specs.Event.{Course, Event, Command_done, Cycle_begun, Begin_refused, Quantum_done, Quantum_refused, Enters, Begins, Collects, Does, Runs, IsCourse, present_of, snapshot_of, room_for, change_by}
 use Rattle.heap_model.specs.ReachedFrom.{opened}
 use Rattle.heap_model.proofs.Allocated.{allocated_block}
-use Rattle.heap_model.proofs.Stood.{stands_chain}
-use Rattle.heap_model.proofs.Relinked.{stands_relinked}
+use Rattle.heap_model.proofs.Stood.{represents_chain}
+use Rattle.heap_model.proofs.Relinked.{represents_relinked}
 use Rattle.heap_model.proofs.Opening.{page_none}
 use Rattle.heap_model.proofs.Agreements.{consistent_agrees}
 use Rattle.heap_model.proofs.Left.{change_left}
@@ -61,11 +61,11 @@ pub record HasOnly (r : Course) (count : ℕ) (most : ℕ → ℕ) : Type 0 wher
 -- than live ones did.
 pub record IsCounted (r : Course) (s : Season) (live : Lives) : Type 0 where
   pub graph : s.graph ≡ present_of r
-  pub tracing : s.tracing ≡ awaits_sweep_end r.heap.phase
+  pub awaiting_sweep_end : s.awaiting_sweep_end ≡ awaits_sweep_end r.heap.phase
   pub last : s.last ≡ length (snapshot_of r).objects
   pub begun : WasLive r (snapshot_of r) (live s.cycles)
   pub based : HasOnly r s.base (live s.number)
-  pub rested : s.tracing ≡ false → (s.base ≡ s.last) × (s.number ≡ s.cycles)
+  pub rested : s.awaiting_sweep_end ≡ false → (s.base ≡ s.last) × (s.number ≡ s.cycles)
   pub swept : s.swept ≤ length (present_of r).objects
   pub tidy : IsTidy r.heap.store (present_of r).objects
 
@@ -80,7 +80,7 @@ allocated_since s objects origin most live a tidy kept only class l =
 pub counted_allocated : (r : Course) (s : Season) (live : Lives) → IsCourse r → IsCounted r s live → (class : ℕ) → class < CLASSES → main_blocks r.heap.store.pages class ≤ needed_since live s class
 counted_allocated r s live w k class l =
     let o = k.based in
-    let x = allocated_since r.heap.store (present_of r).objects o.origin (live s.number) o.was.live w.stands.pages k.tidy o.was.kept o.only class l in
+    let x = allocated_since r.heap.store (present_of r).objects o.origin (live s.number) o.was.live w.represents.pages k.tidy o.was.kept o.only class l in
     let d : made_since s.base s class ≡ blocks_of (drop (length o.origin.objects) (present_of r).objects) class = ap (λ z. made_since z s class) o.base ∙ ap (λ (z : Graph). blocks_of (drop (length o.origin.objects) z.objects) class) k.graph in
     omega (arith, x, d)
 
@@ -109,7 +109,7 @@ module _ (r new : Course) (m : ℕ) (c : Command) (reply : Reply) (s : Season) (
   objects_then = ap (λ (z : Graph). z.objects) (enters_present r new m c reply w e)
 
   next_identity_is : r.heap.next ≡ length (present_of r).objects + 1
-  next_identity_is = (consistent_agrees r.heap (present_of r) (snapshot_of r) w.stands.consistent).next
+  next_identity_is = (consistent_agrees r.heap (present_of r) (snapshot_of r) w.represents.consistent).next
 
   shapes : KeepsShapes (present_of r).objects (present_of new).objects
   shapes = shapes_into _ _ _ objects_then (shapes_kept (present_of r) change)
@@ -117,7 +117,7 @@ module _ (r new : Course) (m : ℕ) (c : Command) (reply : Reply) (s : Season) (
   pub counted_command : IsCounted new (season_after live s (Command_done m c reply)) live
   counted_command = record {
     graph = enters_graph r new m c reply w e s.graph k.graph;
-    tracing = k.tracing ∙ ap awaits_sweep_end (sym (change_left r.heap new.heap (present_of r) change e.change).phase);
+    awaiting_sweep_end = k.awaiting_sweep_end ∙ ap awaits_sweep_end (sym (change_left r.heap new.heap (present_of r) change e.change).phase);
     last = k.last ∙ ap (λ (z : Graph). length z.objects) (sym (enters_snapshot r new m c reply w e));
     begun = subst (λ z. WasLive new z (live s.cycles)) (sym (enters_snapshot r new m c reply w e)) (was_live r new shapes _ _ k.begun);
     based = has_only r new shapes _ _ (λ n ids l o. only_change r.heap new.heap (present_of r) change n ids next_identity_is l e.change o) k.based;
@@ -143,7 +143,7 @@ module _ (r new : Course) (m : ℕ) (c : Command) (reply : Reply) (s : Season) (
 counted_begins : (r new : Course) (s : Season) (live : Lives) → IsCourse r → IsCounted r s live → LiveWithin s.graph (live (s.cycles + 1)) → Begins r new → IsCounted new (season_after live s Cycle_begun) live
 counted_begins r new s live w k lives b = record {
   graph = k.graph ∙ sym present;
-  tracing = ap (λ (z : HeapState). awaits_sweep_end z.phase) (sym b.heap);
+  awaiting_sweep_end = ap (λ (z : HeapState). awaits_sweep_end z.phase) (sym b.heap);
   last = ap (λ (z : Graph). length z.objects) (k.graph ∙ sym snapshot);
   begun = subst (λ z. WasLive new z (live (s.cycles + 1))) (sym snapshot) (record { live = subst (λ z. LiveWithin z (live (s.cycles + 1))) k.graph lives; kept = shapes });
   based = has_only r new shapes _ _ (λ n ids l o. subst (λ (z : HeapState). KeepsOnly z.store n ids) (sym b.heap) o) k.based;
@@ -165,7 +165,7 @@ counted_begins r new s live w k lives b = record {
 chain_tidy : (h after : HeapState) (spent : ℕ) (present snapshot : Graph) → Represents h present snapshot → Chain h spent after → IsTidy h.store present.objects → IsTidy after.store present.objects
 chain_tidy h after spent g s st Nothing_done w = w
 chain_tidy h after spent g s st (Then u cost j k linked chain links action) w =
-    tidy_action (record j { store = linked }) k cost g s g.objects (stands_relinked j linked links g s (stands_chain h j u g s st chain)) action
+    tidy_action (record j { store = linked }) k cost g s g.objects (represents_relinked j linked links g s (represents_chain h j u g s st chain)) action
     (tidy_same j.store linked g.objects (shrinks_keeps j.store linked links.blocks) links.pages (chain_tidy h j u g s st chain w))
 
 counted_quantum : (r new : Course) (budget units : ℕ) (phase : Phase) (s : Season) (live : Lives) → IsCourse r → IsCounted r s live → Collects r budget units phase new → IsCounted new (season_after live s (Quantum_done budget units phase)) live
@@ -184,44 +184,44 @@ counted_quantum r new budget units phase s live w k q = by_phase (awaits_sweep_e
     out_phase = ap awaits_sweep_end q.ends
 
     -- in a season that has come as far, and counts from such a base
-    counted : (z : Season) → z.graph ≡ s.graph → z.tracing ≡ awaits_sweep_end phase → z.last ≡ s.last → z.cycles ≡ s.cycles → z.swept ≤ length (present_of r).objects → (z.tracing ≡ false → (z.base ≡ z.last) × (z.number ≡ z.cycles)) → HasOnly new z.base (live z.number) → IsCounted new z live
+    counted : (z : Season) → z.graph ≡ s.graph → z.awaiting_sweep_end ≡ awaits_sweep_end phase → z.last ≡ s.last → z.cycles ≡ s.cycles → z.swept ≤ length (present_of r).objects → (z.awaiting_sweep_end ≡ false → (z.base ≡ z.last) × (z.number ≡ z.cycles)) → HasOnly new z.base (live z.number) → IsCounted new z live
     counted z graph t l c swept rested based = record {
       graph = graph ∙ k.graph ∙ sym present;
-      tracing = t ∙ sym out_phase;
+      awaiting_sweep_end = t ∙ sym out_phase;
       last = l ∙ k.last ∙ ap (λ (y : Graph). length y.objects) (sym snapshot);
       begun = subst (λ y. WasLive new (snapshot_of new) (live y)) (sym c) (subst (λ y. WasLive new y (live s.cycles)) (sym snapshot) (was_live r new shapes _ _ k.begun));
       based = based;
       rested = rested;
       swept = no_fewer r new shapes z.swept swept;
-      tidy = subst (λ (y : Graph). IsTidy new.heap.store y.objects) (sym present) (chain_tidy r.heap new.heap units (present_of r) (snapshot_of r) w.stands q.turn.chain k.tidy);
+      tidy = subst (λ (y : Graph). IsTidy new.heap.store y.objects) (sym present) (chain_tidy r.heap new.heap units (present_of r) (snapshot_of r) w.represents q.turn.chain k.tidy);
     }
 
-    on : awaits_sweep_end phase ≡ true → s.tracing ≡ true → IsCounted new s live
+    on : awaits_sweep_end phase ≡ true → s.awaiting_sweep_end ≡ true → IsCounted new s live
     on e t = counted s refl (t ∙ sym e) refl refl k.swept k.rested (has_only r new shapes _ _ (λ n ids l o. chain_only r.heap new.heap units n ids q.turn.chain (out_phase ∙ e) o) k.based)
 
     -- in idle and in moving
-    off : (z : Season) → z.graph ≡ s.graph → z.tracing ≡ false → z.last ≡ s.last → z.cycles ≡ s.cycles → z.base ≡ s.last → z.number ≡ s.cycles → z.swept ≤ length (present_of r).objects → awaits_sweep_end phase ≡ false → IsCounted new z live
+    off : (z : Season) → z.graph ≡ s.graph → z.awaiting_sweep_end ≡ false → z.last ≡ s.last → z.cycles ≡ s.cycles → z.base ≡ s.last → z.number ≡ s.cycles → z.swept ≤ length (present_of r).objects → awaits_sweep_end phase ≡ false → IsCounted new z live
     off z graph t l c b n swept e = counted z graph (t ∙ sym e) l c swept (λ y. (b ∙ sym l, n ∙ sym c)) (subst (λ y. HasOnly new z.base (live y)) (sym n) (record {
       origin = snapshot_of r;
       base = b ∙ k.last;
       was = was_live r new shapes _ _ k.begun;
-      only = rest_only new.heap (present_of r) (snapshot_of r) k.begun.live.ids (stands_chain r.heap new.heap units (present_of r) (snapshot_of r) w.stands q.turn.chain) (out_phase ∙ e) k.begun.live.reached;
+      only = rest_only new.heap (present_of r) (snapshot_of r) k.begun.live.ids (represents_chain r.heap new.heap units (present_of r) (snapshot_of r) w.represents q.turn.chain) (out_phase ∙ e) k.begun.live.reached;
     }))
 
-    traced : awaits_sweep_end phase ≡ true → s.tracing ≡ true
-    traced e = by_start s.tracing refl
+    traced : awaits_sweep_end phase ≡ true → s.awaiting_sweep_end ≡ true
+    traced e = by_start s.awaiting_sweep_end refl
       where
-        by_start : (b : Bool) → s.tracing ≡ b → s.tracing ≡ true
+        by_start : (b : Bool) → s.awaiting_sweep_end ≡ b → s.awaiting_sweep_end ≡ true
         by_start true t = t
-        by_start false t = absurd (let z = chain_out r.heap new.heap units q.turn.chain (sym k.tracing ∙ t) in let y : false ≡ true = sym z ∙ out_phase ∙ e in cc)
+        by_start false t = absurd (let z = chain_out r.heap new.heap units q.turn.chain (sym k.awaiting_sweep_end ∙ t) in let y : false ≡ true = sym z ∙ out_phase ∙ e in cc)
 
-    by_tracing : (b : Bool) → s.tracing ≡ b → awaits_sweep_end phase ≡ false → IsCounted new (if b then season_swept live s else s) live
+    by_tracing : (b : Bool) → s.awaiting_sweep_end ≡ b → awaits_sweep_end phase ≡ false → IsCounted new (if b then season_swept live s else s) live
     by_tracing true t e = off (season_swept live s) refl refl refl refl refl refl (let x : length s.graph.objects ≡ length (present_of r).objects = ap (λ (z : Graph). length z.objects) k.graph in omega (arith, x)) e
     by_tracing false t e = let z = k.rested t in off s refl t refl refl z.0 z.1 k.swept e
 
-    by_phase : (b : Bool) → awaits_sweep_end phase ≡ b → IsCounted new (if b then s else (if s.tracing then season_swept live s else s)) live
+    by_phase : (b : Bool) → awaits_sweep_end phase ≡ b → IsCounted new (if b then s else (if s.awaiting_sweep_end then season_swept live s else s)) live
     by_phase true e = on e (traced e)
-    by_phase false e = by_tracing s.tracing refl e
+    by_phase false e = by_tracing s.awaiting_sweep_end refl e
 
 -- a run that keeps to a bound, where what else is kept lets each new object find room
 module _ (Bound : Season → (ℕ → ℕ) → Type 0) (live : Lives) (Kept : Course → Season → Type 0)
@@ -229,7 +229,7 @@ module _ (Bound : Season → (ℕ → ℕ) → Type 0) (live : Lives) (Kept : Co
   counted_does : (r : Course) (e : Event) (new : Course) (s : Season) → IsCourse r → IsCounted r s live → Keeps Bound live s e → Does r e new → IsCounted new (season_after live s e) live
   counted_does r (Command_done m c reply) new s w k keeps does = counted_command r new m c reply s live w k does
   counted_does r Cycle_begun new s w k keeps does = counted_begins r new s live w k keeps does
-  counted_does r Cycle_on new s w k keeps does = subst (λ z. IsCounted z s live) (sym does.1) k
+  counted_does r Begin_refused new s w k keeps does = subst (λ z. IsCounted z s live) (sym does.1) k
   counted_does r (Quantum_done budget units phase) new s w k keeps does = counted_quantum r new budget units phase s live w k does
   counted_does r (Quantum_refused budget) new s w k keeps does = subst (λ z. IsCounted z s live) (sym does.1) k
 
@@ -258,7 +258,7 @@ module _ (h : HeapState) (o : IsOpening h) (some : 0 < length h.store.pages) whe
 
   none_reached : (id : ℕ) → Reaches (opening h.limits) id → ⊥
   unfolding Reaches
-  none_reached id r = let g = (consistent_agrees h (opening h.limits) (opening h.limits) (opening_course h o some).stands.consistent).given id r in let l = g.below in let p = r.0 in omega (arith, l, p)
+  none_reached id r = let g = (consistent_agrees h (opening h.limits) (opening h.limits) (opening_course h o some).represents.consistent).given id r in let l = g.below in let p = r.0 in omega (arith, l, p)
 
   live_none : (most : ℕ → ℕ) → WasLive (opened h) (opening h.limits) most
   live_none most = record { live = record { ids = []; reached = λ id r. absurd (none_reached id r); blocks = λ class l. omega arith }; kept = shapes_same _ _ refl }
@@ -266,7 +266,7 @@ module _ (h : HeapState) (o : IsOpening h) (some : 0 < length h.store.pages) whe
   pub opening_counted : (live : Lives) → IsCounted (opened h) (opening_season h.limits) live
   opening_counted live = record {
     graph = refl;
-    tracing = ap awaits_sweep_end (sym o.phase);
+    awaiting_sweep_end = ap awaits_sweep_end (sym o.phase);
     last = refl;
     begun = live_none (live 0);
     based = record { origin = opening h.limits; base = refl; was = live_none (live 0); only = λ b l. absurd (none_allocated b l) };

@@ -15,7 +15,7 @@ use Rattle.heap_model.specs.declared.phase.Moving.TheVariants as moves
 use Rattle.heap_model.specs.declared.phase.Candidate.{Candidate}
 use Rattle.heap_model.specs.Pages.{Page, IsPage, ArePages, IsOpen, is_usable, with_allocated, page_at, free_on, free_blocks}
 use Rattle.heap_model.specs.State.{HeapState}
-use Rattle.heap_model.specs.Standing.{is_sweeping}
+use Rattle.heap_model.specs.Represents.{is_sweeping}
 use Rattle.heap_model.specs.Action.{IsNext, Action, Scans_root, Ends_roots, Scans_header, Scans_cell, Ends_marking, Frees_block, Passes_block, Closes_page, Ends_sweep, Looks_at_page, Chooses_page, Chooses_none, Moves_block, Ends_moving, AtPass, In_pass, After_page, MovingDone, No_class, No_page, allocated_on, closed, is_sparse, is_choosable}
 use Rattle.heap_model.proofs.Allocated.{set_page, set_page_here, page_within}
 use Rattle.heap_model.proofs.Rooms.{set_sum}

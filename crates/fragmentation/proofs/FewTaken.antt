@@ -11,7 +11,7 @@ use Rattle.heap_model.specs.declared.phase.Phase.TheVariants as phases
 use Rattle.heap_model.specs.declared.phase.Moving.TheVariants as moves
 use Rattle.heap_model.specs.Pages.{Page, ArePages, is_usable, fresh_page, with_allocated, TakesBlock, page_at, free_on, free_blocks, free_pages, whole_pages, pages_needed, has_room}
 use Rattle.heap_model.specs.Placed.{IsPlaced}
-use Rattle.heap_model.specs.Standing.{is_sweeping}
+use Rattle.heap_model.specs.Represents.{is_sweeping}
 use Rattle.heap_model.proofs.Allocated.{set_page}
 use Rattle.heap_model.proofs.Placed.{page_for_within}
 use Rattle.heap_model.proofs.Rooms.{no_blocks}

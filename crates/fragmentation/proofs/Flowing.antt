@@ -6,7 +6,7 @@ use Rattle.heap_model.specs.Opening.{IsOpening}
 use Rattle.heap_model.specs.Settings.{settings_of}
 use Rattle.heap_model.specs.Spent.{cycle_limit}
 use Rattle.heap_model.specs.ReachedFrom.{opened}
-use Rattle.heap_model.specs.Event.{Course, Event, Command_done, Cycle_begun, Cycle_on, Quantum_done, Quantum_refused, present_of}
+use Rattle.heap_model.specs.Event.{Course, Event, Command_done, Cycle_begun, Begin_refused, Quantum_done, Quantum_refused, present_of}
 use Rattle.space.specs.Tally.{awaits_sweep_end}
 use Rattle.fragmentation.specs.Season.{Season, Lives, opening_season, made_since}
 use Rattle.fragmentation.specs.Suffice.{pages_of}
@@ -20,7 +20,7 @@ abbrev pub lives_of : (f : Flow) (k n : ℕ) (es : List Event) (t : FlowMeter) �
 lives_of f k n [] t keeps = λ j class. 0
 lives_of f k n (Command_done m c reply ∷ es) t keeps = lives_of f k n es (next_meter t (Command_done m c reply)) keeps.1
 lives_of f k n (Cycle_begun ∷ es) t keeps = λ j. if j == n + 1 then keeps.0.1.blocks else lives_of f k (n + 1) es (next_meter t Cycle_begun) keeps.1 j
-lives_of f k n (Cycle_on ∷ es) t keeps = lives_of f k n es t keeps.1
+lives_of f k n (Begin_refused ∷ es) t keeps = lives_of f k n es t keeps.1
 lives_of f k n (Quantum_done budget units phase ∷ es) t keeps = lives_of f k n es (next_meter t (Quantum_done budget units phase)) keeps.1
 lives_of f k n (Quantum_refused budget ∷ es) t keeps = lives_of f k n es t keeps.1
 
@@ -37,7 +37,7 @@ pub lives_few : (f : Flow) (k n : ℕ) (es : List Event) (t : FlowMeter) (keeps 
 lives_few f k n [] t keeps j = record { few = inl (let z = pages_none in omega (arith, z)); only = λ class l e. refl }
 lives_few f k n (Command_done m c reply ∷ es) t keeps j = lives_few f k n es (next_meter t (Command_done m c reply)) keeps.1 j
 lives_few f k n (Cycle_begun ∷ es) t keeps j = one_of (j == n + 1) keeps.0.1.blocks (lives_of f k (n + 1) es (next_meter t Cycle_begun) keeps.1 j) f (record { few = keeps.0.1.few; only = keeps.0.1.only }) (lives_few f k (n + 1) es (next_meter t Cycle_begun) keeps.1 j)
-lives_few f k n (Cycle_on ∷ es) t keeps j = lives_few f k n es t keeps.1 j
+lives_few f k n (Begin_refused ∷ es) t keeps j = lives_few f k n es t keeps.1 j
 lives_few f k n (Quantum_done budget units phase ∷ es) t keeps j = lives_few f k n es (next_meter t (Quantum_done budget units phase)) keeps.1 j
 lives_few f k n (Quantum_refused budget ∷ es) t keeps j = lives_few f k n es t keeps.1 j
 
@@ -50,8 +50,8 @@ words_since count s = words_of (made_since count s)
 pub record IsFlowing (h : HeapState) (f : Flow) (k : ℕ) (live : Lives) (r : Course) (s : Season) (t : FlowMeter) : Type 0 where
   pub graph : s.graph ≡ present_of r
   pub same : t.graph ≡ present_of r
-  pub tracing : t.tracing ≡ awaits_sweep_end r.heap.phase
-  pub alike : s.tracing ≡ awaits_sweep_end r.heap.phase
+  pub awaiting_sweep_end : t.awaiting_sweep_end ≡ awaits_sweep_end r.heap.phase
+  pub alike : s.awaiting_sweep_end ≡ awaits_sweep_end r.heap.phase
   pub limit : cycle_limit r.heap ≡ cycle_limit h
   pub settings : settings_of r.heap ≡ settings_of h
   pub spent : awaits_sweep_end r.heap.phase ≡ true → t.quanta * k ≤ r.heap.units
@@ -60,20 +60,20 @@ pub record IsFlowing (h : HeapState) (f : Flow) (k : ℕ) (live : Lives) (r : Co
   pub swept : s.swept ≤ length s.graph.objects
   pub words : t.words ≤ f.cycle_words
   pub since_last : words_since s.last s ≤ t.words
-  pub since_base : words_since s.base s ≤ (if t.tracing then f.cycle_words + t.words else t.words)
+  pub since_base : words_since s.base s ≤ (if t.awaiting_sweep_end then f.cycle_words + t.words else t.words)
   pub made : ℕ → ℕ
   pub number : ℕ
   pub before : (class : ℕ) → class < CLASSES → s.before class ≤ live number class + made class
   pub only : OnlyMade f (made_since 0 s)
   pub only_made : OnlyMade f made
-  pub total : words_of made + words_since s.swept s ≤ (if t.tracing then 2 * f.cycle_words + t.words else f.cycle_words + t.words)
+  pub total : words_of made + words_since s.swept s ≤ (if t.awaiting_sweep_end then 2 * f.cycle_words + t.words else f.cycle_words + t.words)
 
 -- at the opening nothing was made
 pub opening_flowing : (h : HeapState) (f : Flow) (k : ℕ) (live : Lives) → IsOpening h → IsFlowing h f k live (opened h) (opening_season h.limits) (opening_meter h.limits)
 opening_flowing h f k live o = record {
   graph = refl;
   same = refl;
-  tracing = sym (ap awaits_sweep_end o.phase);
+  awaiting_sweep_end = sym (ap awaits_sweep_end o.phase);
   alike = sym (ap awaits_sweep_end o.phase);
   limit = refl;
   settings = refl;

@@ -14,7 +14,7 @@ use Rattle.heap_model.specs.Settings.{settings_of}
 use Rattle.heap_model.specs.Spent.{cycle_limit, swept_units}
 use Rattle.heap_model.specs.ReachedFrom.{opened}
 use Rattle.heap_model.specs.Left.{LeavesCycle}
-use Rattle.heap_model.specs.Event.{Course, Event, Command_done, Cycle_begun, Cycle_on, Quantum_done, Quantum_refused, Enters, Begins, Collects, Runs, IsCourse, present_of, snapshot_of, room_for, change_by}
+use Rattle.heap_model.specs.Event.{Course, Event, Command_done, Cycle_begun, Begin_refused, Quantum_done, Quantum_refused, Enters, Begins, Collects, Runs, IsCourse, present_of, snapshot_of, room_for, change_by}
 use Rattle.heap_model.proofs.Left.{change_left}
 use Rattle.heap_model.proofs.Freed.{objects_stay}
 use Rattle.heap_model.proofs.Turns.{chain_units}
@@ -29,7 +29,7 @@ use Rattle.space.proofs.Moved.{chain_tracing}
 use Rattle.fragmentation.specs.Season.{Season, Lives, opening_season, made_since, season_swept, season_after, AllKeep}
 use Rattle.fragmentation.specs.Suffice.{WithinPages, GathersAll}
 use Rattle.fragmentation.specs.Flow.{words_of, Flow, FlowMeter, opening_meter, next_meter, allowed_words, OnlyMade, Paces, KeepsFlow, AllMetered, traced_words, flow_pages, FlowFits}
-use Rattle.fragmentation.proofs.Budgets.{drop_less}
+use Rattle.fragmentation.proofs.PageDemands.{drop_less}
 use Rattle.fragmentation.proofs.Moving.{moving_suffices}
 use Rattle.fragmentation.proofs.Flowing.{lives_of, FitsFlow, lives_few, words_since, IsFlowing, opening_flowing}
 use Rattle.fragmentation.proofs.Words.{words_fit, words_more, words_both, words_none}
@@ -51,20 +51,20 @@ module _ (h : HeapState) (f : Flow) (k : ℕ) (great : 0 < k) (live : Lives) (li
   most = unmoved_quanta h k
 
   -- no more than `most` quanta are done before a sweep ends
-  few : (r : Course) (s : Season) (t : FlowMeter) → IsCourse r → IsFlowing h f k live r s t → t.tracing ≡ true → (t.quanta + 1) * f.quantum_words + f.burst ≤ traced_words f most
+  few : (r : Course) (s : Season) (t : FlowMeter) → IsCourse r → IsFlowing h f k live r s t → t.awaiting_sweep_end ≡ true → (t.quanta + 1) * f.quantum_words + f.burst ≤ traced_words f most
   few r s t w i on =
-      let at : awaits_sweep_end r.heap.phase ≡ true = sym i.tracing ∙ on in
-      let l = swept_kept r.heap (present_of r) (snapshot_of r) w.stands at in
+      let at : awaits_sweep_end r.heap.phase ≡ true = sym i.awaiting_sweep_end ∙ on in
+      let l = swept_kept r.heap (present_of r) (snapshot_of r) w.represents at in
       let same = same_swept h r.heap i.limit i.settings in
       let q = few_quanta k (swept_units h) t.quanta r.heap.units great (i.spent at) (omega (arith, l, same)) in
       let m = mul-le-mul_right f.quantum_words q in
       omega (arith, m)
 
   -- what is asked for leaves the words that were made within a cycle's
-  asked_few : (r : Course) (s : Season) (t : FlowMeter) → IsCourse r → IsFlowing h f k live r s t → (asked : ℕ) → t.words + asked ≤ allowed_words f t → t.words + asked ≤ (if t.tracing then traced_words f most else f.cycle_words)
-  asked_few r s t w i asked keeps = by_tracing t.tracing refl keeps
+  asked_few : (r : Course) (s : Season) (t : FlowMeter) → IsCourse r → IsFlowing h f k live r s t → (asked : ℕ) → t.words + asked ≤ allowed_words f t → t.words + asked ≤ (if t.awaiting_sweep_end then traced_words f most else f.cycle_words)
+  asked_few r s t w i asked keeps = by_tracing t.awaiting_sweep_end refl keeps
     where
-      by_tracing : (b : Bool) → t.tracing ≡ b → t.words + asked ≤ (if b then (t.quanta + 1) * f.quantum_words + f.burst else f.cycle_words) → t.words + asked ≤ (if b then traced_words f most else f.cycle_words)
+      by_tracing : (b : Bool) → t.awaiting_sweep_end ≡ b → t.words + asked ≤ (if b then (t.quanta + 1) * f.quantum_words + f.burst else f.cycle_words) → t.words + asked ≤ (if b then traced_words f most else f.cycle_words)
       by_tracing true e l = let x = few r s t w i e in omega (arith, x, l)
       by_tracing false e l = l
 
@@ -77,7 +77,7 @@ module _ (h : HeapState) (f : Flow) (k : ℕ) (great : 0 < k) (live : Lives) (li
   flow_within r s t m c reply w i keeps =
       let a : words_of (asked_for t.graph m c) ≡ words_of (asked_for s.graph m c) = ap (λ z. words_of (asked_for z m c)) (i.same ∙ sym i.graph) in
       let b = words_both (made_since s.swept s) (asked_for s.graph m c) in
-      let z = by_tracing t.tracing refl i.total (asked_few r s t w i (words_of (asked_for t.graph m c)) keeps.0) in
+      let z = by_tracing t.awaiting_sweep_end refl i.total (asked_few r s t w i (words_of (asked_for t.graph m c)) keeps.0) in
       words_fit s.before (live i.number) i.made (λ class. made_since s.swept s class + asked_for s.graph m c class) f.makes f.live_words (2 * f.cycle_words + traced_words f most) i.before none (lives i.number).few (omega (arith, b, z, a))
     where
       none : (class : ℕ) → class < CLASSES → f.makes class ≡ false → (s.before class ≡ 0) × (made_since s.swept s class + asked_for s.graph m c class ≡ 0)
@@ -90,7 +90,7 @@ module _ (h : HeapState) (f : Flow) (k : ℕ) (great : 0 < k) (live : Lives) (li
           let q : asked_for t.graph m c class ≡ asked_for s.graph m c class = ap (λ z. asked_for z m c class) (i.same ∙ sym i.graph) in
           (omega (arith, n, x, y), omega (arith, v, u, q))
 
-      by_tracing : (o : Bool) → t.tracing ≡ o → words_of i.made + words_since s.swept s ≤ (if o then 2 * f.cycle_words + t.words else f.cycle_words + t.words)
+      by_tracing : (o : Bool) → t.awaiting_sweep_end ≡ o → words_of i.made + words_since s.swept s ≤ (if o then 2 * f.cycle_words + t.words else f.cycle_words + t.words)
           → t.words + words_of (asked_for t.graph m c) ≤ (if o then traced_words f most else f.cycle_words)
           → words_of i.made + words_since s.swept s + words_of (asked_for t.graph m c) ≤ 2 * f.cycle_words + traced_words f most
       by_tracing true e l n = omega (arith, l, n)
@@ -101,7 +101,7 @@ module _ (h : HeapState) (f : Flow) (k : ℕ) (great : 0 < k) (live : Lives) (li
   flow_command r new s t m c reply w i keeps e = record {
     graph = enters_graph r new m c reply w e s.graph i.graph;
     same = enters_graph r new m c reply w e t.graph i.same;
-    tracing = i.tracing ∙ ap awaits_sweep_end (sym left.phase);
+    awaiting_sweep_end = i.awaiting_sweep_end ∙ ap awaits_sweep_end (sym left.phase);
     alike = i.alike ∙ ap awaits_sweep_end (sym left.phase);
     limit = limit_stays r (Command_done m c reply) new e ∙ i.limit;
     settings = does_settings r (Command_done m c reply) new e ∙ i.settings;
@@ -109,15 +109,15 @@ module _ (h : HeapState) (f : Flow) (k : ℕ) (great : 0 < k) (live : Lives) (li
     last = (let l = i.last in let q = longer in omega (arith, l, q));
     base = (let l = i.base in let q = longer in omega (arith, l, q));
     swept = (let l = i.swept in let q = longer in omega (arith, l, q));
-    words = within t.tracing (asked_few r s t w i asked keeps.0);
+    words = within t.awaiting_sweep_end (asked_few r s t w i asked keeps.0);
     since_last = (let l = i.since_last in let q = more s.last i.last in omega (arith, l, q));
-    since_base = (let q = more s.base i.base in with_more t.tracing f.cycle_words 0 i.since_base q);
+    since_base = (let q = more s.base i.base in with_more t.awaiting_sweep_end f.cycle_words 0 i.since_base q);
     made = i.made;
     number = i.number;
     before = i.before;
     only = λ class l u. (let x = each 0 (omega arith) class in let y = i.only class l u in let z = keeps.1 class l u in omega (arith, x, y, z));
     only_made = i.only_made;
-    total = (let q = more s.swept i.swept in with_all t.tracing i.total q);
+    total = (let q = more s.swept i.swept in with_all t.awaiting_sweep_end i.total q);
   }
     where
       g : Graph
@@ -179,7 +179,7 @@ module _ (h : HeapState) (f : Flow) (k : ℕ) (great : 0 < k) (live : Lives) (li
   flow_begins r new s t i e = record {
     graph = i.graph ∙ sym (begins_present r new e);
     same = i.same ∙ sym (begins_present r new e);
-    tracing = ap (λ (z : HeapState). awaits_sweep_end z.phase) (sym e.heap);
+    awaiting_sweep_end = ap (λ (z : HeapState). awaits_sweep_end z.phase) (sym e.heap);
     alike = ap (λ (z : HeapState). awaits_sweep_end z.phase) (sym e.heap);
     limit = limit_stays r Cycle_begun new e ∙ i.limit;
     settings = does_settings r Cycle_begun new e ∙ i.settings;
@@ -189,17 +189,17 @@ module _ (h : HeapState) (f : Flow) (k : ℕ) (great : 0 < k) (live : Lives) (li
     swept = i.swept;
     words = omega arith;
     since_last = (let z = none_made s in omega (arith, z));
-    since_base = by_base t.tracing off i.since_base;
+    since_base = by_base t.awaiting_sweep_end off i.since_base;
     made = i.made;
     number = i.number;
     before = i.before;
     only = i.only;
     only_made = i.only_made;
-    total = by_total t.tracing off i.total;
+    total = by_total t.awaiting_sweep_end off i.total;
   }
     where
-      off : t.tracing ≡ false
-      off = i.tracing ∙ ap awaits_sweep_end e.idle
+      off : t.awaiting_sweep_end ≡ false
+      off = i.awaiting_sweep_end ∙ ap awaits_sweep_end e.idle
 
       by_base : (b : Bool) → b ≡ false → words_since s.base s ≤ (if b then f.cycle_words + t.words else t.words) → words_since s.base s ≤ f.cycle_words + 0
       by_base true z l = absurd (cc)
@@ -226,11 +226,11 @@ module _ (h : HeapState) (f : Flow) (k : ℕ) (great : 0 < k) (live : Lives) (li
       settings = does_settings r (Quantum_done budget units phase) new q ∙ i.settings
 
       -- before the end of the sweep
-      on : awaits_sweep_end phase ≡ true → IsFlowing h f k live new s (record t { tracing = true; quanta = t.quanta + 1 })
+      on : awaits_sweep_end phase ≡ true → IsFlowing h f k live new s (record t { awaiting_sweep_end = true; quanta = t.quanta + 1 })
       on e = record {
         graph = i.graph ∙ sym present;
         same = i.same ∙ sym present;
-        tracing = sym (out_phase ∙ e);
+        awaiting_sweep_end = sym (out_phase ∙ e);
         alike = i.alike ∙ was ∙ sym (out_phase ∙ e);
         limit = limit;
         settings = settings;
@@ -260,15 +260,15 @@ module _ (h : HeapState) (f : Flow) (k : ℕ) (great : 0 < k) (live : Lives) (li
           was : awaits_sweep_end r.heap.phase ≡ true
           was = chain_tracing r.heap new.heap units q.turn.chain now
 
-          at : t.tracing ≡ true
-          at = i.tracing ∙ was
+          at : t.awaiting_sweep_end ≡ true
+          at = i.awaiting_sweep_end ∙ was
 
       -- at the sweep's end
-      ends : t.tracing ≡ true → awaits_sweep_end phase ≡ false → IsFlowing h f k live new (season_swept live s) (record t { tracing = false; quanta = t.quanta + 1 })
+      ends : t.awaiting_sweep_end ≡ true → awaits_sweep_end phase ≡ false → IsFlowing h f k live new (season_swept live s) (record t { awaiting_sweep_end = false; quanta = t.quanta + 1 })
       ends at e = record {
         graph = i.graph ∙ sym present;
         same = i.same ∙ sym present;
-        tracing = sym (out_phase ∙ e);
+        awaiting_sweep_end = sym (out_phase ∙ e);
         alike = sym (out_phase ∙ e);
         limit = limit;
         settings = settings;
@@ -288,12 +288,12 @@ module _ (h : HeapState) (f : Flow) (k : ℕ) (great : 0 < k) (live : Lives) (li
       }
 
       -- after it
-      out : t.tracing ≡ false → awaits_sweep_end phase ≡ false → IsFlowing h f k live new s (record t { tracing = false; quanta = t.quanta + 1 })
+      out : t.awaiting_sweep_end ≡ false → awaits_sweep_end phase ≡ false → IsFlowing h f k live new s (record t { awaiting_sweep_end = false; quanta = t.quanta + 1 })
       out at e = record {
         graph = i.graph ∙ sym present;
         same = i.same ∙ sym present;
-        tracing = sym (out_phase ∙ e);
-        alike = i.alike ∙ sym i.tracing ∙ at ∙ sym (out_phase ∙ e);
+        awaiting_sweep_end = sym (out_phase ∙ e);
+        alike = i.alike ∙ sym i.awaiting_sweep_end ∙ at ∙ sym (out_phase ∙ e);
         limit = limit;
         settings = settings;
         spent = λ o. absurd (not_true _ o (out_phase ∙ e));
@@ -311,13 +311,13 @@ module _ (h : HeapState) (f : Flow) (k : ℕ) (great : 0 < k) (live : Lives) (li
         total = subst (λ b. words_of i.made + words_since s.swept s ≤ (if b then 2 * f.cycle_words + t.words else f.cycle_words + t.words)) at i.total;
       }
 
-      by_tracing : (b : Bool) → s.tracing ≡ b → awaits_sweep_end phase ≡ false → IsFlowing h f k live new (if b then season_swept live s else s) (record t { tracing = false; quanta = t.quanta + 1 })
-      by_tracing true y e = ends (i.tracing ∙ sym i.alike ∙ y) e
-      by_tracing false y e = out (i.tracing ∙ sym i.alike ∙ y) e
+      by_tracing : (b : Bool) → s.awaiting_sweep_end ≡ b → awaits_sweep_end phase ≡ false → IsFlowing h f k live new (if b then season_swept live s else s) (record t { awaiting_sweep_end = false; quanta = t.quanta + 1 })
+      by_tracing true y e = ends (i.awaiting_sweep_end ∙ sym i.alike ∙ y) e
+      by_tracing false y e = out (i.awaiting_sweep_end ∙ sym i.alike ∙ y) e
 
-      by_phase : (b : Bool) → awaits_sweep_end phase ≡ b → IsFlowing h f k live new (if b then s else (if s.tracing then season_swept live s else s)) (record t { tracing = b; quanta = t.quanta + 1 })
+      by_phase : (b : Bool) → awaits_sweep_end phase ≡ b → IsFlowing h f k live new (if b then s else (if s.awaiting_sweep_end then season_swept live s else s)) (record t { awaiting_sweep_end = b; quanta = t.quanta + 1 })
       by_phase true e = on e
-      by_phase false e = by_tracing s.tracing refl e
+      by_phase false e = by_tracing s.awaiting_sweep_end refl e
 
   -- of the events from here on, what live objects need is what was said
   abbrev Agrees : Season → Lives → Type 0
@@ -347,9 +347,9 @@ module _ (h : HeapState) (f : Flow) (k : ℕ) (great : 0 < k) (live : Lives) (li
 
       later : (j : ℕ) → s.cycles + 1 < j → live j ≡ rest j
       later j l = agrees j (omega (arith, l)) ∙ ap (λ b. if b then keeps.0.1.blocks else rest j) (other_number j (s.cycles + 1) l)
-  flows_keep (Cycle_on ∷ es) r new s t w i runs keeps agrees = (
+  flows_keep (Begin_refused ∷ es) r new s t w i runs keeps agrees = (
     tt,
-    flows_keep es runs.0 new s t (does_course r Cycle_on runs.0 w runs.1) (subst (λ z. IsFlowing h f k live z s t) (sym runs.1.1) i) runs.2 keeps.1 agrees,
+    flows_keep es runs.0 new s t (does_course r Begin_refused runs.0 w runs.1) (subst (λ z. IsFlowing h f k live z s t) (sym runs.1.1) i) runs.2 keeps.1 agrees,
   )
   flows_keep (Quantum_done budget units phase ∷ es) r new s t w i runs keeps agrees = (
     tt,
@@ -357,7 +357,7 @@ module _ (h : HeapState) (f : Flow) (k : ℕ) (great : 0 < k) (live : Lives) (li
   )
     where
       same_cycles : (season_after live s (Quantum_done budget units phase)).cycles ≡ s.cycles
-      same_cycles = cycles_stay s (awaits_sweep_end phase) s.tracing
+      same_cycles = cycles_stay s (awaits_sweep_end phase) s.awaiting_sweep_end
   flows_keep (Quantum_refused budget ∷ es) r new s t w i runs keeps agrees = (
     tt,
     flows_keep es runs.0 new s t (does_course r (Quantum_refused budget) runs.0 w runs.1) (subst (λ z. IsFlowing h f k live z s t) (sym runs.1.1) i) runs.2 keeps.1 agrees,
@@ -376,6 +376,6 @@ flow_suffices h es new f k great o some all runs keeps fits =
     wider [] s keeps = tt
     wider (Command_done m c reply ∷ es) s keeps = ((let l = keeps.0 in let p = fits.enough in omega (arith, l, p)), wider es _ keeps.1)
     wider (Cycle_begun ∷ es) s keeps = (keeps.0, wider es _ keeps.1)
-    wider (Cycle_on ∷ es) s keeps = (keeps.0, wider es _ keeps.1)
+    wider (Begin_refused ∷ es) s keeps = (keeps.0, wider es _ keeps.1)
     wider (Quantum_done budget units phase ∷ es) s keeps = (keeps.0, wider es _ keeps.1)
     wider (Quantum_refused budget ∷ es) s keeps = (keeps.0, wider es _ keeps.1)

@@ -6,7 +6,7 @@ use Rattle.heap_model.specs.declared.phase.Phase.{Phase}
 use Rattle.heap_model.specs.declared.phase.Phase.TheVariants as phases
 use Rattle.heap_model.specs.declared.phase.Moving.TheVariants as moves
 use Rattle.heap_model.specs.Pages.{Page, page_at, free_blocks, whole_pages}
-use Rattle.heap_model.specs.Standing.{is_sweeping}
+use Rattle.heap_model.specs.Represents.{is_sweeping}
 use Rattle.space.specs.Space.{class_sum}
 use Rattle.space.specs.Counts.{used_pages}
 use Rattle.fragmentation.specs.Tight.{IsTight}

@@ -36,7 +36,7 @@ one_evacuating class o = if evacuates class o then 1 else 0
 abbrev pub kept_pages : List (Option Page) → ℕ → ℕ → ℕ
 kept_pages pages class page = staying_pages pages class + one_evacuating class (page_at pages page)
 
--- they are on this page only; and while it leaves, `need` blocks fill a page
+-- they are on this page only; and while it is evacuating, `need` blocks fill a page
 pub record LeftOn (s : Store) (class need page : ℕ) : Type 0 where
   pub only : StrandedOn s class page
   pub some : evacuates class (page_at s.pages page) ≡ true → blocks_in class ≤ need

@@ -9,11 +9,11 @@ use Rattle.graph_heap.specs.declared.command.Change.{Change}
 use Rattle.heap_model.specs.declared.phase.Phase.{Phase}
 use Rattle.heap_model.specs.Pages.{ArePages, has_room}
 use Rattle.heap_model.specs.State.{HeapState, is_evacuating}
-use Rattle.heap_model.specs.Standing.{Represents}
+use Rattle.heap_model.specs.Represents.{Represents}
 use Rattle.heap_model.specs.Action.{Chain}
 use Rattle.heap_model.specs.Change.{DoesChange}
 use Rattle.heap_model.specs.Opening.{IsOpening}
-use Rattle.heap_model.specs.Event.{Course, Event, Command_done, Cycle_begun, Cycle_on, Quantum_done, Quantum_refused, Enters, Begins, Collects, Does, Runs, IsCourse, present_of, snapshot_of, room_for, change_by}
+use Rattle.heap_model.specs.Event.{Course, Event, Command_done, Cycle_begun, Begin_refused, Quantum_done, Quantum_refused, Enters, Begins, Collects, Does, Runs, IsCourse, present_of, snapshot_of, room_for, change_by}
 use Rattle.heap_model.specs.ReachedFrom.{opened}
 use Rattle.heap_model.proofs.Course.{opening_course}
 use Rattle.space.specs.Demand.{asked_for, asked_by}
@@ -67,9 +67,9 @@ module _ (live : Lives) (blocks : ℕ → ℕ) (spare enough : ℕ) (Kept : Heap
       → IsJoint new (season_after live s (Command_done m c reply)) × FindsRoom c reply
   joint_command r new m c reply s w i k keeps e = (
     record {
-      bounded = bounded_change r.heap new.heap g _ blocks spare w.stands.pages fits e.change k.bounded;
+      bounded = bounded_change r.heap new.heap g _ blocks spare w.represents.pages fits e.change k.bounded;
       pages = (let p = k.pages in let l = change_count r.heap new.heap g _ e.change in omega (arith, p, l));
-      kept = keeping.change r.heap new.heap g _ w.stands.pages fits e.change k.kept;
+      kept = keeping.change r.heap new.heap g _ w.represents.pages fits e.change k.kept;
     },
     subst (FindsRoom c) (sym e.replies) finds.0,
   )
@@ -81,7 +81,7 @@ module _ (live : Lives) (blocks : ℕ → ℕ) (spare enough : ℕ) (Kept : Heap
       asks = within_blocks r s live blocks m c w i keeps
 
       finds : FindsRoom c (reply_of (room_for r.heap c) g m c) × (change_by (room_for r.heap c) g m c ≡ change_by true g m c)
-      finds = command_room r.heap g m c (λ need same. keeping.room r.heap w.stands.pages k.bounded k.kept k.pages need (λ n l. (let x = asks n l in let y = same n in omega (arith, x, y))))
+      finds = command_room r.heap g m c (λ need same. keeping.room r.heap w.represents.pages k.bounded k.kept k.pages need (λ n l. (let x = asks n l in let y = same n in omega (arith, x, y))))
 
       fits : (n : ℕ) → n < CLASSES → main_blocks r.heap.store.pages n + asked_by (change_by (room_for r.heap c) g m c) n ≤ blocks n
       fits n l = let x = asks n l in let y = ap (λ z. asked_by z n) finds.1 in omega (arith, x, y)
@@ -97,16 +97,16 @@ module _ (live : Lives) (blocks : ℕ → ℕ) (spare enough : ℕ) (Kept : Heap
   joint_quantum r new budget units phase s w i k q = record {
     bounded = went.bounded;
     pages = (let p = k.pages in let c = went.count in omega (arith, p, c));
-    kept = keeping.chain r.heap new.heap units (present_of r) (snapshot_of r) w.stands q.turn.chain k.kept;
+    kept = keeping.chain r.heap new.heap units (present_of r) (snapshot_of r) w.represents q.turn.chain k.kept;
   }
     where
       went : Went r.heap new.heap (present_of r).objects blocks spare
-      went = chain_went r.heap new.heap units (present_of r) (snapshot_of r) (present_of r).objects blocks spare w.stands i.tidy k.bounded q.turn.chain
+      went = chain_went r.heap new.heap units (present_of r) (snapshot_of r) (present_of r).objects blocks spare w.represents i.tidy k.bounded q.turn.chain
 
   joint_step : (r : Course) (e : Event) (new : Course) (s : Season) → IsCourse r → IsCounted r s live → IsJoint r s → Keeps (WithinBlocks blocks live) live s e → Does r e new → IsJoint new (season_after live s e) × NewFindsRoom e
   joint_step r (Command_done m c reply) new s w i k keeps does = joint_command r new m c reply s w i k keeps does
   joint_step r Cycle_begun new s w i k keeps does = (joint_begins r new s k does, tt)
-  joint_step r Cycle_on new s w i k keeps does = (subst (λ z. IsJoint z s) (sym does.1) k, tt)
+  joint_step r Begin_refused new s w i k keeps does = (subst (λ z. IsJoint z s) (sym does.1) k, tt)
   joint_step r (Quantum_done budget units phase) new s w i k keeps does = (joint_quantum r new budget units phase s w i k does, tt)
   joint_step r (Quantum_refused budget) new s w i k keeps does = (subst (λ z. IsJoint z s) (sym does.1) k, tt)
 

@@ -18,7 +18,7 @@ use Rattle.heap_model.specs.Pages.{Page, ArePages, with_allocated, page_at, free
 use Rattle.heap_model.specs.Store.{Store, is_allocated, address_of}
 use Rattle.heap_model.specs.State.{HeapState, is_evacuating}
 use Rattle.heap_model.specs.Marks.{HasNoMark}
-use Rattle.heap_model.specs.Standing.{Represents}
+use Rattle.heap_model.specs.Represents.{Represents}
 use Rattle.heap_model.specs.Action.{KeepsBlocks, IsDone, AtPass, In_pass, After_page, allocated_on, closed, is_looked_at}
 use Rattle.heap_model.proofs.Allocated.{set_page, page_within, allocated_block, allocated_at, size_some}
 use Rattle.heap_model.proofs.Rooms.{no_blocks, set_sum}

@@ -14,7 +14,7 @@ pub mod Growing
 pub mod Acting
 pub mod Counted
 pub mod Moving
-pub mod Budgets
+pub mod PageDemands
 pub mod Words
 pub mod Flowing
 pub mod Flows

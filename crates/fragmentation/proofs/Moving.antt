@@ -14,7 +14,7 @@ use Rattle.heap_model.specs.Pages.{ArePages, free_blocks, whole_pages}
 use Rattle.heap_model.specs.State.{HeapState}
 use Rattle.heap_model.specs.Opening.{IsOpening}
 use Rattle.heap_model.specs.Settings.{HeapSettings, settings_of}
-use Rattle.heap_model.specs.Event.{Course, Event, Command_done, Cycle_begun, Cycle_on, Quantum_done, Quantum_refused, Enters, Begins, Collects, Does, Runs, IsCourse, present_of, snapshot_of, room_for, change_by}
+use Rattle.heap_model.specs.Event.{Course, Event, Command_done, Cycle_begun, Begin_refused, Quantum_done, Quantum_refused, Enters, Begins, Collects, Does, Runs, IsCourse, present_of, snapshot_of, room_for, change_by}
 use Rattle.heap_model.specs.ReachedFrom.{opened}
 use Rattle.heap_model.proofs.Settings.{does_settings, change_settings}
 use Rattle.heap_model.proofs.Course.{begins_present, collects_present, opening_course}
@@ -78,10 +78,10 @@ module _ (live : Lives) (pages : ℕ) where
       all = gathers_settings r.heap new.heap (change_settings r.heap new.heap g made e.change) k.all;
       first = k.first;
       most = k.most;
-      few = few_made new.heap.store.pages new.heap.phase k.first _ _ more_made (few_change r.heap new.heap g made k.first _ w.stands.placed e.change k.few);
-      left = leftover_change r.heap new.heap g made (needed_since live s) (needed_since live (season_after live s (Command_done m c reply))) w.stands.pages (λ n l. (let x = more n in omega (arith, x))) (λ n l. (let x = more n in let y = counted_allocated r s live w i n l in omega (arith, x, y))) e.change k.left;
+      few = few_made new.heap.store.pages new.heap.phase k.first _ _ more_made (few_change r.heap new.heap g made k.first _ w.represents.placed e.change k.few);
+      left = leftover_change r.heap new.heap g made (needed_since live s) (needed_since live (season_after live s (Command_done m c reply))) w.represents.pages (λ n l. (let x = more n in omega (arith, x))) (λ n l. (let x = more n in let y = counted_allocated r s live w i n l in omega (arith, x, y))) e.change k.left;
     },
-    subst (FindsRoom c) (sym e.replies) (season_room r.heap g s k.first (λ n. blocks_of (drop s.swept g.objects) n) w.stands.pages k.few i.graph k.most (λ n. ap (λ (z : Graph). blocks_of (drop s.swept z.objects) n) (sym i.graph)) m c (let x = k.room in omega (arith, x, fits))).0,
+    subst (FindsRoom c) (sym e.replies) (season_room r.heap g s k.first (λ n. blocks_of (drop s.swept g.objects) n) w.represents.pages k.few i.graph k.most (λ n. ap (λ (z : Graph). blocks_of (drop s.swept z.objects) n) (sym i.graph)) m c (let x = k.room in omega (arith, x, fits))).0,
   )
     where
       g : Graph
@@ -129,7 +129,7 @@ module _ (live : Lives) (pages : ℕ) (r new : Course) (budget units : ℕ) (pha
   present = collects_present r new budget units phase w q
 
   going : IsGoing r.heap g (snapshot_of r)
-  going = record { stands = w.stands; tidy = i.tidy; gathering = k.gathering; all = k.all }
+  going = record { represents = w.represents; tidy = i.tidy; gathering = k.gathering; all = k.all }
 
   -- what was needed since the last cycle began
   abbrev resting : ℕ → ℕ
@@ -137,7 +137,7 @@ module _ (live : Lives) (pages : ℕ) (r new : Course) (budget units : ℕ) (pha
 
   counted : (j : HeapState) → IsGoing j g (snapshot_of r) → awaits_sweep_end j.phase ≡ false → (class : ℕ) → class < CLASSES → main_blocks j.store.pages class ≤ resting class
   counted j y off class l =
-      allocated_since j.store g.objects (snapshot_of r) (live s.cycles) i.begun.live y.stands.pages y.tidy i.begun.kept (rest_only j g (snapshot_of r) i.begun.live.ids y.stands off i.begun.live.reached) class l
+      allocated_since j.store g.objects (snapshot_of r) (live s.cycles) i.begun.live y.represents.pages y.tidy i.begun.kept (rest_only j g (snapshot_of r) i.begun.live.ids y.represents off i.begun.live.reached) class l
 
   out_phase : awaits_sweep_end new.heap.phase ≡ awaits_sweep_end phase
   out_phase = ap awaits_sweep_end q.ends
@@ -157,12 +157,12 @@ module _ (live : Lives) (pages : ℕ) (r new : Course) (budget units : ℕ) (pha
   kept y t first most few left = record { room = (let x = k.room in omega (arith, x, same_count)); gathering = y.gathering; all = y.all; first = first; most = most; few = few; left = left }
 
   -- the sweep of a running cycle hasn't ended before
-  module _ (on : s.tracing ≡ true) where
+  module _ (on : s.awaiting_sweep_end ≡ true) where
     abbrev Came : Type 0
     Came = IsGoing new.heap g (snapshot_of r) × (Advances true new.heap k.first made (needed_since live s) ⊎ Behind new.heap (needed_since live s) resting)
 
     came : Came
-    came = came_chain g (snapshot_of r) k.first made (needed_since live s) resting counted r.heap new.heap units going q.turn.chain (inl (record { tracing = sym i.tracing ∙ on; few = k.few; left = k.left }))
+    came = came_chain g (snapshot_of r) k.first made (needed_since live s) resting counted r.heap new.heap units going q.turn.chain (inl (record { awaiting_sweep_end = sym i.awaiting_sweep_end ∙ on; few = k.few; left = k.left }))
 
     goes_on : IsGoing new.heap g (snapshot_of r) → Advances true new.heap k.first made (needed_since live s) → IsMoving live pages new s
     goes_on y b = kept y s k.first k.most (few_made new.heap.store.pages new.heap.phase k.first made _ made_now b.few) b.left
@@ -173,14 +173,14 @@ module _ (live : Lives) (pages : ℕ) (r new : Course) (budget units : ℕ) (pha
         (few_made new.heap.store.pages new.heap.phase b.first _ _ (λ class. sym (ap (λ z. blocks_of (drop z (present_of new).objects) class) (ap (λ (z : Graph). length z.objects) (i.graph ∙ sym present)) ∙ none_since (present_of new).objects class)) b.stage.few)
         (leftover_more new.heap.store new.heap.phase resting (needed_since live (season_swept live s)) (λ class l. (let x : made_since s.last s class ≡ blocks_of (drop (length (snapshot_of r).objects) g.objects) class = ap (λ z. made_since z s class) i.last ∙ ap (λ (z : Graph). blocks_of (drop (length (snapshot_of r).objects) z.objects) class) i.graph in omega (arith, x))) b.stage.left)
 
-    by_end : Came → (t : Bool) → awaits_sweep_end phase ≡ t → IsMoving live pages new (if t then s else (if s.tracing then season_swept live s else s))
+    by_end : Came → (t : Bool) → awaits_sweep_end phase ≡ t → IsMoving live pages new (if t then s else (if s.awaiting_sweep_end then season_swept live s else s))
     by_end (y, inl b) true e = goes_on y b
-    by_end (y, inl b) false e = absurd (not_both _ b.tracing (out_phase ∙ e))
-    by_end (y, inr b) true e = absurd (not_both _ (out_phase ∙ e) b.stage.tracing)
+    by_end (y, inl b) false e = absurd (not_both _ b.awaiting_sweep_end (out_phase ∙ e))
+    by_end (y, inr b) true e = absurd (not_both _ (out_phase ∙ e) b.stage.awaiting_sweep_end)
     by_end (y, inr b) false e = subst (λ z. IsMoving live pages new (if z then season_swept live s else s)) (sym on) (ends y b)
 
   -- it has ended before
-  module _ (off : s.tracing ≡ false) where
+  module _ (off : s.awaiting_sweep_end ≡ false) where
     rest_same : (class : ℕ) → needed_since live s class ≡ resting class
     rest_same class =
         let z = i.rested off in
@@ -189,26 +189,26 @@ module _ (live : Lives) (pages : ℕ) (r new : Course) (budget units : ℕ) (pha
         omega (arith, a, b)
 
     out : IsGoing new.heap g (snapshot_of r) × Advances false new.heap k.first made resting
-    out = out_chain g (snapshot_of r) k.first made (needed_since live s) resting counted r.heap new.heap units going q.turn.chain (record { tracing = sym i.tracing ∙ off; few = k.few; left = left_same r (needed_since live s) resting rest_same k.left })
+    out = out_chain g (snapshot_of r) k.first made (needed_since live s) resting counted r.heap new.heap units going q.turn.chain (record { awaiting_sweep_end = sym i.awaiting_sweep_end ∙ off; few = k.few; left = left_same r (needed_since live s) resting rest_same k.left })
 
     rests : IsMoving live pages new s
     rests = kept out.0 s k.first k.most (few_made new.heap.store.pages new.heap.phase k.first made _ made_now out.1.few) (left_same new resting (needed_since live s) (λ class. sym (rest_same class)) out.1.left)
 
-    by_out : (t : Bool) → awaits_sweep_end phase ≡ t → IsMoving live pages new (if t then s else (if s.tracing then season_swept live s else s))
-    by_out true e = absurd (not_both _ (out_phase ∙ e) out.1.tracing)
+    by_out : (t : Bool) → awaits_sweep_end phase ≡ t → IsMoving live pages new (if t then s else (if s.awaiting_sweep_end then season_swept live s else s))
+    by_out true e = absurd (not_both _ (out_phase ∙ e) out.1.awaiting_sweep_end)
     by_out false e = subst (λ z. IsMoving live pages new (if z then season_swept live s else s)) (sym off) rests
 
-  by_start : (b : Bool) → s.tracing ≡ b → IsMoving live pages new (season_after live s (Quantum_done budget units phase))
+  by_start : (b : Bool) → s.awaiting_sweep_end ≡ b → IsMoving live pages new (season_after live s (Quantum_done budget units phase))
   by_start true on = by_end on (came on) (awaits_sweep_end phase) refl
   by_start false off = by_out off (awaits_sweep_end phase) refl
 
   moving_quantum : IsMoving live pages new (season_after live s (Quantum_done budget units phase))
-  moving_quantum = by_start s.tracing refl
+  moving_quantum = by_start s.awaiting_sweep_end refl
 
 pub moving_step : (live : Lives) (pages : ℕ) (r : Course) (e : Event) (new : Course) (s : Season) → IsCourse r → IsCounted r s live → IsMoving live pages r s → Keeps (WithinPages pages) live s e → Does r e new → IsMoving live pages new (season_after live s e) × NewFindsRoom e
 moving_step live pages r (Command_done m c reply) new s w i k keeps does = moving_command live pages r new m c reply s w i k keeps does
 moving_step live pages r Cycle_begun new s w i k keeps does = (moving_begins live pages r new s k does, tt)
-moving_step live pages r Cycle_on new s w i k keeps does = (subst (λ z. IsMoving live pages z s) (sym does.1) k, tt)
+moving_step live pages r Begin_refused new s w i k keeps does = (subst (λ z. IsMoving live pages z s) (sym does.1) k, tt)
 moving_step live pages r (Quantum_done budget units phase) new s w i k keeps does = (moving_quantum live pages r new budget units phase s w i k does, tt)
 moving_step live pages r (Quantum_refused budget) new s w i k keeps does = (subst (λ z. IsMoving live pages z s) (sym does.1) k, tt)
 

@@ -15,7 +15,7 @@ use Rattle.heap_model.specs.Pages.{Page, ArePages, is_usable, with_allocated, pa
 use Rattle.heap_model.specs.Store.{Store, address_of}
 use Rattle.heap_model.specs.State.{HeapState}
 use Rattle.heap_model.specs.Marks.{HasNoMark, AreClosed}
-use Rattle.heap_model.specs.Standing.{Represents, is_sweeping}
+use Rattle.heap_model.specs.Represents.{Represents, is_sweeping}
 use Rattle.heap_model.specs.Action.{KeepsBlocks, MovesBlock, IsNext, IsDone, Action, Scans_root, Ends_roots, Scans_header, Scans_cell, Ends_marking, Frees_block, Passes_block, Closes_page, Ends_sweep, Looks_at_page, Chooses_page, Chooses_none, Moves_block, Ends_moving, AtPass, In_pass, After_page, MovingDone, No_class, No_page, is_sparse, is_choosable}
 use Rattle.heap_model.proofs.Marks.{no_mark}
 use Rattle.space.proofs.Counts.{both_true}

@@ -6,12 +6,12 @@ use Rattle.graph_heap.specs.Graph.{Graph}
 use Rattle.graph_heap.specs.History.{after}
 use Rattle.heap_model.specs.Pages.{ArePages}
 use Rattle.heap_model.specs.State.{HeapState}
-use Rattle.heap_model.specs.Standing.{Represents}
+use Rattle.heap_model.specs.Represents.{Represents}
 use Rattle.heap_model.specs.Action.{Chain, Nothing_done, Then}
 use Rattle.heap_model.specs.Change.{DoesChange}
 use Rattle.heap_model.proofs.Left.{change_left}
-use Rattle.heap_model.proofs.Relinked.{stands_relinked}
-use Rattle.heap_model.proofs.Stood.{stands_chain}
+use Rattle.heap_model.proofs.Relinked.{represents_relinked}
+use Rattle.heap_model.proofs.Stood.{represents_chain}
 use Rattle.space.specs.Demand.{asked_by}
 use Rattle.space.specs.Counts.{main_blocks}
 use Rattle.space.proofs.Tidying.{shrinks_keeps}
@@ -30,7 +30,7 @@ chain_sparse h after spent g s need st Nothing_done w = w
 chain_sparse h after spent g s need st (Then u cost j k linked chain links action) w =
     let r = chain_sparse h j u g s need st chain w in
     let i : HeapState = record j { store = linked } in
-    let si = stands_relinked j linked links g s (stands_chain h j u g s st chain) in
+    let si = represents_relinked j linked links g s (represents_chain h j u g s st chain) in
     let ga = gather_same j.store.pages linked.pages j.phase j.phase links.pages refl r.0 in
     let sp = sparse_same j.store linked j.phase need (shrinks_keeps j.store linked links.blocks) links.pages r.1 in
     (gather_action i k cost si.pages si.closed ga action, sparse_action i k cost g s need si ga action sp)

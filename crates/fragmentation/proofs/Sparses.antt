@@ -49,7 +49,7 @@ most_one c (suc n) = elim (order c (suc n)) [
     order : (a b : ℕ) → (a < b) ⊎ (b ≤ a)
     order a b = grind arith
 
--- an evacuating page leaves of one class at most
+-- an evacuating page counts for one class at most
 one_leaves : (o : Option Page) → class_sum (λ k. evacuating_on k o) CLASSES ≤ one_if (is_evacuating o)
 one_leaves None = let z = zeros CLASSES in omega (arith, z)
 one_leaves (Some p) = by_evacuating p.evacuating

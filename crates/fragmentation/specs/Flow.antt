@@ -6,7 +6,7 @@ use Rattle.graph_heap.specs.History.{after_entry}
 use Rattle.size_classes.specs.declared.class.TheConstants.{CLASSES}
 use Rattle.size_classes.specs.Sizes.{size_of}
 use Rattle.heap_model.specs.State.{HeapState}
-use Rattle.heap_model.specs.Event.{Event, Command_done, Cycle_begun, Cycle_on, Quantum_done, Quantum_refused}
+use Rattle.heap_model.specs.Event.{Event, Command_done, Cycle_begun, Begin_refused, Quantum_done, Quantum_refused}
 use Rattle.space.specs.Demand.{LiveWithin, asked_for}
 use Rattle.space.specs.Tally.{awaits_sweep_end}
 use Rattle.space.specs.Space.{class_sum}
@@ -33,13 +33,13 @@ pub record Flow : Type 0 where
 -- and for how many words of blocks was asked, since the last cycle began.
 pub record FlowMeter : Type 0 where
   pub graph : Graph
-  pub tracing : Bool
+  pub awaiting_sweep_end : Bool
   pub quanta : ℕ
   pub words : ℕ
 
 -- where no event was done yet
 abbrev pub opening_meter : Limits → FlowMeter
-opening_meter l = record { graph = opening l; tracing = false; quanta = 0; words = 0 }
+opening_meter l = record { graph = opening l; awaiting_sweep_end = false; quanta = 0; words = 0 }
 
 -- the meter after one more event
 abbrev pub next_meter : FlowMeter → Event → FlowMeter
@@ -48,14 +48,15 @@ next_meter t (Command_done m c reply) =
       graph = after_entry t.graph (record { mutator = m; command = c; reply = reply });
       words = t.words + words_of (asked_for t.graph m c);
     }
-next_meter t Cycle_begun = record t { tracing = true; quanta = 0; words = 0 }
-next_meter t Cycle_on = t
-next_meter t (Quantum_done budget units phase) = record t { tracing = awaits_sweep_end phase; quanta = t.quanta + 1 }
+next_meter t Cycle_begun = record t { awaiting_sweep_end = true; quanta = 0; words = 0 }
+next_meter t Begin_refused = t
+next_meter t (Quantum_done budget units phase) =
+    record t { awaiting_sweep_end = awaits_sweep_end phase; quanta = t.quanta + 1 }
 next_meter t (Quantum_refused budget) = t
 
 -- for how many words may have been asked since the last cycle began
 abbrev pub allowed_words : Flow → FlowMeter → ℕ
-allowed_words f t = if t.tracing then (t.quanta + 1) * f.quantum_words + f.burst else f.cycle_words
+allowed_words f t = if t.awaiting_sweep_end then (t.quanta + 1) * f.quantum_words + f.burst else f.cycle_words
 
 -- there are no blocks of a class of which the flow makes none
 abbrev pub OnlyMade : Flow → (ℕ → ℕ) → Type 0

@@ -3,7 +3,7 @@ use Rattle.std.specs.Prelude.{ℕ, ◌+◌, Bool, true, false, if◌then◌else�
 use Rattle.graph_heap.specs.declared.command.Limits.{Limits}
 use Rattle.graph_heap.specs.Graph.{Graph, opening}
 use Rattle.graph_heap.specs.History.{after_entry}
-use Rattle.heap_model.specs.Event.{Event, Command_done, Cycle_begun, Cycle_on, Quantum_done, Quantum_refused}
+use Rattle.heap_model.specs.Event.{Event, Command_done, Cycle_begun, Begin_refused, Quantum_done, Quantum_refused}
 use Rattle.space.specs.Demand.{LiveWithin, blocks_of, asked_for}
 use Rattle.space.specs.Tally.{awaits_sweep_end}
 
@@ -13,7 +13,7 @@ use Rattle.space.specs.Tally.{awaits_sweep_end}
 pub record Season : Type 0 where
   pub graph : Graph
   pub cycles : ℕ
-  pub tracing : Bool
+  pub awaiting_sweep_end : Bool
   pub last : ℕ
   pub base : ℕ
   pub swept : ℕ
@@ -25,7 +25,7 @@ abbrev pub opening_season : Limits → Season
 opening_season l = record {
   graph = opening l;
   cycles = 0;
-  tracing = false;
+  awaiting_sweep_end = false;
   last = 0;
   base = 0;
   swept = 0;
@@ -48,7 +48,7 @@ needed_since live s class = live s.number class + made_since s.base s class
 -- where a sweep ended: the cycle whose sweep it was is now the one whose sweep ended last
 abbrev pub season_swept : Lives → Season → Season
 season_swept live s = record s {
-  tracing = false;
+  awaiting_sweep_end = false;
   base = s.last;
   swept = length s.graph.objects;
   number = s.cycles;
@@ -59,10 +59,11 @@ season_swept live s = record s {
 abbrev pub season_after : Lives → Season → Event → Season
 season_after live s (Command_done m c reply) =
     record s { graph = after_entry s.graph (record { mutator = m; command = c; reply = reply }) }
-season_after live s Cycle_begun = record s { cycles = s.cycles + 1; tracing = true; last = length s.graph.objects }
-season_after live s Cycle_on = s
+season_after live s Cycle_begun =
+    record s { cycles = s.cycles + 1; awaiting_sweep_end = true; last = length s.graph.objects }
+season_after live s Begin_refused = s
 season_after live s (Quantum_done budget units phase) =
-    if awaits_sweep_end phase then s else (if s.tracing then season_swept live s else s)
+    if awaits_sweep_end phase then s else (if s.awaiting_sweep_end then season_swept live s else s)
 season_after live s (Quantum_refused budget) = s
 
 -- An event keeps to a bound. At a command the bound holds of the season and of the blocks that are asked for; and where
@@ -70,7 +71,7 @@ season_after live s (Quantum_refused budget) = s
 abbrev pub Keeps : (Season → (ℕ → ℕ) → Type 0) → Lives → Season → Event → Type 0
 Keeps Bound live s (Command_done m c reply) = Bound s (asked_for s.graph m c)
 Keeps Bound live s Cycle_begun = LiveWithin s.graph (live (s.cycles + 1))
-Keeps Bound live s Cycle_on = Unit {0}
+Keeps Bound live s Begin_refused = Unit {0}
 Keeps Bound live s (Quantum_done budget units phase) = Unit {0}
 Keeps Bound live s (Quantum_refused budget) = Unit {0}
 

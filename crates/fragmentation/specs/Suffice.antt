@@ -46,15 +46,15 @@ pages_of blocks = class_sum (λ class. whole_pages class (blocks class)) CLASSES
 
 -- How many pages live objects take at most where a cycle begins, all classes together, and how many the objects that
 -- are made from a cycle's beginning up to the end of the next cycle's sweep.
-pub record Budget : Type 0 where
+pub record PageDemand : Type 0 where
   pub live : ℕ
   pub made : ℕ
 
 -- the pages that suffice: those of live objects, twice those made, and one for each class
-abbrev pub budget_pages : Budget → ℕ
-budget_pages b = b.live + 2 * b.made + CLASSES
+abbrev pub demand_pages : PageDemand → ℕ
+demand_pages b = b.live + 2 * b.made + CLASSES
 
 -- what is made since the cycle began whose sweep ended last, and what is asked for, take at most the pages that the
--- budget has for what is made
-abbrev pub WithinBudget : Budget → Season → (ℕ → ℕ) → Type 0
-WithinBudget b s asked = pages_of (λ class. made_since s.base s class + asked class) ≤ b.made
+-- demand has for what is made
+abbrev pub WithinPageDemand : PageDemand → Season → (ℕ → ℕ) → Type 0
+WithinPageDemand b s asked = pages_of (λ class. made_since s.base s class + asked class) ≤ b.made

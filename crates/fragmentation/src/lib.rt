@@ -16,7 +16,7 @@ ghost use Rattle.heap_model.specs.State.{HeapState};
 ghost use Rattle.heap_model.specs.Action.{Action, is_chosen};
 ghost use Rattle.heap_model.specs.Marks.{AreClosed};
 ghost use Rattle.heap_model.specs.Change.{DoesChange};
-ghost use Rattle.heap_model.specs.Standing.{is_sweeping};
+ghost use Rattle.heap_model.specs.Represents.{is_sweeping};
 ghost use Rattle.heap_model.specs.Settings.{settings_of, settings_by};
 ghost use Rattle.heap_model.specs.Opening.{IsOpening};
 ghost use Rattle.heap_model.specs.Event.{Course, Event, Runs};
@@ -31,7 +31,7 @@ ghost use Rattle.fragmentation.specs.Configured.{MovesAll, FitsTogether, FlowFit
 ghost use Rattle.fragmentation.specs.Season.{Lives, opening_season, AllKeep};
 ghost use Rattle.fragmentation.specs.declared.flow.TheConstants.{LEAST_PAGE_FILL};
 ghost use Rattle.fragmentation.specs.Flow.{Flow, opening_meter, KeepsFlow, AllMetered, FlowFits};
-ghost use Rattle.fragmentation.specs.Suffice.{GathersAll, WithinPages, WithinBlocks, sparse_pages, pages_of, Budget, budget_pages, WithinBudget};
+ghost use Rattle.fragmentation.specs.Suffice.{GathersAll, WithinPages, WithinBlocks, sparse_pages, pages_of, PageDemand, demand_pages, WithinPageDemand};
 
 mod flow;
 
@@ -92,11 +92,11 @@ pub fn moving_suffices()
 /// beginning to the end of the next cycle's sweep at most another, no new object is refused for lack of space with the
 /// pages of live objects, twice those made, and one for each class: whatever the sizes of the objects are, and however
 /// these change.
-pub fn budget_suffices()
-    ensures { (h : HeapState) (es : List Event) (new : Course) (b : Budget) (live : Lives) → IsOpening h
+pub fn page_demand_suffices()
+    ensures { (h : HeapState) (es : List Event) (new : Course) (b : PageDemand) (live : Lives) → IsOpening h
         → 0 < length h.store.pages → GathersAll h → Runs (opened h) es new
-        → ((n : ℕ) → pages_of (live n) ≤ b.live) → AllKeep (WithinBudget b) live (opening_season h.limits) es
-        → budget_pages b ≤ length h.store.pages → EveryNewFindsRoom es }
+        → ((n : ℕ) → pages_of (live n) ≤ b.live) → AllKeep (WithinPageDemand b) live (opening_season h.limits) es
+        → demand_pages b ≤ length h.store.pages → EveryNewFindsRoom es }
 {}
 
 /// The blocks of a page have at least `LEAST_PAGE_FILL` words, whatever its class, and those of one class no more.
@@ -145,7 +145,8 @@ pub fn sparse_suffices()
 
 /// In a heap of a configuration no reply of a run is the refusal for lack of space: where the run keeps to a demand
 /// that is taken together and fits; where each cycle gathers every class, and the run keeps within the configuration's
-/// pages; and there, where it keeps to a budget for which the configuration has pages, or to a flow that fits.
+/// pages; and there, where it keeps to a demand in pages for which the configuration has enough, or to a flow that
+/// fits.
 pub fn configured_pages_suffice()
     ensures joint { (config : Config) (h : HeapState) (es : List Event) (new : Course) (blocks : ℕ → ℕ) (live : Lives)
         → 1 ≤ config.pages → IsOpening h → settings_of h ≡ settings_by config → Runs (opened h) es new
@@ -154,10 +155,11 @@ pub fn configured_pages_suffice()
     ensures moving { (config : Config) (h : HeapState) (es : List Event) (new : Course) (live : Lives)
         → 1 ≤ config.pages → IsOpening h → settings_of h ≡ settings_by config → MovesAll config → Runs (opened h) es new
         → AllKeep (WithinPages config.pages) live (opening_season h.limits) es → AllHaveRoom es }
-    ensures budget { (config : Config) (h : HeapState) (es : List Event) (new : Course) (b : Budget) (live : Lives)
+    ensures page_demand { (config : Config) (h : HeapState) (es : List Event) (new : Course) (b : PageDemand)
+        (live : Lives)
         → 1 ≤ config.pages → IsOpening h → settings_of h ≡ settings_by config → MovesAll config → Runs (opened h) es new
-        → ((n : ℕ) → pages_of (live n) ≤ b.live) → AllKeep (WithinBudget b) live (opening_season h.limits) es
-        → budget_pages b ≤ config.pages → AllHaveRoom es }
+        → ((n : ℕ) → pages_of (live n) ≤ b.live) → AllKeep (WithinPageDemand b) live (opening_season h.limits) es
+        → demand_pages b ≤ config.pages → AllHaveRoom es }
     ensures flow { (config : Config) (h : HeapState) (es : List Event) (new : Course) (f : Flow) → 1 ≤ config.pages
         → LEAST_BUDGET ≤ config.collector_ticks * config.rate → IsOpening h → settings_of h ≡ settings_by config
         → MovesAll config → Runs (opened h) es new

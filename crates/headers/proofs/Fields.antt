@@ -25,23 +25,23 @@ node_parts b = refl
 same_parts : (b : List ℕ) (f w d l : ℕ) (cells : List ℕ) → get_or b 0 0 ≡ f → get_or b 1 0 ≡ w → get_or b 2 0 ≡ d → get_or b 3 0 ≡ l → drop 4 b ≡ cells → record_in b ≡ by_parts f w d l cells
 same_parts b f w d l cells e0 e1 e2 e3 e4 = node_parts b ∙ rw (e0, e1, e2, e3, e4) refl
 
-pub node-set-forward : (b : List ℕ) (v : ℕ) → 0 < length b → record_in (set b 0 v) ≡ with_forward (record_in b) v
+pub block-set-forward : (b : List ℕ) (v : ℕ) → 0 < length b → record_in (set b 0 v) ≡ with_forward (record_in b) v
 unfolding record_in by_parts
-node-set-forward b v h =
+block-set-forward b v h =
     same_parts (set b 0 v) v (get_or b 1 0) (get_or b 2 0) (get_or b 3 0) (drop 4 b)
     (get_or-set_same b 0 v 0 h) (get_or-set_other b 0 1 v 0 (omega arith)) (get_or-set_other b 0 2 v 0 (omega arith))
     (get_or-set_other b 0 3 v 0 (omega arith)) (drop-set-lt 4 b 0 v (omega arith))
 
-pub node-set-link : (b : List ℕ) (v : ℕ) → 3 < length b → record_in (set b 3 v) ≡ record_in b
+pub block-set-link : (b : List ℕ) (v : ℕ) → 3 < length b → record_in (set b 3 v) ≡ record_in b
 unfolding record_in by_parts
-node-set-link b v h =
+block-set-link b v h =
     same_parts (set b 3 v) (get_or b 0 0) (get_or b 1 0) (get_or b 2 0) v (drop 4 b)
     (get_or-set_other b 3 0 v 0 (omega arith)) (get_or-set_other b 3 1 v 0 (omega arith)) (get_or-set_other b 3 2 v 0 (omega arith))
     (get_or-set_same b 3 v 0 h) (drop-set-lt 4 b 3 v (omega arith))
 
-pub node-set-cell : (b : List ℕ) (i v : ℕ) → i < length (record_in b).cells → record_in (set b (4 + i) v) ≡ with_cell (record_in b) i v
+pub block-set-cell : (b : List ℕ) (i v : ℕ) → i < length (record_in b).cells → record_in (set b (4 + i) v) ≡ with_cell (record_in b) i v
 unfolding record_in by_parts
-node-set-cell b i v h =
+block-set-cell b i v h =
     let n = cell_count (header_in (get_or b 1 0)) in
     let below : i < n = omega (arith, length-take n (drop 4 b), h) in
     same_parts (set b (4 + i) v) (get_or b 0 0) (get_or b 1 0) (get_or b 2 0) (get_or b 3 0) (set (drop 4 b) i v)

@@ -3,7 +3,7 @@ use Rattle.std.proofs.Common.{◌≡◌, ℕ, ◌+◌, ◌-◌, ◌*◌, ◌/◌
 use Rattle.std.proofs.lemmas.List.{drop-set-lt, get_or-set_other, get_or-set_same, length-take, length-drop, get_or-take, get_or-drop, length-replicate}
 use Rattle.heap_model.specs.Header.{Header, HeaderFits, header_in, shape_in, bit_of, recoloured}
 use Rattle.heap_model.specs.Block.{BlockRecord, words_at, record_at, record_in, cell_count, with_forward, with_colour, with_cell, new_record, new_words, spliced}
-use Rattle.headers.proofs.Fields.{words_at-here, length-words_at, node-set-forward, node-set-link, node-set-cell}
+use Rattle.headers.proofs.Fields.{words_at-here, length-words_at, block-set-forward, block-set-link, block-set-cell}
 use Rattle.headers.proofs.Fresh.{words_at-spliced, words_at-spliced_other}
 use Rattle.headers.proofs.Packed.{record_in-new_words}
 
@@ -49,9 +49,9 @@ built_same : (h g : Header) (f d l f' d' l' : ℕ) (cells cells' : List ℕ) →
 built_same h g f d l f' d' l' cells cells' e0 e1 e2 e3 e4 =
     ap (λ x. built x f d l cells) e0 ∙ ap (λ x. built g x d l cells) e1 ∙ ap (λ x. built g f' x l cells) e2 ∙ ap (λ x. built g f' d' x cells) e3 ∙ ap (λ x. built g f' d' l' x) e4
 
-node-set-colour : (b : List ℕ) (c : Bool) → 1 < length b → record_in (set b 1 (recoloured (get_or b 1 0) c)) ≡ with_colour (record_in b) c
+block-set-colour : (b : List ℕ) (c : Bool) → 1 < length b → record_in (set b 1 (recoloured (get_or b 1 0) c)) ≡ with_colour (record_in b) c
 unfolding record_in
-node-set-colour b c h =
+block-set-colour b c h =
     let v = recoloured (get_or b 1 0) c in
     let g : Header = record { shape = shape_in (get_or b 1 0); part = get_or b 1 0 / 4294967296 % 65536; colour = c } in
     built_same (header_in (get_or (set b 1 v) 1 0)) g (get_or (set b 1 v) 0 0) (get_or (set b 1 v) 2 0) (get_or (set b 1 v) 3 0) (get_or b 0 0) (get_or b 2 0) (get_or b 3 0) (drop 4 (set b 1 v)) (drop 4 b)
@@ -72,16 +72,16 @@ module _ (words : List ℕ) (address size : ℕ) (four : 4 ≤ size) (inside : a
   pub forward_written : (v : ℕ) → record_at (set words address v) address size ≡ with_forward (record_at words address size) v
   forward_written v =
       ap (λ n. record_at (set words n v) address size) (sym at_zero)
-      ∙ ap record_in (words_at-here words address 0 v size (omega arith)) ∙ node-set-forward (words_at words address size) v (omega (arith, size_is))
+      ∙ ap record_in (words_at-here words address 0 v size (omega arith)) ∙ block-set-forward (words_at words address size) v (omega (arith, size_is))
 
   pub link_written : (v : ℕ) → record_at (set words (address + 3) v) address size ≡ record_at words address size
-  link_written v = ap record_in (words_at-here words address 3 v size (omega arith)) ∙ node-set-link (words_at words address size) v (omega (arith, size_is))
+  link_written v = ap record_in (words_at-here words address 3 v size (omega arith)) ∙ block-set-link (words_at words address size) v (omega (arith, size_is))
 
   pub colour_written : (c : Bool) → record_at (set words (address + 1) (recoloured (get_or words (address + 1) 0) c)) address size ≡ with_colour (record_at words address size) c
   colour_written c =
       ap record_in (words_at-here words address 1 (recoloured (get_or words (address + 1) 0) c) size (omega arith))
       ∙ ap (λ w. record_in (set (words_at words address size) 1 (recoloured w c))) (sym (word_is 1 (omega arith)))
-      ∙ node-set-colour (words_at words address size) c (omega (arith, size_is))
+      ∙ block-set-colour (words_at words address size) c (omega (arith, size_is))
 
 -- a cell of the record is a word of the block
 cell_inside : (b : List ℕ) (i : ℕ) → i < length (record_in b).cells → 4 + i < length b
@@ -93,7 +93,7 @@ pub cell_written : (words : List ℕ) (i v address size : ℕ) → i < length (r
 cell_written words i v address size within inside =
     let b = words_at words address size in
     let small : 4 + i < size = omega (arith, cell_inside b i within, length-words_at words address size inside) in
-    ap record_in (words_at-here words address (4 + i) v size small) ∙ node-set-cell b i v within
+    ap record_in (words_at-here words address (4 + i) v size small) ∙ block-set-cell b i v within
 
 text_length : (address identity : ℕ) (h : Header) → length (new_words address h identity) ≡ cell_count h + 4
 text_length address identity h = omega (arith, length-replicate {A = ℕ} (cell_count h) 0)

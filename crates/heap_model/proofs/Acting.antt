@@ -22,7 +22,7 @@ use Rattle.heap_model.proofs.Acts as collector
 use Rattle.heap_model.proofs.Same.{SameBlocks}
 use Rattle.heap_model.proofs.Edits.{shade, set_root, set_cell, free}
 use Rattle.heap_model.proofs.Acts.{root_scanned, cell_scanned}
-use Rattle.heap_model.proofs.Collector.{acts, same_stands, placed_stands}
+use Rattle.heap_model.proofs.Collector.{acts, same_coherent, placed_coherent}
 use Rattle.heap_model.proofs.Seen.{allocated_put, field_kept, behind, write_seen, root_seen, cell_seen}
 use Rattle.heap_model.proofs.Agreements.{stepped}
 use Rattle.heap_model.proofs.Written.{whole_write, whole_cell, width_le}
@@ -74,12 +74,12 @@ same_shade a b x e = grind arith
 pub shaded_state : (h k : HeapState) (x : ℕ) (p : Phase) (g s : PartGraph) → Shades h x k → Coherent (collector_by (shade (seen h) x) h.store.pages p (if (seen h).marked x then h.grey else x ∷ h.grey)) g s → Coherent (collector_by (seen k) k.store.pages p k.grey) g s
 shaded_state h k x p g s (Was_marked e) c =
     let c1 : Coherent (collector_by (shade (seen h) x) h.store.pages p h.grey) g s = subst (λ b. Coherent (collector_by (shade (seen h) x) h.store.pages p (if b then h.grey else x ∷ h.grey)) g s) e c in
-    same_stands (collector_by (shade (seen h) x) h.store.pages p h.grey) (seen h) g s (shaded_already (seen h) x e) c1
+    same_coherent (collector_by (shade (seen h) x) h.store.pages p h.grey) (seen h) g s (shaded_already (seen h) x e) c1
 shaded_state h k x p g s (Is_marked new front back is e w) c =
     let c1 : Coherent (collector_by (shade (seen h) x) h.store.pages p (x ∷ h.grey)) g s = subst (λ b. Coherent (collector_by (shade (seen h) x) h.store.pages p (if b then h.grey else x ∷ h.grey)) g s) e c in
     let some : x ≢ 0 = λ z. let t : (seen h).marked x ≡ true = ap (seen h).marked z in (let q : false ≡ true = sym e ∙ t in cc) in
-    let c2 = same_stands (collector_by (shade (seen h) x) h.store.pages p (x ∷ h.grey)) (seen (record h { store = new })) g s (colour_seen h new x some w) c1 in
-    let c3 = placed_stands (collector_by (seen (record h { store = new })) h.store.pages p (x ∷ h.grey)) front back x (ap (λ (l : List ℕ). x ∷ l) is) g s c2 in
+    let c2 = same_coherent (collector_by (shade (seen h) x) h.store.pages p (x ∷ h.grey)) (seen (record h { store = new })) g s (colour_seen h new x some w) c1 in
+    let c3 = placed_coherent (collector_by (seen (record h { store = new })) h.store.pages p (x ∷ h.grey)) front back x (ap (λ (l : List ℕ). x ∷ l) is) g s c2 in
     subst (λ z. Coherent (collector_by (seen (record h { store = new })) z p (front ++ x ∷ back)) g s) (sym w.pages) c3
 
 pub shades_live : (h k : HeapState) (x : ℕ) → Shades h x k → k.live ≡ h.live
@@ -107,7 +107,7 @@ root_act h k present snapshot next c e l sh =
     let m = collector_by (seen h) h.store.pages (phases.Roots next) h.grey in
     let c0 = at_phase h (phases.Roots next) (view present) (view snapshot) e c.parts in
     let c1 = acts m (root_scanned m next) (view present) (view snapshot) (collector.Scans_root next refl l) c0 in
-    let c2 = same_stands (root_scanned m next) (shade (seen h1) x) (view present) (view snapshot) (same_shade (set_root (seen h) next x) (seen h1) x (root_seen h next x l)) c1 in
+    let c2 = same_coherent (root_scanned m next) (shade (seen h1) x) (view present) (view snapshot) (same_shade (set_root (seen h) next x) (seen h1) x (root_seen h next x l)) c1 in
     let c3 = shaded_state h1 k x (phases.Roots (next + 1)) (view present) (view snapshot) sh c2 in
     again h (goes_to k 1 (phases.Roots (next + 1))) present snapshot c (shades_limits h1 k x sh) (shades_live h1 k x sh) (ap length (shades_roots h1 k x sh) ∙ length-set h.roots next x) (shades_whole h1 k x sh c.whole) c3
 
@@ -188,7 +188,7 @@ cell_act h k present snapshot part cell new c e l w sh =
     let c0 = at_phase h (phases.Marking part cell) (view present) (view snapshot) e c.parts in
     let blocks = cell_blocks h present snapshot part cell new c e l w in
     let c1 = acts m (cell_scanned m) (view present) (view snapshot) (collector.Scans_cell refl l) c0 in
-    let c2 = same_stands (cell_scanned m) (shade (seen h1) x) (view present) (view snapshot) (same_shade (set_cell (seen h) part cell x) (seen h1) x blocks.0) c1 in
+    let c2 = same_coherent (cell_scanned m) (shade (seen h1) x) (view present) (view snapshot) (same_shade (set_cell (seen h) part cell x) (seen h1) x blocks.0) c1 in
     let c2' : Coherent (collector_by (shade (seen h1) x) h.store.pages (phases.Marking part (cell + 1)) (if (seen h).marked x then h.grey else x ∷ h.grey)) (view present) (view snapshot) = record { at = c2.at; base = c2.base; stage = (c2.stage.0, (let v = c2.stage.1 in record { allocated = v.allocated; marked = v.marked; scanning_allocated = v.scanning_allocated; scanning_marked = v.scanning_marked; scanning_apart = v.scanning_apart; column = v.column; once = v.once })) } in
     let c3 = subst (λ b. Coherent (collector_by (shade (seen h1) x) h.store.pages (phases.Marking part (cell + 1)) (if b then h.grey else x ∷ h.grey)) (view present) (view snapshot)) (sym blocks.1) c2' in
     let c4 = subst (λ z. Coherent (collector_by (shade (seen h1) x) z (phases.Marking part (cell + 1)) (if (seen h1).marked x then h1.grey else x ∷ h1.grey)) (view present) (view snapshot)) (sym w.pages) c3 in
@@ -297,7 +297,7 @@ free_act h present snapshot page block p new store c e f was unmarked w pages =
     let m = collector_by (seen h) h.store.pages (phases.Sweeping page block) h.grey in
     let c0 = at_phase h (phases.Sweeping page block) (view present) (view snapshot) e c.parts in
     let c1 = acts m (record m { heap = free (seen h) (a + 1) }) (view present) (view snapshot) (collector.Frees (reference_of h.store.pages page block) (a + 1) refl unmarked) c0 in
-    let c2 = same_stands (record m { heap = free (seen h) (a + 1) }) (seen h1) (view present) (view snapshot) (free_seen h new a w) c1 in
+    let c2 = same_coherent (record m { heap = free (seen h) (a + 1) }) (seen h1) (view present) (view snapshot) (free_seen h new a w) c1 in
     let size : size_in (page_at new.pages page) ≡ size_in (page_at h.store.pages page) = ap (λ z. size_in (page_at z page)) pages ∙ ap size_in (set_page_here h.store.pages page (Some (with_allocated p block false)) (page_within h.store.pages page p f)) ∙ sym (ap size_in f) in
     let l : block < length p.allocated = slice_get_within p.allocated block true was in
     let c3 = sweep_on (seen h1) h.store.pages new.pages page block page (block + 1) h.grey (view present) (view snapshot) c2 (λ z allocated low high.
@@ -352,7 +352,7 @@ close_act h present snapshot page block new store c e f w =
     let h1 : HeapState = record h { store = new } in
     let m = collector_by (seen h) h.store.pages (phases.Sweeping page block) h.grey in
     let c0 = at_phase h (phases.Sweeping page block) (view present) (view snapshot) e c.parts in
-    let c1 = same_stands m (seen h1) (view present) (view snapshot) (keeps_seen h new w) c0 in
+    let c1 = same_coherent m (seen h1) (view present) (view snapshot) (keeps_seen h new w) c0 in
     let c2 = sweep_on (seen h1) h.store.pages new.pages page block (page + 1) 0 h.grey (view present) (view snapshot) c1 (λ z allocated low high.
     let some : 0 < z = omega arith in
     let held0 : is_allocated h.store (z - 1) ≡ true = sym (w.allocated (z - 1)) ∙ allocated_behind h1 z some allocated in

@@ -12,7 +12,7 @@ use Rattle.heap_model.specs.Action.{Action, Scans_root, Ends_roots, Scans_header
 use Rattle.heap_model.proofs.Acts as collector
 use Rattle.heap_model.proofs.Same.{SameBlocks}
 use Rattle.heap_model.proofs.Edits.{flip}
-use Rattle.heap_model.proofs.Collector.{begins, same_stands}
+use Rattle.heap_model.proofs.Collector.{begins, same_coherent}
 use Rattle.heap_model.proofs.Agreements.{stepped}
 use Rattle.heap_model.proofs.Acting.{at_phase, root_act, roots_end_act, header_act, cell_act, marking_end_act, pass_act, free_act, close_act, sweep_end_act}
 use Rattle.heap_model.proofs.Moved.{pass_on_act, choose_act, move_act, moving_end_act}
@@ -55,5 +55,5 @@ begun_kept h present snapshot c e =
     let m = collector_by (seen h) h.store.pages phases.Idle h.grey in
     let c0 = at_phase h phases.Idle (view present) (view snapshot) e c.parts in
     let c1 = begins m (view present) (view snapshot) c0 in
-    let c2 = same_stands (collector.begun m) (seen (begun h)) (view present) (view present) (flip_seen h c0.stage.marked) c1 in
+    let c2 = same_coherent (collector.begun m) (seen (begun h)) (view present) (view present) (flip_seen h c0.stage.marked) c1 in
     stepped h (begun h) present snapshot present present c refl refl refl refl refl refl c.present_row c.cells c.whole (record { at = c2.at; base = c2.base; stage = (c2.stage.0, (let w = c2.stage.1 in record { allocated = w.allocated; marked = w.marked; scanning_allocated = w.scanning_allocated; scanning_marked = w.scanning_marked; scanning_apart = w.scanning_apart; column = w.column; once = w.once })) })

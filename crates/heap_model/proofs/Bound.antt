@@ -13,7 +13,7 @@ use Rattle.heap_model.proofs.Marks.{action_count}
 use Rattle.heap_model.proofs.Turns.{chain_units}
 use Rattle.heap_model.proofs.Costs.{turn_left}
 use Rattle.heap_model.proofs.Relinked.{relinked_count}
-use Rattle.heap_model.proofs.Stood.{stands_chain, stands_limit}
+use Rattle.heap_model.proofs.Stood.{represents_chain, represents_limit}
 
 pub same_limit : (h after : HeapState) → length after.roots ≡ length h.roots → length after.store.pages ≡ length h.store.pages → after.defrag_pages ≡ h.defrag_pages → cycle_limit after ≡ cycle_limit h
 same_limit h after r p d =
@@ -58,9 +58,9 @@ module _ (h : HeapState) (k count : ℕ) (quanta : ℕ → Quantum) (w : AreQuan
   -- a quantum that doesn't end in idle
   after_turn : (i : ℕ) → i < count → ((after i).phase ≡ phases.Idle) ⊎ ((k - 255 ≤ spent i) × ((after i).units ≡ (before i).units + spent i))
   after_turn i l =
-      let s = (w.each i l).stands in
+      let s = (w.each i l).represents in
       let t = (w.each i l).turn in
-      let v = stands_chain (before i) (after i) (spent i) s.0 s.1 s.2 t.chain in
+      let v = represents_chain (before i) (after i) (spent i) s.0 s.1 s.2 t.chain in
       elim (turn_left (before i) (after i) (quanta i).budget (spent i) v.pages t) [
         | inl e ↦ inl e
         | inr m ↦ inr (at_least k (quanta i).budget (spent i) (w.each i l).enough m, chain_units (before i) (after i) (spent i) t.chain)
@@ -102,9 +102,9 @@ quanta_end h k quanta l w =
       | inl o ↦ o
       | inr n ↦ absurd (
           let each = w.each last m in
-          let s = each.stands in
-          let v = stands_chain q.before q.after q.spent s.0 s.1 s.2 each.turn.chain in
-          let b = stands_limit q.after s.0 s.1 v in
+          let s = each.represents in
+          let v = represents_chain q.before q.after q.spent s.0 s.1 s.2 each.turn.chain in
+          let b = represents_limit q.after s.0 s.1 v in
           let e = limit_stays h k (last + 1) quanta w last m in
           let c : q.after.units ≤ cycle_limit h = subst (λ z. q.after.units ≤ z) e b in
           too_much (cycle_limit h) (k - 255) q.after.units (omega arith) n c)

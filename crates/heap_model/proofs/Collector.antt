@@ -175,7 +175,7 @@ swept_left h g s at place left b w all = record { old = λ x l. let a = all x l 
 pub left_main : (h : Heap) (left : ℕ → Bool) (x : ℕ) → Left h left → h.allocated x ≡ true → left x ≡ false → h.forward x ≡ x
 left_main h left x w l n = let o = w.old x l in grind arith
 
--- each action keeps the graph that the heap stands for
+-- each action keeps the graph that the heap represents
 pub acts : (m m' : Collector) (g s : PartGraph) → Acts m m' → Coherent m g s → Coherent m' g s
 acts m m' g s (Scans_root place e l) c = let st = stage_at m g s c (In_roots place) e in acts_root m g s c.at place c.base st.0 st.1 l
 acts m m' g s (Ends_roots place e l) c = let st = stage_at m g s c (In_roots place) e in acts_ends_roots m g s c.at place c.base st.0 st.1 l
@@ -236,8 +236,8 @@ same_stage m h' g s at In_marking e b t = (subst (λ z. Tracing h' g s at (done_
 same_stage m h' g s at (In_sweep place) e b t = same_sweeping m.heap h' g s at place e b t
 same_stage m h' g s at In_moves e b t = (same_resting m.heap h' g s at e t.0, same_moving m.heap h' m.is_target e t.1, same_left m.heap h' m.left e t.2)
 
-pub same_stands : (m : Collector) (h' : Heap) (g s : PartGraph) → SameBlocks m.heap h' → Coherent m g s → Coherent (record m { heap = h' }) g s
-same_stands m h' g s e c = record { at = c.at; base = same_base m.heap h' g s c.at e c.base; stage = same_stage m h' g s c.at m.phase e c.base c.stage }
+pub same_coherent : (m : Collector) (h' : Heap) (g s : PartGraph) → SameBlocks m.heap h' → Coherent m g s → Coherent (record m { heap = h' }) g s
+same_coherent m h' g s e c = record { at = c.at; base = same_base m.heap h' g s c.at e c.base; stage = same_stage m h' g s c.at m.phase e c.base c.stage }
 
 -- where every allocated block is marked, to turn the mark parity is to flip
 pub turned_flips : (h : Heap) (g s : PartGraph) (at : Name → ℕ) → Base h g s at → Resting h g s at → SameBlocks (flip h) (record h { marked = λ x. if x == 0 then true else (if h.marked x then false else true) })
@@ -282,5 +282,5 @@ module _ (m : Collector) (front back : List ℕ) (x : ℕ) (is : m.grey ≡ x �
     placed_stage at (In_sweep place) b t = t
     placed_stage at In_moves b t = t
 
-    pub placed_stands : Coherent m g s → Coherent (record m { grey = front ++ x ∷ back }) g s
-    placed_stands c = record { at = c.at; base = c.base; stage = placed_stage c.at m.phase c.base c.stage }
+    pub placed_coherent : Coherent m g s → Coherent (record m { grey = front ++ x ∷ back }) g s
+    placed_coherent c = record { at = c.at; base = c.base; stage = placed_stage c.at m.phase c.base c.stage }

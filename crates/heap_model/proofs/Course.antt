@@ -20,16 +20,16 @@ use Rattle.heap_model.specs.Agreement.{Consistent}
 use Rattle.heap_model.specs.Alike.{IsFounded}
 use Rattle.heap_model.specs.Opening.{IsOpening}
 use Rattle.heap_model.specs.Spent.{cycle_limit}
-use Rattle.heap_model.specs.Standing.{Represents}
+use Rattle.heap_model.specs.Represents.{Represents}
 use Rattle.heap_model.specs.Bound.{most_quanta}
 use Rattle.heap_model.specs.Change.{DoesChange}
-use Rattle.heap_model.specs.Event.{Course, present_of, snapshot_of, room_for, change_by, Enters, Begins, Collects, Event, Command_done, Cycle_begun, Cycle_on, Quantum_done, Quantum_refused, Does, Runs, IsCourse, quanta_in, HaveBudgets, OneIsLast}
+use Rattle.heap_model.specs.Event.{Course, present_of, snapshot_of, room_for, change_by, Enters, Begins, Collects, Event, Command_done, Cycle_begun, Begin_refused, Quantum_done, Quantum_refused, Does, Runs, IsCourse, quanta_in, HaveBudgets, OneIsLast}
 use Rattle.heap_model.proofs.Founded.{effect_founded}
 use Rattle.heap_model.proofs.Turns.{chain_units}
 use Rattle.heap_model.proofs.Costs.{turn_left}
-use Rattle.heap_model.proofs.Stood.{stands_chain, stands_begun, stands_opening, stands_limit}
+use Rattle.heap_model.proofs.Stood.{represents_chain, represents_begun, represents_opening, represents_limit}
 use Rattle.heap_model.proofs.Bound.{chain_limit, too_much, at_least, spent_more}
-use Rattle.heap_model.proofs.Changed.{stands_changed}
+use Rattle.heap_model.proofs.Changed.{represents_changed}
 use Rattle.heap_model.proofs.Left.{change_left}
 
 changed-limits : (g : Graph) (c : Change) → (changed g c).limits ≡ g.limits
@@ -52,9 +52,9 @@ founded g room m c row = by_effect (effect_of room g m c) refl
 pub present_row : (h : HeapState) (present snapshot : Graph) → Consistent h present snapshot → length present.roots ≡ root_cells present.limits
 present_row h p s c = sym c.present_row ∙ c.row ∙ ap root_cells c.limits
 
-pub stands_command : (h after : HeapState) (present snapshot : Graph) (room : Bool) (m : ℕ) (c : Command) → Represents h present snapshot → DoesChange h present (change_by room present m c) after → Represents after (next_of room present m c) snapshot
+pub represents_command : (h after : HeapState) (present snapshot : Graph) (room : Bool) (m : ℕ) (c : Command) → Represents h present snapshot → DoesChange h present (change_by room present m c) after → Represents after (next_of room present m c) snapshot
 unfolding next_of
-stands_command h after p s room m c w d = stands_changed h after p s (change_by room p m c) w (founded p room m c (present_row h p s w.consistent)) d
+represents_command h after p s room m c w d = represents_changed h after p s (change_by room p m c) w (founded p room m c (present_row h p s w.consistent)) d
 
 -- where the history of a command leads
 module _ (r new : Course) (m : ℕ) (c : Command) (reply : Reply) (w : IsCourse r) (e : Enters r m c reply new) where
@@ -64,11 +64,11 @@ module _ (r new : Course) (m : ℕ) (c : Command) (reply : Reply) (w : IsCourse 
   abbrev pub entry : Entry
   entry = record { mutator = m; command = c; reply = reply }
 
-  pub enters_stands : Represents new.heap (changed (present_of r) change) (snapshot_of r)
-  enters_stands = stands_changed r.heap new.heap (present_of r) (snapshot_of r) change w.stands (founded (present_of r) (room_for r.heap c) m c (present_row r.heap (present_of r) (snapshot_of r) w.stands.consistent)) e.change
+  pub enters_represents : Represents new.heap (changed (present_of r) change) (snapshot_of r)
+  enters_represents = represents_changed r.heap new.heap (present_of r) (snapshot_of r) change w.represents (founded (present_of r) (room_for r.heap c) m c (present_row r.heap (present_of r) (snapshot_of r) w.represents.consistent)) e.change
 
   enters_limits : new.heap.limits ≡ r.heap.limits
-  enters_limits = enters_stands.consistent.limits ∙ changed-limits (present_of r) change ∙ sym w.stands.consistent.limits
+  enters_limits = enters_represents.consistent.limits ∙ changed-limits (present_of r) change ∙ sym w.represents.consistent.limits
 
   pub enters_step : IsEntryOf (present_of r) entry × (after_entry (present_of r) entry ≡ next_of (room_for r.heap c) (present_of r) m c)
   enters_step = IsEntryOf-step (present_of r) entry (room_for r.heap c) (sym e.replies)
@@ -91,9 +91,9 @@ module _ (r new : Course) (m : ℕ) (c : Command) (reply : Reply) (w : IsCourse 
   pub enters_course : IsCourse new
   enters_course =
       let longer : length new.history ≡ length r.history + 1 = ap length e.history ∙ length-append r.history (entry ∷ []) in
-      let s1 = subst (λ z. Represents new.heap z (snapshot_of r)) (sym enters_present) enters_stands in
+      let s1 = subst (λ z. Represents new.heap z (snapshot_of r)) (sym enters_present) enters_represents in
       record {
-        stands = subst (λ z. Represents new.heap (present_of new) z) (sym enters_snapshot) s1;
+        represents = subst (λ z. Represents new.heap (present_of new) z) (sym enters_snapshot) s1;
         legal = subst (λ z. IsLegal (opening z) new.history) (sym enters_limits) (subst (IsLegal (opening r.heap.limits)) (sym e.history) (IsLegal-push (opening r.heap.limits) r.history entry w.legal enters_step.0));
         place = (let p = w.place in let q = e.place in omega arith);
       }
@@ -104,34 +104,34 @@ begins_present r new b = ap (λ z. after (opening z) new.history) (ap (λ (z : H
 
 begins_course : (r new : Course) → IsCourse r → Begins r new → IsCourse new
 begins_course r new w b =
-    let s = stands_begun r.heap (present_of r) (snapshot_of r) w.stands b.idle in
+    let s = represents_begun r.heap (present_of r) (snapshot_of r) w.represents b.idle in
     let limits : new.heap.limits ≡ r.heap.limits = ap (λ (z : HeapState). z.limits) b.heap in
     let all : take new.place new.history ≡ r.history = ap (λ z. take z new.history) b.place ∙ ap (take (length r.history)) b.history ∙ take-length r.history in
     let then : snapshot_of new ≡ present_of r = ap (λ z. after (opening z) (take new.place new.history)) limits ∙ ap (after (opening r.heap.limits)) all in
     let s1 = subst (λ z. Represents z (present_of r) (present_of r)) (sym b.heap) s in
     let s2 = subst (λ z. Represents new.heap z (present_of r)) (sym (begins_present r new b)) s1 in
     record {
-      stands = subst (λ z. Represents new.heap (present_of new) z) (sym then) s2;
+      represents = subst (λ z. Represents new.heap (present_of new) z) (sym then) s2;
       legal = subst (λ z. IsLegal (opening z) new.history) (sym limits) (subst (IsLegal (opening r.heap.limits)) (sym b.history) w.legal);
       place = (let p = b.place in let q = ap length b.history in omega arith);
     }
 
 -- a quantum
 pub collects_limits : (r new : Course) (budget units : ℕ) (phase : Phase) → IsCourse r → Collects r budget units phase new → new.heap.limits ≡ r.heap.limits
-collects_limits r new budget units phase w k = (stands_chain r.heap new.heap units (present_of r) (snapshot_of r) w.stands k.turn.chain).consistent.limits ∙ sym w.stands.consistent.limits
+collects_limits r new budget units phase w k = (represents_chain r.heap new.heap units (present_of r) (snapshot_of r) w.represents k.turn.chain).consistent.limits ∙ sym w.represents.consistent.limits
 
 pub collects_present : (r new : Course) (budget units : ℕ) (phase : Phase) → IsCourse r → Collects r budget units phase new → present_of new ≡ present_of r
 collects_present r new budget units phase w k = ap (λ z. after (opening z) new.history) (collects_limits r new budget units phase w k) ∙ ap (after (opening r.heap.limits)) k.history
 
 collects_course : (r new : Course) (budget units : ℕ) (phase : Phase) → IsCourse r → Collects r budget units phase new → IsCourse new
 collects_course r new budget units phase w k =
-    let s = stands_chain r.heap new.heap units (present_of r) (snapshot_of r) w.stands k.turn.chain in
+    let s = represents_chain r.heap new.heap units (present_of r) (snapshot_of r) w.represents k.turn.chain in
     let limits = collects_limits r new budget units phase w k in
     let first : take new.place new.history ≡ take r.place r.history = ap (λ z. take z new.history) k.place ∙ ap (take r.place) k.history in
     let then : snapshot_of new ≡ snapshot_of r = ap (λ z. after (opening z) (take new.place new.history)) limits ∙ ap (after (opening r.heap.limits)) first in
     let s1 = subst (λ z. Represents new.heap z (snapshot_of r)) (sym (collects_present r new budget units phase w k)) s in
     record {
-      stands = subst (λ z. Represents new.heap (present_of new) z) (sym then) s1;
+      represents = subst (λ z. Represents new.heap (present_of new) z) (sym then) s1;
       legal = subst (λ z. IsLegal (opening z) new.history) (sym limits) (subst (IsLegal (opening r.heap.limits)) (sym k.history) w.legal);
       place = (let p = k.place in let q = ap length k.history in let l = w.place in omega arith);
     }
@@ -139,7 +139,7 @@ collects_course r new budget units phase w k =
 pub does_course : (r : Course) (e : Event) (new : Course) → IsCourse r → Does r e new → IsCourse new
 does_course r (Command_done m c reply) new w d = enters_course r new m c reply w d
 does_course r Cycle_begun new w d = begins_course r new w d
-does_course r Cycle_on new w d = subst IsCourse (sym d.1) w
+does_course r Begin_refused new w d = subst IsCourse (sym d.1) w
 does_course r (Quantum_done budget units phase) new w d = collects_course r new budget units phase w d
 does_course r (Quantum_refused budget) new w d = subst IsCourse (sym d.1) w
 
@@ -148,7 +148,7 @@ runs_course [] r new w e = subst IsCourse (sym e) w
 runs_course (e ∷ es) r new w d = runs_course es d.0 new (does_course r e d.0 w d.1) d.2
 
 pub opening_course : (h : HeapState) → IsOpening h → 0 < length h.store.pages → IsCourse (record { heap = h; history = []; place = 0 })
-opening_course h o l = record { stands = stands_opening h o l; legal = tt; place = omega arith }
+opening_course h o l = record { represents = represents_opening h o l; legal = tt; place = omega arith }
 
 -- how many quanta a cycle takes
 enough_quanta : (n limit d units : ℕ) → 0 < d → limit / d + 1 ≤ n → n * d ≤ units → units ≤ limit → ⊥
@@ -175,7 +175,7 @@ last_here budget units phase es e = subst (λ z. OneIsLast (Quantum_done budget 
 module _ (k limit : ℕ) (great : 256 ≤ k) where
   pub runs_end : (es : List Event) (r new : Course) (n : ℕ) → IsCourse r → r.heap.phase ≢ phases.Idle → cycle_limit r.heap ≡ limit → n * (k - 255) ≤ r.heap.units → Runs r es new → HaveBudgets k es → limit / (k - 255) + 1 ≤ n + quanta_in es → OneIsLast es
   runs_end [] r new n w on e l d b m =
-      let u : r.heap.units ≤ limit = subst (λ z. r.heap.units ≤ z) e (stands_limit r.heap (present_of r) (snapshot_of r) w.stands) in
+      let u : r.heap.units ≤ limit = subst (λ z. r.heap.units ≤ z) e (represents_limit r.heap (present_of r) (snapshot_of r) w.represents) in
       enough_quanta n limit (k - 255) r.heap.units (omega arith) (omega arith) l u
   runs_end (Command_done m0 c reply ∷ es) r new n w on e l d b m =
       let x = d.0 in
@@ -183,7 +183,7 @@ module _ (k limit : ℕ) (great : 256 ≤ k) where
       let f = change_left r.heap x.heap (present_of r) _ d.1.change in
       runs_end es x new n w1 (λ i. on (sym f.phase ∙ i)) (f.limit ∙ e) (let u = f.units in omega arith) d.2 b m
   runs_end (Cycle_begun ∷ es) r new n w on e l d b m = absurd (on d.1.idle)
-  runs_end (Cycle_on ∷ es) r new n w on e l d b m =
+  runs_end (Begin_refused ∷ es) r new n w on e l d b m =
       runs_end es d.0 new n (subst IsCourse (sym d.1.1) w) (λ i. on (sym (ap (λ (z : Course). z.heap.phase) d.1.1) ∙ i)) (ap (λ (z : Course). cycle_limit z.heap) d.1.1 ∙ e)
       (let u : d.0.heap.units ≡ r.heap.units = ap (λ (z : Course). z.heap.units) d.1.1 in omega arith) d.2 b m
   runs_end (Quantum_refused budget ∷ es) r new n w on e l d b m =
@@ -197,7 +197,7 @@ module _ (k limit : ℕ) (great : 256 ≤ k) where
         | inl i ↦ last_here budget units phase es i
         | inr other ↦ not_last budget units phase es other (
             let away : x.heap.phase ≢ phases.Idle = λ i. other (sym q.ends ∙ i) in
-            let spent : k - 255 ≤ units = elim (turn_left r.heap x.heap budget units w1.stands.pages q.turn) [ inl i ↦ absurd (away i) | inr s ↦ at_least k budget units b.0 s ] in
+            let spent : k - 255 ≤ units = elim (turn_left r.heap x.heap budget units w1.represents.pages q.turn) [ inl i ↦ absurd (away i) | inr s ↦ at_least k budget units b.0 s ] in
             let more = spent_more n (k - 255) r.heap.units x.heap.units units l (chain_units r.heap x.heap units q.turn.chain) spent in
             runs_end es x new (n + 1) w1 away (chain_limit r.heap x.heap units q.turn.chain ∙ e) more d.2 b.1 (omega arith))
       ]

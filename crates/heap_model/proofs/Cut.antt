@@ -4,7 +4,7 @@ use Rattle.graph_heap.specs.Graph.{Object, Graph, no_object, object_of}
 use Rattle.graph_heap.specs.Reach.{Path, Reaches}
 use Rattle.heap_model.specs.Core.{Name, null, Reach}
 use Rattle.heap_model.specs.Cut.{count_of, width_by, width_in, width_of, name_of, target_by, target_of, view}
-use Rattle.size_classes.specs.Parts.{PartContents, pieces_of, spines_of, run_of, holder_of, seat_of, part_in, column_in}
+use Rattle.size_classes.specs.Parts.{PartContents, pieces_of, spines_of, run_of, spine_of, spine_cell_of, part_in, column_in}
 use Rattle.size_classes.proofs.Cutting.{pieces_are, spines_are, referrers_are, holds, cell_stands}
 use Rattle.heap_model.proofs.Kept.{reach_root, reach_step, reach_induction}
 
@@ -59,26 +59,26 @@ cell_at identity o i l =
     target_piece (run_of (cells_in o) (part_at o i)) identity o.refs (i % 252) i (behind_spines _ _ q.1) q.2 q.3
 
 -- the spine that refers to a part, and the cell
-abbrev pub holder_at : Object → ℕ → ℕ
-holder_at o p = holder_of (length o.refs + length o.words) p
+abbrev pub spine_in : Object → ℕ → ℕ
+spine_in o p = spine_of (length o.refs + length o.words) p
 
-abbrev pub seat_at : Object → ℕ → ℕ
-seat_at o p = seat_of (length o.refs + length o.words) p
+abbrev pub spine_cell_in : Object → ℕ → ℕ
+spine_cell_in o p = spine_cell_of (length o.refs + length o.words) p
 
-pub holder_below : (o : Object) (p : ℕ) → p < count_of o → 0 < p → (seat_at o p < width_of o (holder_at o p)) × (holder_at o p < p) × (holder_at o p < count_of o)
+pub spine_below : (o : Object) (p : ℕ) → p < count_of o → 0 < p → (spine_cell_in o p < width_of o (spine_in o p)) × (spine_in o p < p) × (spine_in o p < count_of o)
 unfolding count_of width_in
-holder_below o p l k =
+spine_below o p l k =
     let q = referrers_are (cells_in o) (pieces_of (cells_in o)) (spines_of (cells_in o)) (pieces_are (cells_in o)) (spines_are (cells_in o)) p k l in
-    (width_spine (run_of (cells_in o) (holder_at o p)) (length o.refs) (seat_at o p) (among_spines _ _ q.0) q.2, q.1, before (q.1) l)
+    (width_spine (run_of (cells_in o) (spine_in o p)) (length o.refs) (spine_cell_in o p) (among_spines _ _ q.0) q.2, q.1, before (q.1) l)
   where
     before : {x : ℕ} → x < p → p < spines_of (cells_in o) + pieces_of (cells_in o) → x < spines_of (cells_in o) + pieces_of (cells_in o)
     before h m = omega arith
 
-pub holder_cell : (identity : ℕ) (o : Object) (p : ℕ) → p < count_of o → 0 < p → target_of identity o (holder_at o p) (seat_at o p) ≡ record { identity = identity; part = p }
+pub spine_target : (identity : ℕ) (o : Object) (p : ℕ) → p < count_of o → 0 < p → target_of identity o (spine_in o p) (spine_cell_in o p) ≡ record { identity = identity; part = p }
 unfolding count_of target_of
-holder_cell identity o p l k =
+spine_target identity o p l k =
     let q = referrers_are (cells_in o) (pieces_of (cells_in o)) (spines_of (cells_in o)) (pieces_are (cells_in o)) (spines_are (cells_in o)) p k l in
-    target_spine (run_of (cells_in o) (holder_at o p)) identity o.refs (seat_at o p) p (among_spines _ _ q.0) q.2 q.3
+    target_spine (run_of (cells_in o) (spine_in o p)) identity o.refs (spine_cell_in o p) p (among_spines _ _ q.0) q.2 q.3
 
 -- each part is reached from part 0, by way of the spine that refers to it
 reach_by : (g : Graph) (identity fuel p : ℕ) → p ≤ fuel → Reach (length g.roots) (view g) (name_of identity) → p < count_of (object_of g.objects identity) → Reach (length g.roots) (view g) (record { identity = identity; part = p })
@@ -86,10 +86,10 @@ reach_by g identity fuel zero m r l = r
 reach_by g identity zero (suc p) m r l = absurd (omega arith)
 reach_by g identity (suc fuel) (suc p) m r l =
     let o = object_of g.objects identity in
-    let q = holder_below o (suc p) l (omega arith) in
-    let lower : holder_at o (suc p) ≤ fuel = at_most (holder_at o (suc p)) q.1 in
-    subst (λ z. Reach (length g.roots) (view g) z) (holder_cell identity o (suc p) l (omega arith))
-    (reach_step (length g.roots) (view g) (record { identity = identity; part = holder_at o (suc p) }) (seat_at o (suc p)) (reach_by g identity fuel (holder_at o (suc p)) lower r q.2) q.0)
+    let q = spine_below o (suc p) l (omega arith) in
+    let lower : spine_in o (suc p) ≤ fuel = at_most (spine_in o (suc p)) q.1 in
+    subst (λ z. Reach (length g.roots) (view g) z) (spine_target identity o (suc p) l (omega arith))
+    (reach_step (length g.roots) (view g) (record { identity = identity; part = spine_in o (suc p) }) (spine_cell_in o (suc p)) (reach_by g identity fuel (spine_in o (suc p)) lower r q.2) q.0)
   where
     at_most : (x : ℕ) → x < suc p → x ≤ fuel
     at_most x h = omega arith

@@ -11,7 +11,7 @@ use Rattle.heap_model.specs.Core.{Grows, Kept}
 use Rattle.heap_model.specs.Alike.{IsFounded}
 use Rattle.heap_model.specs.Written.{IsKnown}
 use Rattle.heap_model.specs.Swept.{IsKept, IsAllocated}
-use Rattle.heap_model.specs.Event.{Course, Event, present_of, snapshot_of, room_for, change_by, Command_done, Cycle_begun, Cycle_on, Quantum_done, Quantum_refused, Does, Runs, IsCourse}
+use Rattle.heap_model.specs.Event.{Course, Event, present_of, snapshot_of, room_for, change_by, Command_done, Cycle_begun, Begin_refused, Quantum_done, Quantum_refused, Does, Runs, IsCourse}
 use Rattle.heap_model.proofs.Changes.{read-set, length-put}
 use Rattle.heap_model.proofs.Cut.{count_some}
 use Rattle.heap_model.proofs.Agreements.{part_kept}
@@ -28,7 +28,7 @@ reached_kept h p s c id r =
     let some = reach_some p id r in
     (kept_identity s p (name_of id) grows (let q : id ≢ 0 = omega arith in q) k').0
 
--- and held
+-- and allocated
 pub reached_allocated : (h : HeapState) (present snapshot : Graph) → Consistent h present snapshot → (id : ℕ) → Reaches present id → IsAllocated h present id
 reached_allocated h p s c id r = kept_allocated h p s c id (reached_kept h p s c id r)
 
@@ -82,9 +82,9 @@ does_back r (Command_done m c reply) new w d =
     let g = present_of r in
     let change = change_by (room_for r.heap c) g m c in
     subst (Back g) (sym (enters_present r new m c reply w d))
-    (record { more = objects_stay g change; back = reached_back g change (founded g (room_for r.heap c) m c (present_row r.heap g (snapshot_of r) w.stands.consistent)) })
+    (record { more = objects_stay g change; back = reached_back g change (founded g (room_for r.heap c) m c (present_row r.heap g (snapshot_of r) w.represents.consistent)) })
 does_back r Cycle_begun new w d = back_same (present_of r) (present_of new) (begins_present r new d)
-does_back r Cycle_on new w d = back_same (present_of r) (present_of new) (ap present_of d.1)
+does_back r Begin_refused new w d = back_same (present_of r) (present_of new) (ap present_of d.1)
 does_back r (Quantum_done budget units phase) new w d = back_same (present_of r) (present_of new) (collects_present r new budget units phase w d)
 does_back r (Quantum_refused budget) new w d = back_same (present_of r) (present_of new) (ap present_of d.1)
 

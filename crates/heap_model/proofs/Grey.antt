@@ -21,7 +21,7 @@ use Rattle.heap_model.specs.Pages.{ArePages}
 use Rattle.heap_model.specs.Agreement.{IsWhole}
 use Rattle.heap_model.specs.Written.{records}
 use Rattle.heap_model.specs.Spent.{IsWithin, arena_words}
-use Rattle.heap_model.specs.Standing.{Represents}
+use Rattle.heap_model.specs.Represents.{Represents}
 use Rattle.heap_model.proofs.Units.{LieApart}
 use Rattle.heap_model.proofs.Acting.{allocated_behind}
 use Rattle.heap_model.proofs.Apart.{lie_apart, size_behind}

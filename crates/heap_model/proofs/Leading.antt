@@ -2,7 +2,7 @@
 use Rattle.std.proofs.Common.{◌≡◌, ℕ, ◌+◌, ◌<◌, List, [], ◌∷◌, ◌++◌, length, refl, subst, arith}
 use Rattle.heap_model.specs.State.{HeapState}
 use Rattle.heap_model.specs.Opening.{IsOpening}
-use Rattle.heap_model.specs.Event.{Course, Event, Command_done, Cycle_begun, Cycle_on, Quantum_done, Quantum_refused, Does, Runs, IsCourse, quanta_in}
+use Rattle.heap_model.specs.Event.{Course, Event, Command_done, Cycle_begun, Begin_refused, Quantum_done, Quantum_refused, Does, Runs, IsCourse, quanta_in}
 use Rattle.heap_model.specs.ReachedFrom.{cycles_in, units_in, opened, IsReachedFrom}
 use Rattle.heap_model.proofs.Course.{opening_course, runs_course}
 
@@ -18,7 +18,7 @@ counts_more : (es : List Event) (e : Event) → (cycles_in (es ++ e ∷ []) ≡ 
 counts_more [] e = (omega arith, omega arith, omega arith)
 counts_more (Command_done m c reply ∷ es) e = counts_more es e
 counts_more (Cycle_begun ∷ es) e = let i = counts_more es e in (omega (arith, i.0), i.1, i.2)
-counts_more (Cycle_on ∷ es) e = counts_more es e
+counts_more (Begin_refused ∷ es) e = counts_more es e
 counts_more (Quantum_done budget units phase ∷ es) e = let i = counts_more es e in (i.0, omega (arith, i.1), omega (arith, i.2))
 counts_more (Quantum_refused budget ∷ es) e = counts_more es e
 

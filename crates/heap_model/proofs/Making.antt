@@ -6,14 +6,14 @@ use Rattle.graph_heap.specs.declared.command.Shape.{Shape}
 use Rattle.graph_heap.specs.declared.command.Shape.TheVariants.{Plain, RefArray, WordArray}
 use Rattle.graph_heap.specs.Shape.{ref_cells, word_cells, fits}
 use Rattle.graph_heap.specs.Graph.{Object, new_object}
-use Rattle.size_classes.specs.Parts.{PartContents, cells_of, pieces_of, spines_of, parts_in, part_cells, run_of, first_by, count_by, holder_of, seat_of}
+use Rattle.size_classes.specs.Parts.{PartContents, cells_of, pieces_of, spines_of, parts_in, part_cells, run_of, first_by, count_by, spine_of, spine_cell_of}
 use Rattle.size_classes.proofs.Cutting.{Pieces, Spines, pieces_are, spines_are, referrers_are, holds}
 use Rattle.heap_model.specs.Header.{Header}
 use Rattle.heap_model.specs.Block.{BlockRecord, new_record}
 use Rattle.heap_model.specs.Store.{Store, Adds, is_allocated, record_of}
 use Rattle.heap_model.specs.Core.{Name, null, Heap}
 use Rattle.heap_model.specs.Cut.{count_of, width_by, width_in, width_of, words_by, words_of}
-use Rattle.heap_model.proofs.Cut.{holder_at, seat_at, holder_below}
+use Rattle.heap_model.proofs.Cut.{spine_in, spine_cell_in, spine_below}
 use Rattle.heap_model.specs.State.{HeapState, seen, width_at, same_colour}
 use Rattle.heap_model.specs.Agreement.{IsWhole}
 use Rattle.heap_model.specs.Making.{made, Making, Nothing_made, Part_made, MakesObject}
@@ -172,27 +172,27 @@ sooner : (s p : ℕ) → p < s → nat_lt p s ≡ true
 sooner s p e = grind arith
 
 -- the links of a new object
-linked_there : (o : Object) (k : ℕ) → 0 < k → k < count_of o → link_by (run_of (length o.refs + length o.words) (holder_at o k)) (seat_at o k) ≡ k
+linked_there : (o : Object) (k : ℕ) → 0 < k → k < count_of o → link_by (run_of (length o.refs + length o.words) (spine_in o k)) (spine_cell_in o k) ≡ k
 unfolding count_of
 linked_there o k l m =
     let n = length o.refs + length o.words in
     let q = referrers_are n (pieces_of n) (spines_of n) (pieces_are n) (spines_are n) k l m in
-    link_is (run_of n (holder_of n k)) (seat_of n k) k (sooner _ _ q.0) q.2 q.3
+    link_is (run_of n (spine_of n k)) (spine_cell_of n k) k (sooner _ _ q.0) q.2 q.3
 
-linked_back : (n p i : ℕ) → 0 < link_by (run_of n p) i → (holder_of n (link_by (run_of n p) i) ≡ p) × (seat_of n (link_by (run_of n p) i) ≡ i) × (p < link_by (run_of n p) i)
+linked_back : (n p i : ℕ) → 0 < link_by (run_of n p) i → (spine_of n (link_by (run_of n p) i) ≡ p) × (spine_cell_of n (link_by (run_of n p) i) ≡ i) × (p < link_by (run_of n p) i)
 linked_back n p i l =
     let q = link_some (run_of n p) i l in
     let w = holds n (pieces_of n) (spines_of n) (pieces_are n) (spines_are n) p i (among _ _ q.0) q.1 in
-    subst (λ z. (holder_of n z ≡ p) × (seat_of n z ≡ i) × (p < z)) q.2 (w.2, w.3, w.0)
+    subst (λ z. (spine_of n z ≡ p) × (spine_cell_of n z ≡ i) × (p < z)) q.2 (w.2, w.3, w.0)
 
-pub parts_linked : (shape : Shape) → AreLinked (parts_of shape) (holder_of (cells_of shape)) (seat_of (cells_of shape))
+pub parts_linked : (shape : Shape) → AreLinked (parts_of shape) (spine_of (cells_of shape)) (spine_cell_of (cells_of shape))
 parts_linked shape =
     let o = new_object shape in
     let u = length-replicate {A = ℕ} (ref_cells shape) 0 in
     let v = length-replicate {A = ℕ} (word_cells shape) 0 in
     let sum : length o.refs + length o.words ≡ cells_of shape = (let x : (a b c d : ℕ) → a ≡ c → b ≡ d → a + b ≡ c + d = λ a b c d e f. omega arith in x _ _ _ _ u v) in
-    subst (λ z. AreLinked (parts_of shape) (holder_of z) (seat_of z)) sum (record {
-      there = λ k l m. let q = holder_below o k m l in (q.1, q.0, linked_there o k l m);
+    subst (λ z. AreLinked (parts_of shape) (spine_of z) (spine_cell_of z)) sum (record {
+      there = λ k l m. let q = spine_below o k m l in (q.1, q.0, linked_there o k l m);
       back = λ p i l m n. linked_back (length o.refs + length o.words) p i n;
     })
 
@@ -219,10 +219,10 @@ making_first h shape at k new f whole few (Part_made part s t u m a none some) =
       | inl e ↦
           subst (λ z. MakesFirst (seen h) ps (reference at) (part + 1) (seen (record h { store = z }))) (sym (none e))
           (first_same (seen h) ps (reference at) (part + 1) _ (seen ht)
-          (first_root (seen h) ps (reference at) (holder_of n) (seat_of n) part (seen hs) (at part + 1) (parts_linked shape) e fewer before free refl) added)
+          (first_root (seen h) ps (reference at) (spine_of n) (spine_cell_of n) part (seen hs) (at part + 1) (parts_linked shape) e fewer before free refl) added)
       | inr l ↦
-          let q = holder_of n part in
-          let c = seat_of n part in
+          let q = spine_of n part in
+          let c = spine_cell_of n part in
           let w = (parts_linked shape).there part l fewer in
           let allocated : is_allocated s (at q) ≡ true = sym (behind true (λ z. is_allocated s z) (at q)) ∙ before.parts.allocated q w.0 in
           let kept : record_of t (at q) ≡ record_of s (at q) = a.others (at q) allocated in
@@ -233,7 +233,7 @@ making_first h shape at k new f whole few (Part_made part s t u m a none some) =
           let within : c < width_at (record_of t (at q)) = subst (λ (z : BlockRecord). c < width_at z) (sym kept) within_s in
           let inside : c < length (record_of t (at q)).cells = subst (λ (z : BlockRecord). c < length z.cells) (sym kept) inside_s in
           let written = cell_seen ht u (at q) c (at part + 1) (some l) inside within in
-          let step = first_more (seen h) ps (reference at) (holder_of n) (seat_of n) part (seen hs) (at part + 1) (parts_linked shape) l fewer before free refl in
+          let step = first_more (seen h) ps (reference at) (spine_of n) (spine_cell_of n) part (seen hs) (at part + 1) (parts_linked shape) l fewer before free refl in
           first_same (seen h) ps (reference at) (part + 1) _ (seen (record h { store = u })) (first_same (seen h) ps (reference at) (part + 1) _ _ step (same_set _ (seen ht) (at q + 1) c (at part + 1) added)) written
     ]
   where

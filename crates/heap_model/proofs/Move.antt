@@ -2,7 +2,7 @@ use Rattle.std.proofs.Common.{◌≡◌, ℕ, ◌≢◌, Bool, true, false, arit
 use Rattle.heap_model.specs.Core.{Name, PartGraph, Heap, Kept, Base, Resting, Moving, Left}
 use Rattle.heap_model.proofs.Edits.{move, moved}
 
--- block x, which is a main copy on a page that leaves, is copied to the free block y of a page that receives
+-- block x, which is a main copy on an evacuating page, is copied to the free block y of a target page
 move_forward : (h : Heap) (at : Name → ℕ) (is_target : ℕ → Bool) (x y : ℕ) → Moving h is_target → h.forward x ≡ x → is_target x ≡ false → h.allocated y ≡ false
     → (z : ℕ) (t : Name) → h.allocated z ≡ true → h.forward z ≡ at t → (move h x y).forward z ≡ moved at x y t
 move_forward h at is_target x y m main evacuating free z t allocated f = grind arith

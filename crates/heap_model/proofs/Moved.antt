@@ -24,7 +24,7 @@ use Rattle.heap_model.specs.Action.{KeepsBlocks, MovesBlock, goes_to, is_choosab
 use Rattle.heap_model.proofs.Acts as collector
 use Rattle.heap_model.proofs.Same.{SameBlocks}
 use Rattle.heap_model.proofs.Edits.{move}
-use Rattle.heap_model.proofs.Collector.{acts, same_stands}
+use Rattle.heap_model.proofs.Collector.{acts, same_coherent}
 use Rattle.heap_model.proofs.Seen.{behind, allocated_put}
 use Rattle.heap_model.proofs.Allocated.{set_page, page_within, is_page, allocated_at, block_within, size_some, page_of_place}
 use Rattle.heap_model.proofs.Acting.{at_phase, again, keeps_seen, keeps_whole}
@@ -99,7 +99,7 @@ choose_act h present snapshot class page best chosen c p new k at good there w p
     let v : Option Page = Some (record p { evacuating = true }) in
     let within = page_within old c.page p there in
     let c0 = at_pass h class page best chosen (view present) (view snapshot) at k.parts in
-    let c1 = same_stands (collector_by (seen h) old (phases.Moving (moves.Pass class page best chosen)) h.grey) (seen h1) (view present) (view snapshot) (keeps_seen h new w) c0 in
+    let c1 = same_coherent (collector_by (seen h) old (phases.Moving (moves.Pass class page best chosen)) h.grey) (seen h1) (view present) (view snapshot) (keeps_seen h new w) c0 in
     let stays = chosen_stays old class c p good there in
     let at' : (x : ℕ) → page_of new.pages x ≡ (if (x - 1) / 2048 == c.page then v else page_of old x) = λ x. ap (λ z. page_at z ((x - 1) / 2048)) pages ∙ set_page old c.page ((x - 1) / 2048) v within in
     let c2 = moves_on (seen h1) old new.pages (moves.Pass class page best chosen) (moves.Emptying class c.page 0 (chosen + 1)) h.grey (view present) (view snapshot) c1
@@ -270,7 +270,7 @@ move_act h present snapshot class page block chosen i to j p q new store c e at_
     (λ z r. target_page_on z ((z - 1) / 2048 == to) (at_new z) r) left_now
     (λ z r. left_on z ((z - 1) / 2048 == page) refl ((z - 1) / 2048 == to) refl (at_new z) new_page r)) c0 in
     let m1 : Collector = record m { heap = move (seen h) x y; is_target = λ z. is_target_page (page_of new.pages z); left = λ z. is_left new.pages now z } in
-    let c2 = same_stands m1 (seen h1) (view present) (view snapshot) (move_seen h new a b w) c1 in
+    let c2 = same_coherent m1 (seen h1) (view present) (view snapshot) (move_seen h new a b w) c1 in
     again h (goes_to h1 cost now) present snapshot c refl refl refl (move_whole h.store new a b w allocated_a c.whole) (record { at = c2.at; base = c2.base; stage = c2.stage })
   where
     is_here : {r b : Bool} (pages : List (Option Page)) (x : ℕ) → (x - 1) / 2048 ≡ page → r ≡ b → (if (x - 1) / 2048 == page then r else is_evacuating (page_of pages x)) ≡ b

@@ -12,13 +12,13 @@ use Rattle.heap_model.specs.Cut.{view}
 use Rattle.heap_model.specs.State.{HeapState, seen, collector_of}
 use Rattle.heap_model.specs.Collector.{Coherent}
 use Rattle.heap_model.specs.Action.{Action, Scans_root, Ends_roots, Scans_header, Scans_cell, Ends_marking, Frees_block, Passes_block, Closes_page, Ends_sweep, Looks_at_page, Chooses_page, Chooses_none, Moves_block, Ends_moving}
-use Rattle.heap_model.specs.Standing.{Represents}
+use Rattle.heap_model.specs.Represents.{Represents}
 use Rattle.heap_model.proofs.Same.{SameBlocks}
 use Rattle.heap_model.proofs.Edits.{move}
 use Rattle.heap_model.proofs.Acting.{at_phase, keeps_seen}
 use Rattle.heap_model.proofs.Moved.{move_seen}
 use Rattle.heap_model.proofs.Seen.{behind}
-use Rattle.heap_model.proofs.Stood.{stands_action}
+use Rattle.heap_model.proofs.Stood.{represents_action}
 
 -- where the collector rests between moves, each allocated block reads as its own name, and as no other
 reads_own : (h : Heap) (g s : PartGraph) (at : Name → ℕ) → Base h g s at → Resting h g s at → (x : ℕ) → h.allocated x ≡ true → Reads h x (h.name x)
@@ -94,7 +94,7 @@ pub reads_stay : (h after : HeapState) (cost : ℕ) (present snapshot : Graph) (
 reads_stay h after cost present snapshot place x n w e action reads =
     let on = moves_on h after cost place e action in
     let old = at_rest h (view present) (view snapshot) w.consistent.parts (inr (place, e)) in
-    let new = at_rest after (view present) (view snapshot) (stands_action h after cost present snapshot w action).consistent.parts on.0 in
+    let new = at_rest after (view present) (view snapshot) (represents_action h after cost present snapshot w action).consistent.parts on.0 in
     let kept = on.1 x reads.allocated in
     let name : (seen after).name x ≡ n = kept.1 ∙ reads_one (seen h) (view present) (view snapshot) old.at old.base old.rests x n reads in
     subst (Reads (seen after) x) name (reads_own (seen after) (view present) (view snapshot) new.at new.base new.rests x kept.0)

@@ -1,4 +1,4 @@
--- The opening heap stands for the opening graph heap.
+-- The opening heap represents the opening graph heap.
 use Rattle.std.proofs.Common.{◌≡◌, ℕ, ◌-◌, ◌/◌, ◌%◌, ◌<◌, Bool, true, false, [], length, get_or, replicate, refl, ap, subst, sym, ◌∙◌, arith, inl, inr, ◌==◌, if◌then◌else◌}
 use Rattle.std.specs.Prelude.{Option, None}
 use Rattle.std.proofs.lemmas.List.{length-replicate, get_or-replicate, get_or_past}
@@ -61,8 +61,8 @@ null_alone : (h : Heap) (g : PartGraph) → Grows h.roots g g → h.next ≡ g.n
     → Base h g g (λ n. 0)
 null_alone h g grows next some allocated forward name width words shape no_words plain narrow none only root = grind arith
 
-pub opening_stands : (h : HeapState) → IsOpening h → Consistent h (opening h.limits) (opening h.limits)
-opening_stands h o =
+pub opening_represents : (h : HeapState) → IsOpening h → Consistent h (opening h.limits) (opening h.limits)
+opening_represents h o =
     let g = view (opening h.limits) in
     let roots = length h.roots in
     let none = opening_kept h.limits roots in

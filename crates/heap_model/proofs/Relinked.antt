@@ -1,4 +1,4 @@
--- Blocks are threaded anew: the heap goes on to stand.
+-- Blocks are linked anew: the heap represents the same graph heaps.
 use Rattle.std.proofs.Common.{◌≡◌, ◌<◌, length, List, Option, refl, ap, subst, sym}
 use Rattle.graph_heap.specs.Graph.{Graph}
 use Rattle.heap_model.specs.Action.{Relinks}
@@ -8,11 +8,11 @@ use Rattle.heap_model.specs.Marks.{AreClosed}
 use Rattle.heap_model.specs.Pages.{ArePages, Page}
 use Rattle.heap_model.specs.Placed.{IsPlaced}
 use Rattle.heap_model.specs.Settings.{settings_of}
-use Rattle.heap_model.specs.Standing.{Represents}
+use Rattle.heap_model.specs.Represents.{Represents}
 use Rattle.heap_model.specs.State.{HeapState, seen, collector_by, collector_of}
 use Rattle.heap_model.specs.Store.{Store}
 use Rattle.heap_model.proofs.Acting.{again, keeps_seen, keeps_whole}
-use Rattle.heap_model.proofs.Collector.{same_stands}
+use Rattle.heap_model.proofs.Collector.{same_coherent}
 use Rattle.heap_model.proofs.Within.{cell_more, more_within}
 
 module _ (h : HeapState) (new : Store) (links : Relinks h.store new) where
@@ -26,8 +26,8 @@ module _ (h : HeapState) (new : Store) (links : Relinks h.store new) where
   pub relinked_settings : settings_of after ≡ settings_of h
   relinked_settings = ap (λ n. record (settings_of h) { pages = n }) relinked_count
 
-  pub stands_relinked : (present snapshot : Graph) → Represents h present snapshot → Represents after present snapshot
-  stands_relinked p s w = record {
+  pub represents_relinked : (present snapshot : Graph) → Represents h present snapshot → Represents after present snapshot
+  represents_relinked p s w = record {
     pages = subst ArePages (sym links.pages) w.pages;
     some = subst (λ n. 0 < n) (sym relinked_count) w.some;
     consistent = again h after p s w.consistent refl refl refl (keeps_whole h.store new links.blocks w.consistent.whole) coherent;
@@ -39,4 +39,4 @@ module _ (h : HeapState) (new : Store) (links : Relinks h.store new) where
       coherent : Coherent (collector_of after) (view p) (view s)
       coherent =
           subst (λ (pages : List (Option Page)). Coherent (collector_by (seen after) pages h.phase h.grey) (view p) (view s)) (sym links.pages)
-          (same_stands (collector_of h) (seen after) (view p) (view s) (keeps_seen h new links.blocks) w.consistent.parts)
+          (same_coherent (collector_of h) (seen after) (view p) (view s) (keeps_seen h new links.blocks) w.consistent.parts)

@@ -6,7 +6,7 @@ use Rattle.size_classes.specs.Parts.{cells_of, parts_in}
 use Rattle.heap_model.specs.State.{HeapState}
 use Rattle.heap_model.specs.Action.{Action, Chain, Nothing_done, Then, Shades, Was_marked, Is_marked, Scans_root, Ends_roots, Scans_header, Scans_cell, Ends_marking, Frees_block, Passes_block, Closes_page, Ends_sweep, Looks_at_page, Chooses_page, Chooses_none, Moves_block, Ends_moving}
 use Rattle.heap_model.specs.Change.{Records, Records_nothing, Records_main, DoesChange, Does_nothing, Does_root, Does_ref, Does_word, Does_new, Does_join, Does_leave, Clears, Clears_none, Clears_next}
-use Rattle.heap_model.specs.Event.{Course, Event, Command_done, Cycle_begun, Cycle_on, Quantum_done, Quantum_refused, present_of, room_for, change_by, Does}
+use Rattle.heap_model.specs.Event.{Course, Event, Command_done, Cycle_begun, Begin_refused, Quantum_done, Quantum_refused, present_of, room_for, change_by, Does}
 use Rattle.heap_model.specs.Settings.{HeapSettings, settings_of}
 use Rattle.heap_model.proofs.Relinked.{relinked_settings}
 use Rattle.heap_model.proofs.Spent.{shades_units}
@@ -74,6 +74,6 @@ change_settings h after g c (Does_leave m k clears) = clears_settings h (first_s
 pub does_settings : (r : Course) (e : Event) (new : Course) → Does r e new → settings_of new.heap ≡ settings_of r.heap
 does_settings r (Command_done m c reply) new d = change_settings r.heap new.heap (present_of r) (change_by (room_for r.heap c) (present_of r) m c) d.change
 does_settings r Cycle_begun new d = ap settings_of d.heap
-does_settings r Cycle_on new d = ap (λ (x : Course). settings_of x.heap) d.1
+does_settings r Begin_refused new d = ap (λ (x : Course). settings_of x.heap) d.1
 does_settings r (Quantum_done budget units phase) new d = chain_settings r.heap new.heap units d.turn.chain
 does_settings r (Quantum_refused budget) new d = ap (λ (x : Course). settings_of x.heap) d.1

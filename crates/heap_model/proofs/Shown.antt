@@ -3,7 +3,7 @@ use Rattle.std.proofs.lemmas.List.{get_or-drop, get_or-take}
 use Rattle.std.proofs.Common.{◌≡◌, ◌≢◌, ℕ, ◌+◌, ◌-◌, ◌<◌, Bool, true, false, length, get_or, refl, ap, subst, sym, ◌∙◌, arith, ◌==◌, if◌then◌else◌, ◌↔◌, drop, ◌*◌, ◌/◌, ◌%◌, nat_lt}
 use Rattle.graph_heap.specs.Graph.{Graph, object_of, Object}
 use Rattle.graph_heap.specs.Reach.{Reaches}
-use Rattle.size_classes.specs.Parts.{cells_of, spines_of, holder_of, seat_of, part_in, column_in}
+use Rattle.size_classes.specs.Parts.{cells_of, spines_of, spine_of, spine_cell_of, part_in, column_in}
 use Rattle.heap_model.specs.Store.{is_allocated, record_of}
 use Rattle.heap_model.specs.Core.{Name, null}
 use Rattle.heap_model.specs.Agree.{IsMain, Reads}
@@ -11,7 +11,7 @@ use Rattle.heap_model.specs.Cut.{count_of, width_of, words_of, target_of, name_o
 use Rattle.heap_model.specs.State.{HeapState, seen, width_at}
 use Rattle.heap_model.specs.Agreement.{Agrees}
 use Rattle.heap_model.specs.Reading.{IsMainCopy, LeadsTo}
-use Rattle.heap_model.proofs.Cut.{part_at, column_at, part_below, column_below, cell_at, holder_at, seat_at, holder_below, holder_cell, word_below}
+use Rattle.heap_model.proofs.Cut.{part_at, column_at, part_below, column_below, cell_at, spine_in, spine_cell_in, spine_below, spine_target, word_below}
 use Rattle.heap_model.proofs.Seen.{behind}
 use Rattle.heap_model.proofs.Written.{cells_sum}
 
@@ -100,17 +100,17 @@ ref_shown h g id i address a r l m =
 
 -- the cell of a spine that refers to a part reads as that part
 pub piece_shown : (h : HeapState) (g : Graph) (id part address : ℕ) → Agrees h g → Reaches g id → 0 < part → part < count_of (object_of g.objects id)
-    → IsMainCopy h.store address (record { identity = id; part = holder_of (cells_of (object_of g.objects id).shape) part })
-    → Reads (seen h) (get_or (record_of h.store address).cells (seat_of (cells_of (object_of g.objects id).shape) part) 0) (record { identity = id; part = part })
+    → IsMainCopy h.store address (record { identity = id; part = spine_of (cells_of (object_of g.objects id).shape) part })
+    → Reads (seen h) (get_or (record_of h.store address).cells (spine_cell_of (cells_of (object_of g.objects id).shape) part) 0) (record { identity = id; part = part })
 piece_shown h g id part address a r p l m =
     let o = object_of g.objects id in
     let sum = cells_sum o (a.given id r).cells in
-    let m' = subst (λ z. IsMainCopy h.store address (record { identity = id; part = holder_of z part })) (sym sum) m in
-    let q = holder_below o part l p in
-    let s = (shown h g id (holder_at o part) address a r q.2 m').3 (seat_at o part) q.0 in
-    let s' = subst (λ z. Reads (seen h) ((seen h).cell (address + 1) (seat_at o part)) z) (holder_cell id o part l p) s in
-    let s'' = subst (λ z. Reads (seen h) z (record { identity = id; part = part })) (behind 0 (λ z. get_or (record_of h.store z).cells (seat_at o part) 0) address) s' in
-    subst (λ z. Reads (seen h) (get_or (record_of h.store address).cells (seat_of z part) 0) (record { identity = id; part = part })) sum s''
+    let m' = subst (λ z. IsMainCopy h.store address (record { identity = id; part = spine_of z part })) (sym sum) m in
+    let q = spine_below o part l p in
+    let s = (shown h g id (spine_in o part) address a r q.2 m').3 (spine_cell_in o part) q.0 in
+    let s' = subst (λ z. Reads (seen h) ((seen h).cell (address + 1) (spine_cell_in o part)) z) (spine_target id o part l p) s in
+    let s'' = subst (λ z. Reads (seen h) z (record { identity = id; part = part })) (behind 0 (λ z. get_or (record_of h.store z).cells (spine_cell_in o part) 0) address) s' in
+    subst (λ z. Reads (seen h) (get_or (record_of h.store address).cells (spine_cell_of z part) 0) (record { identity = id; part = part })) sum s''
 
 -- each word cell is the object's
 pub word_at : (o : Object) (k : ℕ) → get_or (words_of o (part_at o k)) (column_at o k) 0 ≡ get_or o.words k 0

@@ -19,9 +19,9 @@ block_made h y n shape width words = record h {
 }
 
 -- each part but part 0 is named by one cell, of an earlier part, and each cell names a later part or null
-pub record AreLinked (ps : Parts) (holder seat : ℕ → ℕ) : Type 0 where
-  pub there : (k : ℕ) → 0 < k → k < ps.count → (holder k < k) × (seat k < ps.width (holder k)) × (ps.link (holder k) (seat k) ≡ k)
-  pub back : (p i : ℕ) → p < ps.count → i < ps.width p → 0 < ps.link p i → (holder (ps.link p i) ≡ p) × (seat (ps.link p i) ≡ i) × (p < ps.link p i)
+pub record AreLinked (ps : Parts) (spine spine_cell : ℕ → ℕ) : Type 0 where
+  pub there : (k : ℕ) → 0 < k → k < ps.count → (spine k < k) × (spine_cell k < ps.width (spine k)) × (ps.link (spine k) (spine_cell k) ≡ k)
+  pub back : (p i : ℕ) → p < ps.count → i < ps.width p → 0 < ps.link p i → (spine (ps.link p i) ≡ p) × (spine_cell (ps.link p i) ≡ i) × (p < ps.link p i)
 
 -- what a cell holds when k parts stand: the reference of one of them, or null
 abbrev pub linked_to : (ℕ → ℕ) → ℕ → ℕ → ℕ
@@ -73,9 +73,9 @@ first_next h ps a k h' y cell m free e kept told = record {
 }
 
 -- part 0
-pub first_root : (h : Heap) (ps : Parts) (a : ℕ → ℕ) (holder seat : ℕ → ℕ) (k : ℕ) (h' : Heap) (y : ℕ) → AreLinked ps holder seat → k ≡ 0 → k < ps.count → MakesFirst h ps a k h' → h'.allocated y ≡ false → a k ≡ y
+pub first_root : (h : Heap) (ps : Parts) (a : ℕ → ℕ) (spine spine_cell : ℕ → ℕ) (k : ℕ) (h' : Heap) (y : ℕ) → AreLinked ps spine spine_cell → k ≡ 0 → k < ps.count → MakesFirst h ps a k h' → h'.allocated y ≡ false → a k ≡ y
     → MakesFirst h ps a (k + 1) (block_made h' y (record { identity = h.next; part = k }) ps.shape (ps.width k) (ps.words k))
-first_root h ps a holder seat k h' y w none few m free e =
+first_root h ps a spine spine_cell k h' y w none few m free e =
     first_next h ps a k h' y (λ x i. if x == y then 0 else h'.cell x i) m free e (λ x i l. let s = m.stays in grind arith) (λ p i l b. let q = w.back p i in grind arith)
 
 last_or : (p k : ℕ) → p < k + 1 → (p ≡ k) ⊎ (p < k)
@@ -110,21 +110,21 @@ cell_first a k here spine y i c old link some e ne was there back = by_link (lin
         same l = grind arith
 
 -- one part more, and the cell that names it
-pub first_more : (h : Heap) (ps : Parts) (a : ℕ → ℕ) (holder seat : ℕ → ℕ) (k : ℕ) (h' : Heap) (y : ℕ) → AreLinked ps holder seat → 0 < k → k < ps.count → MakesFirst h ps a k h' → h'.allocated y ≡ false → a k ≡ y
-    → MakesFirst h ps a (k + 1) (set_cell (block_made h' y (record { identity = h.next; part = k }) ps.shape (ps.width k) (ps.words k)) (a (holder k)) (seat k) y)
-first_more h ps a holder seat k h' y w some few m free e =
+pub first_more : (h : Heap) (ps : Parts) (a : ℕ → ℕ) (spine spine_cell : ℕ → ℕ) (k : ℕ) (h' : Heap) (y : ℕ) → AreLinked ps spine spine_cell → 0 < k → k < ps.count → MakesFirst h ps a k h' → h'.allocated y ≡ false → a k ≡ y
+    → MakesFirst h ps a (k + 1) (set_cell (block_made h' y (record { identity = h.next; part = k }) ps.shape (ps.width k) (ps.words k)) (a (spine k)) (spine_cell k) y)
+first_more h ps a spine spine_cell k h' y w some few m free e =
     let t = w.there k some few in
-    let stands = m.parts.allocated (holder k) t.0 in
-    let was_free = m.free (holder k) t.0 in
-    first_next h ps a k h' y (λ z i. if (z == a (holder k)) && (i == seat k) then y else (if z == y then 0 else h'.cell z i)) m free e
+    let stands = m.parts.allocated (spine k) t.0 in
+    let was_free = m.free (spine k) t.0 in
+    first_next h ps a k h' y (λ z i. if (z == a (spine k)) && (i == spine_cell k) then y else (if z == y then 0 else h'.cell z i)) m free e
     (λ x i l. let s = m.stays in grind arith)
     (λ p i l b. elim (last_or p k l) [
-      | inl z ↦ cell_last a k (a p) (a (holder k)) y i (seat k) (h'.cell (a p) i) (ps.link p i) (ap a z ∙ e) (λ x. unheld (h'.allocated y) (subst (λ r. h'.allocated r ≡ true) x stands) free)
+      | inl z ↦ cell_last a k (a p) (a (spine k)) y i (spine_cell k) (h'.cell (a p) i) (ps.link p i) (ap a z ∙ e) (λ x. unheld (h'.allocated y) (subst (λ r. h'.allocated r ≡ true) x stands) free)
           (λ n. subst (λ r. r < ps.link p i) z (w.back p i (subst (λ r. r < ps.count) (sym z) few) b n).2)
-      | inr z ↦ cell_first a k (a p) (a (holder k)) y i (seat k) (h'.cell (a p) i) (ps.link p i) some e (λ x. unheld (h'.allocated y) (subst (λ r. h'.allocated r ≡ true) x (m.parts.allocated p z)) free)
+      | inr z ↦ cell_first a k (a p) (a (spine k)) y i (spine_cell k) (h'.cell (a p) i) (ps.link p i) some e (λ x. unheld (h'.allocated y) (subst (λ r. h'.allocated r ≡ true) x (m.parts.allocated p z)) free)
           (m.cell p i z b)
-          (λ x f. ap2 ps.link (m.apart p (holder k) z t.0 x) f ∙ t.2)
-          (λ x. let n : 0 < ps.link p i = subst (λ r. 0 < r) (sym x) some in let r = w.back p i (lt_trans p k ps.count z few) b n in (ap a (sym r.0 ∙ ap holder x), sym r.1 ∙ ap seat x))
+          (λ x f. ap2 ps.link (m.apart p (spine k) z t.0 x) f ∙ t.2)
+          (λ x. let n : 0 < ps.link p i = subst (λ r. 0 < r) (sym x) some in let r = w.back p i (lt_trans p k ps.count z few) b n in (ap a (sym r.0 ∙ ap spine x), sym r.1 ∙ ap spine_cell x))
     ])
 
 -- all parts, and all links

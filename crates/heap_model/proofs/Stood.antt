@@ -1,4 +1,4 @@
--- A heap goes on to stand through actions, chains and beginnings.
+-- A heap represents graph heaps through actions, chains and beginnings.
 use Rattle.std.proofs.Common.{refl, ◌≡◌, ℕ, ◌<◌, ◌≤◌, true, false, length, ap, subst, sym, ◌∙◌, arith}
 use Rattle.std.specs.Prelude.{Some, None}
 use Rattle.graph_heap.specs.Graph.{Graph, opening}
@@ -13,16 +13,16 @@ use Rattle.heap_model.specs.Swept.{IsSwept}
 use Rattle.heap_model.specs.Spent.{IsWithin, cycle_limit}
 use Rattle.heap_model.specs.Placed.{IsPlaced}
 use Rattle.heap_model.specs.Marks.{HasNoMark, AreClosed}
-use Rattle.heap_model.specs.Standing.{Represents, is_sweeping}
+use Rattle.heap_model.specs.Represents.{Represents, is_sweeping}
 use Rattle.heap_model.proofs.Actions.{action_kept, begun_kept}
 use Rattle.heap_model.proofs.Spent.{within_kept, begun_within, limit_kept}
 use Rattle.heap_model.proofs.Marks.{action_pages, action_count, action_placed, action_closed, no_mark}
-use Rattle.heap_model.proofs.Opening.{opening_stands, page_none}
-use Rattle.heap_model.proofs.Relinked.{stands_relinked}
+use Rattle.heap_model.proofs.Opening.{opening_represents, page_none}
+use Rattle.heap_model.proofs.Relinked.{represents_relinked}
 use Rattle.heap_model.proofs.Rest.{swept}
 
-pub stands_action : (h after : HeapState) (cost : ℕ) (present snapshot : Graph) → Represents h present snapshot → Action h cost after → Represents after present snapshot
-stands_action h after cost p s w a = record {
+pub represents_action : (h after : HeapState) (cost : ℕ) (present snapshot : Graph) → Represents h present snapshot → Action h cost after → Represents after present snapshot
+represents_action h after cost p s w a = record {
   pages = action_pages h after cost w.pages a;
   some = (let e = action_count h after cost a in let l = w.some in omega arith);
   consistent = action_kept h after cost p s w.pages w.consistent a;
@@ -31,22 +31,22 @@ stands_action h after cost p s w a = record {
   closed = action_closed h after cost w.closed a;
 }
 
-pub stands_chain : (h after : HeapState) (spent : ℕ) (present snapshot : Graph) → Represents h present snapshot → Chain h spent after → Represents after present snapshot
-stands_chain h after spent p s w Nothing_done = w
-stands_chain h after spent p s w (Then u cost j k linked chain links action) = stands_action (record j { store = linked }) k cost p s (stands_relinked j linked links p s (stands_chain h j u p s w chain)) action
+pub represents_chain : (h after : HeapState) (spent : ℕ) (present snapshot : Graph) → Represents h present snapshot → Chain h spent after → Represents after present snapshot
+represents_chain h after spent p s w Nothing_done = w
+represents_chain h after spent p s w (Then u cost j k linked chain links action) = represents_action (record j { store = linked }) k cost p s (represents_relinked j linked links p s (represents_chain h j u p s w chain)) action
 
-pub stands_begun : (h : HeapState) (present snapshot : Graph) → Represents h present snapshot → h.phase ≡ phases.Idle → Represents (begun h) present present
-stands_begun h p s w e = record { pages = w.pages; some = w.some; consistent = begun_kept h p s w.consistent e; within = begun_within h; placed = tt; closed = tt }
+pub represents_begun : (h : HeapState) (present snapshot : Graph) → Represents h present snapshot → h.phase ≡ phases.Idle → Represents (begun h) present present
+represents_begun h p s w e = record { pages = w.pages; some = w.some; consistent = begun_kept h p s w.consistent e; within = begun_within h; placed = tt; closed = tt }
 
-pub stands_limit : (h : HeapState) (present snapshot : Graph) → Represents h present snapshot → h.units ≤ cycle_limit h
-stands_limit h p s w = limit_kept h p s w.some w.pages w.consistent w.within
+pub represents_limit : (h : HeapState) (present snapshot : Graph) → Represents h present snapshot → h.units ≤ cycle_limit h
+represents_limit h p s w = limit_kept h p s w.some w.pages w.consistent w.within
 
 -- the opening heap
-pub stands_opening : (h : HeapState) → IsOpening h → 0 < length h.store.pages → Represents h (opening h.limits) (opening h.limits)
-stands_opening h o l = record {
+pub represents_opening : (h : HeapState) → IsOpening h → 0 < length h.store.pages → Represents h (opening h.limits) (opening h.limits)
+represents_opening h o l = record {
   pages = record { each = λ k p e. absurd (let z : None ≡ Some p = sym (ap (λ y. page_at y k) o.pages ∙ page_none (length h.store.pages) k) ∙ e in cc) };
   some = l;
-  consistent = opening_stands h o;
+  consistent = opening_represents h o;
   within = subst (IsWithin h) (sym o.phase) (let u : h.units ≡ 0 = o.units in within_none h.units (cycle_limit h) u);
   placed = subst (IsPlaced h.store.pages) (sym o.phase) tt;
   closed = subst (AreClosed h.store.pages) (sym o.phase) tt;

@@ -20,7 +20,7 @@ use Rattle.heap_model.specs.Written.{IsKnown, records, IsRecorded}
 use Rattle.heap_model.proofs.Edits.{set_root, set_cell, set_word, write_root, write_target, write_word}
 use Rattle.heap_model.proofs.Barrier.{is_tracing, puts_root, puts_cell, main_at}
 use Rattle.heap_model.proofs.Words.{puts_word}
-use Rattle.heap_model.proofs.Collector.{same_stands}
+use Rattle.heap_model.proofs.Collector.{same_coherent}
 use Rattle.heap_model.proofs.Cut.{part_at, column_at, part_below, column_below, word_below}
 use Rattle.heap_model.proofs.Changes.{view-root, view-ref, view-word, object-put_same, object-put_other}
 use Rattle.heap_model.proofs.Seen.{allocated_pages, node_kept, behind, root_seen, cell_seen, word_seen}
@@ -44,7 +44,7 @@ root_kept h present snapshot j y v c l r k i =
     let m = collector_of h in
     let h' : HeapState = record h { roots = set h.roots j y } in
     let c1 = puts_root m (view present) (view snapshot) j y (name_of v) c.parts l (λ t. r (sym (records-progress h.store.pages h.phase) ∙ t)) k i in
-    let c2 = same_stands (record m { heap = set_root m.heap j y }) (seen h') (write_root (view present) j (name_of v)) (view snapshot) (root_seen h j y l) c1 in
+    let c2 = same_coherent (record m { heap = set_root m.heap j y }) (seen h') (write_root (view present) j (name_of v)) (view snapshot) (root_seen h j y l) c1 in
     let l' : j < length present.roots = subst (λ z. j < z) c.present_row l in
     stepped h h' present snapshot (changed present (changes.Root j v)) snapshot c refl refl (length-set h.roots j y) refl refl (length-set present.roots j v) c.snapshot_row c.cells c.whole
     (subst (λ z. Coherent (collector_of h') z (view snapshot)) (sym (view-root present j v l')) c2)
@@ -101,7 +101,7 @@ word_written h present snapshot new a id k word c r l i w =
     let n : Name = record { identity = id; part = part_at o k } in
     let i' : IsMain (seen h) (a + 1) n = subst (λ z. IsMain (seen h) (a + 1) (record { identity = id; part = part_in z k })) (sym (cells_sum o (c.cells id))) i in
     let c1 = puts_word m (view present) (view snapshot) (a + 1) n (column_at o k) word c.parts (part_kept h present snapshot c id (part_at o k) r below) i' in
-    let c2 = same_stands (record m { heap = set_word m.heap (a + 1) (column_at o k) word }) (seen h') (write_word (view present) n (column_at o k) word) (view snapshot) (word_seen h new a (column_at o k) word w) c1 in
+    let c2 = same_coherent (record m { heap = set_word m.heap (a + 1) (column_at o k) word }) (seen h') (write_word (view present) n (column_at o k) word) (view snapshot) (word_seen h new a (column_at o k) word w) c1 in
     object_written h present snapshot new a id _ (with_word o k word) c r w (whole_cell h.store new a _ word w c.whole) (record { refs = (c.cells id).refs; words = length-set o.words k word ∙ (c.cells id).words })
     (λ some given. subst (λ z. Coherent (record m { heap = seen h' }) z (view snapshot)) (sym (view-word present id k word some given)) c2)
 
@@ -149,6 +149,6 @@ ref_written h present snapshot new a y id i v c r l ix rec kv iy w =
     let cell : (seen h).cell (a + 1) (column_at o i) ≡ get_or (record_of h.store a).cells (column_at o i) 0 = behind 0 (λ z. get_or (record_of h.store z).cells (column_at o i) 0) a in
     let recorded : is_tracing m.phase ≡ true → m.heap.marked (m.heap.forward (m.heap.cell (a + 1) (column_at o i))) ≡ true = λ t. subst (λ z. m.heap.marked (m.heap.forward z) ≡ true) (sym cell) (rec (sym (records-progress h.store.pages h.phase) ∙ t)) in
     let c1 = puts_cell m (view present) (view snapshot) (a + 1) n (column_at o i) y (name_of v) c.parts kn ix' column recorded (known_kept h present snapshot c v kv) iy in
-    let c2 = same_stands (record m { heap = set_cell m.heap (a + 1) (column_at o i) y }) (seen h') (write_target (view present) n (column_at o i) (name_of v)) (view snapshot) (cell_seen h new a (column_at o i) y w inside column') c1 in
+    let c2 = same_coherent (record m { heap = set_cell m.heap (a + 1) (column_at o i) y }) (seen h') (write_target (view present) n (column_at o i) (name_of v)) (view snapshot) (cell_seen h new a (column_at o i) y w inside column') c1 in
     object_written h present snapshot new a id _ (with_ref o i v) c r w (whole_cell h.store new a _ y w c.whole) (record { refs = length-set o.refs i v ∙ (c.cells id).refs; words = (c.cells id).words })
     (λ some given. subst (λ z. Coherent (record m { heap = seen h' }) z (view snapshot)) (sym (view-ref present id i v some given l)) c2)

@@ -1,7 +1,7 @@
 -- Reading the heap through forwarding, by address.
 use Rattle.std.specs.Prelude.{◌≡◌, ◌≢◌, ℕ, ◌-◌, ◌<◌, true, ◌==◌, if◌then◌else◌, length, slice_index}
 use Rattle.graph_heap.specs.Graph.{Graph, object_of}
-use Rattle.size_classes.specs.Parts.{cells_of, holder_of, part_in, seat_of}
+use Rattle.size_classes.specs.Parts.{cells_of, spine_of, part_in, spine_cell_of}
 use Rattle.heap_model.specs.Store.{Store, is_allocated, record_of}
 use Rattle.heap_model.specs.Core.{Name}
 use Rattle.heap_model.specs.State.{HeapState}
@@ -40,9 +40,10 @@ pub record Refers (s : Store) (block cell : ℕ) : Type 0 where
 -- the block of the spine that refers to a part, from that of part 0 of an object with this many cells: itself,
 -- or the middle spine to which it refers
 abbrev pub spine_at : Store → ℕ → ℕ → ℕ → ℕ
-spine_at s cells block part = if holder_of cells part == 0 then block
-    else step_to s block (seat_of cells (holder_of cells part))
+spine_at s cells block part = if spine_of cells part == 0 then block
+    else step_to s block (spine_cell_of cells (spine_of cells part))
 
 -- the block of a part, from that of part 0: itself, or by way of the spine that refers to it
 abbrev pub block_of : Store → ℕ → ℕ → ℕ → ℕ
-block_of s cells block part = if part == 0 then block else step_to s (spine_at s cells block part) (seat_of cells part)
+block_of s cells block part =
+    if part == 0 then block else step_to s (spine_at s cells block part) (spine_cell_of cells part)

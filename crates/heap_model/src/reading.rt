@@ -3,7 +3,7 @@
 ghost use Rattle.std.specs.Prelude.{◌≡◌, ◌≢◌, ◌↔◌, ℕ, ◌+◌, ◌-◌, ◌<◌, length, slice_index};
 ghost use Rattle.graph_heap.specs.Graph.{Graph, object_of};
 ghost use Rattle.graph_heap.specs.Reach.{Reaches};
-ghost use Rattle.size_classes.specs.Parts.{cells_of, holder_of, seat_of, column_in};
+ghost use Rattle.size_classes.specs.Parts.{cells_of, spine_of, spine_cell_of, column_in};
 ghost use Rattle.heap_model.specs.Store.{record_of};
 ghost use Rattle.heap_model.specs.Core.{Name};
 ghost use Rattle.heap_model.specs.Agree.{IsMain, Reads};
@@ -14,7 +14,7 @@ ghost use Rattle.heap_model.specs.Reading.{IsMainCopy, HasCell, LeadsTo, Refers,
 ghost use Rattle.heap_model.specs.declared.phase.Phase.TheVariants as phases;
 ghost use Rattle.heap_model.specs.declared.phase.Moving.{Moving};
 ghost use Rattle.heap_model.specs.Action.{Action};
-ghost use Rattle.heap_model.specs.Standing.{Represents};
+ghost use Rattle.heap_model.specs.Represents.{Represents};
 
 /// What a root holds reads as the graph heap's root.
 pub fn root_reads()
@@ -71,10 +71,10 @@ pub fn piece_shown()
         → part < count_of (object_of g.objects id)
         → IsMainCopy h.store address (record {
           identity = id;
-          part = holder_of (cells_of (object_of g.objects id).shape) part;
+          part = spine_of (cells_of (object_of g.objects id).shape) part;
         })
         → Reads (seen h) (slice_index (record_of h.store address).cells
-        (seat_of (cells_of (object_of g.objects id).shape) part)) (record { identity = id; part = part }) }
+        (spine_cell_of (cells_of (object_of g.objects id).shape) part)) (record { identity = id; part = part }) }
 {}
 
 /// Word cell k of an object stands in its part after the references, and is the object's.
@@ -95,11 +95,11 @@ pub fn part_reached()
         (record { identity = id; part = part }) }
     ensures spine { (h : HeapState) (g : Graph) (id part address : ℕ) → Agrees h g → Reaches g id → IsWhole h.store
         → 0 < part → part < count_of (object_of g.objects id) → IsMainCopy h.store address (name_of id)
-        → holder_of (cells_of (object_of g.objects id).shape) part ≢ 0
-        → Refers h.store address (seat_of (cells_of (object_of g.objects id).shape)
-        (holder_of (cells_of (object_of g.objects id).shape) part)) }
+        → spine_of (cells_of (object_of g.objects id).shape) part ≢ 0
+        → Refers h.store address (spine_cell_of (cells_of (object_of g.objects id).shape)
+        (spine_of (cells_of (object_of g.objects id).shape) part)) }
     ensures piece { (h : HeapState) (g : Graph) (id part address : ℕ) → Agrees h g → Reaches g id → IsWhole h.store
         → 0 < part → part < count_of (object_of g.objects id) → IsMainCopy h.store address (name_of id)
         → Refers h.store (spine_at h.store (cells_of (object_of g.objects id).shape) address part)
-        (seat_of (cells_of (object_of g.objects id).shape) part) }
+        (spine_cell_of (cells_of (object_of g.objects id).shape) part) }
 {}

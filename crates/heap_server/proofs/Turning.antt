@@ -6,10 +6,10 @@ use Rattle.heap_model.specs.declared.phase.Phase.TheVariants as phases
 use Rattle.heap_model.specs.State.{HeapState}
 use Rattle.heap_model.specs.Action.{Chain, Nothing_done, Then}
 use Rattle.heap_model.specs.Pages.{ArePages}
-use Rattle.heap_model.specs.Standing.{Represents}
+use Rattle.heap_model.specs.Represents.{Represents}
 use Rattle.heap_model.specs.Event.{Course, present_of, snapshot_of, Collects, IsCourse}
 use Rattle.heap_model.proofs.Turns.{action_cost}
-use Rattle.heap_model.proofs.Stood.{stands_chain, idle_chain}
+use Rattle.heap_model.proofs.Stood.{represents_chain, idle_chain}
 use Rattle.machine.specs.declared.collector.Spent.{Spent}
 use Rattle.heap_server.specs.Views.{PacerView}
 use Rattle.heap_server.specs.Kept.{cycles_on}
@@ -27,7 +27,7 @@ idle_or (phases.Moving place) = inr (λ e. cc, refl)
 nothing_done : (h after : HeapState) (spent : ℕ) (present snapshot : Graph) → Represents h present snapshot → Chain h spent after → spent ≡ 0 → after ≡ h
 nothing_done h after spent p s w Nothing_done e = refl
 nothing_done h after spent p s w (Then u cost j k linked chain links action) e =
-    let c : 0 < cost = (action_cost (record j { store = linked }) k cost (subst ArePages (sym links.pages) (stands_chain h j u p s w chain).pages) action).0 in absurd (omega arith)
+    let c : 0 < cost = (action_cost (record j { store = linked }) k cost (subst ArePages (sym links.pages) (represents_chain h j u p s w chain).pages) action).0 in absurd (omega arith)
 
 -- what a quantum spends, and where it leaves the cycle
 module _ (r new : Course) (budget units : ℕ) (phase : Phase) (w : IsCourse r) (c : Collects r budget units phase new) where
@@ -39,7 +39,7 @@ module _ (r new : Course) (budget units : ℕ) (phase : Phase) (w : IsCourse r) 
   quantum_spends : (phase ≡ phases.Idle) ⊎ (budget < units + 256) → r.heap.phase ≢ phases.Idle → 0 < units
   quantum_spends left busy = elim left [
     | inl i ↦ (
-        let some : units ≢ 0 = λ none. busy (sym (ap (λ (h : HeapState). h.phase) (nothing_done r.heap new.heap units (present_of r) (snapshot_of r) w.stands c.turn.chain none)) ∙ (c.ends ∙ i)) in omega arith)
+        let some : units ≢ 0 = λ none. busy (sym (ap (λ (h : HeapState). h.phase) (nothing_done r.heap new.heap units (present_of r) (snapshot_of r) w.represents c.turn.chain none)) ∙ (c.ends ∙ i)) in omega arith)
     | inr l ↦ (let low = c.allowed.0 in omega arith)
   ]
 

@@ -5,7 +5,7 @@ ghost use Rattle.graph_heap.specs.Graph.{opening};
 ghost use Rattle.graph_heap.specs.History.{IsLegal};
 ghost use Rattle.heap_model.specs.Event.{Does, IsBudget};
 ghost use Rattle.heap_model.specs.Event as done;
-ghost use Rattle.machine.specs.HeapWithHistory.{begin_done, quantum_done};
+ghost use Rattle.machine.specs.Recorded.{begin_done, quantum_done};
 ghost use Rattle.heap_server.specs.Views.{pacer_of};
 ghost use Rattle.heap_server.specs.Kept.{cycles_on};
 ghost use Rattle.heap_server.specs.Paced.{IsPaced};
@@ -17,7 +17,7 @@ use crate::naming::{Begun, Calls, Ended, Naming, Quanta, Units};
 use crate::place::{Front, HistoryLength, PendingEntry};
 use graph_heap::{Command, NoMemory};
 use heap_model::phase::Phase;
-use machine::{BudgetOutOfRange, Busy, HeapWithHistory, Receipt, Spent};
+use machine::{BudgetOutOfRange, Busy, Receipt, Recorded, Spent};
 use std::marker::Model;
 use std::sync::ledger::{Book, Share};
 
@@ -92,7 +92,7 @@ impl<N: Naming> Model for Pacer<N> {
 /// books count the events that led there.
 #[derive(Drop)]
 pub struct Locked<N: Naming> {
-    pub(crate) recorded: HeapWithHistory,
+    pub(crate) recorded: Recorded,
     pub(crate) ready: usize,
     pub(crate) calls: Book<Calls<N>>,
     pub(crate) begun: Book<Begun<N>>,
@@ -119,7 +119,7 @@ impl<N: Naming> Locked<N> {
     ghost use Rattle.heap_server.specs.Kept.{IsKept};
 
     /// The heap with its history.
-    pub fn recorded(&self) -> &HeapWithHistory
+    pub fn recorded(&self) -> &Recorded
         ensures recorded { result.now.course ≡ self.now.course }
         ensures kept { IsKept N.names.settings self.now }
     {

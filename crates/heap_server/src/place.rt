@@ -6,7 +6,7 @@ ghost use Rattle.heap_server.specs.HistoryLength.{word_of, next_entry, Commits};
 use crate::naming::Naming;
 use graph_heap::{Command, Entry};
 use logbook::{Gain, Offer, Plain, Play, Rule, Seen, Start, Word};
-use machine::HeapWithHistory;
+use machine::Recorded;
 use std::marker::{Model, PhantomData};
 use std::snapshot::Snapshot;
 
@@ -89,7 +89,7 @@ impl Plain<PendingEntry, Entry, u64> for AppendStep {
 /// the entry can be added to the log before the command is planned.
 #[derive(Drop)]
 pub struct PendingEntry {
-    recorded: Snapshot<HeapWithHistory>,
+    recorded: Snapshot<Recorded>,
     mutator: u32,
     command: Command,
 }
@@ -105,7 +105,7 @@ impl Model for PendingEntry {
 
 impl PendingEntry {
     /// The command, at this heap with its history.
-    pub fn from_command(recorded: &HeapWithHistory, mutator: u32, command: Command) -> PendingEntry
+    pub fn from_command(recorded: &Recorded, mutator: u32, command: Command) -> PendingEntry
         ensures { result ≡ next_entry recorded.now.course mutator command }
     {
         PendingEntry {

@@ -14,7 +14,7 @@ use crate::server::Server;
 use crate::tally::Tally;
 use crate::workers::{collect, play_seats};
 use graph_heap::{Command, NoMemory};
-use machine::HeapWithHistory;
+use machine::Recorded;
 use size_classes::Config;
 use std::alloc::Global;
 use std::marker::Brand;
@@ -26,7 +26,7 @@ use std::thread::Threads;
 #[derive(Drop)]
 pub struct Outcome {
     /// The heap, with the history of all commands that were done.
-    pub recorded: HeapWithHistory,
+    pub recorded: Recorded,
     /// How many commands of each script were done, by the number of the mutator.
     pub done: Vec<u64>,
     /// How many budgets were used.

@@ -17,7 +17,7 @@ use crate::locked::{Locked, Pacer, Seat};
 use crate::naming::{Calls, Naming, Opening};
 use crate::place::{Front, HistoryLength};
 use graph_heap::{Command, NoMemory};
-use machine::{BudgetOutOfRange, Busy, HeapWithHistory, Receipt, Spent};
+use machine::{BudgetOutOfRange, Busy, Receipt, Recorded, Spent};
 use size_classes::Config;
 use std::alloc::Global;
 use std::sync::ledger::Share;
@@ -53,7 +53,7 @@ impl<N: Naming> Server<N> {
             units,
             place,
         } = opening;
-        let recorded = HeapWithHistory::new(alloc, &config)?;
+        let recorded = Recorded::new(alloc, &config)?;
         let (place, front) = place.named();
         let (calls, shares) = calls.open();
         let (begun, my_begun) = begun.open();
@@ -144,7 +144,7 @@ impl<N: Naming> Server<N> {
 
     /// The heap with the history of all calls, the number of the place word, and what was seen of the log by the load
     /// that found it. All that `new` gave comes back: every seat, in any order, and the pacer. It waits for nobody.
-    pub fn close(self, seats: Vec<Seat<N>>, mut pacer: Pacer<N>) -> (HeapWithHistory, u64, Front<N>)
+    pub fn close(self, seats: Vec<Seat<N>>, mut pacer: Pacer<N>) -> (Recorded, u64, Front<N>)
         requires { IsPermutation (mutators_of seats.items) (upto N.names.settings.limits.mutators) }
         ensures sound { IsSound N.names.settings result.0.course }
         ensures counted { length result.0.course.history ≡ sum_by (λ s. s.calls) seats.items }

@@ -3,7 +3,7 @@ use Rattle.std.specs.Prelude.{◌≡◌, ℕ, ◌+◌, ◌-◌, ◌^◌, min, ma
 use Rattle.heap_model.specs.Event.{Course}
 use Rattle.heap_model.specs.Pages.{free_pages}
 use Rattle.nodes.specs.Copies.{copies_in}
-use Rattle.nodes.specs.declared.block_store.counting.Copies.{Copies}
+use Rattle.nodes.specs.declared.nodes.counting.Copies.{Copies}
 use Rattle.inspector.specs.declared.cycles.cycle.Cycle.{Cycle}
 use Rattle.inspector.specs.declared.cycles.cycle.Sweep.{Sweep}
 use Rattle.player.specs.Steps.{Step}
@@ -15,8 +15,8 @@ abbrev pub counted : ℕ → ℕ
 counted n = min n (2 ^ 64 - 1)
 
 -- the moment after the last of the steps that are so, or else an earlier one
-abbrev pub behind_last : (Step → Bool) → Option Course → List Step → Option Course
-behind_last is earlier steps = fold (λ last s. if is s then Some s.after else last) earlier steps
+abbrev pub after_last : (Step → Bool) → Option Course → List Step → Option Course
+after_last is earlier steps = fold (λ last s. if is s then Some s.after else last) earlier steps
 
 -- the copies in the heap at a moment; at the start there are none
 abbrev pub copies_at : Option Course → Copies
@@ -58,7 +58,7 @@ SweptBy earlier first later None = count_by ends_sweep later ≡ 0
 SweptBy earlier first later (Some s) =
     (front : List Step) × (last : Step) × (behind : List Step) × (later ≡ front ++ last ∷ behind)
     × (count_by ends_sweep front ≡ 0) × (ends_sweep last ≡ true)
-    × IsSweep (behind_last ends_sweep None earlier) (behind_last ends_cycle None earlier) first.before last.after s
+    × IsSweep (after_last ends_sweep None earlier) (after_last ends_cycle None earlier) first.before last.after s
 
 -- The figures of a cycle that the first step begins, where the later ones begin none: its line, its quanta, its units,
 -- the most units of a quantum, its sweep, and the blocks that were moved once that had ended: the heap has an old copy

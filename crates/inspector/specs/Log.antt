@@ -3,7 +3,7 @@ use Rattle.std.specs.Prelude.{◌≡◌, ◌≢◌, ℕ, true, List, [], ◌∷�
 use Rattle.heap_model.specs.Event.{Course}
 use Rattle.heap_model.specs.Pages.{free_pages}
 use Rattle.nodes.specs.Copies.{copies_in}
-use Rattle.nodes.specs.declared.block_store.counting.Copies.{Copies}
+use Rattle.nodes.specs.declared.nodes.counting.Copies.{Copies}
 use Rattle.inspector.specs.declared.cycles.cycle.Cycle.{Cycle}
 use Rattle.inspector.specs.declared.cycles.open.Base.{Base}
 use Rattle.inspector.specs.declared.cycles.open.End.{End}
@@ -14,7 +14,7 @@ use Rattle.inspector.specs.declared.cycles.log.Log.{Log}
 use Rattle.player.specs.Observing.{Run}
 use Rattle.player.specs.Steps.{Step}
 use Rattle.inspector.specs.Steps.{begins, works, ends_sweep, ends_cycle}
-use Rattle.inspector.specs.Cycles.{counted, behind_last, copies_at, units_by, longest_of, end_of, SweptBy, AreCycles}
+use Rattle.inspector.specs.Cycles.{counted, after_last, copies_at, units_by, longest_of, end_of, SweptBy, AreCycles}
 
 -- how long the history was at a moment; at the start it was empty
 abbrev pub place_at : Option Course → ℕ
@@ -30,7 +30,7 @@ pub record IsBaseAt (swept ended : Option Course) (b : Base) : Type 0 where
 
 -- what is known of the last sweep and the last cycle that steps ended
 abbrev pub IsBase : List Step → Base → Type 0
-IsBase steps b = IsBaseAt (behind_last ends_sweep None steps) (behind_last ends_cycle None steps) b
+IsBase steps b = IsBaseAt (after_last ends_sweep None steps) (after_last ends_cycle None steps) b
 
 -- what a step was to the cycle that it found
 pub record IsQuantumEffect (s : Step) (t : QuantumEffect) : Type 0 where

@@ -8,9 +8,9 @@ use Rattle.heap_model.specs.Pages.{whole_pages}
 use Rattle.space.specs.Pace.{Pace}
 use Rattle.space.specs.declared.pace.Pace.{Pace as PaceTable}
 use Rattle.space.specs.Fitting.{pace_in, pages_needed, quanta_needed, FitsIn, IsLeast}
-use Rattle.fragmentation.specs.Suffice.{budget_pages}
+use Rattle.fragmentation.specs.Suffice.{demand_pages}
 use Rattle.sizing.specs.declared.needed.Needed.{Needed}
-use Rattle.sizing.specs.Measured.{together_in, budget_in}
+use Rattle.sizing.specs.Measured.{together_in, page_demand_in}
 use Rattle.sizing.specs.Reckoned.{still_pages, moved_pages, needed_pages}
 use Rattle.inspector.specs.ClassLines.{class_lines}
 use Rattle.inspector.specs.declared.pages_needed.lines.Scope.{Scope}
@@ -38,15 +38,15 @@ gathered_line pages =
     codes "moving after each sweep " ++ (decimal pages ++ codes ": for each run that needs no more pages so\n")
 
 -- how many suffice with such moving, whatever the sizes of objects are
-abbrev pub budget_line : ℕ → Needed → List ℕ
-budget_line pages n = codes "whatever the sizes " ++ (decimal pages
+abbrev pub page_demand_line : ℕ → Needed → List ℕ
+page_demand_line pages n = codes "whatever the sizes " ++ (decimal pages
     ++ (codes ": moving after each sweep, for each run of at most "
     ++ (decimal n.live ++ (codes " pages live and " ++ (decimal n.made ++ codes " made\n")))))
 
 -- how many pages suffice in each way
 abbrev pub form_lines : ℕ → ℕ → ℕ → Needed → List ℕ
 form_lines still moved budgeted n =
-    still_line still ++ (moved_line moved ++ (gathered_line n.gathered ++ budget_line budgeted n))
+    still_line still ++ (moved_line moved ++ (gathered_line n.gathered ++ page_demand_line budgeted n))
 
 -- the fewest pages of these ways, and at least the one that each heap has
 abbrev pub fewest_pages : ℕ → ℕ → ℕ → ℕ
@@ -81,13 +81,13 @@ pages_line scope needed pages =
 
 -- the fewest pages that suffice for what was needed
 abbrev pub fewest_for : Config → Needed → ℕ
-fewest_for c n = fewest_pages (still_pages n) (moved_pages c n) (min n.gathered (budget_pages (budget_in n)))
+fewest_for c n = fewest_pages (still_pages n) (moved_pages c n) (min n.gathered (demand_pages (page_demand_in n)))
 
 -- all that is reported of what a run needed
 abbrev pub needed_report : Config → Needed → List ℕ
 needed_report c n =
     class_lines (blocks_line n) CLASSES
-    ++ (form_lines (still_pages n) (moved_pages c n) (budget_pages (budget_in n)) n
+    ++ (form_lines (still_pages n) (moved_pages c n) (demand_pages (page_demand_in n)) n
     ++ (fewest_line (still_pages n) (moved_pages c n) (fewest_for c n)
     ++ pages_line By_demand (needed_pages c n) c.pages))
 

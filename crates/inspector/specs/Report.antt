@@ -9,7 +9,7 @@ use Rattle.pages.specs.View.{view_of}
 use Rattle.pages.specs.declared.view.PageView.{PageView}
 use Rattle.roots.specs.Used.{used_in}
 use Rattle.nodes.specs.Copies.{copies_in}
-use Rattle.nodes.specs.declared.block_store.counting.Copies.{Copies}
+use Rattle.nodes.specs.declared.nodes.counting.Copies.{Copies}
 use Rattle.trace.specs.Streams.{text_of}
 
 -- the name of a phase

@@ -1,7 +1,7 @@
 -- What it is to take the cycles of a run.
 use Rattle.std.specs.Prelude.{List, [], Result, Ok, Err}
 use Rattle.size_classes.specs.declared.config.Config.{Config}
-use Rattle.trace.specs.declared.fault.TextFault.{TextFault}
+use Rattle.trace.specs.declared.fault.PlayFault.{PlayFault}
 use Rattle.trace.specs.Streams.{Given}
 use Rattle.player.specs.declared.style.Style.TheVariants.{Nothing}
 use Rattle.player.specs.New.{IsNew}
@@ -18,7 +18,7 @@ steps_by given old new played = brought steps_in played.over.done
 
 -- The lines of an input are played on a new player, and these are the cycles of the run; or the fault is that with
 -- which playing them ends; or memory was refused.
-abbrev pub CyclesTaken : Config → Given → Result Cycles TextFault → Type 0
+abbrev pub CyclesTaken : Config → Given → Result Cycles PlayFault → Type 0
 CyclesTaken config given (Ok cycles) =
     (old : PlayerState) × (new : Session) × (played : Played Nothing given (session old []) new (Ok tt))
     × IsNew config old

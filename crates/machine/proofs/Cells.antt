@@ -9,7 +9,7 @@ use Rattle.graph_heap.specs.declared.command.Refusal.TheVariants as refusals
 use Rattle.graph_heap.specs.Shape.{fits, ref_cells, word_cells, takes_refs, takes_words}
 use Rattle.graph_heap.specs.Graph.{Graph, Object, object_of}
 use Rattle.graph_heap.specs.Effect.{◌>>=◌, object_at, ref_at, ref_cell, word_at, word_cell}
-use Rattle.size_classes.specs.Parts.{cells_of, pieces_of, spines_of, parts_in, first_by, count_by, part_cells, part_in, column_in, holder_of, seat_of}
+use Rattle.size_classes.specs.Parts.{cells_of, pieces_of, spines_of, parts_in, first_by, count_by, part_cells, part_in, column_in, spine_of, spine_cell_of}
 use Rattle.size_classes.proofs.Cutting.{pieces_are, spines_are, cell_stands}
 use Rattle.heap_model.specs.Store.{record_of}
 use Rattle.heap_model.specs.Cut.{count_of, width_in}
@@ -20,12 +20,12 @@ use Rattle.heap_model.proofs.Hops.{root_to_spine, spine_to_part, part_reached}
 use Rattle.heap_model.proofs.Shown.{copy_main, shape_shown}
 use Rattle.heap_model.proofs.Written.{cells_sum}
 use Rattle.heap_model.proofs.Cut.{part_below, word_below}
-use Rattle.arraylets.specs.declared.place.CellPosition.{CellPosition}
-use Rattle.arraylets.specs.CellPosition.{ref_place, word_place}
+use Rattle.arraylets.specs.declared.position.CellPosition.{CellPosition}
+use Rattle.arraylets.specs.CellPosition.{ref_position, word_position}
 use Rattle.machine.specs.declared.plan.Found.{Found}
 use Rattle.machine.specs.declared.plan.Kind.{Kind}
 use Rattle.machine.specs.declared.plan.Kind.TheVariants as kinds
-use Rattle.machine.specs.Reading.{IsFound, FindsRef, FindsWord, place_of, FindsCell}
+use Rattle.machine.specs.Reading.{IsFound, FindsRef, FindsWord, position_in, FindsCell}
 
 -- a cell of each kind stands within its part
 column_within : (n i : ℕ) → i < n → column_in i < part_cells n (part_in n i)
@@ -104,12 +104,12 @@ module _ (h : HeapState) (g : Graph) (a : Agrees h g) (id : ℕ) (f : Found) (w 
     parts_below = subst (λ n. p < parts_in n) (sum ∙ ap cells_of (sym w.shape)) below
 
     module _ (whole : IsWhole h.store) (some : p ≢ 0) where
-      pub spine_refers : holder_of (cells_of f.shape) p ≢ 0 → Refers h.store f.block (seat_of (cells_of f.shape) (holder_of (cells_of f.shape) p))
-      spine_refers = subst (λ s. holder_of (cells_of s) p ≢ 0 → Refers h.store f.block (seat_of (cells_of s) (holder_of (cells_of s) p))) (sym w.shape)
+      pub spine_refers : spine_of (cells_of f.shape) p ≢ 0 → Refers h.store f.block (spine_cell_of (cells_of f.shape) (spine_of (cells_of f.shape) p))
+      spine_refers = subst (λ s. spine_of (cells_of s) p ≢ 0 → Refers h.store f.block (spine_cell_of (cells_of s) (spine_of (cells_of s) p))) (sym w.shape)
           (λ middle. root_to_spine h g id a w.reaches f.block w.main p (grind arith) below middle whole)
 
-      pub part_refers : Refers h.store (spine_at h.store (cells_of f.shape) f.block p) (seat_of (cells_of f.shape) p)
-      part_refers = subst (λ s. Refers h.store (spine_at h.store (cells_of s) f.block p) (seat_of (cells_of s) p)) (sym w.shape) (spine_to_part h g id a w.reaches f.block w.main p (grind arith) below whole)
+      pub part_refers : Refers h.store (spine_at h.store (cells_of f.shape) f.block p) (spine_cell_of (cells_of f.shape) p)
+      part_refers = subst (λ s. Refers h.store (spine_at h.store (cells_of s) f.block p) (spine_cell_of (cells_of s) p)) (sym w.shape) (spine_to_part h g id a w.reaches f.block w.main p (grind arith) below whole)
 
     part_main : IsMainCopy h.store (block_of h.store (cells_of f.shape) f.block p) (record { identity = id; part = p })
     part_main = subst (λ s. IsMainCopy h.store (block_of h.store (cells_of s) f.block p) (record { identity = id; part = p })) (sym w.shape) (part_reached h g id a w.reaches p f.block below w.main)
@@ -169,7 +169,7 @@ module _ (h : HeapState) (g : Graph) (a : Agrees h g) (id : ℕ) (f : Found) (w 
       }
 
     -- a reference cell
-    module _ (place : CellPosition) (at : ref_place f.shape i ≡ Ok place) where
+    module _ (place : CellPosition) (at : ref_position f.shape i ≡ Ok place) where
       ref_there : IsCell (length o.refs) (column_in i) (takes_refs o.shape) place
       ref_there = cell_there takes_refs ref_cells (λ s. column_in i) (length o.refs) (a.given id w.reaches).cells.refs (part_below o i) place at
 
@@ -185,7 +185,7 @@ module _ (h : HeapState) (g : Graph) (a : Agrees h g) (id : ℕ) (f : Found) (w 
       found_ref whole = (ref_at_is, (w.reaches, record { below = ref_there.below; main = copy_main h (block_of h.store (cells_of f.shape) f.block place.part) _ ref_there.main; index = ref_there.column_is; within = ref_cell_within whole }))
 
     -- a word cell
-    module _ (place : CellPosition) (at : word_place f.shape i ≡ Ok place) where
+    module _ (place : CellPosition) (at : word_position f.shape i ≡ Ok place) where
       word_there : IsCell (length o.words) (width_in (ref_cells o.shape) (word_cells o.shape) (part_in (cells_of o.shape) i) + column_in i) (takes_words o.shape) place
       word_there = cell_there takes_words word_cells (λ s. width_in (ref_cells s) (word_cells s) (part_in (cells_of s) i) + column_in i) (length o.words) (a.given id w.reaches).cells.words (word_below o i) place at
 
@@ -204,29 +204,29 @@ module _ (h : HeapState) (g : Graph) (a : Agrees h g) (id : ℕ) (f : Found) (w 
           (word_at_is, (w.reaches, record { below = word_there.below; main = copy_main h (block_of h.store (cells_of f.shape) f.block place.part) _ word_there.main; index = word_column; within = word_there.within (word_within_part o.shape i few l) whole }))
 
     -- the graph heap refuses as the place does
-    ref_refused : (e : Refusal) → ref_place f.shape i ≡ Err e → ref_at g.objects id i ≡ Err e
+    ref_refused : (e : Refusal) → ref_position f.shape i ≡ Err e → ref_at g.objects id i ≡ Err e
     ref_refused e at =
         let n : length o.refs ≡ ref_cells f.shape = (a.given id w.reaches).cells.refs ∙ ap ref_cells (sym w.shape) in
         ap (λ z. z >>= λ o. ref_cell o i) w.object
         ∙ refused_by (takes_refs o.shape) (takes_refs f.shape) (nat_lt i (length o.refs)) (nat_lt i (ref_cells f.shape)) (get_or o.refs i 0) _ e (ap takes_refs (sym w.shape)) (ap (nat_lt i) n) at
 
-    word_refused : (e : Refusal) → word_place f.shape i ≡ Err e → word_at g.objects id i ≡ Err e
+    word_refused : (e : Refusal) → word_position f.shape i ≡ Err e → word_at g.objects id i ≡ Err e
     word_refused e at =
         let n : length o.words ≡ word_cells f.shape = (a.given id w.reaches).cells.words ∙ ap word_cells (sym w.shape) in
         ap (λ z. z >>= λ o. word_cell o i) w.object
         ∙ refused_by (takes_words o.shape) (takes_words f.shape) (nat_lt i (length o.words)) (nat_lt i (word_cells f.shape)) (get_or o.words i 0) _ e (ap takes_words (sym w.shape)) (ap (nat_lt i) n) at
 
     -- of either kind
-    pub cell_below : (kind : Kind) (place : CellPosition) → place_of kind f.shape i ≡ Ok place → place.part < count_of o
+    pub cell_below : (kind : Kind) (place : CellPosition) → position_in kind f.shape i ≡ Ok place → place.part < count_of o
     cell_below kinds.Ref place at = (ref_there place at).part
     cell_below kinds.Word place at = (word_there place at).part
 
-    pub found_cell : (kind : Kind) (place : CellPosition) → place_of kind f.shape i ≡ Ok place → fits f.shape ≡ true → IsWhole h.store
+    pub found_cell : (kind : Kind) (place : CellPosition) → position_in kind f.shape i ≡ Ok place → fits f.shape ≡ true → IsWhole h.store
         → FindsCell h g kind id i (Ok (record { block = block_of h.store (cells_of f.shape) f.block place.part; index = place.cell }))
     found_cell kinds.Ref place at fit whole = found_ref place at whole
     found_cell kinds.Word place at fit whole = found_word place at fit whole
 
-    pub cell_refused : (kind : Kind) (e : Refusal) → place_of kind f.shape i ≡ Err e → FindsCell h g kind id i (Err e)
+    pub cell_refused : (kind : Kind) (e : Refusal) → position_in kind f.shape i ≡ Err e → FindsCell h g kind id i (Err e)
     cell_refused kinds.Ref e at = ref_refused e at
     cell_refused kinds.Word e at = word_refused e at
 

@@ -13,8 +13,8 @@ use Rattle.heap_model.proofs.Agreements.{consistent_agrees}
 use Rattle.heap_model.proofs.Sameness.{told, agrees_alike}
 use Rattle.heap_model.proofs.Bound.{same_limit}
 use Rattle.heap_model.proofs.Costs.{turn_left, some_cost}
-use Rattle.heap_model.proofs.Relinked.{relinked_count, stands_relinked}
-use Rattle.heap_model.proofs.Stood.{stands_chain, stands_begun}
+use Rattle.heap_model.proofs.Relinked.{relinked_count, represents_relinked}
+use Rattle.heap_model.proofs.Stood.{represents_chain, represents_begun}
 use Rattle.heap_model.proofs.Turns.{chain_units}
 use Rattle.nodes.specs.Acting.{Acts, ActsIn}
 use Rattle.nodes.proofs.Chains.{then_chain, heap_after_chain}
@@ -26,16 +26,16 @@ use Rattle.machine.proofs.Doing.{present_agrees}
 
 -- a cycle begins
 pub begun_heap : (h : HeapState) → IsHeap h → h.phase ≡ phases.Idle → IsHeap (begun h)
-begun_heap h w e = record { present = w.present; snapshot = w.present; stands = stands_begun h w.present w.snapshot w.stands e; fits = w.fits; small = w.small }
+begun_heap h w e = record { present = w.present; snapshot = w.present; represents = represents_begun h w.present w.snapshot w.represents e; fits = w.fits; small = w.small }
 
 pub begun_agrees : (h : HeapState) (w : IsHeap h) → h.phase ≡ phases.Idle → (g : Graph) → Agrees h g → Agrees (begun h) g
 begun_agrees h w e g a =
-    agrees_alike (begun h) w.present g (consistent_agrees (begun h) w.present w.present (stands_begun h w.present w.snapshot w.stands e).consistent) (told h w.present g (present_agrees h w) a)
+    agrees_alike (begun h) w.present g (consistent_agrees (begun h) w.present w.present (represents_begun h w.present w.snapshot w.represents e).consistent) (told h w.present g (present_agrees h w) a)
 
 -- after actions the heap agrees with what it agreed with
 pub chain_agrees : (h after : HeapState) → IsHeap h → (units : ℕ) → Chain h units after → (g : Graph) → Agrees h g → Agrees after g
 chain_agrees h after w units chain g a =
-    agrees_alike after w.present g (consistent_agrees after w.present w.snapshot (stands_chain h after units w.present w.snapshot w.stands chain).consistent) (told h w.present g (present_agrees h w) a)
+    agrees_alike after w.present g (consistent_agrees after w.present w.snapshot (represents_chain h after units w.present w.snapshot w.represents chain).consistent) (told h w.present g (present_agrees h w) a)
 
 -- Actions were done, and a step does further ones: what was spent in all is what the units rose by.
 module _ (a b d : HeapFields) (budget spent : ℕ) (first : Chain (state_of a) spent (state_of b)) where
@@ -84,7 +84,7 @@ pub relinked_heap : (h : HeapState) (s : Store) → IsHeap h → Relinks h.store
 relinked_heap h s w l = record {
   present = w.present;
   snapshot = w.snapshot;
-  stands = stands_relinked h s l w.present w.snapshot w.stands;
+  represents = represents_relinked h s l w.present w.snapshot w.represents;
   fits = w.fits;
   small = subst (λ n. n < 2 ^ 31) (sym (same_limit h (record h { store = s }) refl (relinked_count h s l) refl)) w.small;
 }

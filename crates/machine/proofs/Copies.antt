@@ -13,7 +13,7 @@ use Rattle.heap_model.specs.Store.{Store, is_allocated, size_in, record_of, addr
 use Rattle.heap_model.specs.Cut.{view}
 use Rattle.heap_model.specs.State.{HeapState, seen, is_left, is_evacuating, page_of, reference_of}
 use Rattle.heap_model.specs.Action.{Action, Scans_root, Ends_roots, Scans_header, Scans_cell, Ends_marking, Frees_block, Passes_block, Closes_page, Ends_sweep, Looks_at_page, Chooses_page, Chooses_none, Moves_block, Ends_moving, KeepsBlocks, MovesBlock, IsNext}
-use Rattle.heap_model.specs.Standing.{Represents}
+use Rattle.heap_model.specs.Represents.{Represents}
 use Rattle.heap_model.proofs.Acting.{at_phase}
 use Rattle.heap_model.proofs.Collector.{left_main}
 use Rattle.heap_model.proofs.Allocated.{is_page, block_within, size_some, page_of_place, allocated_at}

@@ -16,7 +16,7 @@ use Rattle.machine.specs.declared.collector.BudgetOutOfRange.{BudgetOutOfRange}
 use Rattle.machine.specs.declared.collector.Busy.{Busy}
 use Rattle.machine.specs.declared.collector.Spent.{Spent}
 use Rattle.machine.specs.Collecting.{Spends}
-use Rattle.machine.specs.HeapWithHistory.{RecordedHeap, asked, begin_done, quantum_done, RunsFront, commands_in, EndsSoon}
+use Rattle.machine.specs.Recorded.{RecordedHeap, asked, begin_done, quantum_done, RunsFront, commands_in, EndsSoon}
 
 pub quantum_does : (r : Course) (budget : ℕ) (after : HeapState) (result : Result Spent BudgetOutOfRange) → Spends r.heap budget after result → Does r (quantum_done budget result) (record r { heap = after })
 quantum_does r budget after (Ok s) w = record { allowed = w.0; turn = w.1; ends = sym w.2; history = refl; place = refl }

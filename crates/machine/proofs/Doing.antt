@@ -1,4 +1,4 @@
--- A change done: the heap stands for the graph heap after it, and for each that it agreed with.
+-- A change done: the heap represents the graph heap after it, and each that it agreed with.
 use Rattle.std.proofs.Common.{◌≡◌, ℕ, ◌+◌, ◌*◌, ◌<◌, ◌≤◌, ◌^◌, Bool, true, false, ◌==◌, if◌then◌else◌, length, ap, ◌∙◌, sym, subst, refl, inl, inr, arith}
 use Rattle.std.proofs.Math.Nat.{mul-le-mul_right}
 use Rattle.graph_heap.specs.declared.command.Change.{Change}
@@ -7,7 +7,7 @@ use Rattle.graph_heap.specs.declared.command.Limits.{Limits}
 use Rattle.graph_heap.specs.Shape.{fits}
 use Rattle.graph_heap.specs.Graph.{Graph, first_slot, root_cells, Object, object_of, changed, with_ref, with_word, new_object}
 use Rattle.heap_model.specs.State.{HeapState}
-use Rattle.heap_model.specs.Standing.{Represents}
+use Rattle.heap_model.specs.Represents.{Represents}
 use Rattle.heap_model.specs.Agreement.{Agrees}
 use Rattle.heap_model.specs.Alike.{IsAlike, IsFounded}
 use Rattle.heap_model.specs.Written.{IsKnown}
@@ -15,7 +15,7 @@ use Rattle.heap_model.specs.Change.{DoesChange}
 use Rattle.heap_model.proofs.Agreements.{consistent_agrees}
 use Rattle.heap_model.proofs.Sameness.{each_changed, reach_some, alike_back, alike_sym}
 use Rattle.heap_model.proofs.Changes.{put_each, object-append}
-use Rattle.heap_model.proofs.Changed.{stands_changed}
+use Rattle.heap_model.proofs.Changed.{represents_changed}
 use Rattle.heap_model.proofs.Left.{change_left}
 use Rattle.nodes.specs.HeapFields.{IsHeap}
 use Rattle.machine.specs.Plan.{IsPlanned}
@@ -25,7 +25,7 @@ use Rattle.machine.specs.declared.plan.Write.{Write}
 use Rattle.machine.specs.declared.plan.Write.TheVariants as writes
 
 pub present_agrees : (h : HeapState) (w : IsHeap h) → Agrees h w.present
-present_agrees h w = consistent_agrees h w.present w.snapshot w.stands.consistent
+present_agrees h w = consistent_agrees h w.present w.snapshot w.represents.consistent
 
 -- what is known of the value t for each graph heap, of the fields h at present
 pub at_present : (P : HeapState → Graph → Type 0) (h t : HeapState) → h ≡ t → (w : IsHeap h) → ((g : Graph) → Agrees t g → P t g) → P h w.present
@@ -85,14 +85,14 @@ planned_alike h f g a c (writes.Join m) p = p
 planned_alike h f g a c (writes.Leave m) p = p
 
 module _ (h after : HeapState) (w : IsHeap h) (c : Change) (is_founded : IsFounded w.present c) (does : DoesChange h w.present c after) where
-  stands_after : Represents after (changed w.present c) w.snapshot
-  stands_after = stands_changed h after w.present w.snapshot c w.stands is_founded does
+  represents_after : Represents after (changed w.present c) w.snapshot
+  represents_after = represents_changed h after w.present w.snapshot c w.represents is_founded does
 
   pub heap_after : IsHeap after
   heap_after = let left = change_left h after w.present c does in record {
     present = changed w.present c;
     snapshot = w.snapshot;
-    stands = stands_after;
+    represents = represents_after;
     fits = fits_changed w.present c is_founded w.fits;
     small = subst (λ n. n < 2 ^ 31) (sym left.limit) w.small;
   }
@@ -100,4 +100,4 @@ module _ (h after : HeapState) (w : IsHeap h) (c : Change) (is_founded : IsFound
   -- it agrees with each graph heap after the change, with which it agreed
   pub agrees_after : (g : Graph) → Agrees h g → Agrees after (changed g c)
   agrees_after g a =
-      each_changed h after w.present g c (present_agrees h w) a is_founded (consistent_agrees after (changed w.present c) w.snapshot stands_after.consistent)
+      each_changed h after w.present g c (present_agrees h w) a is_founded (consistent_agrees after (changed w.present c) w.snapshot represents_after.consistent)

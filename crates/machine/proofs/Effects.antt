@@ -11,7 +11,7 @@ use Rattle.graph_heap.specs.Graph.{Graph, object_of}
 use Rattle.graph_heap.specs.Effect.{◌>>=◌, slot_at, static_at, object_at, ref_at, word_at, admitted_effect}
 use Rattle.heap_model.specs.State.{HeapState}
 use Rattle.heap_model.specs.Agreement.{Agrees}
-use Rattle.nodes.specs.declared.block_store.Referent.{Referent}
+use Rattle.nodes.specs.declared.nodes.Referent.{Referent}
 use Rattle.machine.specs.declared.plan.Found.{Found}
 use Rattle.machine.specs.declared.plan.Cell.{Cell}
 use Rattle.machine.specs.Reading.{Names, IsFound, FindsRef, FindsWord}

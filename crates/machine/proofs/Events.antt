@@ -12,14 +12,14 @@ use Rattle.machine.specs.declared.collector.Busy.{Busy}
 use Rattle.machine.specs.declared.collector.Spent.{Spent}
 use Rattle.machine.specs.Collecting.{Begins, Spends}
 use Rattle.machine.specs.Plan.{Steps}
-use Rattle.machine.specs.HeapWithHistory.{begin_done, quantum_done}
+use Rattle.machine.specs.Recorded.{begin_done, quantum_done}
 use Rattle.machine.proofs.Courses.{quantum_does}
 use Rattle.machine.proofs.Replying.{enters}
 
 pub command_event : (r : Course) (m : ℕ) (c : Command) (told : Reply) (after : HeapState) → IsCourse r → Steps r.heap m c told after → (new : Course) × (new.heap ≡ after) × Does r (Command_done m c told) new
 command_event r m c told after w s =
     let entry : Entry = record { mutator = m; command = c; reply = told } in
-    let agrees = consistent_agrees r.heap (present_of r) (snapshot_of r) w.stands.consistent in
+    let agrees = consistent_agrees r.heap (present_of r) (snapshot_of r) w.represents.consistent in
     (record r { heap = after; history = r.history ++ entry ∷ [] }, refl, enters r m c told after (r.history ++ entry ∷ []) s.reply s.does agrees refl)
 
 pub begin_event : (r : Course) (after : HeapState) (result : Result (Unit {0}) Busy) → Begins r.heap after result → (new : Course) × (new.heap ≡ after) × Does r (begin_done result) new

@@ -22,10 +22,10 @@ use Rattle.heap_model.proofs.Sameness.{known_root, known_ref, known_reaches}
 use Rattle.heap_model.proofs.Cut.{count_some}
 use Rattle.nodes.specs.HeapFields.{IsHeap}
 use Rattle.machine.proofs.Doing.{present_agrees}
-use Rattle.nodes.proofs.Standing.{follows}
+use Rattle.nodes.proofs.Representing.{follows}
 use Rattle.machine.specs.Reading.{Names, IsFound, IsRefPlace, IsWordPlace}
 use Rattle.machine.specs.declared.plan.Cell.{Cell}
-use Rattle.nodes.specs.declared.block_store.Referent.{Referent}
+use Rattle.nodes.specs.declared.nodes.Referent.{Referent}
 use Rattle.nodes.specs.Referent.{referent_of, CanFollow}
 
 pub object_at-given : (xs : List Object) (id : ℕ) → 0 < id → id ≤ length xs → object_at xs id ≡ Ok (object_of xs id)

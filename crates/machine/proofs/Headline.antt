@@ -2,23 +2,23 @@
 use Rattle.std.proofs.Common.{◌≡◌, List, [], ◌∷◌, ◌++◌, ap, sym, ◌∙◌}
 use Rattle.std.proofs.lemmas.List.{append_assoc, append-nil}
 use Rattle.graph_heap.specs.declared.command.Entry.{Entry}
-use Rattle.heap_model.specs.Event.{Course, Event, Command_done, Cycle_begun, Cycle_on, Quantum_done, Quantum_refused, IsCourse, Does, Runs, present_of, snapshot_of}
+use Rattle.heap_model.specs.Event.{Course, Event, Command_done, Cycle_begun, Begin_refused, Quantum_done, Quantum_refused, IsCourse, Does, Runs, present_of, snapshot_of}
 use Rattle.heap_model.proofs.Agreements.{consistent_agrees}
 use Rattle.heap_model.proofs.Course.{runs_course}
 use Rattle.heap_model.proofs.Freed.{reached_allocated, runs_back}
 use Rattle.heap_model.proofs.Rest.{allocated_is_kept}
-use Rattle.heap_model.proofs.Stood.{stands_chain, stands_limit, sweep_change}
+use Rattle.heap_model.proofs.Stood.{represents_chain, represents_limit, sweep_change}
 use Rattle.machine.specs.Headline.{Holds, AlwaysHolds}
 use Rattle.machine.proofs.Courses.{ends_soon}
 
 pub course_holds : (r : Course) → IsCourse r → Holds r
 course_holds r w = record {
   legal = w.legal;
-  agrees = λ spent h chain. consistent_agrees h (present_of r) (snapshot_of r) (stands_chain r.heap h spent (present_of r) (snapshot_of r) w.stands chain).consistent;
-  allocated = λ id reach. reached_allocated r.heap (present_of r) (snapshot_of r) w.stands.consistent id reach;
-  swept = λ spent cost h after chain action from to. sweep_change h after cost (present_of r) (snapshot_of r) (stands_chain r.heap h spent (present_of r) (snapshot_of r) w.stands chain) action from to;
-  kept = λ spent h chain rests. allocated_is_kept h (present_of r) (snapshot_of r) (stands_chain r.heap h spent (present_of r) (snapshot_of r) w.stands chain).consistent rests;
-  units = λ spent h chain. stands_limit h (present_of r) (snapshot_of r) (stands_chain r.heap h spent (present_of r) (snapshot_of r) w.stands chain);
+  agrees = λ spent h chain. consistent_agrees h (present_of r) (snapshot_of r) (represents_chain r.heap h spent (present_of r) (snapshot_of r) w.represents chain).consistent;
+  allocated = λ id reach. reached_allocated r.heap (present_of r) (snapshot_of r) w.represents.consistent id reach;
+  swept = λ spent cost h after chain action from to. sweep_change h after cost (present_of r) (snapshot_of r) (represents_chain r.heap h spent (present_of r) (snapshot_of r) w.represents chain) action from to;
+  kept = λ spent h chain rests. allocated_is_kept h (present_of r) (snapshot_of r) (represents_chain r.heap h spent (present_of r) (snapshot_of r) w.represents chain).consistent rests;
+  units = λ spent h chain. represents_limit h (present_of r) (snapshot_of r) (represents_chain r.heap h spent (present_of r) (snapshot_of r) w.represents chain);
   ends = λ start begins. ends_soon r start w begins;
 }
 
@@ -32,7 +32,7 @@ same_history old new e = ([], e ∙ sym (append-nil old))
 does_grow : (r : Course) (e : Event) (new : Course) → Does r e new → Longer r.history new.history
 does_grow r (Command_done m c reply) new w = (_, w.history)
 does_grow r Cycle_begun new w = same_history r.history new.history w.history
-does_grow r Cycle_on new w = same_history r.history new.history (ap (λ (x : Course). x.history) w.1)
+does_grow r Begin_refused new w = same_history r.history new.history (ap (λ (x : Course). x.history) w.1)
 does_grow r (Quantum_done budget units phase) new w = same_history r.history new.history w.history
 does_grow r (Quantum_refused budget) new w = same_history r.history new.history (ap (λ (x : Course). x.history) w.1)
 

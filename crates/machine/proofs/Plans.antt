@@ -8,7 +8,7 @@ use Rattle.graph_heap.specs.declared.command.Change.TheVariants as changes
 use Rattle.graph_heap.specs.Graph.{Graph}
 use Rattle.graph_heap.specs.Effect.{slot_at, static_at, admitted_effect}
 use Rattle.heap_model.specs.State.{HeapState}
-use Rattle.nodes.specs.declared.block_store.Referent.{Referent}
+use Rattle.nodes.specs.declared.nodes.Referent.{Referent}
 use Rattle.machine.specs.declared.plan.Planned.{Planned}
 use Rattle.machine.specs.declared.plan.Cell.{Cell}
 use Rattle.machine.specs.declared.plan.Write.{Write}

@@ -3,16 +3,16 @@
 use Rattle.std.proofs.Common.{◌≡◌, ◌≢◌, ℕ, ◌<◌, true, get_or, Ok, sym, subst}
 use Rattle.graph_heap.specs.Shape.{fits}
 use Rattle.graph_heap.specs.Graph.{Graph, object_of}
-use Rattle.size_classes.specs.Parts.{cells_of, parts_in, holder_of, seat_of}
+use Rattle.size_classes.specs.Parts.{cells_of, parts_in, spine_of, spine_cell_of}
 use Rattle.heap_model.specs.Cut.{count_of}
 use Rattle.heap_model.specs.State.{HeapState}
 use Rattle.heap_model.specs.Agreement.{Agrees}
 use Rattle.heap_model.specs.Reading.{Refers, spine_at, block_of}
-use Rattle.arraylets.specs.declared.place.CellPosition.{CellPosition}
+use Rattle.arraylets.specs.declared.position.CellPosition.{CellPosition}
 use Rattle.machine.specs.declared.plan.Found.{Found}
 use Rattle.machine.specs.declared.plan.Kind.{Kind}
 use Rattle.nodes.specs.HeapFields.{IsHeap}
-use Rattle.machine.specs.Reading.{IsFound, place_of, FindsCell}
+use Rattle.machine.specs.Reading.{IsFound, position_in, FindsCell}
 use Rattle.machine.proofs.Doing.{present_agrees, at_present}
 use Rattle.machine.proofs.Cells.{parts_below, spine_refers, part_refers, cell_below, found_cell}
 
@@ -37,29 +37,29 @@ module _ (h t : HeapState) (is : h ≡ t) (w : IsHeap h) (root i : ℕ) (f : Fou
   -- what it takes to find the block of a part
   abbrev CanReach : ℕ → Type 0
   CanReach p =
-      (p < parts_in (cells_of f.shape)) × (p ≢ 0 → holder_of (cells_of f.shape) p ≢ 0 → Refers h.store f.block (seat_of (cells_of f.shape) (holder_of (cells_of f.shape) p)))
-      × (p ≢ 0 → Refers h.store (spine_at h.store (cells_of f.shape) f.block p) (seat_of (cells_of f.shape) p))
+      (p < parts_in (cells_of f.shape)) × (p ≢ 0 → spine_of (cells_of f.shape) p ≢ 0 → Refers h.store f.block (spine_cell_of (cells_of f.shape) (spine_of (cells_of f.shape) p)))
+      × (p ≢ 0 → Refers h.store (spine_at h.store (cells_of f.shape) f.block p) (spine_cell_of (cells_of f.shape) p))
 
   module _ (p : ℕ) (below : IsPart p) where
     within_parts : p < parts_in (cells_of f.shape)
     within_parts = parts_below h w.present (present_agrees h w) present_id f found_now p below
 
-    to_spine : p ≢ 0 → holder_of (cells_of f.shape) p ≢ 0 → Refers h.store f.block (seat_of (cells_of f.shape) (holder_of (cells_of f.shape) p))
-    to_spine = spine_refers h w.present (present_agrees h w) present_id f found_now p below w.stands.consistent.whole
+    to_spine : p ≢ 0 → spine_of (cells_of f.shape) p ≢ 0 → Refers h.store f.block (spine_cell_of (cells_of f.shape) (spine_of (cells_of f.shape) p))
+    to_spine = spine_refers h w.present (present_agrees h w) present_id f found_now p below w.represents.consistent.whole
 
-    to_part : p ≢ 0 → Refers h.store (spine_at h.store (cells_of f.shape) f.block p) (seat_of (cells_of f.shape) p)
-    to_part = part_refers h w.present (present_agrees h w) present_id f found_now p below w.stands.consistent.whole
+    to_part : p ≢ 0 → Refers h.store (spine_at h.store (cells_of f.shape) f.block p) (spine_cell_of (cells_of f.shape) p)
+    to_part = part_refers h w.present (present_agrees h w) present_id f found_now p below w.represents.consistent.whole
 
     can_reach : CanReach p
     can_reach = (within_parts, to_spine, to_part)
 
   module _ (kind : Kind) where
-    pub reached : (place : CellPosition) → place_of kind f.shape i ≡ Ok place → CanReach place.part
+    pub reached : (place : CellPosition) → position_in kind f.shape i ≡ Ok place → CanReach place.part
     reached place at = can_reach place.part (cell_below h w.present (present_agrees h w) present_id f found_now i kind place at)
 
     -- the cell
-    pub finds_cell : (place : CellPosition) (block : ℕ) → block ≡ block_of h.store (cells_of f.shape) f.block place.part → place_of kind f.shape i ≡ Ok place → fits f.shape ≡ true → (g : Graph) → Agrees t g
+    pub finds_cell : (place : CellPosition) (block : ℕ) → block ≡ block_of h.store (cells_of f.shape) f.block place.part → position_in kind f.shape i ≡ Ok place → fits f.shape ≡ true → (g : Graph) → Agrees t g
         → FindsCell t g kind (get_or g.roots root 0) i (Ok (record { block = block; index = place.cell }))
     finds_cell place block eb at fit g a =
         subst (λ (y : HeapState). FindsCell y g kind (get_or g.roots root 0) i (Ok (record { block = block; index = place.cell }))) is
-        (subst (λ b. FindsCell h g kind (get_or g.roots root 0) i (Ok (record { block = b; index = place.cell }))) (sym eb) (found_cell h g (agrees_here g a) _ f (found_here g a) i kind place at fit w.stands.consistent.whole))
+        (subst (λ b. FindsCell h g kind (get_or g.roots root 0) i (Ok (record { block = b; index = place.cell }))) (sym eb) (found_cell h g (agrees_here g a) _ f (found_here g a) i kind place at fit w.represents.consistent.whole))

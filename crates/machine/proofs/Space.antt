@@ -13,9 +13,9 @@ use Rattle.space.specs.Tally.{opening_tally, AllKeepTo}
 use Rattle.space.specs.Pace.{opening_beat, AllKeepPace}
 use Rattle.space.proofs.Configured.{demand_configured, pace_configured}
 use Rattle.fragmentation.specs.Season.{opening_season, AllKeep}
-use Rattle.fragmentation.specs.Suffice.{WithinPages, WithinBlocks, WithinBudget}
+use Rattle.fragmentation.specs.Suffice.{WithinPages, WithinBlocks, WithinPageDemand}
 use Rattle.fragmentation.specs.Flow.{opening_meter, KeepsFlow, AllMetered}
-use Rattle.fragmentation.proofs.Configured.{joint_configured, moving_configured, budget_configured, flow_configured}
+use Rattle.fragmentation.proofs.Configured.{joint_configured, moving_configured, page_demand_configured, flow_configured}
 use Rattle.machine.specs.Space.{SpaceSuffices, FindsSpace, FoundSpace}
 
 -- from a heap of a configuration that was just made
@@ -28,7 +28,7 @@ space_suffices config h es new o same runs =
       pace = λ p keeps fits. pace_configured config h o same es new p one config.budget_in_range.0 runs (subst (λ (l : Limits). AllKeepPace p (config.collector_ticks * config.rate) (opening_beat l) es) limits keeps) fits;
       joint = λ blocks live keeps fits. joint_configured config h o same one es new live runs blocks (subst (λ (l : Limits). AllKeep (WithinBlocks blocks live) live (opening_season l) es) limits keeps) fits;
       moving = λ live moves keeps. moving_configured config h o same one es new live runs moves (subst (λ (l : Limits). AllKeep (WithinPages config.pages) live (opening_season l) es) limits keeps);
-      budget = λ b live moves lives keeps fits. budget_configured config h o same one es new live runs b moves lives (subst (λ (l : Limits). AllKeep (WithinBudget b) live (opening_season l) es) limits keeps) fits;
+      page_demand = λ b live moves lives keeps fits. page_demand_configured config h o same one es new live runs b moves lives (subst (λ (l : Limits). AllKeep (WithinPageDemand b) live (opening_season l) es) limits keeps) fits;
       flow = λ f moves keeps fits. flow_configured config h o same one es new (λ n class. 0) runs f moves config.budget_in_range.0 (subst (λ (l : Limits). AllMetered (KeepsFlow f (config.collector_ticks * config.rate)) (opening_meter l) es) limits keeps) fits;
     }
 

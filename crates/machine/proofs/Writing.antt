@@ -30,7 +30,7 @@ use Rattle.machine.specs.declared.plan.Write.{Write}
 use Rattle.machine.specs.declared.plan.Write.TheVariants as writes
 use Rattle.machine.proofs.Doing.{present_agrees, at_present, founded, planned_alike, heap_after, agrees_after}
 use Rattle.machine.proofs.Finding.{reads_root}
-use Rattle.nodes.proofs.Standing.{follows}
+use Rattle.nodes.proofs.Representing.{follows}
 
 -- whatever change of a graph heap the write is of, the heap does it, and agrees with the graph heap after it
 abbrev pub Performs : HeapState → Write → HeapState → Type 0
@@ -45,13 +45,13 @@ module _ (h t : HeapState) (is : h ≡ t) (w : IsHeap h) (write : Write) where
     pub stays_heap : CanPerform t write → IsHeap after
     stays_heap can =
         let p = planned_now can in let b = present_agrees h w in
-        heap_after h after w p.0 (founded h w.present b w.stands.consistent.row p.0 write p.1) (does w.present p.0 b p.1)
+        heap_after h after w p.0 (founded h w.present b w.represents.consistent.row p.0 write p.1) (does w.present p.0 b p.1)
 
     performed : Performs h write after
     performed g c a p =
         let b = present_agrees h w in
         let q = planned_alike h g w.present (told h g w.present a b) c write p in
-        (does g c a p, agrees_after h after w c (founded h w.present b w.stands.consistent.row c write q) (does w.present c b q) g a)
+        (does g c a p, agrees_after h after w c (founded h w.present b w.represents.consistent.row c write q) (does w.present c b q) g a)
 
     pub performs : Performs t write after
     performs = subst (λ (x : HeapState). Performs x write after) is performed

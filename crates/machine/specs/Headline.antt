@@ -10,13 +10,13 @@ use Rattle.heap_model.specs.Action.{Chain}
 use Rattle.heap_model.specs.Swept.{IsAllocated}
 use Rattle.heap_model.specs.Spent.{cycle_limit}
 use Rattle.heap_model.specs.Event.{Course, Event, present_of, Begins, Runs}
-use Rattle.machine.specs.HeapWithHistory.{EachSweepEnds, HoldsKept, EndsSoon}
+use Rattle.machine.specs.Recorded.{EachSweepEnds, HoldsKept, EndsSoon}
 
 -- The history is one of the graph heap, which never moves or frees an object. The heap agrees with the
--- graph heap to which it leads, also within a quantum, after each action. All that can be reached there is
--- held, so what was freed can't be reached. When a sweep ends the heap holds exactly what was reachable
--- when its cycle began and what was made since, and so it does in idle and while blocks are moved. No
--- more units are spent than a cycle may, and a cycle that begins ends soon.
+-- graph heap to which it leads, also within a quantum, after each action. All that can be reached there is allocated,
+-- so what was freed can't be reached. When a sweep ends the heap holds exactly what was reachable when its cycle began
+-- and what was made since, and so it does in idle and while blocks are moved. No more units are spent than a cycle may,
+-- and a cycle that begins ends soon.
 pub record Holds (r : Course) : Type 0 where
   pub legal : IsLegal (opening r.heap.limits) r.history
   pub agrees : (spent : ℕ) (h : HeapState) → Chain r.heap spent h → Agrees h (present_of r)

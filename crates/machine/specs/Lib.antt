@@ -2,7 +2,7 @@ pub mod Collecting
 pub mod Headline
 pub mod Plan
 pub mod Reading
-pub mod HeapWithHistory
+pub mod Recorded
 pub mod Buffers
 pub mod Writing
 pub mod Space

@@ -71,9 +71,9 @@ CanCommit h planned = (g : Graph) → Agrees h g → (done : Result (Reply × Ch
 
 -- the reply is that of what the graph heap does, where a refusal is a reply; the heap does its change, and agrees with
 -- the graph heap after it
-pub record Commits (h : HeapState) (g : Graph) (done : Result (Reply × Change) Refusal) (told : Reply)
+pub record Commits (h : HeapState) (g : Graph) (done : Result (Reply × Change) Refusal) (answer : Reply)
     (after : HeapState) : Type 0 where
-  pub reply : told ≡ (settled done).0
+  pub reply : answer ≡ (settled done).0
   pub change : DoesChange h g (settled done).1 after
   pub agrees : Agrees after (changed g (settled done).1)
 
@@ -91,7 +91,7 @@ abbrev pub DoesEach : HeapState → Write → HeapState → Type 0
 DoesEach h w after = (g : Graph) (change : Change) → Agrees h g → IsPlanned h g change w → DoesChange h g change after
 
 -- what is promised of a command, by the reply and the heap after it
-pub record Steps (h : HeapState) (m : ℕ) (c : Command) (told : Reply) (after : HeapState) : Type 0 where
-  pub reply : (g : Graph) → Agrees h g → told ≡ reply_of (room_for h c) g m c
+pub record Steps (h : HeapState) (m : ℕ) (c : Command) (answer : Reply) (after : HeapState) : Type 0 where
+  pub reply : (g : Graph) → Agrees h g → answer ≡ reply_of (room_for h c) g m c
   pub agrees : (g : Graph) → Agrees h g → Agrees after (next_of (room_for h c) g m c)
   pub does : (g : Graph) → Agrees h g → DoesChange h g (change_by (room_for h c) g m c) after

@@ -12,9 +12,9 @@ use Rattle.heap_model.specs.Cut.{name_of}
 use Rattle.heap_model.specs.State.{HeapState, seen, width_at}
 use Rattle.heap_model.specs.Written.{IsKnown}
 use Rattle.heap_model.specs.Reading.{IsMainCopy}
-use Rattle.nodes.specs.declared.block_store.Referent.{Referent}
-use Rattle.arraylets.specs.declared.place.CellPosition.{CellPosition}
-use Rattle.arraylets.specs.CellPosition.{ref_place, word_place}
+use Rattle.nodes.specs.declared.nodes.Referent.{Referent}
+use Rattle.arraylets.specs.declared.position.CellPosition.{CellPosition}
+use Rattle.arraylets.specs.CellPosition.{ref_position, word_position}
 use Rattle.machine.specs.declared.plan.Found.{Found}
 use Rattle.machine.specs.declared.plan.Cell.{Cell}
 use Rattle.machine.specs.declared.plan.Kind.{Kind}
@@ -78,9 +78,9 @@ FindsWord h g id i (Ok at) = (word_at g.objects id i ≡ Ok (slice_index (object
 FindsWord h g id i (Err e) = word_at g.objects id i ≡ Err e
 
 -- where cell i of a kind stands in its object
-abbrev pub place_of : Kind → Shape → ℕ → Result CellPosition Refusal
-place_of kinds.Ref shape i = ref_place shape i
-place_of kinds.Word shape i = word_place shape i
+abbrev pub position_in : Kind → Shape → ℕ → Result CellPosition Refusal
+position_in kinds.Ref shape i = ref_position shape i
+position_in kinds.Word shape i = word_position shape i
 
 -- a cell of a kind was found, or the graph heap's refusal
 abbrev pub FindsCell : HeapState → Graph → Kind → ℕ → ℕ → Result Cell Refusal → Type 0

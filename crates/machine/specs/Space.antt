@@ -13,14 +13,14 @@ use Rattle.space.specs.Pace.{Pace, opening_beat, AllKeepPace}
 use Rattle.space.specs.Fitting.{Fits, FitsIn}
 use Rattle.space.specs.Room.{AllHaveRoom}
 use Rattle.fragmentation.specs.Season.{Lives, opening_season, AllKeep}
-use Rattle.fragmentation.specs.Suffice.{WithinPages, WithinBlocks, pages_of, Budget, budget_pages, WithinBudget}
+use Rattle.fragmentation.specs.Suffice.{WithinPages, WithinBlocks, pages_of, PageDemand, demand_pages, WithinPageDemand}
 use Rattle.fragmentation.specs.Flow.{Flow, opening_meter, KeepsFlow, AllMetered}
 use Rattle.fragmentation.specs.Configured.{MovesAll, FitsTogether, FlowFitsIn}
 
 -- What a configuration promises of these events: no reply is the refusal for lack of space, where the events keep to a
 -- demand that fits the configuration, or to a pace that fits in its pages; or to a demand that is taken together and
 -- fits. Where moving follows each sweep and may empty all pages, the same holds where the events keep within the
--- configuration's pages, to a budget for which it has pages, or to a flow that fits.
+-- configuration's pages, to a demand in pages for which it has enough, or to a flow that fits.
 pub record SpaceSuffices (config : Config) (es : List Event) : Type 0 where
   pub demand : (d : Demand) → AllKeepTo d (opening_tally (limits_of config)) es → Fits config d → AllHaveRoom es
   pub pace : (p : Pace) → AllKeepPace p (config.collector_ticks * config.rate) (opening_beat (limits_of config)) es
@@ -30,8 +30,8 @@ pub record SpaceSuffices (config : Config) (es : List Event) : Type 0 where
       → FitsTogether config blocks → AllHaveRoom es
   pub moving : (live : Lives) → MovesAll config
       → AllKeep (WithinPages config.pages) live (opening_season (limits_of config)) es → AllHaveRoom es
-  pub budget : (b : Budget) (live : Lives) → MovesAll config → ((n : ℕ) → pages_of (live n) ≤ b.live)
-      → AllKeep (WithinBudget b) live (opening_season (limits_of config)) es → budget_pages b ≤ config.pages
+  pub page_demand : (b : PageDemand) (live : Lives) → MovesAll config → ((n : ℕ) → pages_of (live n) ≤ b.live)
+      → AllKeep (WithinPageDemand b) live (opening_season (limits_of config)) es → demand_pages b ≤ config.pages
       → AllHaveRoom es
   pub flow : (f : Flow) → MovesAll config
       → AllMetered (KeepsFlow f (config.collector_ticks * config.rate)) (opening_meter (limits_of config)) es

@@ -27,13 +27,13 @@ use writing::do_write;
 
 /// A heap of objects, with its roots. Contracts see the heap as it lies in words.
 pub struct Heap {
-    raw: HeapFields,
+    fields: HeapFields,
 }
 
 impl Drop for Heap {
     // One call: a derived drop is written into each function that drops one, and is proved there anew.
     fn drop(self) {
-        let Heap { raw: _ } = self;
+        let Heap { fields: _ } = self;
     }
 }
 
@@ -43,9 +43,9 @@ impl Model for Heap {
 
     ghost Value = { HeapState };
 
-    ghost view = { λ a. state_of a.raw };
+    ghost view = { λ a. state_of a.fields };
 
-    ghost invariant = { λ a. AreHeapFields a.raw };
+    ghost invariant = { λ a. AreHeapFields a.fields };
 }
 
 impl Heap {
@@ -55,8 +55,8 @@ impl Heap {
         ensures opening { IfOk result IsOpening }
         ensures settings { IfOk result (λ h. settings_of h ≡ settings_by config.now) }
     {
-        let raw = HeapFields::new(alloc, config)?;
-        Ok(Heap { raw })
+        let fields = HeapFields::new(alloc, config)?;
+        Ok(Heap { fields })
     }
 
     /// Does a command of a mutator, and replies. Whatever graph heap the heap agrees with, the reply
@@ -83,7 +83,7 @@ impl Heap {
     {
         match planned {
             Ok(planned) => {
-                do_write(&mut self.raw, mutator, &planned.write);
+                do_write(&mut self.fields, mutator, &planned.write);
                 planned.reply
             }
             Err(refusal) => Reply::Refused(refusal),

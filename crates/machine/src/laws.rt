@@ -8,7 +8,7 @@ ghost use Rattle.heap_model.specs.declared.phase.Phase.TheVariants as phases;
 ghost use Rattle.heap_model.specs.declared.phase.Moving.{Moving};
 ghost use Rattle.heap_model.specs.Action.{Action, KeepsBlocks};
 ghost use Rattle.heap_model.specs.Event.{Course, Command_done, Does, IsCourse};
-ghost use Rattle.heap_model.specs.Standing.{Represents};
+ghost use Rattle.heap_model.specs.Represents.{Represents};
 ghost use Rattle.heap_model.specs.State.{HeapState};
 ghost use Rattle.machine.specs.declared.collector.BudgetOutOfRange.{BudgetOutOfRange};
 ghost use Rattle.machine.specs.declared.collector.Busy.{Busy};
@@ -17,7 +17,7 @@ ghost use Rattle.machine.specs.Collecting.{Begins, Spends};
 ghost use Rattle.machine.specs.Copies.{MakesOneOld};
 ghost use Rattle.machine.specs.Headline.{AlwaysHolds};
 ghost use Rattle.machine.specs.Plan.{Steps};
-ghost use Rattle.machine.specs.HeapWithHistory.{begin_done, quantum_done};
+ghost use Rattle.machine.specs.Recorded.{begin_done, quantum_done};
 ghost use Rattle.machine.specs.Space.{FindsSpace, FoundSpace};
 
 /// All that is promised of a heap with its history, whatever events are done next, is promised where that holds which
@@ -34,9 +34,9 @@ pub fn space_sufficed()
 /// What a call does to a `Heap` is one event, whatever history led to the heap. So what is promised of a heap with its
 /// history is promised where nobody keeps that history.
 pub fn calls_are_events()
-    ensures command { (r : Course) (m : ℕ) (c : Command) (told : Reply) (after : HeapState) → IsCourse r
-        → Steps r.heap m c told after
-        → (new : Course) × (new.heap ≡ after) × Does r (Command_done m c told) new }
+    ensures command { (r : Course) (m : ℕ) (c : Command) (answer : Reply) (after : HeapState) → IsCourse r
+        → Steps r.heap m c answer after
+        → (new : Course) × (new.heap ≡ after) × Does r (Command_done m c answer) new }
     ensures begin { (r : Course) (after : HeapState) (result : Result (Unit {0}) Busy) → Begins r.heap after result
         → (new : Course) × (new.heap ≡ after) × Does r (begin_done result) new }
     ensures quantum { (r : Course) (budget : ℕ) (after : HeapState) (result : Result Spent BudgetOutOfRange)

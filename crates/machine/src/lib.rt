@@ -12,4 +12,4 @@ pub use collector::{BudgetOutOfRange, Busy, Spent};
 pub use event::Event;
 pub use heap::Heap;
 pub use laws::{calls_are_events, courses_are_promised, moves_make_one_old, space_sufficed};
-pub use recorded::{HeapWithHistory, Receipt};
+pub use recorded::{Receipt, Recorded};

@@ -11,7 +11,7 @@ ghost use Rattle.heap_model.specs.Settings.{settings_of, settings_by};
 ghost use Rattle.heap_model.specs.Spent.{cycle_limit};
 ghost use Rattle.machine.specs.Headline.{AlwaysHolds};
 ghost use Rattle.machine.specs.Space.{FindsSpace, FoundSpace};
-ghost use Rattle.machine.specs.HeapWithHistory.{begin_done, quantum_done, RunsFront, commands_in, EachSweepEnds, EndsSoon, HoldsKept};
+ghost use Rattle.machine.specs.Recorded.{begin_done, quantum_done, RunsFront, commands_in, EachSweepEnds, EndsSoon, HoldsKept};
 
 use crate::collector::{BudgetOutOfRange, Busy, Spent};
 use crate::event::Event;
@@ -25,16 +25,16 @@ use std::marker::Model;
 /// place of the history at which the last cycle began: the history is always legal, the heap agrees
 /// with the graph heap to which it leads, and in idle and moving it holds exactly what is kept. They also
 /// see for how many more entries there is memory.
-pub struct HeapWithHistory {
+pub struct Recorded {
     heap: Heap,
     history: Vec<Entry>,
     place: usize,
 }
 
-impl Drop for HeapWithHistory {
+impl Drop for Recorded {
     // One call, as of a heap.
     fn drop(self) {
-        let HeapWithHistory {
+        let Recorded {
             heap,
             history,
             place,
@@ -42,9 +42,9 @@ impl Drop for HeapWithHistory {
     }
 }
 
-impl Model for HeapWithHistory {
+impl Model for Recorded {
     ghost use Rattle.heap_model.specs.Event.{IsCourse};
-    ghost use Rattle.machine.specs.HeapWithHistory.{RecordedHeap, recorded_of};
+    ghost use Rattle.machine.specs.Recorded.{RecordedHeap, recorded_of};
 
     ghost Value = { RecordedHeap };
 
@@ -54,7 +54,7 @@ impl Model for HeapWithHistory {
 }
 
 /// What a caller gets for a command: its entry in the history, and the place of that entry, from 0.
-/// `HeapWithHistory::call` alone makes one.
+/// `Recorded::call` alone makes one.
 #[derive(Clone, Copy, Debug, PartialEq, Eq)]
 pub struct Receipt {
     entry: Entry,
@@ -62,7 +62,7 @@ pub struct Receipt {
 }
 
 impl Model for Receipt {
-    ghost use Rattle.machine.specs.HeapWithHistory.{ReceiptView};
+    ghost use Rattle.machine.specs.Recorded.{ReceiptView};
 
     ghost Value = { ReceiptView };
 
@@ -87,16 +87,16 @@ impl Receipt {
     }
 }
 
-impl HeapWithHistory {
+impl Recorded {
     /// A new heap, without history. Refused only for lack of memory.
-    pub fn new(alloc: Global, config: &Config) -> Result<HeapWithHistory, NoMemory>
+    pub fn new(alloc: Global, config: &Config) -> Result<Recorded, NoMemory>
         ensures heap { IfOk result (λ r. IsOpening r.course.heap) }
         ensures settings { IfOk result (λ r. settings_of r.course.heap ≡ settings_by config.now) }
         ensures history { IfOk result (λ r. r.course.history ≡ []) }
         ensures place { IfOk result (λ r. r.course.place ≡ 0) }
     {
         let heap = Heap::new(alloc, config)?;
-        Ok(HeapWithHistory {
+        Ok(Recorded {
             heap,
             history: Vec::new(alloc),
             place: 0,

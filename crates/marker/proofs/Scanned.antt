@@ -7,9 +7,9 @@ use Rattle.heap_model.specs.State.{HeapState, seen, width_at, collector_by}
 use Rattle.heap_model.specs.Collector.{Collector, Coherent}
 use Rattle.heap_model.proofs.Acting.{wide_within, scanned_allocated, scanned_cell_allocated, allocated_behind, at_phase}
 use Rattle.heap_model.proofs.Apart.{lie_apart}
-use Rattle.nodes.specs.declared.block_store.Referent.{Referent}
+use Rattle.nodes.specs.declared.nodes.Referent.{Referent}
 use Rattle.nodes.specs.Referent.{CanFollow, referent_of}
-use Rattle.nodes.proofs.Standing.{main_allocated}
+use Rattle.nodes.proofs.Representing.{main_allocated}
 use Rattle.nodes.specs.declared.heap_fields.HeapFields.{HeapFields}
 use Rattle.nodes.specs.HeapFields.{state_of, AreHeapFields}
 
@@ -33,7 +33,7 @@ module _ (a : HeapFields) (w : AreHeapFields a) (part cell : ℕ) (e : a.phase �
   m = collector_by (seen h) h.store.pages (phases.Marking part cell) h.grey
 
   abbrev c : Coherent m (view w.heap.present) (view w.heap.snapshot)
-  c = at_phase h (phases.Marking part cell) (view w.heap.present) (view w.heap.snapshot) e w.heap.stands.consistent.parts
+  c = at_phase h (phases.Marking part cell) (view w.heap.present) (view w.heap.snapshot) e w.heap.represents.consistent.parts
 
   pub none_left : part ≡ 0 → cell ≡ 0
   none_left z = let l : cell ≤ (seen h).width part = c.stage.1.column in let v : cell ≤ 0 = subst (λ x. cell ≤ (seen h).width x) z l in omega arith
@@ -55,7 +55,7 @@ module _ (a : HeapFields) (w : AreHeapFields a) (part cell : ℕ) (e : a.phase �
     column = subst (λ n. cell ≤ n) wide c.stage.1.column
 
     pub cells_within : width_at (record_of a.nodes (part - 1)) ≤ length (record_of a.nodes (part - 1)).cells
-    cells_within = wide_within h (part - 1) w.heap.stands.consistent.whole part_allocated
+    cells_within = wide_within h (part - 1) w.heap.represents.consistent.whole part_allocated
 
     cell_is : (seen h).cell part cell ≡ get_or (record_of h.store (part - 1)).cells cell 0
     cell_is = rw not_null refl
@@ -84,7 +84,7 @@ module _ (a : HeapFields) (w : AreHeapFields a) (part cell : ℕ) (e : a.phase �
 
     pub width_small : width_at (record_of a.nodes (part - 1)) < 2 ^ 31
     width_small =
-        let apart = lie_apart h w.heap.stands.pages w.heap.stands.consistent.whole in
+        let apart = lie_apart h w.heap.represents.pages w.heap.represents.consistent.whole in
         let f = apart.fits part c.stage.1.scanning_allocated positive in
         let i = apart.inside part c.stage.1.scanning_allocated positive in
         let s = w.heap.small in

@@ -12,7 +12,7 @@ ghost use Rattle.marker.specs.Scanning.{scanning, IsScanning, Scans};
 
 use heap_model::cost::{SCAN, TURN};
 use heap_model::phase::Phase;
-use nodes::{BlockStore, HeapFields};
+use nodes::{HeapFields, Nodes};
 use satb_barrier::{pop_grey, shade};
 
 /// The part in scan, by reference, 0 for none yet; its next cell; and how many of its cells are references.
@@ -187,7 +187,7 @@ fn scan_run(heap: &mut HeapFields, part: u64, cell: usize, most: usize) -> usize
 
 /// How many cells of a block, from one on and at most `most`, are null before the first that isn't.
 #[inline(always)]
-fn nulls_from(nodes: &BlockStore, block: usize, from: usize, most: usize) -> usize
+fn nulls_from(nodes: &Nodes, block: usize, from: usize, most: usize) -> usize
     requires allocated { is_allocated nodes.now block ≡ true }
     requires small { from + most < 2 ^ 32 }
     requires within { from + most ≤ length (record_of nodes.now block).cells }

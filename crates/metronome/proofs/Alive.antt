@@ -12,7 +12,7 @@ use Rattle.trace.specs.Streams.{Given}
 use Rattle.player.specs.declared.style.Style.TheVariants.{Nothing}
 use Rattle.player.specs.New.{IsNew}
 use Rattle.player.specs.Playing.{Session, Played}
-use Rattle.metronome.specs.Behind.{PlayedUpTo}
+use Rattle.metronome.specs.After.{PlayedUpTo}
 
 -- a play that reached its end ran its events
 played_runs : (given : Given) (old new : Session) → Played Nothing given old new (Ok tt) → (es : List Event) × Runs old.player.course es new.player.course

@@ -7,7 +7,7 @@ use Rattle.size_classes.specs.Config.{limits_of}
 use Rattle.graph_heap.specs.declared.command.Limits.{Limits}
 use Rattle.graph_heap.specs.Graph.{opening}
 use Rattle.heap_model.specs.Settings.{HeapSettings}
-use Rattle.heap_model.specs.Event.{Event, Command_done, Cycle_begun, Cycle_on, Quantum_done, Quantum_refused, HaveBudgets}
+use Rattle.heap_model.specs.Event.{Event, Command_done, Cycle_begun, Begin_refused, Quantum_done, Quantum_refused, HaveBudgets}
 use Rattle.trace.specs.Streams.{Given, NoLf, Splits}
 use Rattle.trace.specs.LinesProcessed.{LinesRead}
 use Rattle.trace.proofs.Cutting.{one_cutting}
@@ -54,7 +54,7 @@ no_budget : (es : List Event) → HaveBudgets 0 es
 no_budget [] = tt
 no_budget (Command_done m c reply ∷ es) = no_budget es
 no_budget (Cycle_begun ∷ es) = no_budget es
-no_budget (Cycle_on ∷ es) = no_budget es
+no_budget (Begin_refused ∷ es) = no_budget es
 no_budget (Quantum_done budget units phase ∷ es) = (omega arith, no_budget es)
 no_budget (Quantum_refused budget ∷ es) = no_budget es
 

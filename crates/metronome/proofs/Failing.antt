@@ -6,9 +6,9 @@ use Rattle.graph_heap.specs.Graph.{Graph, opening}
 use Rattle.graph_heap.specs.declared.command.Entry.{Entry}
 use Rattle.size_classes.specs.declared.config.Config.{Config as Settings}
 use Rattle.size_classes.specs.Config.{limits_of}
-use Rattle.trace.proofs.GoingOver.{reached_by}
-use Rattle.trace.specs.declared.fault.TextFault.{TextFault}
-use Rattle.trace.specs.declared.fault.TextFault.TheVariants as texts
+use Rattle.trace.proofs.LinesProcessed.{reached_by}
+use Rattle.trace.specs.declared.fault.PlayFault.{PlayFault}
+use Rattle.trace.specs.declared.fault.PlayFault.TheVariants as texts
 use Rattle.trace.specs.declared.version.Version.{Version}
 use Rattle.trace.specs.declared.version.Version.TheVariants.{First, Second}
 use Rattle.trace.specs.LinesProcessed.{Reached, ProcessingEnds, reads_failed, writes_failed}
@@ -60,17 +60,17 @@ pub writes_on : {A : Type 0} (r : Result A RunFault) (fault : RunFault) (old new
 writes_on r fault old new h e = e ∙ ap (λ n. old + n) (sym (writes_so r fault h))
 
 -- so is that of a text
-pub reads_text : {A : Type 0} (r : Result A RunFault) (fault : TextFault) (old new : ℕ) → IsErrAnd r (λ e. e ≡ Text fault) → new ≡ old + reads_failed {A = Unit {0}} (Err fault) → new ≡ old + failed_reads r
+pub reads_text : {A : Type 0} (r : Result A RunFault) (fault : PlayFault) (old new : ℕ) → IsErrAnd r (λ e. e ≡ Text fault) → new ≡ old + reads_failed {A = Unit {0}} (Err fault) → new ≡ old + failed_reads r
 reads_text r fault old new h e = reads_on r (Text fault) old new h e
 
-pub writes_text : {A : Type 0} (r : Result A RunFault) (fault : TextFault) (old new : ℕ) → IsErrAnd r (λ e. e ≡ Text fault) → new ≡ old + writes_failed {A = Unit {0}} (Err fault) → new ≡ old + failed_writes r
+pub writes_text : {A : Type 0} (r : Result A RunFault) (fault : PlayFault) (old new : ℕ) → IsErrAnd r (λ e. e ≡ Text fault) → new ≡ old + writes_failed {A = Unit {0}} (Err fault) → new ≡ old + failed_writes r
 writes_text r fault old new h e = writes_on r (Text fault) old new h e
 
 -- and that of a text of which none failed
-pub text_unread : {A : Type 0} (r : Result A RunFault) (fault : TextFault) → IsErrAnd r (λ e. e ≡ Text fault) → reads_failed {A = Unit {0}} (Err fault) ≡ 0 → failed_reads r ≡ 0
+pub text_unread : {A : Type 0} (r : Result A RunFault) (fault : PlayFault) → IsErrAnd r (λ e. e ≡ Text fault) → reads_failed {A = Unit {0}} (Err fault) ≡ 0 → failed_reads r ≡ 0
 text_unread r fault h none = reads_so r (Text fault) h ∙ none
 
-pub text_unwritten : {A : Type 0} (r : Result A RunFault) (fault : TextFault) → IsErrAnd r (λ e. e ≡ Text fault) → writes_failed {A = Unit {0}} (Err fault) ≡ 0 → failed_writes r ≡ 0
+pub text_unwritten : {A : Type 0} (r : Result A RunFault) (fault : PlayFault) → IsErrAnd r (λ e. e ≡ Text fault) → writes_failed {A = Unit {0}} (Err fault) ≡ 0 → failed_writes r ≡ 0
 text_unwritten r fault h none = writes_so r (Text fault) h ∙ none
 
 -- a run that ends in a failed write
@@ -88,7 +88,7 @@ pub memory_unwritten : {A : Type 0} (r : Result A RunFault) → IsErrAnd r (λ e
 memory_unwritten r h = writes_so r (Text texts.NoMemory) h
 
 -- one that draws a graph
-pub drawn_unread : (g : Graph) (most : ℕ) (taken : Taken) (how : Result (Unit {0}) TextFault) → GraphDrawn g most taken how → reads_failed how ≡ 0
+pub drawn_unread : (g : Graph) (most : ℕ) (taken : Taken) (how : Result (Unit {0}) PlayFault) → GraphDrawn g most taken how → reads_failed how ≡ 0
 drawn_unread g most taken (Err texts.Read) h = elim h [ ]
 drawn_unread g most taken how h = refl
 
@@ -117,28 +117,28 @@ pub settings_unwritten : {A : Type 0} (r : Result A RunFault) (why : ReadFault C
 settings_unwritten r why h = writes_so r (of_settings why) h ∙ settings_written why
 
 -- no line writes, so that no write fails in going through them
-unwritten : {A : Type 0} (how : Result A TextFault) → (how ≡ Err texts.Write → ⊥) → writes_failed how ≡ 0
+unwritten : {A : Type 0} (how : Result A PlayFault) → (how ≡ Err texts.Write → ⊥) → writes_failed how ≡ 0
 unwritten (Err texts.Write) never = absurd (never refl)
 unwritten how never = refl
 
-ends_unwritten : {S E : Type 0} (Stops : TextFault → LineText → S → S → Type 0) → ((text : LineText) (old new : S) → Stops texts.Write text old new → ⊥) → (reached : Reached S E) (ended : Bool) (new : S) → ProcessingEnds Stops {A = Unit {0}} reached ended new (Err texts.Write) → ⊥
+ends_unwritten : {S E : Type 0} (Stops : PlayFault → LineText → S → S → Type 0) → ((text : LineText) (old new : S) → Stops texts.Write text old new → ⊥) → (reached : Reached S E) (ended : Bool) (new : S) → ProcessingEnds Stops {A = Unit {0}} reached ended new (Err texts.Write) → ⊥
 ends_unwritten Stops never reached ended new (inl none) = none.0
 ends_unwritten Stops never reached ended new (inr (line, more, whole, is, stops)) = never _ reached.state new stops
 
-checked_unwritten : (given : Given) (old new : Graph) (how : Result Checked TextFault) → EntriesChecked given old new how → writes_failed how ≡ 0
+checked_unwritten : (given : Given) (old new : Graph) (how : Result Checked PlayFault) → EntriesChecked given old new how → writes_failed how ≡ 0
 checked_unwritten given old new how w =
     unwritten how (λ e. (let v = subst (EntriesChecked given old new) e w in ends_unwritten HistoryStops (λ text g k stops. stops) (reached_by v.over) given.ended new v.over.ends))
 
-entries_unwritten : (config : Settings) (given : Given) (how : Result Checked TextFault) → EntriesTaken config given how → writes_failed how ≡ 0
+entries_unwritten : (config : Settings) (given : Given) (how : Result Checked PlayFault) → EntriesTaken config given how → writes_failed how ≡ 0
 entries_unwritten config given how (inl none) = ap writes_failed none.1
 entries_unwritten config given how (inr w) = checked_unwritten given (opening (limits_of config)) w.0 how w.1
 
-pub scripts_unwritten : (given : Given) (mutators : ℕ) (how : Result ReadScripts TextFault) → ScriptsRead given mutators how → writes_failed how ≡ 0
+pub scripts_unwritten : (given : Given) (mutators : ℕ) (how : Result ReadScripts PlayFault) → ScriptsRead given mutators how → writes_failed how ≡ 0
 scripts_unwritten given mutators how (inl none) = ap writes_failed none.0
 scripts_unwritten given mutators how (inr w) =
     unwritten how (λ e. (let v = subst (AreScripts given mutators) e w in ends_unwritten (ScriptStops mutators) (λ text g k stops. stops) (reached_by v.over) given.ended tt v.over.ends))
 
-pub load_unwritten : (l : AllocationProfile) (k : ℕ) (given : Given) (how : Result Conformance TextFault) → LoadChecked l k given how → writes_failed how ≡ 0
+pub load_unwritten : (l : AllocationProfile) (k : ℕ) (given : Given) (how : Result Conformance PlayFault) → LoadChecked l k given how → writes_failed how ≡ 0
 load_unwritten l k given how w =
     unwritten how (λ e. (let v = subst (LoadChecked l k given) e w in ends_unwritten NoEvent (λ text g m stops. (let z = stops.0 in cc)) (reached_by v.over) given.ended tt v.over.ends))
 
@@ -158,25 +158,25 @@ nothing_cut given old new p = elim p.over.ends [
   | inr w ↦ cut_of_nothing p.over.version (entries_in p.over.events) w.1.0.0 w.1.0.1
 ]
 
-pub samples_unwritten : (config : Settings) (given : Given) (how : Result Samples TextFault) → SamplesTaken config given how → writes_failed how ≡ 0
+pub samples_unwritten : (config : Settings) (given : Given) (how : Result Samples PlayFault) → SamplesTaken config given how → writes_failed how ≡ 0
 samples_unwritten config given (Err texts.Write) w = absurd (nothing_cut given (session w.0 []) w.1 w.2)
 samples_unwritten config given how w = refl
 
-cycles_unwritten : (config : Settings) (given : Given) (how : Result Cycles TextFault) → CyclesTaken config given how → writes_failed how ≡ 0
+cycles_unwritten : (config : Settings) (given : Given) (how : Result Cycles PlayFault) → CyclesTaken config given how → writes_failed how ≡ 0
 cycles_unwritten config given (Err texts.Write) w = absurd (nothing_cut given (session w.0 []) w.1 w.2)
 cycles_unwritten config given how w = refl
 
-pub measured_unwritten : (config : Settings) (given : Given) (how : Result Measured TextFault) → TraceMeasured config given how → writes_failed how ≡ 0
+pub measured_unwritten : (config : Settings) (given : Given) (how : Result Measured PlayFault) → TraceMeasured config given how → writes_failed how ≡ 0
 measured_unwritten config given (Err texts.Write) w = absurd (nothing_cut given (session w.0 []) w.1 w.2)
 measured_unwritten config given how w = refl
 
 -- nor in answering a question
-of_answer : {A : Type 0} (Says : A → Answer → Type 0) (how : Result A TextFault) (answered : Result Answer TextFault) → AnswerOf Says how answered → writes_failed how ≡ 0 → writes_failed answered ≡ 0
+of_answer : {A : Type 0} (Says : A → Answer → Type 0) (how : Result A PlayFault) (answered : Result Answer PlayFault) → AnswerOf Says how answered → writes_failed how ≡ 0 → writes_failed answered ≡ 0
 of_answer Says how (Ok answer) is none = refl
-of_answer Says (Ok it) (Err why) is none = ap (λ (w : TextFault). writes_failed {A = Answer} (Err w)) is
+of_answer Says (Ok it) (Err why) is none = ap (λ (w : PlayFault). writes_failed {A = Answer} (Err w)) is
 of_answer Says (Err why) (Err other) is none = ap writes_failed is ∙ none
 
-pub answer_unwritten : (question : Question) (config : Settings) (given : Given) (answered : Result Answer TextFault) → IsAnswer question config given answered → writes_failed answered ≡ 0
+pub answer_unwritten : (question : Question) (config : Settings) (given : Given) (answered : Result Answer PlayFault) → IsAnswer question config given answered → writes_failed answered ≡ 0
 answer_unwritten questions.History config given answered w = of_answer _ w.0 answered w.2 (entries_unwritten config given w.0 w.1)
 answer_unwritten (questions.Cycles layout) config given answered w = of_answer _ w.0 answered w.2 (cycles_unwritten config given w.0 w.1)
 answer_unwritten (questions.Pages pace) config given answered w = of_answer _ w.0 answered w.2 (measured_unwritten config given w.0 w.1)

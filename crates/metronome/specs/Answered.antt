@@ -6,8 +6,8 @@ use Rattle.std.specs.declared.alloc.Global.{Global}
 use Rattle.size_classes.specs.declared.config.Config.{Config}
 use Rattle.size_classes.specs.Config.{limits_of}
 use Rattle.graph_heap.specs.Graph.{Graph, opening}
-use Rattle.trace.specs.declared.fault.TextFault.{TextFault}
-use Rattle.trace.specs.declared.fault.TextFault.TheVariants.{NoMemory}
+use Rattle.trace.specs.declared.fault.PlayFault.{PlayFault}
+use Rattle.trace.specs.declared.fault.PlayFault.TheVariants.{NoMemory}
 use Rattle.trace.specs.Streams.{Given, Taken}
 use Rattle.trace.specs.declared.transcripts.histories.Checked.{Checked}
 use Rattle.trace.specs.declared.transcripts.histories.Checked.TheVariants.{Good, Wrong}
@@ -30,7 +30,7 @@ use Rattle.metronome.specs.declared.fault.RunFault.{RunFault}
 use Rattle.metronome.specs.Told.{TextWritten, ToldOf}
 
 -- the entries of a history, checked from the opening graph heap; or memory was refused before anything was read
-abbrev pub EntriesTaken : Config → Given → Result Checked TextFault → Type 0
+abbrev pub EntriesTaken : Config → Given → Result Checked PlayFault → Type 0
 EntriesTaken config given how = ((given.after ≡ given.before) × (how ≡ Err NoMemory))
     ⊎ ((new : Graph) × EntriesChecked given (opening (limits_of config)) new how)
 
@@ -52,38 +52,38 @@ TellsPages true config m text = (slow : Config) × HasUnits config (least_units 
     × IsPaceReport By_pace slow m.pace text
 
 -- the answer with a text, if there is memory for it
-abbrev pub Offers : Result (String Global) AllocError → Ending → Result Answer TextFault → Type 0
+abbrev pub Offers : Result (String Global) AllocError → Ending → Result Answer PlayFault → Type 0
 Offers (Ok text) ending answered = answered ≡ Ok (record { text = text; ending = ending })
 Offers (Err refused) ending answered = answered ≡ Err NoMemory
 
 -- the answer once something was taken of an input: this is said of it, if there is memory for the text; or the
 -- fault with which taking it ended
-abbrev pub AnswerOf : {A : Type 0} → (A → Answer → Type 0) → Result A TextFault → Result Answer TextFault → Type 0
+abbrev pub AnswerOf : {A : Type 0} → (A → Answer → Type 0) → Result A PlayFault → Result Answer PlayFault → Type 0
 AnswerOf Says (Ok it) (Ok answer) = Says it answer
 AnswerOf Says (Ok it) (Err why) = why ≡ NoMemory
 AnswerOf Says (Err why) answered = answered ≡ Err why
 
 -- A history was checked from the opening graph heap, and its line is the answer.
-abbrev pub HistoryChecked : Config → Given → Result Answer TextFault → Type 0
-HistoryChecked config given answered = (how : Result Checked TextFault) × EntriesTaken config given how
+abbrev pub HistoryChecked : Config → Given → Result Answer PlayFault → Type 0
+HistoryChecked config given answered = (how : Result Checked PlayFault) × EntriesTaken config given how
     × AnswerOf (λ checked answer. (string_bytes answer.text ≡ told_of checked) × (answer.ending ≡ verdict checked))
     how answered
 
 -- A trace was played on a new heap, and the cycles of the run are reported.
-abbrev pub CyclesTold : Layout → Config → Given → Result Answer TextFault → Type 0
-CyclesTold layout config given answered = (how : Result Cycles TextFault) × CyclesTaken config given how
+abbrev pub CyclesTold : Layout → Config → Given → Result Answer PlayFault → Type 0
+CyclesTold layout config given answered = (how : Result Cycles PlayFault) × CyclesTaken config given how
     × AnswerOf (λ log answer. (string_bytes answer.text ≡ cycles_told layout log.items.items) × (answer.ending ≡ Done))
     how answered
 
 -- A trace was measured on a new heap, and the pages that it needs are reported: where they suffice, `TraceMeasured`
 -- promises room to this run, and to those of which the verdict speaks; and on as many as a line gives for a way, to
 -- those that the line names.
-abbrev pub PagesTold : Bool → Config → Given → Result Answer TextFault → Type 0
-PagesTold pace config given answered = (how : Result Measured TextFault) × TraceMeasured config given how
+abbrev pub PagesTold : Bool → Config → Given → Result Answer PlayFault → Type 0
+PagesTold pace config given answered = (how : Result Measured PlayFault) × TraceMeasured config given how
     × AnswerOf (λ m answer. TellsPages pace config m (string_bytes answer.text) × (answer.ending ≡ Done)) how answered
 
 -- the answer to a question about an input
-abbrev pub IsAnswer : Question → Config → Given → Result Answer TextFault → Type 0
+abbrev pub IsAnswer : Question → Config → Given → Result Answer PlayFault → Type 0
 IsAnswer questions.History config given answered = HistoryChecked config given answered
 IsAnswer (questions.Cycles layout) config given answered = CyclesTold layout config given answered
 IsAnswer (questions.Pages pace) config given answered = PagesTold pace config given answered
@@ -95,5 +95,5 @@ AnswerWritten answer taken result = TextWritten answer.ending (string_bytes answ
 -- A question about an input was answered, and the answer was written.
 abbrev pub Answered : Question → Config → Given → Taken → Result Ending RunFault → Type 0
 Answered question config given taken result =
-    (answered : Result Answer TextFault) × IsAnswer question config given answered
+    (answered : Result Answer PlayFault) × IsAnswer question config given answered
     × ToldOf AnswerWritten answered taken result

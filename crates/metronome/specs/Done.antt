@@ -17,7 +17,7 @@ use Rattle.metronome.specs.Answered.{Answered}
 use Rattle.metronome.specs.OverTime.{TimeDrawn}
 use Rattle.metronome.specs.Told.{ReportTold, TextWritten}
 use Rattle.metronome.specs.Loaded.{LoadTold}
-use Rattle.metronome.specs.Behind.{AfterPlay}
+use Rattle.metronome.specs.After.{AfterPlay}
 use Rattle.metronome.specs.Telling.{report_by, PictureDrawn, GraphTold, TellsWhy, WindowsTold}
 
 -- what a job does: for some, what it reports of the player after its play

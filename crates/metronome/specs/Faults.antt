@@ -3,7 +3,7 @@ use Rattle.std.specs.Prelude.{ℕ, ◌≡◌, ◌⊎◌, ◌+◌, Result, Err}
 use Rattle.size_classes.specs.declared.fault.ConfigFault.{ConfigFault}
 use Rattle.command_line.specs.declared.toml_table.ReadFault.{ReadFault}
 use Rattle.command_line.specs.declared.toml_table.ReadFault.TheVariants as settings
-use Rattle.trace.specs.declared.fault.TextFault.TheVariants.{Read, NoMemory}
+use Rattle.trace.specs.declared.fault.PlayFault.TheVariants.{Read, NoMemory}
 use Rattle.trace.specs.LinesProcessed.{reads_failed, writes_failed}
 use Rattle.metronome.specs.declared.fault.RunFault.{RunFault}
 use Rattle.metronome.specs.declared.fault.RunFault.TheVariants.{Config, Load, Text}

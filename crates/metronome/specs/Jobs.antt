@@ -1,8 +1,8 @@
 -- What each subcommand reads and writes.
 use Rattle.std.specs.Prelude.{◌≡◌, ℕ, Bool, true, false, ◌⊎◌, ◌++◌, map, replicate, Result, Ok, Err}
 use Rattle.size_classes.specs.declared.config.Config.{Config}
-use Rattle.trace.specs.declared.fault.TextFault.{TextFault}
-use Rattle.trace.specs.declared.fault.TextFault.TheVariants.{Write, NoMemory}
+use Rattle.trace.specs.declared.fault.PlayFault.{PlayFault}
+use Rattle.trace.specs.declared.fault.PlayFault.TheVariants.{Write, NoMemory}
 use Rattle.trace.specs.declared.version.Version.{Version}
 use Rattle.trace.specs.Streams.{Given, Taken, GrowsByPart}
 use Rattle.trace.specs.Scripts.{ReadScripts, ScriptsRead}
@@ -26,7 +26,7 @@ NotBegun given taken result =
     (given.after ≡ given.before) × (taken.after ≡ taken.before) × (result ≡ Err (Text NoMemory))
 
 -- a job that is done where its play is
-abbrev pub ends_as : Result (Unit {0}) TextFault → Result Ending RunFault
+abbrev pub ends_as : Result (Unit {0}) PlayFault → Result Ending RunFault
 ends_as (Ok all) = Ok Done
 ends_as (Err fault) = Err (Text fault)
 
@@ -34,7 +34,7 @@ ends_as (Err fault) = Err (Text fault)
 abbrev pub TracePlayed : Style → Config → Given → Taken → Result Ending RunFault → Type 0
 TracePlayed style config given taken result =
     NotBegun given taken result
-    ⊎ ((old : PlayerState) × (new : PlayerState) × (how : Result (Unit {0}) TextFault) × IsNew config old
+    ⊎ ((old : PlayerState) × (new : PlayerState) × (how : Result (Unit {0}) PlayFault) × IsNew config old
     × Played style given (session old taken.before) (session new taken.after) how × (result ≡ ends_as how))
 
 -- how a run ends whose scripts and budgets were all done, or not
@@ -52,8 +52,8 @@ HistoryWritten version outcome taken result =
 
 -- Threads ran scripts beside this many quanta of a budget, and the history was written, which is a merge of the scripts
 -- where all was done; or memory was refused, and nothing was.
-abbrev pub RunBehind : ℕ → ℕ → Config → ReadScripts → Taken → Result Ending RunFault → Type 0
-RunBehind turns budget config read taken result =
+abbrev pub RunAfter : ℕ → ℕ → Config → ReadScripts → Taken → Result Ending RunFault → Type 0
+RunAfter turns budget config read taken result =
     ((result ≡ Err (Text NoMemory)) × (taken.after ≡ taken.before))
     ⊎ ((outcome : Outcome) × IsOutcome (settings_by config) (map (λ s. s.items) read.1.items)
     (replicate turns budget) outcome × HistoryWritten read.0 outcome taken result)
@@ -61,5 +61,5 @@ RunBehind turns budget config read taken result =
 -- Scripts were read, run, and their history written.
 abbrev pub ScriptsRun : ℕ → ℕ → Config → Given → Taken → Result Ending RunFault → Type 0
 ScriptsRun turns budget config given taken result =
-    (how : Result ReadScripts TextFault) × ScriptsRead given config.mutators how
-    × ToldOf (RunBehind turns budget config) how taken result
+    (how : Result ReadScripts PlayFault) × ScriptsRead given config.mutators how
+    × ToldOf (RunAfter turns budget config) how taken result

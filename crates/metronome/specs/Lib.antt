@@ -3,7 +3,7 @@ pub mod Jobs
 pub mod Status
 pub mod Windows
 pub mod Told
-pub mod Behind
+pub mod After
 pub mod Telling
 pub mod OverTime
 pub mod Progress

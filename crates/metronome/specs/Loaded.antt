@@ -2,7 +2,7 @@
 use Rattle.std.specs.Prelude.{◌≡◌, ℕ, ◌*◌, IsTrue, ◌⊎◌, List, [], ◌++◌, Result, Ok, Err}
 use Rattle.size_classes.specs.declared.config.Config.{Config}
 use Rattle.heap_model.specs.Event.{Event}
-use Rattle.trace.specs.declared.fault.TextFault.{TextFault}
+use Rattle.trace.specs.declared.fault.PlayFault.{PlayFault}
 use Rattle.trace.specs.Streams.{Given, Taken, Begins}
 use Rattle.sizing.specs.declared.measured.Measured.{Measured}
 use Rattle.space.specs.Room.{AllHaveRoom}
@@ -24,11 +24,11 @@ abbrev pub ReadsText : List ℕ → Given → Type 0
 ReadsText text given = (given.before ≡ []) × Begins given.after given.ended text
 
 -- a trace of this text was measured on a new heap
-abbrev pub TextMeasured : Config → List ℕ → Result Measured TextFault → Type 0
+abbrev pub TextMeasured : Config → List ℕ → Result Measured PlayFault → Type 0
 TextMeasured config text how = (given : Given) × ReadsText text given × TraceMeasured config given how
 
 -- a trace of this text was checked against a load, with quanta of the schedule's units
-abbrev pub TextChecked : Config → AllocationProfile → List ℕ → Result Conformance TextFault → Type 0
+abbrev pub TextChecked : Config → AllocationProfile → List ℕ → Result Conformance PlayFault → Type 0
 TextChecked config l text how = (given : Given) × ReadsText text given
     × LoadChecked l (config.collector_ticks * config.rate) given how
 
@@ -42,18 +42,18 @@ module _ (config : Config) (l : LoadTable) where
     pub this : LoadFits config (load_in l) → IsCovered l kept m.pace → AllHaveRoom es
 
   -- once it was measured, it is read again and checked
-  abbrev pub CheckedBehind : (text : List ℕ) (how : Result Measured TextFault) → TextMeasured config text how → Taken
+  abbrev pub CheckedAfter : (text : List ℕ) (how : Result Measured PlayFault) → TextMeasured config text how → Taken
       → Result Ending RunFault → Type 0
-  CheckedBehind text (Ok m) run taken result = (how : Result Conformance TextFault)
+  CheckedAfter text (Ok m) run taken result = (how : Result Conformance PlayFault)
       × TextChecked config (load_in l) text how
       × ToldOf (λ kept. ReportTold (TellsLoad m run.2.played.over.events kept)) how taken result
-  CheckedBehind text (Err why) run taken result = NothingTold why taken result
+  CheckedAfter text (Err why) run taken result = NothingTold why taken result
 
   -- A trace of this text was measured on a new heap, read again and checked against the load, and what the load needs
   -- was reported.
   abbrev pub TextTold : List ℕ → Taken → Result Ending RunFault → Type 0
-  TextTold text taken result = (how : Result Measured TextFault) × (run : TextMeasured config text how)
-      × CheckedBehind text how run taken result
+  TextTold text taken result = (how : Result Measured PlayFault) × (run : TextMeasured config text how)
+      × CheckedAfter text how run taken result
 
 -- all that a source had still to give is this text
 abbrev pub IsRest : Given → List ℕ → Type 0

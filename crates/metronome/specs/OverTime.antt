@@ -1,7 +1,7 @@
 -- What is drawn of a heap over a run.
 use Rattle.std.specs.Prelude.{ℕ, List, Result}
 use Rattle.size_classes.specs.declared.config.Config.{Config}
-use Rattle.trace.specs.declared.fault.TextFault.{TextFault}
+use Rattle.trace.specs.declared.fault.PlayFault.{PlayFault}
 use Rattle.trace.specs.Streams.{Given, Taken}
 use Rattle.pictures.specs.declared.over_time.Scale.{Scale}
 use Rattle.pictures.specs.OverTime.{time_picture}
@@ -23,5 +23,5 @@ samples_picture config s = time_picture (scale_of config s) s.items.items
 
 -- A trace was played on a new heap, and samples of the run were drawn.
 abbrev pub TimeDrawn : Config → Given → Taken → Result Ending RunFault → Type 0
-TimeDrawn config given taken result = (how : Result Samples TextFault) × SamplesTaken config given how
+TimeDrawn config given taken result = (how : Result Samples PlayFault) × SamplesTaken config given how
     × ToldOf (λ s. TextWritten Done (samples_picture config s)) how taken result

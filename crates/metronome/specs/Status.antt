@@ -1,6 +1,6 @@
 -- The exit status of a run.
 use Rattle.std.specs.Prelude.{ℕ, Result, Ok, Err}
-use Rattle.trace.specs.declared.fault.TextFault.TheVariants as texts
+use Rattle.trace.specs.declared.fault.PlayFault.TheVariants as texts
 use Rattle.metronome.specs.declared.fault.Ending.{Ending}
 use Rattle.metronome.specs.declared.fault.Ending.TheVariants as endings
 use Rattle.metronome.specs.declared.fault.RunFault.{RunFault}

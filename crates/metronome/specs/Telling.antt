@@ -6,7 +6,7 @@ use Rattle.heap_model.specs.Event.{present_of}
 use Rattle.heap_model.specs.State.{HeapState}
 use Rattle.nodes.specs.Copies.{HasBlock}
 use Rattle.quanta.specs.Timetable.{Timetable}
-use Rattle.trace.specs.declared.fault.TextFault.{TextFault}
+use Rattle.trace.specs.declared.fault.PlayFault.{PlayFault}
 use Rattle.trace.specs.Streams.{Taken}
 use Rattle.player.specs.Player.{PlayerState}
 use Rattle.pictures.specs.PathText.{PathTold}
@@ -20,8 +20,8 @@ use Rattle.pictures.specs.declared.share.Share.{Share}
 use Rattle.pictures.specs.GraphDrawn.{GraphDrawn}
 use Rattle.pictures.specs.PageMap.{pages_picture}
 use Rattle.pictures.specs.Utilisation.{AreShares, utilisation_picture}
-use Rattle.metronome.specs.declared.behind.Telling.{Telling}
-use Rattle.metronome.specs.declared.behind.Telling.TheVariants as tellings
+use Rattle.metronome.specs.declared.after.Telling.{Telling}
+use Rattle.metronome.specs.declared.after.Telling.TheVariants as tellings
 use Rattle.metronome.specs.declared.fault.Ending.{Ending}
 use Rattle.metronome.specs.declared.fault.Ending.TheVariants.{Done}
 use Rattle.metronome.specs.declared.fault.RunFault.{RunFault}
@@ -46,13 +46,13 @@ PictureDrawn picture config p taken result = (text : List ℕ) × IsPicture pict
     × TextWritten Done text taken result
 
 -- a job that is done where its drawing is
-abbrev pub drawn_as : Result (Unit {0}) TextFault → Result Ending RunFault
+abbrev pub drawn_as : Result (Unit {0}) PlayFault → Result Ending RunFault
 drawn_as (Ok drawn) = Ok Done
 drawn_as (Err fault) = Err (Text fault)
 
 -- a graph heap is drawn, with at most this many objects
 abbrev pub GraphTold : ℕ → Graph → Taken → Result Ending RunFault → Type 0
-GraphTold most g taken result = (how : Result (Unit {0}) TextFault) × GraphDrawn g most taken how
+GraphTold most g taken result = (how : Result (Unit {0}) PlayFault) × GraphDrawn g most taken how
     × (result ≡ drawn_as how)
 
 -- the text that tells why an object is alive in a graph heap, and whether a heap holds a block of it

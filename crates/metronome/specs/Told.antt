@@ -1,7 +1,7 @@
 -- What is written of a job's results.
 use Rattle.std.specs.Prelude.{◌≡◌, ℕ, ◌⊎◌, List, ◌++◌, Result, Ok, Err}
-use Rattle.trace.specs.declared.fault.TextFault.{TextFault}
-use Rattle.trace.specs.declared.fault.TextFault.TheVariants.{Write, NoMemory}
+use Rattle.trace.specs.declared.fault.PlayFault.{PlayFault}
+use Rattle.trace.specs.declared.fault.PlayFault.TheVariants.{Write, NoMemory}
 use Rattle.trace.specs.Streams.{Taken, GrowsByPart}
 use Rattle.metronome.specs.declared.fault.Ending.{Ending}
 use Rattle.metronome.specs.declared.fault.Ending.TheVariants.{Done}
@@ -22,11 +22,11 @@ ReportTold IsReport taken (Err fault) =
     ⊎ ((fault ≡ Text NoMemory) × (taken.after ≡ taken.before))
 
 -- a fault ended what comes before the telling: nothing is written
-abbrev pub NothingTold : TextFault → Taken → Result Ending RunFault → Type 0
+abbrev pub NothingTold : PlayFault → Taken → Result Ending RunFault → Type 0
 NothingTold why taken result = (result ≡ Err (Text why)) × (taken.after ≡ taken.before)
 
 -- once something was taken of an input, this is reported of it; or a fault ended the taking
-abbrev pub ToldOf : {A : Type 0} → (A → Taken → Result Ending RunFault → Type 0) → Result A TextFault → Taken
+abbrev pub ToldOf : {A : Type 0} → (A → Taken → Result Ending RunFault → Type 0) → Result A PlayFault → Taken
     → Result Ending RunFault → Type 0
 ToldOf Tells (Ok it) taken result = Tells it taken result
 ToldOf Tells (Err why) taken result = NothingTold why taken result

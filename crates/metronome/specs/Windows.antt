@@ -4,7 +4,7 @@ use Rattle.std.specs.List.{AllZip, concat}
 use Rattle.size_classes.specs.declared.config.Config.{Config}
 use Rattle.quanta.specs.Timetable.{Timetable, last_end}
 use Rattle.mmu_report.specs.Utilisation.{IsLeast, bound_of}
-use Rattle.trace.specs.declared.fault.TextFault.TheVariants.{Write, NoMemory}
+use Rattle.trace.specs.declared.fault.PlayFault.TheVariants.{Write, NoMemory}
 use Rattle.trace.specs.Streams.{GrowsByPart}
 use Rattle.metronome.specs.declared.fault.RunFault.{RunFault}
 use Rattle.metronome.specs.declared.fault.RunFault.TheVariants.{Text}

@@ -14,7 +14,7 @@ use size_classes::Config;
 use sizing::{Measured, measure};
 use std::alloc::{AllocError, Global};
 use trace::transcripts::{Checked, check_entries};
-use trace::{Sink, Source, TextFault, write_all};
+use trace::{PlayFault, Sink, Source, write_all};
 
 /// What is asked about an input.
 #[derive(Clone, Copy)]
@@ -37,7 +37,7 @@ pub struct Answer {
 }
 
 /// Checks the entries of a history from the opening graph heap.
-fn check<S: Source>(alloc: Global, config: &Config, source: &mut S) -> Result<Checked, TextFault>
+fn check<S: Source>(alloc: Global, config: &Config, source: &mut S) -> Result<Checked, PlayFault>
     ensures checked { EntriesTaken config.now (given_by S.given S.ended source.old source.new) result }
     ensures reads { S.failures source.new ≡ S.failures source.old + reads_failed result }
 {
@@ -87,12 +87,12 @@ fn pages_text(
 }
 
 /// The answer with a text, if there was memory for it.
-fn offer(text: Result<String, AllocError>, ending: Ending) -> Result<Answer, TextFault>
+fn offer(text: Result<String, AllocError>, ending: Ending) -> Result<Answer, PlayFault>
     ensures { Offers text ending result }
 {
     match text {
         Ok(text) => Ok(Answer { text, ending }),
-        Err(_) => Err(TextFault::NoMemory),
+        Err(_) => Err(PlayFault::NoMemory),
     }
 }
 
@@ -102,7 +102,7 @@ fn answer_to<S: Source>(
     config: &Config,
     source: &mut S,
     question: Question,
-) -> Result<Answer, TextFault>
+) -> Result<Answer, PlayFault>
     ensures answer { IsAnswer question config.now (given_by S.given S.ended source.old source.new) result }
     ensures reads { S.failures source.new ≡ S.failures source.old + reads_failed result }
 {

@@ -1,6 +1,6 @@
 //! How a run ends.
 ghost use Rattle.std.specs.Prelude.{◌≡◌};
-ghost use Rattle.trace.specs.declared.fault.TextFault.TheVariants as texts;
+ghost use Rattle.trace.specs.declared.fault.PlayFault.TheVariants as texts;
 ghost use Rattle.metronome.specs.declared.fault.RunFault.TheVariants as faults;
 ghost use Rattle.metronome.specs.Faults.{of_settings};
 ghost use Rattle.metronome.specs.Status.{ending_status, fault_status};
@@ -10,7 +10,7 @@ use graph_heap::NoMemory;
 use size_classes::ConfigFault;
 use sizing::DocumentFault;
 use thiserror::Error;
-use trace::{TextFault, WriteFailed};
+use trace::{PlayFault, WriteFailed};
 
 /// How a run ends that meets no fault.
 #[derive(Clone, Copy, Debug, PartialEq, Eq)]
@@ -47,7 +47,7 @@ pub enum RunFault {
     Load(DocumentFault),
     /// A line is wrong; a file can't be opened, or a read failed; a write failed; or memory was refused.
     #[error("{0}")]
-    Text(TextFault),
+    Text(PlayFault),
     /// A script, or the collector's budgets, ended early. The history was written.
     #[error("run not complete")]
     NotComplete,
@@ -61,9 +61,9 @@ impl RunFault {
         match self {
             RunFault::Words(_) => 2,
             RunFault::Config(_) | RunFault::Load(_) => 3,
-            RunFault::Text(TextFault::Line(..)) => 4,
-            RunFault::Text(TextFault::Read | TextFault::Write) => 5,
-            RunFault::Text(TextFault::NoMemory) => 6,
+            RunFault::Text(PlayFault::Line(..)) => 4,
+            RunFault::Text(PlayFault::Read | PlayFault::Write) => 5,
+            RunFault::Text(PlayFault::NoMemory) => 6,
             RunFault::NotComplete => 8,
         }
     }
@@ -73,7 +73,7 @@ impl From<NoMemory> for RunFault {
     ghost from_gives = { λ why fault. fault ≡ faults.Text texts.NoMemory };
 
     fn from(_refused: NoMemory) -> RunFault {
-        RunFault::Text(TextFault::NoMemory)
+        RunFault::Text(PlayFault::NoMemory)
     }
 }
 
@@ -83,15 +83,15 @@ impl From<ReadFault<ConfigFault>> for RunFault {
     fn from(fault: ReadFault<ConfigFault>) -> RunFault {
         match fault {
             ReadFault::Refused(why) => RunFault::Config(why),
-            ReadFault::NoMemory => RunFault::Text(TextFault::NoMemory),
+            ReadFault::NoMemory => RunFault::Text(PlayFault::NoMemory),
         }
     }
 }
 
-impl From<TextFault> for RunFault {
+impl From<PlayFault> for RunFault {
     ghost from_gives = { λ why fault. fault ≡ faults.Text why };
 
-    fn from(fault: TextFault) -> RunFault {
+    fn from(fault: PlayFault) -> RunFault {
         RunFault::Text(fault)
     }
 }
@@ -100,6 +100,6 @@ impl From<WriteFailed> for RunFault {
     ghost from_gives = { λ why fault. fault ≡ faults.Text texts.Write };
 
     fn from(_failed: WriteFailed) -> RunFault {
-        RunFault::Text(TextFault::Write)
+        RunFault::Text(PlayFault::Write)
     }
 }

@@ -6,7 +6,7 @@ use crate::fault::RunFault;
 use std::alloc::Global;
 use std::fs::{self, Files};
 use std::io::{self, ErrorKind, Read};
-use trace::TextFault;
+use trace::PlayFault;
 
 /// The most bytes of a configuration or a load that are read: one more than it may have.
 const DOCUMENT_BYTES: u64 = 65537;
@@ -40,7 +40,7 @@ pub fn open_file<O: Opener>(opener: &O, name: &str) -> Result<O::File, RunFault>
 {
     match opener.open(name) {
         Ok(file) => Ok(file),
-        Err(_) => Err(RunFault::Text(TextFault::Read)),
+        Err(_) => Err(RunFault::Text(PlayFault::Read)),
     }
 }
 
@@ -53,8 +53,8 @@ pub fn read_document<O: Opener>(alloc: Global, opener: &O, name: &str) -> Result
     match file.read_to_end(&mut bytes) {
         Ok(_) => Ok(bytes),
         Err(error) if error.kind() == ErrorKind::OutOfMemory => Err(RunFault::Text(
-            TextFault::NoMemory,
+            PlayFault::NoMemory,
         )),
-        Err(_) => Err(RunFault::Text(TextFault::Read)),
+        Err(_) => Err(RunFault::Text(PlayFault::Read)),
     }
 }

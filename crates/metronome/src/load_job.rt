@@ -13,7 +13,7 @@ use size_classes::Config;
 use sizing::arrivals::{AllocationProfile, Conformance, keeps_load};
 use sizing::{LoadFault, Measured, measure, read_load};
 use std::alloc::Global;
-use trace::{MemorySource, Sink, Source, TextFault, write_all};
+use trace::{MemorySource, PlayFault, Sink, Source, write_all};
 
 /// How many bytes of a source are asked for at a time.
 const PIECE: usize = 4096;
@@ -26,7 +26,7 @@ fn load_of<O: Opener>(alloc: Global, opener: &O, name: &str) -> Result<Allocatio
     match read_load(alloc, bytes.as_slice()) {
         Ok(load) => Ok(load),
         Err(LoadFault::Refused(why)) => Err(RunFault::Load(why)),
-        Err(LoadFault::NoMemory) => Err(RunFault::Text(TextFault::NoMemory)),
+        Err(LoadFault::NoMemory) => Err(RunFault::Text(PlayFault::NoMemory)),
     }
 }
 
@@ -40,19 +40,19 @@ fn rest_of<S: Source>(alloc: Global, source: &mut S) -> Result<Vec<u8>, RunFault
     let mut piece = [0; PIECE];
     loop {
         let Ok(count) = source.read(&mut piece) else {
-            return Err(RunFault::Text(TextFault::Read));
+            return Err(RunFault::Text(PlayFault::Read));
         };
         if count == 0 {
             return Ok(text);
         }
         if text.extend_from_slice(&piece[..count]).is_err() {
-            return Err(RunFault::Text(TextFault::NoMemory));
+            return Err(RunFault::Text(PlayFault::NoMemory));
         }
     }
 }
 
 /// What the trace of a text needs on a new heap.
-fn measure_text(alloc: Global, config: &Config, text: &[u8]) -> Result<Measured, TextFault>
+fn measure_text(alloc: Global, config: &Config, text: &[u8]) -> Result<Measured, PlayFault>
     ensures measured { TextMeasured config.now text.now result }
     ensures reads { reads_failed result ≡ 0 }
 {
@@ -65,7 +65,7 @@ fn check_text(
     config: &Config,
     load: &AllocationProfile,
     text: &[u8],
-) -> Result<Conformance, TextFault>
+) -> Result<Conformance, PlayFault>
     ensures checked { TextChecked config.now (load_in load.now) text.now result }
     ensures reads { reads_failed result ≡ 0 }
 {
@@ -89,7 +89,7 @@ fn tell_text<K: Sink>(
     let measured = measure_text(alloc, config, text)?;
     let kept = check_text(config, load, text)?;
     let Ok(text) = load_report(alloc, config, load, kept, &measured.pace) else {
-        return Err(RunFault::Text(TextFault::NoMemory));
+        return Err(RunFault::Text(PlayFault::NoMemory));
     };
     write_all(sink, text.as_bytes())?;
     Ok(Ending::Done)

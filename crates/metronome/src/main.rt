@@ -1,8 +1,8 @@
 //! The program: plays, checks, runs and inspects heaps, as its words ask.
 #![tactic(auto)]
 
+mod after;
 mod answer_job;
-mod behind;
 mod fault;
 mod files;
 mod jobs;

@@ -7,8 +7,8 @@ ghost use Rattle.metronome.specs.Done.{JobDone};
 ghost use Rattle.metronome.specs.Faults.{failed_writes, CountsReads};
 ghost use Rattle.metronome.specs.Status.{status_of};
 
+use crate::after::{Telling, after_play};
 use crate::answer_job::{Question, answer_job};
-use crate::behind::{Telling, after_play};
 use crate::fault::{Ending, RunFault};
 use crate::files::{Opener, open_file, read_document};
 use crate::jobs::{play_job, threads_job};
@@ -24,7 +24,7 @@ use std::convert::AsStr;
 use std::io::{Read, Write};
 use std::sync::Wait;
 use std::thread::Threads;
-use trace::{ReadSource, Sink, Source, TextFault, WriteSink, write_all};
+use trace::{PlayFault, ReadSource, Sink, Source, WriteSink, write_all};
 
 /// What a run has of the machine: threads, memory, and files by their names.
 #[derive(Clone, Copy, Drop)]
@@ -99,7 +99,7 @@ where
             return Ok(Ending::Done);
         }
         Err(WordsFault::Refused(text)) => return Err(RunFault::Words(text)),
-        Err(WordsFault::NoMemory) => return Err(RunFault::Text(TextFault::NoMemory)),
+        Err(WordsFault::NoMemory) => return Err(RunFault::Text(PlayFault::NoMemory)),
     };
     let host = Host { rt, alloc, opener };
     obey(&host, &request, input, sink, errors)

@@ -7,7 +7,7 @@ use Rattle.size_classes.specs.declared.fault.ConfigFault.{ConfigFault}
 use Rattle.size_classes.specs.Config.{fault_of}
 use Rattle.heap_model.specs.State.{HeapState}
 use Rattle.heap_model.specs.Agreement.{Agrees}
-use Rattle.heap_model.specs.Event.{Course, Event, Command_done, Cycle_begun, Cycle_on, Quantum_done, Quantum_refused, IsCourse, Does, Runs, present_of, snapshot_of}
+use Rattle.heap_model.specs.Event.{Course, Event, Command_done, Cycle_begun, Begin_refused, Quantum_done, Quantum_refused, IsCourse, Does, Runs, present_of, snapshot_of}
 use Rattle.heap_model.specs.ReachedFrom.{opened}
 use Rattle.heap_model.proofs.Agreements.{consistent_agrees}
 use Rattle.heap_model.proofs.Course.{does_course, opening_course}
@@ -38,7 +38,7 @@ record IsEvent (r : Course) (call : Call) (next : Result HeapState Status) : Typ
 
 command_event : (r : Course) (m : ℕ) (c : Command) (answer : Answer) (next : Result HeapState Status) → IsCourse r → Steps (Ok r.heap) m c next answer → IsEvent r (Command_called m c answer) next
 command_event r m c answer next w s =
-    let agrees : Agrees r.heap (present_of r) = consistent_agrees r.heap (present_of r) (snapshot_of r) w.stands.consistent in
+    let agrees : Agrees r.heap (present_of r) = consistent_agrees r.heap (present_of r) (snapshot_of r) w.represents.consistent in
     let step = s.2 (present_of r) agrees in
     record {
       event = Command_done m c (reply_to r.heap (present_of r) m c);
@@ -58,7 +58,7 @@ begin_event r k (Ok done) status next left b told = record {
   left = left;
 }
 begin_event r k (Err busy) status next left b told = record {
-  event = Cycle_on;
+  event = Begin_refused;
   after = r;
   does = (b.0, refl);
   told = ap Begin_called told;

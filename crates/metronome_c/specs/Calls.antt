@@ -5,7 +5,7 @@ use Rattle.size_classes.specs.declared.settings.Settings.{Settings}
 use Rattle.size_classes.specs.declared.config.Config.{Config}
 use Rattle.size_classes.specs.Config.{IsOf}
 use Rattle.heap_model.specs.State.{HeapState}
-use Rattle.heap_model.specs.Event.{Course, Event, Command_done, Cycle_begun, Cycle_on, Quantum_done, Quantum_refused, Runs}
+use Rattle.heap_model.specs.Event.{Course, Event, Command_done, Cycle_begun, Begin_refused, Quantum_done, Quantum_refused, Runs}
 use Rattle.heap_model.specs.ReachedFrom.{opened}
 use Rattle.machine.specs.Headline.{Holds, AlwaysHolds}
 use Rattle.machine.specs.Space.{IsJustMade, FindsSpace}
@@ -41,7 +41,7 @@ Calls old (call ∷ calls) new = (next : Result HeapState Status) × DoesCall ol
 abbrev pub TellsEvent : Event → Call → Type 0
 TellsEvent (Command_done m c reply) call = call ≡ Command_called m c (answer_of reply)
 TellsEvent Cycle_begun call = call ≡ Begin_called (status_number Done)
-TellsEvent Cycle_on call = call ≡ Begin_called (status_number Busy)
+TellsEvent Begin_refused call = call ≡ Begin_called (status_number Busy)
 TellsEvent (Quantum_done budget units phase) call = (before : QuantumSpent)
     × (call ≡ Quantum_called budget before (record { units = units; phase = phase_number phase }) (status_number Done))
 TellsEvent (Quantum_refused budget) call = (before : QuantumSpent)

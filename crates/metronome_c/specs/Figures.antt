@@ -4,7 +4,7 @@ use Rattle.graph_heap.specs.Graph.{Graph}
 use Rattle.size_classes.specs.Sizes.{size_of}
 use Rattle.heap_model.specs.Pages.{free_pages, page_at}
 use Rattle.heap_model.specs.State.{HeapState}
-use Rattle.heap_model.specs.Standing.{Represents}
+use Rattle.heap_model.specs.Represents.{Represents}
 use Rattle.nodes.specs.Copies.{copies_in}
 use Rattle.pages.specs.View.{view_of}
 use Rattle.pages.specs.declared.view.PageView.{PageView}
@@ -26,7 +26,7 @@ abbrev pub Tells : {A : Type 0} → (HeapState → A) → Result HeapState Statu
 Tells tell (Err why) new before after status = (new ≡ Err why) × (after ≡ before) × (status ≡ status_number why)
 Tells tell (Ok h) new before after status = (new ≡ Ok h) × (after ≡ tell h) × (status ≡ status_number Done)
 
--- a heap stands for some graph heap at present, and for one when the last cycle began
+-- a heap represents some graph heap at present, and one when the last cycle began
 abbrev pub RepresentsSome : HeapState → Type 0
 RepresentsSome h = (present : Graph) × (snapshot : Graph) × Represents h present snapshot
 

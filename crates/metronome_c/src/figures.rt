@@ -58,13 +58,13 @@ pub(crate) fn tell<T: Copy>(told: &mut T, found: Result<T, Status>) -> u32
     }
 }
 
-/// Tells the phase. A heap always stands for some graph heap at present, and for one when the last cycle began.
+/// Tells the phase. A heap always represents some graph heap at present, and one when the last cycle began.
 #[unsafe(no_mangle)]
 pub extern "C" fn metronome_phase(heap: &mut Metronome, phase: &mut u32) -> u32
     ensures phase { Tells (λ h. collecting.phase_number h.phase) (heap_in heap.old)
         (heap_in heap.new) phase.old phase.new
         result }
-    ensures stands { IfOk (heap_in heap.old) RepresentsSome }
+    ensures represents { IfOk (heap_in heap.old) RepresentsSome }
 {
     tell(phase, heap.ask(|inner| phase_number(inner.phase())))
 }

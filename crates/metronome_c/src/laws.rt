@@ -19,7 +19,7 @@ ghost use Rattle.metronome_c.specs.declared.status.Status.TheVariants.{Done, Ref
 
 /// Where a heap was just made of a closed handle, and a program calls the library as it likes, the calls are events
 /// that the heap does one after the other, with a history that only grows: each call tells the outcome of its event,
-/// and what is promised of a heap with its history (`machine::HeapWithHistory::run`) holds of it, whatever comes.
+/// and what is promised of a heap with its history (`machine::Recorded::run`) holds of it, whatever comes.
 pub fn calls_are_events()
     ensures made { (s : Settings) (h : HeapState) (status : ℕ) → Creates (Err Closed) s (Ok h) status → IsPromised s h }
     ensures calls { (s : Settings) (h : HeapState) (status : ℕ) (calls : List Call) (new : Result HeapState Status)

@@ -9,9 +9,9 @@ use Rattle.nodes.proofs.Joining.{node_kept}
 
 -- words stayed, and then a block was added or moved
 module _ (pages : List (Option Page)) (words mid : List ℕ) (kept : KeepsAllocated pages words mid) (new : Store) where
-  pub adds_then : (a : ℕ) (node : BlockRecord) → Adds (record { pages = pages; words = mid }) new a node → Adds (record { pages = pages; words = words }) new a node
+  pub adds_then : (a : ℕ) (block : BlockRecord) → Adds (record { pages = pages; words = mid }) new a block → Adds (record { pages = pages; words = words }) new a block
   unfolding is_allocated
-  adds_then a node x = record {
+  adds_then a block x = record {
     free = x.free;
     allocated = x.allocated;
     here = x.here;

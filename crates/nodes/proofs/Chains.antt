@@ -8,12 +8,12 @@ use Rattle.heap_model.specs.Written.{records}
 use Rattle.heap_model.proofs.Bound.{chain_limit}
 use Rattle.heap_model.proofs.Grey.{rests_empty}
 use Rattle.heap_model.proofs.Settings.{chain_settings}
-use Rattle.heap_model.proofs.Stood.{stands_chain}
+use Rattle.heap_model.proofs.Stood.{represents_chain}
 use Rattle.heap_model.proofs.Turns.{action_cost}
 use Rattle.nodes.specs.Acting.{Acts}
 use Rattle.nodes.specs.declared.heap_fields.HeapFields.{HeapFields}
 use Rattle.nodes.specs.HeapFields.{state_of, AreHeapFields}
-use Rattle.nodes.proofs.Standing.{still}
+use Rattle.nodes.proofs.Representing.{still}
 
 -- one action
 pub one_action : (h after : HeapState) (cost : ℕ) → Action h cost after → Chain h cost after
@@ -40,7 +40,7 @@ heap_after_chain a b w units chain count = record {
   heap = record {
     present = w.heap.present;
     snapshot = w.heap.snapshot;
-    stands = stands_chain (state_of a) (state_of b) units w.heap.present w.heap.snapshot w.heap.stands chain;
+    represents = represents_chain (state_of a) (state_of b) units w.heap.present w.heap.snapshot w.heap.represents chain;
     fits = w.heap.fits;
     small = subst (λ n. n < 2 ^ 31) (sym (chain_limit (state_of a) (state_of b) units chain)) w.heap.small;
   };
@@ -50,7 +50,7 @@ heap_after_chain a b w units chain count = record {
 
 -- one action within the room
 pub runs_once : (a b : HeapFields) (room cost : ℕ) → AreHeapFields a → Action (state_of a) cost (state_of b) → cost ≤ room → Acts a room b
-runs_once a b room cost w action within = (cost, one_action (state_of a) (state_of b) cost action, (action_cost (state_of a) (state_of b) cost w.heap.stands.pages action).0, within)
+runs_once a b room cost w action within = (cost, one_action (state_of a) (state_of b) cost action, (action_cost (state_of a) (state_of b) cost w.heap.represents.pages action).0, within)
 
 -- steps of one unit each, that change nothing but the phase
 pub steps_on : (h : HeapState) (at : ℕ → Phase) (n : ℕ) → h.phase ≡ at 0 → ((k u : ℕ) → k < n → Action (record h { phase = at k; units = u }) 1 (record h { phase = at (k + 1); units = u + 1 }))

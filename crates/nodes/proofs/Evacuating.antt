@@ -5,7 +5,7 @@ use Rattle.std.proofs.lemmas.Option.{slice_get-get_or}
 use Rattle.heap_model.specs.Pages.{Page, IsPage, page_at}
 use Rattle.heap_model.specs.Store.{Store, IsStore, size_in, allocated_in}
 use Rattle.heap_model.specs.Action.{KeepsBlocks}
-use Rattle.pages.specs.declared.page.PageRecord.{PageRecord}
+use Rattle.pages.specs.declared.page.PageRow.{PageRow}
 use Rattle.pages.specs.Index.{row_at}
 use Rattle.pages.specs.Together.{joined, page_by}
 use Rattle.pages.proofs.Telling.{page_is}
@@ -51,11 +51,11 @@ module _ (s t : Store) (is : s ≡ t) (whole : IsStore s) (k : ℕ) (is_target :
   left_store_by = both.1
 
 -- its record isn't a target either
-pub target_page_by : (rows : List (Option PageRecord)) (words : List ℕ) (t : Store) → joined rows words ≡ t → (page : ℕ) → page < length t.pages → IsSomeAnd (page_at t.pages page) (λ p. p.is_target ≡ false) → IsSomeAnd (row_at rows page) (λ r. r.is_target ≡ false)
+pub target_page_by : (rows : List (Option PageRow)) (words : List ℕ) (t : Store) → joined rows words ≡ t → (page : ℕ) → page < length t.pages → IsSomeAnd (page_at t.pages page) (λ p. p.is_target ≡ false) → IsSomeAnd (row_at rows page) (λ r. r.is_target ≡ false)
 target_page_by rows words t is page below h =
     by_row (row_at rows page)
     (subst (λ o. IsSomeAnd o (λ p. p.is_target ≡ false)) (page_is rows words page None (below_by rows words t is page below)) (subst (λ (x : Store). IsSomeAnd (page_at x.pages page) (λ p. p.is_target ≡ false)) (sym is) h))
   where
-    by_row : (o : Option PageRecord) → IsSomeAnd (page_by words (2048 * page) o) (λ p. p.is_target ≡ false) → IsSomeAnd o (λ r. r.is_target ≡ false)
+    by_row : (o : Option PageRow) → IsSomeAnd (page_by words (2048 * page) o) (λ p. p.is_target ≡ false) → IsSomeAnd o (λ r. r.is_target ≡ false)
     by_row None h = h
     by_row (Some r) h = h

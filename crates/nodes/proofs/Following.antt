@@ -2,7 +2,7 @@
 use Rattle.std.proofs.Common.{◌≡◌, ℕ, ◌+◌, ◌-◌, ◌==◌, Bool, true, false, if◌then◌else◌, refl, ap, ◌∙◌, sym}
 use Rattle.heap_model.specs.Store.{Store, record_of}
 use Rattle.heap_model.specs.State.{HeapState, seen}
-use Rattle.nodes.specs.declared.block_store.Referent.{Referent}
+use Rattle.nodes.specs.declared.nodes.Referent.{Referent}
 use Rattle.nodes.specs.Referent.{referent_of}
 
 reference_by : (null : Bool) (r : Referent) → (if null then record { identity = 0; reference = 0 } else r).reference ≡ (if null then 0 else r.reference)

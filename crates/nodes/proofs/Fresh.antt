@@ -5,7 +5,7 @@ use Rattle.std.proofs.lemmas.Option.{get_or_from_slice_get, none-some}
 use Rattle.heap_model.specs.Pages.{Page}
 use Rattle.heap_model.specs.Store.{Store, IsStore, is_allocated, allocated_in}
 use Rattle.heap_model.proofs.Opening.{page_none}
-use Rattle.pages.specs.declared.page.PageRecord.{PageRecord}
+use Rattle.pages.specs.declared.page.PageRow.{PageRow}
 use Rattle.pages.specs.Together.{joined, page_by, pages_in}
 use Rattle.pages.proofs.Indexing.{row_none}
 use Rattle.pages.proofs.Telling.{length-pages, page_is}
@@ -14,15 +14,15 @@ use Rattle.nodes.specs.Joined.{AreBlockRecords}
 
 free_pages : (n : ℕ) → pages_in (replicate n None) (replicate (2048 * n) 0) ≡ replicate n None
 free_pages n =
-    let rows : List (Option PageRecord) = replicate n None in
+    let rows : List (Option PageRow) = replicate n None in
     let words : List ℕ = replicate (2048 * n) 0 in
-    let count : length rows ≡ n = length-replicate {A = Option PageRecord} n None in
+    let count : length rows ≡ n = length-replicate {A = Option PageRow} n None in
     same_lists (pages_in rows words) (replicate n None) (length-pages rows words ∙ count ∙ sym (length-replicate {A = Option Page} n None))
     (λ k d h. let below : k < length rows = omega (arith, h, length-pages rows words) in
     page_is rows words k d below ∙ ap (page_by words (2048 * k)) (row_none n k) ∙ sym (get_or-replicate {A = Option Page} n k None d (omega (arith, below, count))))
 
-module _ (n : ℕ) (few : n ≤ 4096) (rows : List (Option PageRecord)) (words : List ℕ) (rows_are : rows ≡ replicate n None) (words_are : words ≡ replicate (2048 * n) 0) where
-  both : (P : List (Option PageRecord) → List ℕ → Type 0) → P (replicate n None) (replicate (2048 * n) 0) → P rows words
+module _ (n : ℕ) (few : n ≤ 4096) (rows : List (Option PageRow)) (words : List ℕ) (rows_are : rows ≡ replicate n None) (words_are : words ≡ replicate (2048 * n) 0) where
+  both : (P : List (Option PageRow) → List ℕ → Type 0) → P (replicate n None) (replicate (2048 * n) 0) → P rows words
   both P p = subst (λ r. P r words) (sym rows_are) (subst (P (replicate n None)) (sym words_are) p)
 
   pub fresh_is : joined rows words ≡ record { pages = replicate n None; words = replicate (2048 * n) 0 }

@@ -11,7 +11,7 @@ use Rattle.heap_model.specs.Action.{KeepsBlocks}
 use Rattle.heap_model.specs.Pages.{Page, page_at}
 use Rattle.heap_model.specs.Store.{Store, IsStore, size_in, size_at, is_allocated, record_of}
 use Rattle.headers.proofs.Fresh.{words_at-same, length-spliced, spliced_other}
-use Rattle.pages.specs.declared.page.PageRecord.{PageRecord}
+use Rattle.pages.specs.declared.page.PageRow.{PageRow}
 use Rattle.pages.specs.FreeList.{flags_of, free_mark}
 use Rattle.pages.specs.Index.{row_at}
 use Rattle.pages.specs.Together.{joined, pages_in, Together, KeepsAllocated, Tells}
@@ -27,10 +27,10 @@ pub still_store : (pages : List (Option Page)) (words new : List ℕ) → length
 still_store pages words new e s = record { pages = s.pages; words = e ∙ s.words; few = s.few }
 
 -- what the records tell, of the value t as which the fields are seen
-pub told : (rows : List (Option PageRecord)) (words : List ℕ) (t : Store) → joined rows words ≡ t → AreBlockRecords rows words → {X : Type 0} (f : List (Option Page) → X) (v : X) → Tells rows (λ pages. v ≡ f pages) → v ≡ f t.pages
+pub told : (rows : List (Option PageRow)) (words : List ℕ) (t : Store) → joined rows words ≡ t → AreBlockRecords rows words → {X : Type 0} (f : List (Option Page) → X) (v : X) → Tells rows (λ pages. v ≡ f pages) → v ≡ f t.pages
 told rows words t is are f v tells = tells words are.together ∙ ap (λ (x : Store). f x.pages) is
 
-pub below_by : (rows : List (Option PageRecord)) (words : List ℕ) (t : Store) → joined rows words ≡ t → (page : ℕ) → page < length t.pages → page < length rows
+pub below_by : (rows : List (Option PageRow)) (words : List ℕ) (t : Store) → joined rows words ≡ t → (page : ℕ) → page < length t.pages → page < length rows
 below_by rows words t is page h = let e : length rows ≡ length t.pages = sym (length-pages rows words) ∙ ap (λ (x : Store). length x.pages) is in omega (arith, h, e)
 
 -- where the words of allocated blocks stayed
@@ -54,12 +54,12 @@ module _ (pages : List (Option Page)) (words new : List ℕ) (kept : KeepsAlloca
       (λ n low high. let at : n ≡ b + (n - b) = omega (arith, low) in ap (λ m. get_or new m 0) at ∙ word_kept (n - b) (omega (arith, low, high)) ∙ ap (λ m. get_or words m 0) (sym at)))
 
 -- where the same blocks are allocated, with the same words
-pub same_headers : (rows : List (Option PageRecord)) (words : List ℕ) (t : Store) → joined rows words ≡ t → AreBlockRecords rows words → (new : Store) → KeepsBlocks t new → (b : ℕ) → is_allocated new b ≡ true → IsHeader (get_or words (b + 1) 0)
+pub same_headers : (rows : List (Option PageRow)) (words : List ℕ) (t : Store) → joined rows words ≡ t → AreBlockRecords rows words → (new : Store) → KeepsBlocks t new → (b : ℕ) → is_allocated new b ≡ true → IsHeader (get_or words (b + 1) 0)
 same_headers rows words t is are new kept b allocated = are.headers b (ap (λ (x : Store). is_allocated x b) is ∙ sym (kept.allocated b) ∙ allocated)
 
 -- an allocated block, by the record of its page
-pub record AllocatedBlock (rows : List (Option PageRecord)) (words : List ℕ) (a : ℕ) : Type 0 where
-  pub row : PageRecord
+pub record AllocatedBlock (rows : List (Option PageRow)) (words : List ℕ) (a : ℕ) : Type 0 where
+  pub row : PageRow
   pub row_is : row_at rows (a / 2048) ≡ Some row
   pub below : a / 2048 < length rows
   pub index : ℕ
@@ -67,7 +67,7 @@ pub record AllocatedBlock (rows : List (Option PageRecord)) (words : List ℕ) (
   pub place : 2048 * (a / 2048) + index * size_of row.class ≡ a
   pub size : size_at (joined rows words) a ≡ size_of row.class
 
-pub allocated_block : (rows : List (Option PageRecord)) (words : List ℕ) (a : ℕ) → is_allocated (joined rows words) a ≡ true → AllocatedBlock rows words a
+pub allocated_block : (rows : List (Option PageRow)) (words : List ℕ) (a : ℕ) → is_allocated (joined rows words) a ≡ true → AllocatedBlock rows words a
 unfolding is_allocated size_at
 allocated_block rows words a h =
     let f = allocated_in-page (page_at (pages_in rows words) (a / 2048)) (a % 2048) h in
@@ -86,7 +86,7 @@ allocated_block rows words a h =
     }
 
 -- an allocated block's first word isn't the mark
-pub first_allocated : (rows : List (Option PageRecord)) (words : List ℕ) (a : ℕ) → AllocatedBlock rows words a → not (eqb (get_or words a 0) free_mark) ≡ true
+pub first_allocated : (rows : List (Option PageRow)) (words : List ℕ) (a : ℕ) → AllocatedBlock rows words a → not (eqb (get_or words a 0) free_mark) ≡ true
 first_allocated rows words a h =
     let at = 2048 * (a / 2048) in
     let flags = flags_of words at h.row.class in
@@ -128,7 +128,7 @@ writes_spliced words new others a size fit some within small is = record {
 }
 
 -- a write of an allocated block keeps the records and the words together
-module _ (rows : List (Option PageRecord)) (words new : List ℕ) (t : Together rows words) (a : ℕ) (h : AllocatedBlock rows words a) (w : WritesBlock words new a (size_of h.row.class)) where
+module _ (rows : List (Option PageRow)) (words new : List ℕ) (t : Together rows words) (a : ℕ) (h : AllocatedBlock rows words a) (w : WritesBlock words new a (size_of h.row.class)) where
   there : WritesBlock words new (2048 * (a / 2048) + h.index * size_of h.row.class) (size_of h.row.class)
   there = subst (λ n. WritesBlock words new n (size_of h.row.class)) (sym h.place) w
 

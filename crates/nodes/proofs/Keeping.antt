@@ -10,7 +10,7 @@ use Rattle.nodes.specs.declared.heap_fields.HeapFields.{HeapFields}
 use Rattle.nodes.specs.Grey.{grey_in}
 use Rattle.nodes.specs.HeapFields.{state_of, AreHeapFields}
 use Rattle.nodes.specs.GreyAllocated.{AreAllocated}
-use Rattle.nodes.proofs.Standing.{are_grey}
+use Rattle.nodes.proofs.Representing.{are_grey}
 use Rattle.nodes.proofs.Threading.{grey_same, first_none, buffers_none, grey_none}
 
 pub are_allocated : (a : HeapFields) → AreHeapFields a → AreAllocated a
@@ -24,7 +24,7 @@ grey_kept a allocated new pages links = grey_same a.nodes a.grey new pages (λ y
 pub grey_stays : (a : HeapFields) → AreHeapFields a → records a.phase ≡ false → (new : Store) → grey_in new a.grey ≡ grey_in a.nodes a.grey
 grey_stays a w off new =
     let none = w.empty off in
-    grey_none new a.grey (first_none a.nodes a.grey w.heap.stands.some none) (buffers_none a.nodes a.grey none) ∙ sym none
+    grey_none new a.grey (first_none a.nodes a.grey w.heap.represents.some none) (buffers_none a.nodes a.grey none) ∙ sym none
 
 pub store_still : (a : HeapFields) → AreHeapFields a → records a.phase ≡ false → (new : Store) → state_of (record a { nodes = new }) ≡ record (state_of a) { store = new }
 store_still a w off new = ap (λ xs. record (state_of a) { store = new; grey = xs }) (grey_stays a w off new)

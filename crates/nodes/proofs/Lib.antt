@@ -18,7 +18,7 @@ pub mod Moving
 pub mod Opening
 pub mod Places
 pub mod Sorting
-pub mod Standing
+pub mod Representing
 pub mod Sweeping
 pub mod Threading
 pub mod Wasting

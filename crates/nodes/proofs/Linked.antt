@@ -6,7 +6,7 @@ use Rattle.heap_model.specs.Action.{KeepsBlocks}
 use Rattle.heap_model.specs.Pages.{Page}
 use Rattle.heap_model.specs.Store.{Store, IsStore, size_at, is_allocated, record_of}
 use Rattle.headers.proofs.Written.{link_written}
-use Rattle.pages.specs.declared.page.PageRecord.{PageRecord}
+use Rattle.pages.specs.declared.page.PageRow.{PageRow}
 use Rattle.pages.specs.Together.{joined, pages_in}
 use Rattle.pages.proofs.Writing.{WritesBlock}
 use Rattle.size_classes.specs.Sizes.{size_of}
@@ -69,7 +69,7 @@ module _ (s t : Store) (is : s ≡ t) (whole : IsStore s) (a : ℕ) (allocated :
       ∙ ap (λ (x : Store). record x { words = set x.words (a + 3) v }) is
 
 -- the same, with the records
-module _ (rows : List (Option PageRecord)) (words : List ℕ) (t : Store) (is : joined rows words ≡ t) (are : AreBlockRecords rows words) (a : ℕ) (allocated : is_allocated t a ≡ true) (new : List ℕ) where
+module _ (rows : List (Option PageRow)) (words : List ℕ) (t : Store) (is : joined rows words ≡ t) (are : AreBlockRecords rows words) (a : ℕ) (allocated : is_allocated t a ≡ true) (new : List ℕ) where
   abbrev here : AllocatedBlock rows words a
   here = block rows words t is are a allocated new
 

@@ -7,7 +7,7 @@ use Rattle.heap_model.specs.Pages.{Page, page_for, page_at, page_of_class, with_
 use Rattle.heap_model.specs.Store.{Store, IsStore, Adds, is_allocated, size_at, address_of}
 use Rattle.size_classes.specs.declared.class.TheConstants.{CLASSES}
 use Rattle.size_classes.specs.Sizes.{size_of}
-use Rattle.pages.specs.declared.page.PageRecord.{PageRecord}
+use Rattle.pages.specs.declared.page.PageRow.{PageRow}
 use Rattle.pages.specs.Together.{joined, pages_in, Together, KeepsAllocated}
 use Rattle.pages.proofs.Writing.{WritesBlock}
 use Rattle.nodes.specs.Joined.{IsHeader, AreBlockRecords}
@@ -74,11 +74,11 @@ module _ (s t : Store) (is : s ≡ t) (whole : IsStore s) (class k i size : ℕ)
           (adds_then s.pages s.words mid kept (record { pages = pages; words = words }) (address_of class k i) (new_record (address_of class k i) h identity)
           (both (λ x. Adds midway x (address_of class k i) (new_record (address_of class k i) h identity)) (adds midway midway_whole class k i small found was_free identity h fits room'))))
 
--- with the records: the part is written in a block that is held by then
-module _ (rows : List (Option PageRecord)) (words : List ℕ) (t : Store) (is : joined rows words ≡ t) (are : AreBlockRecords rows words) (class k i size : ℕ) (small : class < CLASSES) (size_is : size ≡ size_of class)
+-- with the records: the part is written in a block that is allocated by then
+module _ (rows : List (Option PageRow)) (words : List ℕ) (t : Store) (is : joined rows words ≡ t) (are : AreBlockRecords rows words) (class k i size : ℕ) (small : class < CLASSES) (size_is : size ≡ size_of class)
     (found : page_for (pages_in rows words) class ≡ Some k) (was_free : IsOpen (page_of_class class (page_at (pages_in rows words) k)) i) (address : ℕ) (at : address ≡ 2048 * k + i * size)
     (h : Header) (fits : HeaderFits h) (identity cells : ℕ) (count : cells ≡ cell_count h) (room : cells + 4 ≤ size_of class)
-    (after : List (Option PageRecord)) (mid : List ℕ) (together : Together after mid) (taken : pages_in after mid ≡ set (pages_in rows words) k (Some (with_allocated (page_of_class class (page_at (pages_in rows words) k)) i true)))
+    (after : List (Option PageRow)) (mid : List ℕ) (together : Together after mid) (taken : pages_in after mid ≡ set (pages_in rows words) k (Some (with_allocated (page_of_class class (page_at (pages_in rows words) k)) i true)))
     (kept : KeepsAllocated (pages_in rows words) words mid) (new : List ℕ) (begun : new ≡ spliced mid address (address ∷ header_word h ∷ identity ∷ 0 ∷ replicate cells 0)) where
   there : address ≡ address_of class k i
   there = at ∙ ap (λ n. 2048 * k + i * n) size_is

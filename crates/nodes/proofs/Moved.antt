@@ -12,7 +12,7 @@ use Rattle.heap_model.specs.Block.{words_at, spliced}
 use Rattle.heap_model.specs.Pages.{Page, page_at, with_allocated, IsOpen}
 use Rattle.heap_model.specs.Store.{Store, IsStore, size_in, size_at, is_allocated, address_of}
 use Rattle.headers.proofs.Fields.{length-words_at}
-use Rattle.pages.specs.declared.page.PageRecord.{PageRecord}
+use Rattle.pages.specs.declared.page.PageRow.{PageRow}
 use Rattle.pages.specs.Together.{joined, pages_in, Together, KeepsAllocated}
 use Rattle.pages.proofs.Writing.{WritesBlock}
 use Rattle.nodes.specs.Joined.{IsHeader, AreBlockRecords}
@@ -24,7 +24,7 @@ use Rattle.nodes.proofs.Joining.{AllocatedBlock, allocated_block, writes_first, 
 use Rattle.nodes.proofs.Moving.{clash, from, target, received, forwarded, words_after, after_move, four, source_words, target_words, source_allocated, target_free, target_size, size_after, same_allocated, received_store, moved_store, target_allocated, moves}
 use Rattle.nodes.proofs.Places.{allocated_place}
 
-module _ (rows : List (Option PageRecord)) (words : List ℕ) (t : Store) (is : joined rows words ≡ t) (are : AreBlockRecords rows words) (page index to : ℕ) (m : CanMove t.pages page index to) (size : ℕ) (size_is : size ≡ size_in (page_at t.pages page)) where
+module _ (rows : List (Option PageRow)) (words : List ℕ) (t : Store) (is : joined rows words ≡ t) (are : AreBlockRecords rows words) (page index to : ℕ) (m : CanMove t.pages page index to) (size : ℕ) (size_is : size ≡ size_in (page_at t.pages page)) where
   can : CanMove (pages_in rows words) page index to
   can = subst (λ (x : Store). CanMove x.pages page index to) (sym is) m
 
@@ -101,7 +101,7 @@ module _ (rows : List (Option PageRecord)) (words : List ℕ) (t : Store) (is : 
         pub both_fit : (first : List ℕ) → first ≡ set mid a b → (a + size ≤ length first) × (b + size ≤ length first)
         both_fit first e = let l : length first ≡ length mid = ap (λ w. length w) e ∙ length-set mid a b in (omega (arith, from_fits, l), omega (arith, to_fits, l))
 
-        module _ (after : List (Option PageRecord)) (together : Together after mid)
+        module _ (after : List (Option PageRow)) (together : Together after mid)
             (given : IfSome (page_at (pages_in rows words) to) (λ q. pages_in after mid ≡ set (pages_in rows words) to (Some (record (with_allocated q place true) { is_target = true }))))
             (first second : List ℕ) (first_is : first ≡ set mid a b) (second_is : second ≡ spliced first b (words_at first a size)) where
           pages_mid : pages_in after mid ≡ pages_then

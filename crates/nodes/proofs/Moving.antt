@@ -127,7 +127,7 @@ module _ (s : Store) (whole : IsStore s) (page index to : ℕ) (m : CanMove s.pa
   is_received : IsPage received
   is_received =
       let p = blocks.is_page s whole to place m.target m.into target_below in
-      record { class = p.class; blocks = length-set m.target.allocated place true ∙ p.blocks; marks = ap (λ b. b && true) m.receives.0 }
+      record { class = p.class; blocks = length-set m.target.allocated place true ∙ p.blocks; marks = ap (λ b. b && true) m.can_be_target.0 }
 
   pub received_store : IsStore (record { pages = set s.pages to (Some received); words = s.words })
   received_store = store_change s to (Some received) within whole (λ p e. subst IsPage (same_page e) is_received)

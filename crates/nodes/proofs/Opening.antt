@@ -10,7 +10,7 @@ use Rattle.heap_model.specs.Store.{Store}
 use Rattle.heap_model.specs.State.{HeapState}
 use Rattle.heap_model.specs.Opening.{IsOpening}
 use Rattle.heap_model.specs.Spent.{cycle_limit}
-use Rattle.heap_model.proofs.Stood.{stands_opening}
+use Rattle.heap_model.proofs.Stood.{represents_opening}
 use Rattle.nodes.specs.declared.heap_fields.HeapFields.{HeapFields}
 use Rattle.nodes.specs.HeapFields.{state_of, AreHeapFields}
 
@@ -27,7 +27,7 @@ opening_heap a o some few row most buffers = record {
   heap = record {
     present = opening a.roots.limits;
     snapshot = opening a.roots.limits;
-    stands = stands_opening (state_of a) o some;
+    represents = represents_opening (state_of a) o some;
     fits = no_object_fits;
     small = small_limit (state_of a) few row most;
   };

@@ -11,7 +11,7 @@ use Rattle.heap_model.specs.State.{width_at}
 use Rattle.size_classes.specs.Sizes.{size_of}
 use Rattle.headers.proofs.Frames.{record_at-other}
 use Rattle.headers.proofs.Written.{cell_written, colour_written}
-use Rattle.pages.specs.declared.page.PageRecord.{PageRecord}
+use Rattle.pages.specs.declared.page.PageRow.{PageRow}
 use Rattle.pages.proofs.Writing.{WritesBlock}
 use Rattle.nodes.specs.Joined.{IsHeader, AreBlockRecords}
 use Rattle.pages.specs.Together.{joined}
@@ -141,7 +141,7 @@ module _ (s t : Store) (is : s ≡ t) (whole : IsStore s) (a : ℕ) (allocated :
         (subst (λ w. Writes s (record s { words = w }) a (with_cell (record_of s a) i v)) (sym e) (writes_cell s whole a allocated' i within' v))
 
 -- the same, with the records: no write of colour or cell marks the block as free
-module _ (rows : List (Option PageRecord)) (words : List ℕ) (t : Store) (is : joined rows words ≡ t) (are : AreBlockRecords rows words) (a : ℕ) (allocated : is_allocated t a ≡ true) (new : List ℕ) where
+module _ (rows : List (Option PageRow)) (words : List ℕ) (t : Store) (is : joined rows words ≡ t) (are : AreBlockRecords rows words) (a : ℕ) (allocated : is_allocated t a ≡ true) (new : List ℕ) where
   pub allocated_here : is_allocated (joined rows words) a ≡ true
   allocated_here = subst (λ (x : Store). is_allocated x a ≡ true) (sym is) allocated
 

@@ -3,7 +3,7 @@ use Rattle.std.specs.Prelude.{◌≡◌, ◌≢◌, ℕ, zero, suc, ◌+◌, ◌
 use Rattle.size_classes.specs.declared.class.TheConstants.{PAGE_WORDS}
 use Rattle.heap_model.specs.Pages.{page_at}
 use Rattle.heap_model.specs.Store.{Store, is_allocated, record_of, address_of}
-use Rattle.nodes.specs.declared.block_store.counting.Copies.{Copies}
+use Rattle.nodes.specs.declared.nodes.counting.Copies.{Copies}
 
 -- some block is allocated that has a part of the object of an identity
 abbrev pub HasBlock : Store → ℕ → Type 0

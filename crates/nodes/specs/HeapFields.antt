@@ -4,7 +4,7 @@ use Rattle.graph_heap.specs.Graph.{Graph, object_of}
 use Rattle.graph_heap.specs.Shape.{fits}
 use Rattle.heap_model.specs.State.{HeapState}
 use Rattle.heap_model.specs.Spent.{cycle_limit}
-use Rattle.heap_model.specs.Standing.{Represents}
+use Rattle.heap_model.specs.Represents.{Represents}
 use Rattle.heap_model.specs.Written.{records}
 use Rattle.nodes.specs.declared.heap_fields.HeapFields.{HeapFields}
 use Rattle.nodes.specs.Grey.{grey_in}
@@ -25,12 +25,12 @@ state_of a = record {
   grey = grey_in a.nodes a.grey;
 }
 
--- The heap stands for some graph heaps in which no object is too large, and what a cycle may spend is a
+-- The heap represents some graph heaps in which no object is too large, and what a cycle may spend is a
 -- small number.
 pub record IsHeap (h : HeapState) : Type 0 where
   pub present : Graph
   pub snapshot : Graph
-  pub stands : Represents h present snapshot
+  pub represents : Represents h present snapshot
   pub fits : (id : ℕ) → fits (object_of present.objects id).shape ≡ true
   pub small : cycle_limit h < 2 ^ 31
 

@@ -1,7 +1,7 @@
 -- What a move needs.
 use Rattle.std.specs.Prelude.{◌≡◌, ℕ, true, List, slice_get, Option, Some}
 use Rattle.heap_model.specs.Pages.{Page, page_at}
-use Rattle.pages.specs.Places.{CanReceive}
+use Rattle.pages.specs.Places.{CanBeTarget}
 
 -- a block of a page is allocated, and the page to which it goes is of the same class, isn't evacuating and has
 -- a free block
@@ -12,4 +12,4 @@ pub record CanMove (pages : List (Option Page)) (page index to : ℕ) : Type 0 w
   pub allocated : slice_get source.allocated index ≡ Some true
   pub into : page_at pages to ≡ Some target
   pub class : target.class ≡ source.class
-  pub receives : CanReceive (Some target)
+  pub can_be_target : CanBeTarget (Some target)

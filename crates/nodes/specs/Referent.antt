@@ -1,7 +1,7 @@
 -- What a reference names.
 use Rattle.std.specs.Prelude.{◌≡◌, ◌≢◌, ℕ, ◌+◌, ◌-◌, ◌==◌, if◌then◌else◌, true}
 use Rattle.heap_model.specs.Store.{Store, is_allocated, record_of}
-use Rattle.nodes.specs.declared.block_store.Referent.{Referent}
+use Rattle.nodes.specs.declared.nodes.Referent.{Referent}
 
 -- by way of the forwarding word of its block: the identity in the main copy, and the reference of
 -- that; null names nothing

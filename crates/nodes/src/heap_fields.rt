@@ -3,8 +3,8 @@ ghost use Rattle.std.specs.Prelude.{◌≡◌, ◌+◌, ◌<◌, ◌^◌, IfOk};
 ghost use Rattle.heap_model.specs.Opening.{IsOpening};
 ghost use Rattle.heap_model.specs.Settings.{settings_of, settings_by};
 
-use crate::block_store::BlockStore;
 use crate::grey::Grey;
+use crate::nodes::Nodes;
 use graph_heap::NoMemory;
 use heap_model::phase::Phase;
 use roots::Roots;
@@ -16,7 +16,7 @@ use std::alloc::Global;
 #[derive(Drop)]
 pub struct HeapFields {
     pub config: Config,
-    pub nodes: BlockStore,
+    pub nodes: Nodes,
     pub roots: Roots,
     /// The identity that the next object gets.
     pub next: u64,
@@ -38,7 +38,7 @@ impl HeapFields {
         ensures opening { IfOk result (λ a. IsOpening (state_of a)) }
         ensures settings { IfOk result (λ a. settings_of (state_of a) ≡ settings_by config.now) }
     {
-        let nodes = BlockStore::new(alloc, config.pages)?;
+        let nodes = Nodes::new(alloc, config.pages)?;
         let roots = Roots::new(alloc, config)?;
         let grey = Grey::new(alloc, config.mutators)?;
         Ok(HeapFields {

@@ -25,7 +25,7 @@ module _ (config : Config) (plan : Plan) (live : ℕ) (old new : PacedView) (o :
   strict : IsAsStrict (opening_meter (limits_of config)) old
   strict = record {
     graph = ap opening (sym limits) ∙ sym (ap present_of o.made.course);
-    tracing = sym (ap awaits_sweep_end o.made.heap.phase);
+    awaiting_sweep_end = sym (ap awaits_sweep_end o.made.heap.phase);
     words = omega arith;
     quanta = (let q = o.quanta in omega (arith, q));
   }

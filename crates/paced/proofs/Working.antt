@@ -7,8 +7,8 @@ use Rattle.heap_model.specs.declared.phase.Phase.{Phase}
 use Rattle.heap_model.specs.declared.phase.Phase.TheVariants as phases
 use Rattle.heap_model.specs.State.{HeapState}
 use Rattle.heap_model.specs.Spent.{cycle_limit}
-use Rattle.heap_model.specs.Event.{Course, Event, Command_done, Cycle_begun, Cycle_on, Quantum_done, Enters, Begins, Collects, Does, IsBudget, IsCourse, present_of, snapshot_of, room_for, change_by}
-use Rattle.heap_model.proofs.Stood.{stands_limit}
+use Rattle.heap_model.specs.Event.{Course, Event, Command_done, Cycle_begun, Begin_refused, Quantum_done, Enters, Begins, Collects, Does, IsBudget, IsCourse, present_of, snapshot_of, room_for, change_by}
+use Rattle.heap_model.proofs.Stood.{represents_limit}
 use Rattle.heap_model.proofs.Turns.{chain_units}
 use Rattle.heap_model.proofs.Left.{change_left}
 use Rattle.heap_model.proofs.Course.{enters_graph, begins_present, collects_present, does_course}
@@ -22,7 +22,7 @@ use Rattle.fragmentation.proofs.Words.{words_more}
 use Rattle.machine.proofs.Courses.{runs_then}
 use Rattle.machine.specs.declared.collector.BudgetOutOfRange.{BudgetOutOfRange}
 use Rattle.machine.specs.declared.collector.Spent.{Spent}
-use Rattle.machine.specs.HeapWithHistory.{quantum_done}
+use Rattle.machine.specs.Recorded.{quantum_done}
 use Rattle.paced.specs.Pacing.{PacedView, planned_flow, IsAsStrict, SamePlan, meter_after, Paced, Collected, work_left, MayAsk}
 
 -- events one after the other
@@ -74,7 +74,7 @@ rests old new same words quanta t m = (
     paces = λ live. tt;
     strict = record {
       graph = m.graph ∙ ap present_of (sym same);
-      tracing = m.tracing ∙ ap (λ (r : Course). awaits_sweep_end r.heap.phase) (sym same);
+      awaiting_sweep_end = m.awaiting_sweep_end ∙ ap (λ (r : Course). awaits_sweep_end r.heap.phase) (sym same);
       words = (let l = m.words in omega (arith, l, words));
       quanta = (let l = m.quanta in omega (arith, l, quanta));
     };
@@ -97,7 +97,7 @@ begin_paces old new b words quanta t m = (
     paces = λ live. (tt, tt);
     strict = record {
       graph = m.graph ∙ sym (begins_present old.course new.course b);
-      tracing = sym (ap (λ (z : HeapState). awaits_sweep_end z.phase) b.heap);
+      awaiting_sweep_end = sym (ap (λ (z : HeapState). awaits_sweep_end z.phase) b.heap);
       words = omega arith;
       quanta = omega (arith, quanta);
     };
@@ -139,13 +139,13 @@ begin_less old new b words (inr some) =
 -- a quantum is spent on a cycle that runs
 quantum_paces : (old new : PacedView) (units : ℕ) (phase : Phase) → IsCourse old.course → old.course.heap.phase ≢ phases.Idle → Collects old.course old.budget units phase new.course → new.words ≡ old.words → new.quanta ≤ old.quanta + 1 → Paced old new
 quantum_paces old new units phase w busy q words quanta t m = (
-  Cycle_on ∷ Quantum_done old.budget units phase ∷ [],
+  Begin_refused ∷ Quantum_done old.budget units phase ∷ [],
   record {
     runs = (old.course, (busy, refl), (new.course, q, refl));
     paces = λ live. (tt, (omega arith, tt));
     strict = record {
       graph = m.graph ∙ sym (collects_present old.course new.course old.budget units phase w q);
-      tracing = sym (ap awaits_sweep_end q.ends);
+      awaiting_sweep_end = sym (ap awaits_sweep_end q.ends);
       words = (let l = m.words in omega (arith, l, words));
       quanta = (let l = m.quanta in omega (arith, l, quanta));
     };
@@ -165,8 +165,8 @@ runs_on (phases.Moving m) n = refl
 pub quantum_less : (old new : PacedView) (units : ℕ) (phase : Phase) → IsCourse old.course → IsCourse new.course → old.course.heap.phase ≢ phases.Idle → Collects old.course old.budget units phase new.course → 256 ≤ old.budget → (phase ≡ phases.Idle) ⊎ (old.budget < units + 256) → new.words ≡ old.words → work_left new < work_left old
 quantum_less old new units phase w z busy q some ends words =
     let limit : cycle_limit new.course.heap ≡ cycle_limit old.course.heap = limit_stays old.course (Quantum_done old.budget units phase) new.course q in
-    let low = stands_limit old.course.heap (present_of old.course) (snapshot_of old.course) w.stands in
-    let high = stands_limit new.course.heap (present_of new.course) (snapshot_of new.course) z.stands in
+    let low = represents_limit old.course.heap (present_of old.course) (snapshot_of old.course) w.represents in
+    let high = represents_limit new.course.heap (present_of new.course) (snapshot_of new.course) z.represents in
     let total = chain_units old.course.heap new.course.heap units q.turn.chain in
     let first : (if new.words == 0 then 0 else cycle_limit new.course.heap + 2) ≡ (if old.words == 0 then 0 else cycle_limit old.course.heap + 2) = ap (λ n. if n == 0 then 0 else cycle_limit new.course.heap + 2) words ∙ ap (λ n. if old.words == 0 then 0 else n + 2) limit in
     let now : (if in_cycle old.course.heap.phase then cycle_limit old.course.heap - old.course.heap.units + 1 else 0) ≡ cycle_limit old.course.heap - old.course.heap.units + 1 = ap (λ b. if b then cycle_limit old.course.heap - old.course.heap.units + 1 else 0) (runs_on old.course.heap.phase busy) in
@@ -206,7 +206,7 @@ command_works old new m c reply words w e is less may grown quanta t x = (
     paces = λ live. ((within, λ class l none. absurd (cc)), tt);
     strict = record {
       graph = enters_graph old.course new.course m c reply w e t.graph x.graph;
-      tracing = x.tracing ∙ ap awaits_sweep_end (sym (change_left old.course.heap new.course.heap (present_of old.course) (change_by (room_for old.course.heap c) (present_of old.course) m c) e.change).phase);
+      awaiting_sweep_end = x.awaiting_sweep_end ∙ ap awaits_sweep_end (sym (change_left old.course.heap new.course.heap (present_of old.course) (change_by (room_for old.course.heap c) (present_of old.course) m c) e.change).phase);
       words = (let l = x.words in omega (arith, l, asked, is, grown));
       quanta = (let l = x.quanta in omega (arith, l, quanta));
     };
@@ -223,14 +223,14 @@ command_works old new m c reply words w e is less may grown quanta t x = (
     on (phases.Sweeping page block) a = refl
     on (phases.Moving m) a = absurd (cc)
 
-    by_tracing : (b : Bool) → t.tracing ≡ b → t.words + words_of (asked_for t.graph m c) ≤ (if b then (t.quanta + 1) * old.plan.quantum_words + 0 else old.plan.cycle_words)
+    by_tracing : (b : Bool) → t.awaiting_sweep_end ≡ b → t.words + words_of (asked_for t.graph m c) ≤ (if b then (t.quanta + 1) * old.plan.quantum_words + 0 else old.plan.cycle_words)
     by_tracing true a =
-        let d = may.quanta (on old.course.heap.phase (sym x.tracing ∙ a)) in
+        let d = may.quanta (on old.course.heap.phase (sym x.awaiting_sweep_end ∙ a)) in
         let l = x.words in
         let q : old.quanta + 1 ≤ t.quanta + 1 = (let n = x.quanta in omega (arith, n)) in
         let p = mul-le-mul_right old.plan.quantum_words q in
         omega (arith, d, l, p, asked, is)
     by_tracing false a = let d = may.cycle in let l = x.words in omega (arith, d, l, asked, is)
 
-    within : t.words + words_of (asked_for t.graph m c) ≤ (if t.tracing then (t.quanta + 1) * old.plan.quantum_words + 0 else old.plan.cycle_words)
-    within = by_tracing t.tracing refl
+    within : t.words + words_of (asked_for t.graph m c) ≤ (if t.awaiting_sweep_end then (t.quanta + 1) * old.plan.quantum_words + 0 else old.plan.cycle_words)
+    within = by_tracing t.awaiting_sweep_end refl

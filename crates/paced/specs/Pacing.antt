@@ -34,7 +34,7 @@ planned_flow live plan = record {
 -- it counts as strictly as a meter: no fewer words, and no more quanta
 pub record IsAsStrict (t : FlowMeter) (v : PacedView) : Type 0 where
   pub graph : t.graph ≡ present_of v.course
-  pub tracing : t.tracing ≡ awaits_sweep_end v.course.heap.phase
+  pub awaiting_sweep_end : t.awaiting_sweep_end ≡ awaits_sweep_end v.course.heap.phase
   pub words : t.words ≤ v.words
   pub quanta : v.quanta ≤ t.quanta
 

@@ -11,7 +11,7 @@ use crate::asking::words_asked;
 use crate::plan::Plan;
 use graph_heap::{Command, NoMemory};
 use heap_model::phase::Phase;
-use machine::{HeapWithHistory, Receipt};
+use machine::{Receipt, Recorded};
 use size_classes::Config;
 use std::alloc::Global;
 use std::marker::Model;
@@ -31,7 +31,7 @@ pub enum CallFault {
 /// A heap with the plan that it keeps. Contracts see the heap with its history, the plan, the budget of a quantum and
 /// what is counted.
 pub struct PacedHeap {
-    heap: HeapWithHistory,
+    heap: Recorded,
     plan: Plan,
     /// The budget of a quantum, in units.
     budget: u32,
@@ -79,7 +79,7 @@ impl PacedHeap {
     pub fn new(alloc: Global, config: &Config, plan: Plan) -> Result<PacedHeap, NoMemory>
         ensures { IfOk result (IsJustPaced config.now plan) }
     {
-        let heap = HeapWithHistory::new(alloc, config)?;
+        let heap = Recorded::new(alloc, config)?;
         Ok(PacedHeap {
             heap,
             plan,

@@ -8,7 +8,7 @@ use Rattle.size_classes.specs.Sizes.{size_of, blocks_in}
 use Rattle.heap_model.specs.Pages.{page_at, page_of_class, with_allocated, IsOpen}
 use Rattle.heap_model.specs.Store.{address_of}
 use Rattle.pages.specs.declared.bits.BitRow.{BitRow}
-use Rattle.pages.specs.declared.page.PageRecord.{PageRecord}
+use Rattle.pages.specs.declared.page.PageRow.{PageRow}
 use Rattle.pages.specs.BitRow.{has_bit, room_of}
 use Rattle.pages.specs.FreeList.{flags_of, index_on, IsFreeList, SameOutside}
 use Rattle.pages.specs.Index.{row_at, HasFree, IsIndex}
@@ -18,11 +18,11 @@ use Rattle.pages.proofs.Telling.{together_by, taken_by, open_by}
 use Rattle.pages.proofs.Writing.{popped_outside, popped_keeps}
 
 -- the record that was lent
-pub lent : (rows : List (Option PageRecord)) (page : ℕ) (o : Option PageRecord) (m : Option (MutBor PageRecord)) (r : MutBor PageRecord) → page < length rows → o ≡ get_or rows page o → option_copied_mut m ≡ o → m ≡ Some r → row_at rows page ≡ Some r.now
+pub lent : (rows : List (Option PageRow)) (page : ℕ) (o : Option PageRow) (m : Option (MutBor PageRow)) (r : MutBor PageRow) → page < length rows → o ≡ get_or rows page o → option_copied_mut m ≡ o → m ≡ Some r → row_at rows page ≡ Some r.now
 lent rows page o m r below read copied is = sym (get_or_read rows page o below read None) ∙ sym copied ∙ ap option_copied_mut is
 
-module _ (rows pages : List (Option PageRecord)) (seen : rows ≡ pages) (usable : List BitRow) (free : BitRow) (free_blocks : List ℕ) (free_pages : ℕ) (b : IsIndex rows usable free free_blocks free_pages)
-    (words new : List ℕ) (together : Together pages words) (page : ℕ) (below : page < length pages) (old row : PageRecord) (lent_is : row_at rows page ≡ Some old) where
+module _ (rows pages : List (Option PageRow)) (seen : rows ≡ pages) (usable : List BitRow) (free : BitRow) (free_blocks : List ℕ) (free_pages : ℕ) (b : IsIndex rows usable free free_blocks free_pages)
+    (words new : List ℕ) (together : Together pages words) (page : ℕ) (below : page < length pages) (old row : PageRow) (lent_is : row_at rows page ≡ Some old) where
   inside : page < length rows
   inside = subst (λ l. page < length l) (sym seen) below
 
@@ -55,13 +55,13 @@ module _ (rows pages : List (Option PageRecord)) (seen : rows ≡ pages) (usable
     class_is = has_free.0
 
     same : row.class ≡ old.class
-    same = ap (λ (r : PageRecord). r.class) row_is
+    same = ap (λ (r : PageRow). r.class) row_is
 
     stays : row.evacuating ≡ old.evacuating
-    stays = ap (λ (r : PageRecord). r.evacuating) row_is
+    stays = ap (λ (r : PageRow). r.evacuating) row_is
 
     more : row.allocated ≡ old.allocated + 1
-    more = ap (λ (r : PageRecord). r.allocated) row_is
+    more = ap (λ (r : PageRow). r.allocated) row_is
 
     module _ (number : ℕ) (number_is : number ≡ class) (had : ℕ) (had_is : had ≡ get_or free_blocks number had) where
       pub had_some : 1 ≤ had

@@ -7,17 +7,17 @@ use Rattle.std.proofs.lemmas.List.Sums.{sum_by-set, sum_by-cons, get_or-le-sum_b
 use Rattle.size_classes.specs.declared.class.TheConstants.{CLASSES}
 use Rattle.size_classes.specs.Sizes.{blocks_in}
 use Rattle.pages.specs.declared.bits.BitRow.{BitRow}
-use Rattle.pages.specs.declared.page.PageRecord.{PageRecord}
+use Rattle.pages.specs.declared.page.PageRow.{PageRow}
 use Rattle.pages.specs.BitRow.{has_bit, room_of}
 use Rattle.pages.specs.Index.{row_at, OfClass, row_usable, row_free, row_free_on, bit, class_bit, room_of_class, IsIndex}
 use Rattle.pages.proofs.Threading.{blocks_most}
 
 -- a page of a class counts for no other
-not_usable : (class other : ℕ) (o : Option PageRecord) → OfClass class o → other ≢ class → row_usable other o ≡ false
+not_usable : (class other : ℕ) (o : Option PageRow) → OfClass class o → other ≢ class → row_usable other o ≡ false
 not_usable class other None is ne = refl
 not_usable class other (Some r) is ne = ap (λ b. b && (not r.evacuating && ltb r.allocated (blocks_in r.class))) (ne_eqb r.class other (λ e. ne (sym e ∙ is)))
 
-not_counted : (class other : ℕ) (o : Option PageRecord) → OfClass class o → other ≢ class → row_free_on other o ≡ 0
+not_counted : (class other : ℕ) (o : Option PageRow) → OfClass class o → other ≢ class → row_free_on other o ≡ 0
 not_counted class other None is ne = refl
 not_counted class other (Some r) is ne = ap (λ b. cond (b && not r.evacuating) (blocks_in r.class - r.allocated) 0) (ne_eqb r.class other (λ e. ne (sym e ∙ is)))
 
@@ -25,20 +25,20 @@ cond_few : (b : Bool) (n m : ℕ) → n ≤ m → cond b n 0 ≤ m
 cond_few true n m h = h
 cond_few false n m h = omega arith
 
-row_few : (class : ℕ) → class < CLASSES → (o : Option PageRecord) → row_free_on class o ≤ 512
+row_few : (class : ℕ) → class < CLASSES → (o : Option PageRow) → row_free_on class o ≤ 512
 row_few class known None = omega arith
 row_few class known (Some r) = elim (cases_eq r.class class) [
   | inl e ↦ cond_few (eqb r.class class && not r.evacuating) (blocks_in r.class - r.allocated) 512 (let f = blocks_most class known in let g = ap blocks_in e in omega (arith, f, g))
   | inr ne ↦ (let f = ap (λ b. cond (b && not r.evacuating) (blocks_in r.class - r.allocated) 0) (ne_eqb r.class class ne) in omega (arith, f))
 ]
 
-pub rows_few : (class : ℕ) → class < CLASSES → (rows : List (Option PageRecord)) → sum_by (row_free_on class) rows ≤ 512 * length rows
+pub rows_few : (class : ℕ) → class < CLASSES → (rows : List (Option PageRow)) → sum_by (row_free_on class) rows ≤ 512 * length rows
 rows_few class known [] = omega arith
 rows_few class known (o ∷ rows) = omega (arith, sum_by-cons (row_free_on class) o rows, row_few class known o, rows_few class known rows)
 
 -- one record is put in the place of another
-module _ (rows : List (Option PageRecord)) (usable : List BitRow) (free : BitRow) (free_blocks : List ℕ) (free_pages : ℕ) (b : IsIndex rows usable free free_blocks free_pages)
-    (page class : ℕ) (row : Option PageRecord) (below : page < length rows) (was : OfClass class (row_at rows page)) (is : OfClass class row) (known : class < CLASSES) where
+module _ (rows : List (Option PageRow)) (usable : List BitRow) (free : BitRow) (free_blocks : List ℕ) (free_pages : ℕ) (b : IsIndex rows usable free free_blocks free_pages)
+    (page class : ℕ) (row : Option PageRow) (below : page < length rows) (was : OfClass class (row_at rows page)) (is : OfClass class row) (known : class < CLASSES) where
   here : row_at (set rows page row) page ≡ row
   here = get_or-set_same rows page row None below
 
@@ -151,7 +151,7 @@ lowest_is p xs d bits inside past (Some i) h f none =
     sym (ap (λ n. cond (ltb n (length xs)) (Some n) None) len ∙ ap (λ b. cond b (Some i) None) (lt-ltb i (length xs) below))
 
 -- the rows have room for each page
-module _ (rows : List (Option PageRecord)) (pages : List (Option PageRecord)) (seen : rows ≡ pages) (usable : List BitRow) (free : BitRow) (free_blocks : List ℕ) (free_pages : ℕ) (b : IsIndex rows usable free free_blocks free_pages)
+module _ (rows : List (Option PageRow)) (pages : List (Option PageRow)) (seen : rows ≡ pages) (usable : List BitRow) (free : BitRow) (free_blocks : List ℕ) (free_pages : ℕ) (b : IsIndex rows usable free free_blocks free_pages)
     (page : ℕ) (below : page < length pages) where
   low : page < length rows
   low = subst (λ l. page < length l) (sym seen) below
@@ -165,16 +165,16 @@ module _ (rows : List (Option PageRecord)) (pages : List (Option PageRecord)) (s
   pub free_room : page < room_of free
   free_room = omega (arith, b.free_wide, low)
 
-none_free : (o : Option PageRecord) (b : Bool) → is_some o ≡ not b → b ≡ row_free o
+none_free : (o : Option PageRow) (b : Bool) → is_some o ≡ not b → b ≡ row_free o
 none_free None true e = refl
 none_free None false e = absurd (cc)
 none_free (Some r) true e = absurd (cc)
 none_free (Some r) false e = refl
 
 -- as the code computes it
-module _ (rows : List (Option PageRecord)) (pages : List (Option PageRecord)) (seen : rows ≡ pages) (usable : List BitRow) (free : BitRow) (free_blocks : List ℕ) (free_pages : ℕ) (b : IsIndex rows usable free free_blocks free_pages)
-    (page class : ℕ) (row : Option PageRecord) (below : page < length pages) (was : OfClass class (row_at pages page)) (is : OfClass class row) (known : class < CLASSES)
-    (number : ℕ) (number_is : number ≡ class) (old : Option PageRecord) (read : old ≡ get_or rows page old) (less more : ℕ) (less_is : less ≡ row_free_on class old) (more_is : more ≡ row_free_on class row)
+module _ (rows : List (Option PageRow)) (pages : List (Option PageRow)) (seen : rows ≡ pages) (usable : List BitRow) (free : BitRow) (free_blocks : List ℕ) (free_pages : ℕ) (b : IsIndex rows usable free free_blocks free_pages)
+    (page class : ℕ) (row : Option PageRow) (below : page < length pages) (was : OfClass class (row_at pages page)) (is : OfClass class row) (known : class < CLASSES)
+    (number : ℕ) (number_is : number ≡ class) (old : Option PageRow) (read : old ≡ get_or rows page old) (less more : ℕ) (less_is : less ≡ row_free_on class old) (more_is : more ≡ row_free_on class row)
     (had : ℕ) (had_is : had ≡ get_or free_blocks number had) where
   within : page < length rows
   within = subst (λ l. page < length l) (sym seen) below
@@ -216,26 +216,26 @@ some_left true true blocks allocated = elim (cases_lt allocated blocks) [
 some_left true false blocks allocated = refl
 some_left false stays blocks allocated = refl
 
-usable_some : (class : ℕ) (o : Option PageRecord) → ltb 0 (row_free_on class o) ≡ row_usable class o
+usable_some : (class : ℕ) (o : Option PageRow) → ltb 0 (row_free_on class o) ≡ row_usable class o
 usable_some class None = refl
 usable_some class (Some r) = some_left (eqb r.class class) (not r.evacuating) (blocks_in r.class) r.allocated
 
 -- a page in use
-used_class : (class : ℕ) (o : Option PageRecord) → IsSomeAnd o (λ r. r.class ≡ class) → OfClass class o
+used_class : (class : ℕ) (o : Option PageRow) → IsSomeAnd o (λ r. r.class ≡ class) → OfClass class o
 used_class class None h = absurd h
 used_class class (Some r) h = h
 
-used_some : (class : ℕ) (o : Option PageRecord) → IsSomeAnd o (λ r. r.class ≡ class) → is_some o ≡ true
+used_some : (class : ℕ) (o : Option PageRow) → IsSomeAnd o (λ r. r.class ≡ class) → is_some o ≡ true
 used_some class None h = absurd h
 used_some class (Some r) h = refl
 
-used_kept : (class : ℕ) (o : Option PageRecord) → IsSomeAnd o (λ r. r.class ≡ class) → row_free o ≡ false
+used_kept : (class : ℕ) (o : Option PageRow) → IsSomeAnd o (λ r. r.class ≡ class) → row_free o ≡ false
 used_kept class None h = absurd h
 used_kept class (Some r) h = refl
 
 -- a page in use gets another record
-module _ (rows : List (Option PageRecord)) (pages : List (Option PageRecord)) (seen : rows ≡ pages) (usable : List BitRow) (free : BitRow) (free_blocks : List ℕ) (free_pages : ℕ) (b : IsIndex rows usable free free_blocks free_pages)
-    (page class : ℕ) (old row : Option PageRecord) (below : page < length pages) (was_of : IsSomeAnd (row_at pages page) (λ r. r.class ≡ class)) (is_of : IsSomeAnd row (λ r. r.class ≡ class)) (known : class < CLASSES)
+module _ (rows : List (Option PageRow)) (pages : List (Option PageRow)) (seen : rows ≡ pages) (usable : List BitRow) (free : BitRow) (free_blocks : List ℕ) (free_pages : ℕ) (b : IsIndex rows usable free free_blocks free_pages)
+    (page class : ℕ) (old row : Option PageRow) (below : page < length pages) (was_of : IsSomeAnd (row_at pages page) (λ r. r.class ≡ class)) (is_of : IsSomeAnd row (λ r. r.class ≡ class)) (known : class < CLASSES)
     (number : ℕ) (number_is : number ≡ class) (read : old ≡ get_or rows page old) (less more : ℕ) (less_is : less ≡ row_free_on class old) (more_is : more ≡ row_free_on class row)
     (one : BitRow) (one_is : one ≡ get_or usable number one) where
   inside : page < length rows
@@ -270,21 +270,21 @@ module _ (rows : List (Option PageRecord)) (pages : List (Option PageRecord)) (s
         (b.free_bits page inside ∙ ap (λ o. bit (row_free o)) there_is ∙ ap bit (used_kept class old old_of)) (used_some class row is_of) (λ i _. refl) refl (used_some class old old_of) refl
 
 -- the free blocks of a page of a class, and its bit, by its marks
-free_plain : (r : PageRecord) → r.evacuating ≡ false → row_free_on r.class (Some r) ≡ blocks_in r.class - r.allocated
+free_plain : (r : PageRow) → r.evacuating ≡ false → row_free_on r.class (Some r) ≡ blocks_in r.class - r.allocated
 free_plain r plain = ap (λ b. cond (b && not r.evacuating) (blocks_in r.class - r.allocated) 0) (eq-eqb r.class r.class refl) ∙ ap (λ b. cond (not b) (blocks_in r.class - r.allocated) 0) plain
 
-free_evacuating : (r : PageRecord) → r.evacuating ≡ true → row_free_on r.class (Some r) ≡ 0
+free_evacuating : (r : PageRow) → r.evacuating ≡ true → row_free_on r.class (Some r) ≡ 0
 free_evacuating r evacuating = ap (λ b. cond (b && not r.evacuating) (blocks_in r.class - r.allocated) 0) (eq-eqb r.class r.class refl) ∙ ap (λ b. cond (not b) (blocks_in r.class - r.allocated) 0) evacuating
 
-usable_plain : (r : PageRecord) → r.evacuating ≡ false → row_usable r.class (Some r) ≡ ltb r.allocated (blocks_in r.class)
+usable_plain : (r : PageRow) → r.evacuating ≡ false → row_usable r.class (Some r) ≡ ltb r.allocated (blocks_in r.class)
 usable_plain r plain = ap (λ b. b && (not r.evacuating && ltb r.allocated (blocks_in r.class))) (eq-eqb r.class r.class refl) ∙ ap (λ b. not b && ltb r.allocated (blocks_in r.class)) plain
 
-usable_evacuating : (r : PageRecord) → r.evacuating ≡ true → row_usable r.class (Some r) ≡ false
+usable_evacuating : (r : PageRow) → r.evacuating ≡ true → row_usable r.class (Some r) ≡ false
 usable_evacuating r evacuating = ap (λ b. b && (not r.evacuating && ltb r.allocated (blocks_in r.class))) (eq-eqb r.class r.class refl) ∙ ap (λ b. not b && ltb r.allocated (blocks_in r.class)) evacuating
 
 -- a page in use has another record of its class in the same place
-module _ (rows : List (Option PageRecord)) (usable : List BitRow) (free : BitRow) (free_blocks : List ℕ) (free_pages : ℕ) (b : IsIndex rows usable free free_blocks free_pages)
-    (page : ℕ) (old row : PageRecord) (below : page < length rows) (was : row_at rows page ≡ Some old) (same : row.class ≡ old.class) (known : old.class < CLASSES) where
+module _ (rows : List (Option PageRow)) (usable : List BitRow) (free : BitRow) (free_blocks : List ℕ) (free_pages : ℕ) (b : IsIndex rows usable free free_blocks free_pages)
+    (page : ℕ) (old row : PageRow) (below : page < length rows) (was : row_at rows page ≡ Some old) (same : row.class ≡ old.class) (known : old.class < CLASSES) where
   in_class : OfClass old.class (row_at rows page)
   in_class = subst (OfClass old.class) (sym was) refl
 
@@ -340,7 +340,7 @@ module _ (rows : List (Option PageRecord)) (usable : List BitRow) (free : BitRow
         bit_kept (get_or free_blocks old.class 0 - 1) fewer_counted
         (usable_now ∙ lt-ltb row.allocated (blocks_in old.class) (omega (arith, left, more, some)) ∙ sym (usable_plain old plain ∙ lt-ltb old.allocated (blocks_in old.class) some))
 
-pub usable_is : (rows : List (Option PageRecord)) (usable : List BitRow) (free : BitRow) (free_blocks : List ℕ) (free_pages : ℕ) (b : IsIndex rows usable free free_blocks free_pages) (class number : ℕ) → class < CLASSES → number ≡ class
+pub usable_is : (rows : List (Option PageRow)) (usable : List BitRow) (free : BitRow) (free_blocks : List ℕ) (free_pages : ℕ) (b : IsIndex rows usable free free_blocks free_pages) (class number : ℕ) → class < CLASSES → number ≡ class
     → (one : BitRow) → one ≡ get_or usable number one → (r : Option ℕ) → IfSome r (λ k. has_bit one k ≡ 1) → IfSome r (λ k. (i : ℕ) → i < k → has_bit one i ≡ 0) → (IsNone r → (i : ℕ) → has_bit one i ≡ 0)
     → r ≡ position (row_usable class) rows
 usable_is rows usable free free_blocks free_pages b class number known is one read r =
@@ -352,8 +352,8 @@ usable_is rows usable free free_blocks free_pages b class number known is one re
 -- ---- free pages alone
 pub row_none : (n k : ℕ) → row_at (replicate n None) k ≡ None
 row_none n k = elim (cases_lt k n) [
-  | inl h ↦ get_or-replicate {A = Option PageRecord} n k None None h
-  | inr h ↦ get_or_past {X = Option PageRecord} (replicate n None) k None (omega (arith, h, length-replicate {A = Option PageRecord} n None))
+  | inl h ↦ get_or-replicate {A = Option PageRow} n k None None h
+  | inr h ↦ get_or_past {X = Option PageRow} (replicate n None) k None (omega (arith, h, length-replicate {A = Option PageRow} n None))
 ]
 
 none_summed : (class n : ℕ) → sum_by (row_free_on class) (replicate n None) ≡ 0
@@ -367,7 +367,7 @@ none_counted (suc n) = let s = sum_by-cons (λ o. bit (row_free o)) None (replic
 pub fresh_book : (n : ℕ) (usable : List BitRow) (free : BitRow) → n ≤ 4096 → length usable ≡ CLASSES → ((c : ℕ) → c < CLASSES → n ≤ room_of_class usable c) → n ≤ room_of free → ((c k : ℕ) → c < CLASSES → class_bit usable c k ≡ 0) → ((k : ℕ) → k < n → has_bit free k ≡ 1) → ((k : ℕ) → n ≤ k → has_bit free k ≡ 0)
     → IsIndex (replicate n None) usable free (replicate CLASSES 0) n
 fresh_book n usable free few long wide free_wide none some past =
-    let size : length (replicate {A = Option PageRecord} n None) ≡ n = length-replicate n None in
+    let size : length (replicate {A = Option PageRow} n None) ≡ n = length-replicate n None in
     record {
       few = omega (arith, size, few);
       classes = long;

@@ -10,7 +10,7 @@ use Rattle.heap_model.specs.Header.{header_in}
 use Rattle.heap_model.specs.Pages.{Page, page_at, with_allocated}
 use Rattle.heap_model.specs.State.{same_colour}
 use Rattle.heap_model.specs.Store.{address_of}
-use Rattle.pages.specs.declared.page.PageRecord.{PageRecord}
+use Rattle.pages.specs.declared.page.PageRow.{PageRow}
 use Rattle.pages.specs.FreeList.{flags_of, free_mark, IsFreeList, SameOutside}
 use Rattle.pages.specs.Index.{row_at}
 use Rattle.pages.specs.Sweeping.{has_colour, LooksAt, It_stays, It_goes, Looks, No_look, Then_one}
@@ -20,15 +20,15 @@ use Rattle.pages.proofs.Telling.{together_by, given_by, inside_page, outside_two
 use Rattle.pages.proofs.Writing.{keeps_freed, freed_flag}
 
 -- a page that has a record is one
-pub page_below : (rows : List (Option PageRecord)) (page : ℕ) (row : PageRecord) → row_at rows page ≡ Some row → page < length rows
+pub page_below : (rows : List (Option PageRow)) (page : ℕ) (row : PageRow) → row_at rows page ≡ Some row → page < length rows
 page_below rows page row there = elim (cases_lt page (length rows)) [ inl l ↦ l | inr l ↦ absurd (none-some row (sym (get_or_past rows page None l) ∙ there)) ]
 
 -- the record stays as it is
-pub row_same : (rows : List (Option PageRecord)) (page : ℕ) (row : PageRecord) → row_at rows page ≡ Some row → set rows page (Some row) ≡ rows
+pub row_same : (rows : List (Option PageRow)) (page : ℕ) (row : PageRow) → row_at rows page ≡ Some row → set rows page (Some row) ≡ rows
 row_same rows page row there = ap (set rows page) (sym there) ∙ set-get_or rows page None
 
 -- the record says how many blocks there are
-pub blocks_told : (rows : List (Option PageRecord)) (words : List ℕ) (page : ℕ) (row : PageRecord) → row_at rows page ≡ Some row → (n : ℕ) → IsSomeAnd (page_at (pages_in rows words) page) (λ p. n ≤ length p.allocated) → n ≤ blocks_in row.class
+pub blocks_told : (rows : List (Option PageRow)) (words : List ℕ) (page : ℕ) (row : PageRow) → row_at rows page ≡ Some row → (n : ℕ) → IsSomeAnd (page_at (pages_in rows words) page) (λ p. n ≤ length p.allocated) → n ≤ blocks_in row.class
 blocks_told rows words page row there n told =
     let few : n ≤ length (flags_of words (2048 * page) row.class) = subst (λ o. IsSomeAnd o (λ p. n ≤ length p.allocated)) (page_read rows words page row (page_below rows page row there) there) told in
     omega (arith, few, length-flags words (2048 * page) (size_of row.class) (blocks_in row.class))
@@ -39,7 +39,7 @@ pub colour_there : (words : List ℕ) (colour : Bool) (page class index size : �
 colour_there words colour page class index size b e is = sym (is ∙ ap (λ n. has_colour words colour (2048 * page + index * n)) e)
 
 -- a block stays
-pub stays_there : (rows : List (Option PageRecord)) (words : List ℕ) (page : ℕ) (row : PageRecord) (index : ℕ) (colour : Bool) → row_at rows page ≡ Some row → index < blocks_in row.class
+pub stays_there : (rows : List (Option PageRow)) (words : List ℕ) (page : ℕ) (row : PageRow) (index : ℕ) (colour : Bool) → row_at rows page ≡ Some row → index < blocks_in row.class
     → (slice_get (flags_of words (2048 * page) row.class) index ≡ Some true → has_colour words colour (address_of row.class page index) ≡ true) → LooksAt colour page index (joined rows words) (joined (set rows page (Some row)) words)
 stays_there rows words page row index colour there below stays =
     let p : Page = record { class = row.class; evacuating = row.evacuating; is_target = row.is_target; allocated = flags_of words (2048 * page) row.class } in
@@ -47,14 +47,14 @@ stays_there rows words page row index colour there below stays =
     (It_stays p (page_read rows words page row (page_below rows page row there) there) (let l : index < length (flags_of words (2048 * page) row.class) = omega (arith, below, length-flags words (2048 * page) (size_of row.class) (blocks_in row.class)) in l) stays)
 
 -- a block is given back
-module _ (rows : List (Option PageRecord)) (words new : List ℕ) (t : Together rows words) (page : ℕ) (old row : PageRecord) (there : row_at rows page ≡ Some old) (index : ℕ) (allocated : slice_get (flags_of words (2048 * page) old.class) index ≡ Some true)
+module _ (rows : List (Option PageRow)) (words new : List ℕ) (t : Together rows words) (page : ℕ) (old row : PageRow) (there : row_at rows page ≡ Some old) (index : ℕ) (allocated : slice_get (flags_of words (2048 * page) old.class) index ≡ Some true)
     (row_is : row ≡ record old { first = row.first; allocated = old.allocated - 1 }) (flags : flags_of new (2048 * page) old.class ≡ set (flags_of words (2048 * page) old.class) index false) (chain : IsFreeList new (2048 * page) old.class row.first (old.allocated - 1))
     (is : new ≡ set (set words (2048 * page + index * size_of old.class) free_mark) (2048 * page + index * size_of old.class + 3) old.first) where
   below : page < length rows
   below = page_below rows page old there
 
   class_stays : row.class ≡ old.class
-  class_stays = ap (λ (r : PageRecord). r.class) row_is
+  class_stays = ap (λ (r : PageRow). r.class) row_is
 
   outside : SameOutside words new (2048 * page)
   outside =
@@ -80,16 +80,16 @@ module _ (rows : List (Option PageRecord)) (words new : List ℕ) (t : Together 
       keeps
 
 -- this many blocks were looked at, and then one more
-module _ (rows : List (Option PageRecord)) (words : List ℕ) (page : ℕ) (old : PageRecord) (there : row_at rows page ≡ Some old) (colour : Bool) (from : ℕ) where
-  abbrev pub SoFar : ℕ → PageRecord → List ℕ → Type 0
+module _ (rows : List (Option PageRow)) (words : List ℕ) (page : ℕ) (old : PageRow) (there : row_at rows page ≡ Some old) (colour : Bool) (from : ℕ) where
+  abbrev pub SoFar : ℕ → PageRow → List ℕ → Type 0
   SoFar n row mid = Together (set rows page (Some row)) mid × Looks colour page from (joined rows words) n (joined (set rows page (Some row)) mid)
 
   pub none_yet : Together rows words → SoFar 0 old words
   none_yet t = let e = sym (row_same rows page old there) in (subst (λ l. Together l words) e t, subst (λ l. Looks colour page from (joined rows words) 0 (joined l words)) e No_look)
 
-  pub one_more : (n : ℕ) (row next : PageRecord) (mid new : List ℕ) → SoFar n row mid
-      → ((rows : List (Option PageRecord)) → Together rows mid → row_at rows page ≡ Some row → Together (set rows page (Some next)) new)
-      → ((rows : List (Option PageRecord)) → Together rows mid → row_at rows page ≡ Some row → LooksAt colour page (from + n) (joined rows mid) (joined (set rows page (Some next)) new)) → SoFar (n + 1) next new
+  pub one_more : (n : ℕ) (row next : PageRow) (mid new : List ℕ) → SoFar n row mid
+      → ((rows : List (Option PageRow)) → Together rows mid → row_at rows page ≡ Some row → Together (set rows page (Some next)) new)
+      → ((rows : List (Option PageRow)) → Together rows mid → row_at rows page ≡ Some row → LooksAt colour page (from + n) (joined rows mid) (joined (set rows page (Some next)) new)) → SoFar (n + 1) next new
   one_more n row next mid new so together looks =
       let at : row_at (set rows page (Some row)) page ≡ Some row = get_or-set_same rows page (Some row) None (page_below rows page old there) in
       let e : set (set rows page (Some row)) page (Some next) ≡ set rows page (Some next) = set-set rows page (Some row) (Some next) in (

@@ -12,7 +12,7 @@ use Rattle.size_classes.specs.declared.class.TheConstants.{CLASSES}
 use Rattle.size_classes.proofs.Table.{size_low, blocks_some}
 use Rattle.size_classes.specs.Sizes.{size_of, blocks_in}
 use Rattle.heap_model.specs.Pages.{Page, page_at, is_usable, is_free, free_on, with_allocated, page_of_class, fresh_page, first_of, page_for}
-use Rattle.pages.specs.declared.page.PageRecord.{PageRecord}
+use Rattle.pages.specs.declared.page.PageRow.{PageRow}
 use Rattle.pages.specs.FreeList.{flags_of, RunsFree, IsFreeList, SameOutside}
 use Rattle.pages.specs.Index.{row_at, row_usable, row_free, row_free_on, HasFree}
 use Rattle.pages.specs.Together.{page_by, pages_in, Together}
@@ -20,20 +20,20 @@ use Rattle.pages.proofs.Threading.{runs_count, runs_same}
 use Rattle.pages.proofs.Flags.{flags_same, block_fits, length-flags}
 
 -- ---- pages, by their numbers
-pub length-pages : (rows : List (Option PageRecord)) (words : List ℕ) → length (pages_in rows words) ≡ length rows
+pub length-pages : (rows : List (Option PageRow)) (words : List ℕ) → length (pages_in rows words) ≡ length rows
 unfolding pages_in
 length-pages rows words = length-map (enumerate_from 0 rows) (λ p. page_by words (2048 * p.0) p.1) ∙ length-enumerate_from 0 rows
 
-pub page_is : (rows : List (Option PageRecord)) (words : List ℕ) (k : ℕ) (d : Option Page) → k < length rows → get_or (pages_in rows words) k d ≡ page_by words (2048 * k) (row_at rows k)
+pub page_is : (rows : List (Option PageRow)) (words : List ℕ) (k : ℕ) (d : Option Page) → k < length rows → get_or (pages_in rows words) k d ≡ page_by words (2048 * k) (row_at rows k)
 unfolding pages_in
 page_is rows words k d h =
-    let none : ℕ × Option PageRecord = (0, None) in
+    let none : ℕ × Option PageRow = (0, None) in
     let e = get_or-enumerate_from 0 rows k none h in
-    get_or-map (λ (p : ℕ × Option PageRecord). page_by words (2048 * p.0) p.1) (enumerate_from 0 rows) k none d (omega (arith, h, length-enumerate_from 0 rows))
-    ∙ ap (λ (p : ℕ × Option PageRecord). page_by words (2048 * p.0) p.1) e ∙ ap (λ n. page_by words (2048 * n) (row_at rows k)) (omega arith)
+    get_or-map (λ (p : ℕ × Option PageRow). page_by words (2048 * p.0) p.1) (enumerate_from 0 rows) k none d (omega (arith, h, length-enumerate_from 0 rows))
+    ∙ ap (λ (p : ℕ × Option PageRow). page_by words (2048 * p.0) p.1) e ∙ ap (λ n. page_by words (2048 * n) (row_at rows k)) (omega arith)
 
 -- one record is changed, with words of its page alone
-pub pages_set : (rows : List (Option PageRecord)) (words new : List ℕ) (page : ℕ) (row : Option PageRecord) → page < length rows
+pub pages_set : (rows : List (Option PageRow)) (words new : List ℕ) (page : ℕ) (row : Option PageRow) → page < length rows
     → ((k : ℕ) → k ≢ page → k < length rows → page_by new (2048 * k) (row_at rows k) ≡ page_by words (2048 * k) (row_at rows k))
     → pages_in (set rows page row) new ≡ set (pages_in rows words) page (page_by new (2048 * page) row)
 pages_set rows words new page row below same =
@@ -49,7 +49,7 @@ pages_set rows words new page row below same =
     ])
 
 -- a page with the same words is the same
-pub page_same : (words new : List ℕ) (at : ℕ) (o : Option PageRecord) → ((i : ℕ) → i < 2048 → get_or new (at + i) 0 ≡ get_or words (at + i) 0) → IfSome o (λ r. r.class < CLASSES) → page_by new at o ≡ page_by words at o
+pub page_same : (words new : List ℕ) (at : ℕ) (o : Option PageRow) → ((i : ℕ) → i < 2048 → get_or new (at + i) 0 ≡ get_or words (at + i) 0) → IfSome o (λ r. r.class < CLASSES) → page_by new at o ≡ page_by words at o
 page_same words new at None same low = refl
 page_same words new at (Some r) same low =
     ap (λ (f : List Bool). let p : Page = record { class = r.class; evacuating = r.evacuating; is_target = r.is_target; allocated = f } in Some p)
@@ -83,21 +83,21 @@ counts_add (b ∷ fs) = elim b as (λ b. count_by not (b ∷ fs) + count_by (λ 
   | false ↦ omega (arith, sum_by-cons (λ b. cond (not b) 1 0) false fs, sum_by-cons (λ b. cond b 1 0) false fs, counts_add fs)
 ]
 
-abbrev pub IsRow : List ℕ → ℕ → Option PageRecord → Type 0
+abbrev pub IsRow : List ℕ → ℕ → Option PageRow → Type 0
 IsRow words at o = IfSome o (λ r. IsFreeList words at r.class r.first r.allocated)
 
-pub usable_page : (class : ℕ) (words : List ℕ) (at : ℕ) (o : Option PageRecord) → IsRow words at o → row_usable class o ≡ is_usable class (page_by words at o)
+pub usable_page : (class : ℕ) (words : List ℕ) (at : ℕ) (o : Option PageRow) → IsRow words at o → row_usable class o ≡ is_usable class (page_by words at o)
 usable_page class words at None h = refl
 usable_page class words at (Some r) h =
     let flags = flags_of words at r.class in
     let n = runs_count words at (size_of r.class) h.free flags r.first h.runs in
     ap (λ b. eqb r.class class && (not r.evacuating && b)) (same_test r.allocated (blocks_in r.class) 0 (count_by not flags) (λ l. omega (arith, l, n, h.counted)) (λ l. omega (arith, l, n, h.counted)) ∙ sym (place_open flags))
 
-pub free_page : (words : List ℕ) (at : ℕ) (o : Option PageRecord) → row_free o ≡ is_free (page_by words at o)
+pub free_page : (words : List ℕ) (at : ℕ) (o : Option PageRow) → row_free o ≡ is_free (page_by words at o)
 free_page words at None = refl
 free_page words at (Some r) = refl
 
-pub free_on_page : (class : ℕ) (words : List ℕ) (at : ℕ) (o : Option PageRecord) → IsRow words at o → row_free_on class o ≡ free_on class (page_by words at o)
+pub free_on_page : (class : ℕ) (words : List ℕ) (at : ℕ) (o : Option PageRow) → IsRow words at o → row_free_on class o ≡ free_on class (page_by words at o)
 free_on_page class words at None h = refl
 free_on_page class words at (Some r) h =
     let flags = flags_of words at r.class in
@@ -118,13 +118,13 @@ fold-map : {A B : Type 0} (f : A → B) (g : B → ℕ) (start : ℕ) (xs : List
 fold-map f g start [] = refl
 fold-map f g start (x ∷ xs) = fold-map f g (start + g (f x)) xs
 
-image : {B : Type 0} (f : Option PageRecord → B) (g : Option Page → B) (rows : List (Option PageRecord)) (words : List ℕ) → ((k : ℕ) → k < length rows → f (row_at rows k) ≡ g (page_by words (2048 * k) (row_at rows k))) → map f rows ≡ map g (pages_in rows words)
+image : {B : Type 0} (f : Option PageRow → B) (g : Option Page → B) (rows : List (Option PageRow)) (words : List ℕ) → ((k : ℕ) → k < length rows → f (row_at rows k) ≡ g (page_by words (2048 * k) (row_at rows k))) → map f rows ≡ map g (pages_in rows words)
 image f g rows words same =
     same_lists (map f rows) (map g (pages_in rows words)) (length-map rows f ∙ sym (length-map (pages_in rows words) g ∙ length-pages rows words))
     (λ k d h. let inside : k < length rows = omega (arith, h, length-map rows f) in
     get_or-map f rows k None d inside ∙ same k inside ∙ ap g (sym (page_is rows words k None inside)) ∙ sym (get_or-map g (pages_in rows words) k None d (omega (arith, inside, length-pages rows words))))
 
-module _ (rows : List (Option PageRecord)) (words : List ℕ) (t : Together rows words) where
+module _ (rows : List (Option PageRow)) (words : List ℕ) (t : Together rows words) where
   pub usable_pages : (class : ℕ) → position (row_usable class) rows ≡ position (is_usable class) (pages_in rows words)
   usable_pages class =
       sym (position-map (row_usable class) (λ b. b) rows) ∙ ap (position (λ b. b)) (image (row_usable class) (is_usable class) rows words (λ k _. usable_page class words (2048 * k) (row_at rows k) (t.each k)))
@@ -146,7 +146,7 @@ module _ (rows : List (Option PageRecord)) (words : List ℕ) (t : Together rows
       ∙ fold-map (λ p. cond (is_free p) 1 0) (λ n. n) 0 (pages_in rows words)
 
 -- ---- a page's record and words are changed
-module _ (rows : List (Option PageRecord)) (words new : List ℕ) (t : Together rows words) (page : ℕ) (row : PageRecord) (below : page < length rows) (known : row.class < CLASSES)
+module _ (rows : List (Option PageRow)) (words new : List ℕ) (t : Together rows words) (page : ℕ) (row : PageRow) (below : page < length rows) (known : row.class < CLASSES)
     (chain : IsFreeList new (2048 * page) row.class row.first row.allocated) (outside : SameOutside words new (2048 * page)) where
   elsewhere : (k : ℕ) → k ≢ page → (i : ℕ) → i < 2048 → get_or new (2048 * k + i) 0 ≡ get_or words (2048 * k + i) 0
   elsewhere k ne i h = elim (cases_lt k page) [
@@ -154,7 +154,7 @@ module _ (rows : List (Option PageRecord)) (words new : List ℕ) (t : Together 
     | inr l ↦ outside.above (2048 * k + i) (omega (arith, l, ne))
   ]
 
-  other_chain : (k : ℕ) → k ≢ page → (o : Option PageRecord) → IfSome o (λ r. r.class < CLASSES) → IsRow words (2048 * k) o → IsRow new (2048 * k) o
+  other_chain : (k : ℕ) → k ≢ page → (o : Option PageRow) → IfSome o (λ r. r.class < CLASSES) → IsRow words (2048 * k) o → IsRow new (2048 * k) o
   other_chain k ne None c h = tt
   other_chain k ne (Some r) c h =
       let low = size_low r.class c in
@@ -210,22 +210,22 @@ outside_two words new at a v b w is from to from' to' = record {
   above = λ k h. ap (λ x. get_or x k 0) is ∙ get_or-set_other (set words a v) b k w 0 (omega (arith, h, to')) ∙ get_or-set_other words a k v 0 (omega (arith, h, to));
 }
 
-pub page_read : (rows : List (Option PageRecord)) (words : List ℕ) (page : ℕ) (r : PageRecord) → page < length rows → row_at rows page ≡ Some r
+pub page_read : (rows : List (Option PageRow)) (words : List ℕ) (page : ℕ) (r : PageRow) → page < length rows → row_at rows page ≡ Some r
     → page_at (pages_in rows words) page ≡ Some (record { class = r.class; evacuating = r.evacuating; is_target = r.is_target; allocated = flags_of words (2048 * page) r.class })
 page_read rows words page r below there = page_is rows words page None below ∙ ap (page_by words (2048 * page)) there
 
--- the list of a page in use has changed, and perhaps its mark receiving
-module _ (rows : List (Option PageRecord)) (words new : List ℕ) (t : Together rows words) (page : ℕ) (below : page < length rows) (old row : PageRecord) (there : row_at rows page ≡ Some old)
+-- the list of a page in use has changed, and perhaps the page is a target now
+module _ (rows : List (Option PageRow)) (words new : List ℕ) (t : Together rows words) (page : ℕ) (below : page < length rows) (old row : PageRow) (there : row_at rows page ≡ Some old)
     (allocated : ℕ) (mark : Bool) (row_is : row ≡ record old { first = row.first; allocated = allocated; is_target = mark }) (chain : IsFreeList new (2048 * page) old.class row.first allocated) (outside : SameOutside words new (2048 * page))
-    (after : List (Option PageRecord)) (after_is : after ≡ set rows page (Some row)) (index : ℕ) (b : Bool) (flags : flags_of new (2048 * page) old.class ≡ set (flags_of words (2048 * page) old.class) index b) where
+    (after : List (Option PageRow)) (after_is : after ≡ set rows page (Some row)) (index : ℕ) (b : Bool) (flags : flags_of new (2048 * page) old.class ≡ set (flags_of words (2048 * page) old.class) index b) where
   same_class : row.class ≡ old.class
-  same_class = ap (λ (r : PageRecord). r.class) row_is
+  same_class = ap (λ (r : PageRow). r.class) row_is
 
   known : row.class < CLASSES
   known = let k : old.class < CLASSES = subst (λ o. IfSome o (λ r. r.class < CLASSES)) there (t.classes page) in omega (arith, k, same_class)
 
   own_chain : IsFreeList new (2048 * page) row.class row.first row.allocated
-  own_chain = subst (λ c. IsFreeList new (2048 * page) c row.first row.allocated) (sym same_class) (subst (IsFreeList new (2048 * page) old.class row.first) (sym (ap (λ (r : PageRecord). r.allocated) row_is)) chain)
+  own_chain = subst (λ c. IsFreeList new (2048 * page) c row.first row.allocated) (sym same_class) (subst (IsFreeList new (2048 * page) old.class row.first) (sym (ap (λ (r : PageRow). r.allocated) row_is)) chain)
 
   pub together_by : Together after new
   together_by = subst (λ l. Together l new) (sym after_is) (together_changed rows words new t page row below known own_chain outside)
@@ -237,7 +237,7 @@ module _ (rows : List (Option PageRecord)) (words new : List ℕ) (t : Together 
   unfolding page_then
   pages_are =
       ap (λ l. pages_in l new) after_is ∙ pages_changed rows words new t page row below known own_chain outside (flags_of new (2048 * page) row.class) refl
-      ∙ ap (λ (r : PageRecord). let p : Page = record { class = r.class; evacuating = r.evacuating; is_target = r.is_target; allocated = flags_of new (2048 * page) r.class } in set (pages_in rows words) page (Some p)) row_is
+      ∙ ap (λ (r : PageRow). let p : Page = record { class = r.class; evacuating = r.evacuating; is_target = r.is_target; allocated = flags_of new (2048 * page) r.class } in set (pages_in rows words) page (Some p)) row_is
       ∙ ap (λ (f : List Bool). let p : Page = record { class = old.class; evacuating = old.evacuating; is_target = mark; allocated = f } in set (pages_in rows words) page (Some p)) flags
 
   read : page_at (pages_in rows words) page ≡ Some page_then
@@ -257,11 +257,11 @@ module _ (rows : List (Option PageRecord)) (words new : List ℕ) (t : Together 
   pub given_by : mark ≡ old.is_target → IfSome (page_at (pages_in rows words) page) (λ p. pages_in after new ≡ set (pages_in rows words) page (Some (with_allocated p index b)))
   given_by same = subst (λ o. IfSome o (λ p. pages_in after new ≡ set (pages_in rows words) page (Some (with_allocated p index b)))) (sym read) (plain same)
 
-pub open_by : (rows : List (Option PageRecord)) (words : List ℕ) (page : ℕ) (old : PageRecord) (index class : ℕ) → page < length rows → row_at rows page ≡ Some old → slice_get (flags_of words (2048 * page) old.class) index ≡ Some false
+pub open_by : (rows : List (Option PageRow)) (words : List ℕ) (page : ℕ) (old : PageRow) (index class : ℕ) → page < length rows → row_at rows page ≡ Some old → slice_get (flags_of words (2048 * page) old.class) index ≡ Some false
     → slice_get (page_of_class class (page_at (pages_in rows words) page)).allocated index ≡ Some false
 open_by rows words page old index class below there h = subst (λ o. slice_get (page_of_class class o).allocated index ≡ Some false) (sym (page_read rows words page old below there)) h
 
-pub allocated_by : (rows : List (Option PageRecord)) (words : List ℕ) (page : ℕ) (old : PageRecord) (index : ℕ) → page < length rows → row_at rows page ≡ Some old → IsSomeAnd (page_at (pages_in rows words) page) (λ p. slice_get p.allocated index ≡ Some true)
+pub allocated_by : (rows : List (Option PageRow)) (words : List ℕ) (page : ℕ) (old : PageRow) (index : ℕ) → page < length rows → row_at rows page ≡ Some old → IsSomeAnd (page_at (pages_in rows words) page) (λ p. slice_get p.allocated index ≡ Some true)
     → slice_get (flags_of words (2048 * page) old.class) index ≡ Some true
 allocated_by rows words page old index below there h = subst (λ o. IsSomeAnd o (λ p. slice_get p.allocated index ≡ Some true)) (page_read rows words page old below there) h
 
@@ -273,14 +273,14 @@ inside_page words page class index b known h =
     omega (arith, f, size_low class known)
 
 -- a free page has got a class
-module _ (rows : List (Option PageRecord)) (words new : List ℕ) (t : Together rows words) (page class : ℕ) (below : page < length rows) (known : class < CLASSES) (row : PageRecord)
+module _ (rows : List (Option PageRow)) (words new : List ℕ) (t : Together rows words) (page class : ℕ) (below : page < length rows) (known : class < CLASSES) (row : PageRow)
     (row_is : row ≡ record { class = class; first = row.first; allocated = 0; evacuating = false; is_target = false }) (chain : IsFreeList new (2048 * page) class row.first 0) (outside : SameOutside words new (2048 * page))
-    (flags : flags_of new (2048 * page) class ≡ replicate (blocks_in class) false) (after : List (Option PageRecord)) (after_is : after ≡ set rows page (Some row)) where
+    (flags : flags_of new (2048 * page) class ≡ replicate (blocks_in class) false) (after : List (Option PageRow)) (after_is : after ≡ set rows page (Some row)) where
   class_is : row.class ≡ class
-  class_is = ap (λ (r : PageRecord). r.class) row_is
+  class_is = ap (λ (r : PageRow). r.class) row_is
 
   allocated_is : row.allocated ≡ 0
-  allocated_is = ap (λ (r : PageRecord). r.allocated) row_is
+  allocated_is = ap (λ (r : PageRow). r.allocated) row_is
 
   row_known : row.class < CLASSES
   row_known = subst (λ c. c < CLASSES) (sym class_is) known
@@ -294,19 +294,19 @@ module _ (rows : List (Option PageRecord)) (words new : List ℕ) (t : Together 
   pub pages_used : pages_in after new ≡ set (pages_in rows words) page (Some (fresh_page class))
   pages_used =
       ap (λ l. pages_in l new) after_is ∙ pages_changed rows words new t page row below row_known row_chain outside (flags_of new (2048 * page) row.class) refl
-      ∙ ap (λ (r : PageRecord). let p : Page = record { class = r.class; evacuating = r.evacuating; is_target = r.is_target; allocated = flags_of new (2048 * page) r.class } in set (pages_in rows words) page (Some p)) row_is
+      ∙ ap (λ (r : PageRow). let p : Page = record { class = r.class; evacuating = r.evacuating; is_target = r.is_target; allocated = flags_of new (2048 * page) r.class } in set (pages_in rows words) page (Some p)) row_is
       ∙ ap (λ (f : List Bool). let p : Page = record { class = class; evacuating = false; is_target = false; allocated = f } in set (pages_in rows words) page (Some p)) flags
 
   pub has_free : HasFree class (row_at after page)
   has_free = subst (HasFree class) (sym (ap (λ l. row_at l page) after_is ∙ get_or-set_same rows page (Some row) None below))
-      (class_is, ap (λ (r : PageRecord). r.evacuating) row_is, let s = blocks_some class known in let e = ap blocks_in class_is in omega (arith, s, e, allocated_is))
+      (class_is, ap (λ (r : PageRow). r.evacuating) row_is, let s = blocks_some class known in let e = ap blocks_in class_is in omega (arith, s, e, allocated_is))
 
 -- a page of which something holds is in use
-none_allocated : (words : List ℕ) (at : ℕ) (P : Page → Type 0) (o : Option PageRecord) → IsSomeAnd (page_by words at o) P → is_some o ≡ true
+none_allocated : (words : List ℕ) (at : ℕ) (P : Page → Type 0) (o : Option PageRow) → IsSomeAnd (page_by words at o) P → is_some o ≡ true
 none_allocated words at P None h = absurd h
 none_allocated words at P (Some r) h = refl
 
-pub some_there : (rows : List (Option PageRecord)) (words : List ℕ) (page : ℕ) → page < length rows → (P : Page → Type 0) → IsSomeAnd (page_at (pages_in rows words) page) P → (o : Option PageRecord) → o ≡ row_at rows page → is_some o ≡ true
+pub some_there : (rows : List (Option PageRow)) (words : List ℕ) (page : ℕ) → page < length rows → (P : Page → Type 0) → IsSomeAnd (page_at (pages_in rows words) page) P → (o : Option PageRow) → o ≡ row_at rows page → is_some o ≡ true
 some_there rows words page below P h o read =
     ap is_some read ∙ none_allocated words (2048 * page) P (row_at rows page) (subst (λ o. IsSomeAnd o P) (page_is rows words page None below) h)
 
@@ -325,24 +325,24 @@ unmarked : (b : Bool) → not b ≡ true → b ≡ false
 unmarked true h = absurd (cc)
 unmarked false h = refl
 
-usable_has : (class : ℕ) (o : Option PageRecord) → row_usable class o ≡ true → HasFree class o
+usable_has : (class : ℕ) (o : Option PageRow) → row_usable class o ≡ true → HasFree class o
 usable_has class None h = absurd (cc)
 usable_has class (Some r) h =
     let a = both_true (eqb r.class class) (not r.evacuating && ltb r.allocated (blocks_in r.class)) h in
     let b = both_true (not r.evacuating) (ltb r.allocated (blocks_in r.class)) a.1 in
     (eqb-true r.class class a.0, unmarked r.evacuating b.0, ltb-true r.allocated (blocks_in r.class) b.1)
 
-free_none : (o : Option PageRecord) → row_free o ≡ true → o ≡ None
+free_none : (o : Option PageRow) → row_free o ≡ true → o ≡ None
 free_none None h = refl
 free_none (Some r) h = absurd (cc)
 
-pub usable_here : (rows : List (Option PageRecord)) (class page : ℕ) → Some page ≡ position (row_usable class) rows → (page < length rows) × HasFree class (row_at rows page)
+pub usable_here : (rows : List (Option PageRow)) (class page : ℕ) → Some page ≡ position (row_usable class) rows → (page < length rows) × HasFree class (row_at rows page)
 usable_here rows class page e = let f = position-Some (row_usable class) rows page None (sym e) in (f.0, usable_has class (row_at rows page) f.1)
 
-pub free_here : (rows : List (Option PageRecord)) (page : ℕ) → Some page ≡ position row_free rows → (page < length rows) × (row_at rows page ≡ None)
+pub free_here : (rows : List (Option PageRow)) (page : ℕ) → Some page ≡ position row_free rows → (page < length rows) × (row_at rows page ≡ None)
 free_here rows page e = let f = position-Some row_free rows page None (sym e) in (f.0, free_none (row_at rows page) f.1)
 
-module _ (rows : List (Option PageRecord)) (words : List ℕ) (t : Together rows words) (class : ℕ) where
+module _ (rows : List (Option PageRow)) (words : List ℕ) (t : Together rows words) (class : ℕ) where
   pub for_usable : (page : ℕ) → Some page ≡ position (row_usable class) rows → page_for (pages_in rows words) class ≡ Some page
   for_usable page e = ap (λ o. first_of o (position is_free (pages_in rows words))) (sym (e ∙ usable_pages rows words t class))
 
@@ -350,7 +350,7 @@ module _ (rows : List (Option PageRecord)) (words : List ℕ) (t : Together rows
   for_free o e f = ap (λ o. first_of o (position is_free (pages_in rows words))) (sym (e ∙ usable_pages rows words t class)) ∙ sym (f ∙ free_places rows words t)
 
 -- a free page is used, and a block taken of it
-module _ (rows : List (Option PageRecord)) (words : List ℕ) (page class : ℕ) (below : page < length rows) (free : row_at rows page ≡ None) (mid : List (Option Page)) (mid_is : mid ≡ set (pages_in rows words) page (Some (fresh_page class))) where
+module _ (rows : List (Option PageRow)) (words : List ℕ) (page class : ℕ) (below : page < length rows) (free : row_at rows page ≡ None) (mid : List (Option Page)) (mid_is : mid ≡ set (pages_in rows words) page (Some (fresh_page class))) where
   was_fresh : page_of_class class (page_at mid page) ≡ page_of_class class (page_at (pages_in rows words) page)
   was_fresh =
       ap (λ l. page_of_class class (page_at l page)) mid_is

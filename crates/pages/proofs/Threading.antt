@@ -323,7 +323,7 @@ thread_step old words new page class i first size e low some t is long =
     (threads_more old words new (2048 * page) class (i - 1) first (subst (λ n. Threads old words (2048 * page) (size_of class) (blocks_in class) n first) back t) (subst (λ n. 4 ≤ n) e low)
     (is ∙ ap (λ n. set (set words n free_mark) (n + 3) first) same) long)
 
--- a block is held by its first word
+-- a block is allocated by its first word
 pub flag_by : (words : List ℕ) (page class size i word : ℕ) (b : Bool) → size ≡ size_of class → i < blocks_in class → word ≡ get_or words (2048 * page + i * size) 0 → not (eqb word 18446744073709551615) ≡ b
     → slice_get (flags_of words (2048 * page) class) i ≡ Some b
 unfolding free_mark

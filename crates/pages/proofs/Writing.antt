@@ -8,7 +8,7 @@ use Rattle.size_classes.specs.declared.class.TheConstants.{CLASSES}
 use Rattle.size_classes.proofs.Table.{size_low}
 use Rattle.size_classes.specs.Sizes.{size_of, blocks_in}
 use Rattle.heap_model.specs.Pages.{Page, page_at}
-use Rattle.pages.specs.declared.page.PageRecord.{PageRecord}
+use Rattle.pages.specs.declared.page.PageRow.{PageRow}
 use Rattle.pages.specs.FreeList.{flags_of, index_on, free_mark, RunsFree, IsFreeList, SameOutside}
 use Rattle.pages.specs.Index.{row_at}
 use Rattle.pages.specs.Together.{page_by, pages_in, Together, KeepsAllocated}
@@ -18,19 +18,19 @@ use Rattle.pages.proofs.Flags.{flags_set, apart, spaced, block_fits, length-flag
 use Rattle.pages.proofs.Telling.{length-pages, page_is, IsRow, together_changed, pages_changed, page_read, inside_page, outside_one}
 
 -- ---- words of allocated blocks
-pub record AllocatedPlace (rows : List (Option PageRecord)) (words : List ℕ) (k : ℕ) (p : Page) (i : ℕ) : Type 0 where
-  pub row : PageRecord
+pub record AllocatedPlace (rows : List (Option PageRow)) (words : List ℕ) (k : ℕ) (p : Page) (i : ℕ) : Type 0 where
+  pub row : PageRow
   pub row_is : row_at rows k ≡ Some row
   pub class_is : p.class ≡ row.class
   pub flag : slice_get (flags_of words (2048 * k) row.class) i ≡ Some true
   pub below : k < length rows
 
-pub allocated_place : (rows : List (Option PageRecord)) (words : List ℕ) (k : ℕ) (p : Page) (i : ℕ) → page_at (pages_in rows words) k ≡ Some p → slice_get p.allocated i ≡ Some true → AllocatedPlace rows words k p i
+pub allocated_place : (rows : List (Option PageRow)) (words : List ℕ) (k : ℕ) (p : Page) (i : ℕ) → page_at (pages_in rows words) k ≡ Some p → slice_get p.allocated i ≡ Some true → AllocatedPlace rows words k p i
 allocated_place rows words k p i at h =
     let below : k < length rows = elim (cases_lt k (length rows)) [ inl l ↦ l | inr l ↦ absurd (let e = get_or_past (pages_in rows words) k None (omega (arith, l, length-pages rows words)) in none-some p (sym e ∙ at)) ] in
     by_row (row_at rows k) refl below (sym (page_is rows words k None below) ∙ at)
   where
-    by_row : (o : Option PageRecord) → row_at rows k ≡ o → k < length rows → page_by words (2048 * k) (row_at rows k) ≡ Some p → AllocatedPlace rows words k p i
+    by_row : (o : Option PageRow) → row_at rows k ≡ o → k < length rows → page_by words (2048 * k) (row_at rows k) ≡ Some p → AllocatedPlace rows words k p i
     by_row None e l is = absurd (none-some p (ap (page_by words (2048 * k)) (sym e) ∙ is))
     by_row (Some r) e l is =
         let q : Page = record { class = r.class; evacuating = r.evacuating; is_target = r.is_target; allocated = flags_of words (2048 * k) r.class } in
@@ -38,7 +38,7 @@ allocated_place rows words k p i at h =
         record { row = r; row_is = e; class_is = sym (ap (λ (x : Page). x.class) same); flag = subst (λ (x : Page). slice_get x.allocated i ≡ Some true) (sym same) h; below = l }
 
 -- only words of a free block are written
-pub keeps_but : (rows : List (Option PageRecord)) (flagged words new : List ℕ) (page : ℕ) (old : PageRecord) (index : ℕ) → ((k : ℕ) → IfSome (row_at rows k) (λ r. r.class < CLASSES)) → row_at rows page ≡ Some old
+pub keeps_but : (rows : List (Option PageRow)) (flagged words new : List ℕ) (page : ℕ) (old : PageRow) (index : ℕ) → ((k : ℕ) → IfSome (row_at rows k) (λ r. r.class < CLASSES)) → row_at rows page ≡ Some old
     → slice_get (flags_of flagged (2048 * page) old.class) index ≡ Some false → length new ≡ length words
     → ((n : ℕ) → ((d : ℕ) → d < size_of old.class → n ≢ 2048 * page + index * size_of old.class + d) → get_or new n 0 ≡ get_or words n 0) → KeepsAllocated (pages_in rows flagged) words new
 keeps_but rows flagged words new page old index classes there free len same = record {
@@ -58,8 +58,8 @@ keeps_but rows flagged words new page old index classes there free len same = re
       (same (2048 * k + i * size_of q.row.class + j) (λ d m. elim (cases_eq k page) [
         | inl e ↦
             (let row : q.row ≡ old = same_Some q.row old (sym q.row_is ∙ ap (row_at rows) e ∙ there) in
-            let s : size_of q.row.class ≡ size_of old.class = ap (λ (r : PageRecord). size_of r.class) row in
-            let flag : slice_get (flags_of flagged (2048 * page) old.class) i ≡ Some true = subst (λ n. slice_get (flags_of flagged (2048 * n) old.class) i ≡ Some true) e (subst (λ (r : PageRecord). slice_get (flags_of flagged (2048 * k) r.class) i ≡ Some true) row q.flag) in
+            let s : size_of q.row.class ≡ size_of old.class = ap (λ (r : PageRow). size_of r.class) row in
+            let flag : slice_get (flags_of flagged (2048 * page) old.class) i ≡ Some true = subst (λ n. slice_get (flags_of flagged (2048 * n) old.class) i ≡ Some true) e (subst (λ (r : PageRow). slice_get (flags_of flagged (2048 * k) r.class) i ≡ Some true) row q.flag) in
             let ne : i ≢ index = λ x. absurd (let y : slice_get (flags_of flagged (2048 * page) old.class) index ≡ Some true = subst (λ n. slice_get (flags_of flagged (2048 * page) old.class) n ≡ Some true) x flag in cc) in
             let a = apart (2048 * page) (size_of old.class) i index j d (subst (λ n. j < n) s l') m ne in
             subst (λ n. 2048 * n + i * size_of q.row.class + j ≢ 2048 * page + index * size_of old.class + d) (sym e)
@@ -68,7 +68,7 @@ keeps_but rows flagged words new page old index classes there free len same = re
       ]))
 
 -- a free block's first word is written
-pub keeps_one : (rows : List (Option PageRecord)) (words new : List ℕ) (page : ℕ) (old : PageRecord) (index v : ℕ) → ((k : ℕ) → IfSome (row_at rows k) (λ r. r.class < CLASSES)) → row_at rows page ≡ Some old
+pub keeps_one : (rows : List (Option PageRow)) (words new : List ℕ) (page : ℕ) (old : PageRow) (index v : ℕ) → ((k : ℕ) → IfSome (row_at rows k) (λ r. r.class < CLASSES)) → row_at rows page ≡ Some old
     → slice_get (flags_of words (2048 * page) old.class) index ≡ Some false → new ≡ set words (2048 * page + index * size_of old.class) v → KeepsAllocated (pages_in rows words) words new
 keeps_one rows words new page old index v classes there free is =
     let a = 2048 * page + index * size_of old.class in
@@ -77,7 +77,7 @@ keeps_one rows words new page old index v classes there free is =
     (λ n other. ap (λ x. get_or x n 0) is ∙ get_or-set_other words a n v 0 (λ e. other 0 (omega (arith, low)) (omega (arith, e))))
 
 -- a block was taken off the list of a page, by its address
-module _ (rows : List (Option PageRecord)) (words new : List ℕ) (classes : (k : ℕ) → IfSome (row_at rows k) (λ r. r.class < CLASSES)) (page : ℕ) (old : PageRecord) (there : row_at rows page ≡ Some old) (block : ℕ)
+module _ (rows : List (Option PageRow)) (words new : List ℕ) (classes : (k : ℕ) → IfSome (row_at rows k) (λ r. r.class < CLASSES)) (page : ℕ) (old : PageRow) (there : row_at rows page ≡ Some old) (block : ℕ)
     (place : block ≡ 2048 * page + index_on old.class page block * size_of old.class) (free : slice_get (flags_of words (2048 * page) old.class) (index_on old.class page block) ≡ Some false) (is : new ≡ set words block block) where
   written : new ≡ set words (2048 * page + index_on old.class page block * size_of old.class) block
   written = is ∙ ap (λ n. set words n block) place
@@ -95,7 +95,7 @@ pub freed_flag : (flags : List Bool) (i : ℕ) → i < length flags → slice_ge
 freed_flag flags i h = slice_get-get_or (set flags i false) i false (omega (arith, h, length-set flags i false)) ∙ ap Some (get_or-set_same flags i false false h)
 
 -- a block is freed: its first word and its link are written
-pub keeps_freed : (rows : List (Option PageRecord)) (words new : List ℕ) (page : ℕ) (old : PageRecord) (index v link : ℕ) → ((k : ℕ) → IfSome (row_at rows k) (λ r. r.class < CLASSES)) → row_at rows page ≡ Some old
+pub keeps_freed : (rows : List (Option PageRow)) (words new : List ℕ) (page : ℕ) (old : PageRow) (index v link : ℕ) → ((k : ℕ) → IfSome (row_at rows k) (λ r. r.class < CLASSES)) → row_at rows page ≡ Some old
     → slice_get (flags_of new (2048 * page) old.class) index ≡ Some false → new ≡ set (set words (2048 * page + index * size_of old.class) v) (2048 * page + index * size_of old.class + 3) link → KeepsAllocated (pages_in rows new) words new
 keeps_freed rows words new page old index v link classes there free is =
     let a = 2048 * page + index * size_of old.class in
@@ -110,7 +110,7 @@ pub record WritesBlock (words new : List ℕ) (block size : ℕ) : Type 0 where
   pub above : (k : ℕ) → block + size ≤ k → get_or new k 0 ≡ get_or words k 0
   pub allocated : not (eqb (get_or new block 0) free_mark) ≡ true
 
-module _ (rows : List (Option PageRecord)) (words new : List ℕ) (t : Together rows words) (page : ℕ) (below : page < length rows) (row : PageRecord) (there : row_at rows page ≡ Some row) (index : ℕ)
+module _ (rows : List (Option PageRow)) (words new : List ℕ) (t : Together rows words) (page : ℕ) (below : page < length rows) (row : PageRow) (there : row_at rows page ≡ Some row) (index : ℕ)
     (allocated : slice_get (flags_of words (2048 * page) row.class) index ≡ Some true) (w : WritesBlock words new (2048 * page + index * size_of row.class) (size_of row.class)) where
   row_known' : row.class < CLASSES
   row_known' = subst (λ o. IfSome o (λ r. r.class < CLASSES)) there (t.classes page)
@@ -162,15 +162,15 @@ module _ (rows : List (Option PageRecord)) (words new : List ℕ) (t : Together 
       ap (λ l. pages_in l new) (sym unchanged) ∙ pages_changed rows words new t page row below row_known' chain' outside' (flags_of words (2048 * page) row.class) same_flags
       ∙ ap (set (pages_in rows words) page) (sym (page_read rows words page row below there)) ∙ set-get_or (pages_in rows words) page None
 
--- ---- the mark leaving, with no word written
-pub marking_keeps : (rows : List (Option PageRecord)) (words : List ℕ) → Together rows words → (page : ℕ) (row : PageRecord) → page < length rows → row_at rows page ≡ Some row
+-- ---- the mark evacuating, with no word written
+pub leaving_keeps : (rows : List (Option PageRow)) (words : List ℕ) → Together rows words → (page : ℕ) (row : PageRow) → page < length rows → row_at rows page ≡ Some row
     → Together (set rows page (Some (record row { evacuating = true }))) words
-marking_keeps rows words t page row below there =
+leaving_keeps rows words t page row below there =
     together_changed rows words words t page (record row { evacuating = true }) below (subst (λ o. IfSome o (λ r. r.class < CLASSES)) there (t.classes page)) (subst (λ o. IsRow words (2048 * page) o) there (t.each page))
     (record { len = refl; below = λ _ _. refl; above = λ _ _. refl })
 
 -- the words of a free page are written
-pub keeps_outside : (rows : List (Option PageRecord)) (words new : List ℕ) (page : ℕ) → ((k : ℕ) → IfSome (row_at rows k) (λ r. r.class < CLASSES)) → row_at rows page ≡ None → SameOutside words new (2048 * page) → KeepsAllocated (pages_in rows words) words new
+pub keeps_outside : (rows : List (Option PageRow)) (words new : List ℕ) (page : ℕ) → ((k : ℕ) → IfSome (row_at rows k) (λ r. r.class < CLASSES)) → row_at rows page ≡ None → SameOutside words new (2048 * page) → KeepsAllocated (pages_in rows words) words new
 keeps_outside rows words new page classes none out = record {
   len = out.len;
   each = λ k p i j at h l. by_place k p i j (allocated_place rows words k p i at h) l;
@@ -187,7 +187,7 @@ keeps_outside rows words new page classes none out = record {
         | inr m ↦ out.above (2048 * k + i * size_of q.row.class + j) (omega (arith, m, ne))
       ])
 
-pub keeps_both : (rows : List (Option PageRecord)) (words mid new : List ℕ) (page : ℕ) (pages : List (Option Page)) (p' : Option Page) → page < length rows → row_at rows page ≡ None → pages ≡ set (pages_in rows words) page p'
+pub keeps_both : (rows : List (Option PageRow)) (words mid new : List ℕ) (page : ℕ) (pages : List (Option Page)) (p' : Option Page) → page < length rows → row_at rows page ≡ None → pages ≡ set (pages_in rows words) page p'
     → KeepsAllocated (pages_in rows words) words mid → KeepsAllocated pages mid new → KeepsAllocated (pages_in rows words) words new
 keeps_both rows words mid new page pages p' below none is one two = record {
   len = two.len ∙ one.len;
@@ -198,7 +198,7 @@ keeps_both rows words mid new page pages p' below none is one two = record {
 
 pub fresh_together : (n : ℕ) → Together (replicate n None) (replicate (2048 * n) 0)
 fresh_together n = record {
-  len = length-replicate (2048 * n) 0 ∙ ap (λ m. 2048 * m) (sym (length-replicate {A = Option PageRecord} n None));
-  classes = λ k. subst (λ o. IfSome o (λ (r : PageRecord). r.class < CLASSES)) (sym (row_none n k)) tt;
+  len = length-replicate (2048 * n) 0 ∙ ap (λ m. 2048 * m) (sym (length-replicate {A = Option PageRow} n None));
+  classes = λ k. subst (λ o. IfSome o (λ (r : PageRow). r.class < CLASSES)) (sym (row_none n k)) tt;
   each = λ k. subst (IsRow (replicate (2048 * n) 0) (2048 * k)) (sym (row_none n k)) tt;
 }

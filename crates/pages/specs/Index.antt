@@ -4,40 +4,40 @@ use Rattle.size_classes.specs.declared.class.TheConstants.{CLASSES}
 use Rattle.size_classes.specs.declared.config.TheConstants.{MOST_PAGES}
 use Rattle.size_classes.specs.Sizes.{blocks_in}
 use Rattle.pages.specs.declared.bits.BitRow.{BitRow}
-use Rattle.pages.specs.declared.page.PageRecord.{PageRecord}
+use Rattle.pages.specs.declared.page.PageRow.{PageRow}
 use Rattle.pages.specs.BitRow.{has_bit, room_of}
 
 -- the record of page k, none where there is no such page
-abbrev pub row_at : List (Option PageRecord) → ℕ → Option PageRecord
+abbrev pub row_at : List (Option PageRow) → ℕ → Option PageRow
 row_at rows k = slice_index_or rows k None
 
 -- free, or of the class
-abbrev pub OfClass : ℕ → Option PageRecord → Type 0
+abbrev pub OfClass : ℕ → Option PageRow → Type 0
 OfClass class None = Unit {0}
 OfClass class (Some r) = r.class ≡ class
 
 -- of the class, not evacuating, with a free block
-abbrev pub row_usable : ℕ → Option PageRecord → Bool
+abbrev pub row_usable : ℕ → Option PageRow → Bool
 row_usable class None = false
 row_usable class (Some r) = (r.class == class) && (not r.evacuating && nat_lt r.allocated (blocks_in r.class))
 
 -- whether a page is free
-abbrev pub row_free : Option PageRecord → Bool
+abbrev pub row_free : Option PageRow → Bool
 row_free None = true
 row_free (Some r) = false
 
 -- how many free blocks of the class, none if it is evacuating
-abbrev pub row_free_on : ℕ → Option PageRecord → ℕ
+abbrev pub row_free_on : ℕ → Option PageRow → ℕ
 row_free_on class None = 0
 row_free_on class (Some r) = if (r.class == class) && not r.evacuating then blocks_in r.class - r.allocated else 0
 
 -- of the class, and neither evacuating nor a target
-abbrev pub row_choosable : ℕ → Option PageRecord → Bool
+abbrev pub row_choosable : ℕ → Option PageRow → Bool
 row_choosable class None = false
 row_choosable class (Some r) = (r.class == class) && (not r.evacuating && not r.is_target)
 
 -- in use by the class, not evacuating, with a free block
-abbrev pub HasFree : ℕ → Option PageRecord → Type 0
+abbrev pub HasFree : ℕ → Option PageRow → Type 0
 HasFree class o = IsSomeAnd o (λ r. (r.class ≡ class) × (r.evacuating ≡ false) × (r.allocated < blocks_in r.class))
 
 -- a truth value as a bit
@@ -53,7 +53,7 @@ abbrev pub room_of_class : List BitRow → ℕ → ℕ
 room_of_class usable class = slice_index (map room_of usable) class
 
 -- the bits and the numbers are those of the rows
-pub record IsIndex (rows : List (Option PageRecord)) (usable : List BitRow) (free : BitRow) (free_blocks : List ℕ)
+pub record IsIndex (rows : List (Option PageRow)) (usable : List BitRow) (free : BitRow) (free_blocks : List ℕ)
     (free_pages : ℕ) : Type 0 where
   pub few : length rows ≤ MOST_PAGES
   pub classes : length usable ≡ CLASSES
@@ -67,6 +67,6 @@ pub record IsIndex (rows : List (Option PageRecord)) (usable : List BitRow) (fre
   pub pages_are : free_pages ≡ count_by row_free rows
 
 -- the page closed: its marks go, and if no block is allocated it becomes free
-abbrev pub row_closed : Option PageRecord → Option PageRecord
+abbrev pub row_closed : Option PageRow → Option PageRow
 row_closed None = None
 row_closed (Some r) = if r.allocated == 0 then None else Some (record r { evacuating = false; is_target = false })

@@ -5,8 +5,8 @@ use Rattle.heap_model.specs.Store.{address_of}
 use Rattle.heap_model.specs.Action.{IsNext}
 
 -- a page in use that isn't evacuating and has a free block
-abbrev pub CanReceive : Option Page → Type 0
-CanReceive o = IsSomeAnd o (λ p. (p.evacuating ≡ false) × ((i : ℕ) × IsOpen p i))
+abbrev pub CanBeTarget : Option Page → Type 0
+CanBeTarget o = IsSomeAnd o (λ p. (p.evacuating ≡ false) × ((i : ℕ) × IsOpen p i))
 
 -- the page has no allocated block from a place on
 abbrev pub NoneAllocated : ℕ → Option Page → Type 0

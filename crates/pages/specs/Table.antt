@@ -1,11 +1,11 @@
 -- The table, as the list of its records.
 use Rattle.std.specs.Prelude.{List, Option}
 use Rattle.pages.specs.declared.table.PageTable.TheInside.{Inside}
-use Rattle.pages.specs.declared.page.PageRecord.{PageRecord}
+use Rattle.pages.specs.declared.page.PageRow.{PageRow}
 use Rattle.pages.specs.Index.{IsIndex}
 
 -- the records of a table, page by page
-abbrev pub rows_in : Inside → List (Option PageRecord)
+abbrev pub rows_in : Inside → List (Option PageRow)
 rows_in t = t.rows.items
 
 -- what a table keeps: its rows of bits and its counts are those of its records

@@ -5,12 +5,12 @@ use Rattle.size_classes.specs.declared.class.TheConstants.{CLASSES, PAGE_WORDS}
 use Rattle.size_classes.specs.Sizes.{size_of}
 use Rattle.heap_model.specs.Pages.{Page, page_at}
 use Rattle.heap_model.specs.Store.{Store}
-use Rattle.pages.specs.declared.page.PageRecord.{PageRecord}
+use Rattle.pages.specs.declared.page.PageRow.{PageRow}
 use Rattle.pages.specs.FreeList.{flags_of, IsFreeList}
 use Rattle.pages.specs.Index.{row_at}
 
 -- a page, by its record and the words from its first on
-abbrev pub page_by : List ℕ → ℕ → Option PageRecord → Option Page
+abbrev pub page_by : List ℕ → ℕ → Option PageRow → Option Page
 page_by words at = option_map (λ r. record {
   class = r.class;
   evacuating = r.evacuating;
@@ -19,16 +19,16 @@ page_by words at = option_map (λ r. record {
 })
 
 -- the pages, by their records and the words
-unfoldable pub pages_in : List (Option PageRecord) → List ℕ → List (Option Page)
+unfoldable pub pages_in : List (Option PageRow) → List ℕ → List (Option Page)
 pages_in rows words = map (λ p. page_by words (PAGE_WORDS * p.0) p.1) (enumerate_from 0 rows)
 
 -- the table's records and the arena's words, as a store
-abbrev pub joined : List (Option PageRecord) → List ℕ → Store
+abbrev pub joined : List (Option PageRow) → List ℕ → Store
 joined rows words = record { pages = pages_in rows words; words = words }
 
 -- The table and the arena go together: there are 2048 words for each page, and each page in use has a
 -- list that runs through just its free blocks, each once.
-pub record Together (rows : List (Option PageRecord)) (words : List ℕ) : Type 0 where
+pub record Together (rows : List (Option PageRow)) (words : List ℕ) : Type 0 where
   pub len : length words ≡ PAGE_WORDS * length rows
   pub classes : (k : ℕ) → IfSome (row_at rows k) (λ r. r.class < CLASSES)
   pub each : (k : ℕ) → IfSome (row_at rows k) (λ r. IsFreeList words (PAGE_WORDS * k) r.class r.first r.allocated)
@@ -42,5 +42,5 @@ pub record KeepsAllocated (pages : List (Option Page)) (old new : List ℕ) : Ty
       ≡ slice_index old (PAGE_WORDS * k + i * size_of p.class + j)
 
 -- what the records alone tell holds of the pages, whatever words go together with them
-abbrev pub Tells : List (Option PageRecord) → (List (Option Page) → Type 0) → Type 0
+abbrev pub Tells : List (Option PageRow) → (List (Option Page) → Type 0) → Type 0
 Tells rows says = (words : List ℕ) → Together rows words → says (pages_in rows words)

@@ -7,16 +7,16 @@ ghost use Rattle.pages.specs.FreeList.{flags_of, index_on, IsFreeList, SameOutsi
 ghost use Rattle.pages.specs.Index.{row_at};
 ghost use Rattle.pages.specs.Sweeping.{has_colour, LooksAt, Looks};
 ghost use Rattle.pages.specs.Together.{joined, Together};
-ghost use Rattle.pages.specs.declared.page.PageRecord.{PageRecord as Row};
+ghost use Rattle.pages.specs.declared.page.PageRow.{PageRow as Row};
 
-use crate::page::PageRecord;
+use crate::page::PageRow;
 use headers::Arena;
 use size_classes::Class;
 
 /// Takes the first free block off a page's list, and answers its address: it is allocated, and forwards to
 /// itself.
 #[inline(always)]
-pub fn pop(arena: &mut Arena, page: usize, row: &mut PageRecord) -> usize
+pub fn pop(arena: &mut Arena, page: usize, row: &mut PageRow) -> usize
     requires page { page < 4096 }
     requires within { 2048 * page + 2048 ≤ length arena.old }
     requires chain { IsFreeList arena.old (2048 * page) row.old.class row.old.first row.old.allocated }
@@ -49,7 +49,7 @@ fn link_free(arena: &mut Arena, block: usize, next: u64)
 
 /// Puts an allocated block on a page's list: it is free.
 #[inline(always)]
-fn push(arena: &mut Arena, page: usize, row: &mut PageRecord, index: usize)
+fn push(arena: &mut Arena, page: usize, row: &mut PageRow, index: usize)
     requires page { page < 4096 }
     requires within { 2048 * page + 2048 ≤ length arena.old }
     requires chain { IsFreeList arena.old (2048 * page) row.old.class row.old.first row.old.allocated }
@@ -69,7 +69,7 @@ fn push(arena: &mut Arena, page: usize, row: &mut PageRecord, index: usize)
 }
 
 /// Puts all blocks of a page that gets a class on its list.
-pub fn link_blocks(arena: &mut Arena, page: usize, class: Class) -> PageRecord
+pub fn link_blocks(arena: &mut Arena, page: usize, class: Class) -> PageRow
     requires page { page < 4096 }
     requires within { 2048 * page + 2048 ≤ length arena.old }
     ensures flags { flags_of arena.new (2048 * page) class ≡ replicate (blocks_in class) false }
@@ -93,7 +93,7 @@ pub fn link_blocks(arena: &mut Arena, page: usize, class: Class) -> PageRecord
         link_free(arena, block, first);
         first = block as u64 + 1;
     }
-    PageRecord {
+    PageRow {
         class,
         first,
         allocated: 0,
@@ -134,7 +134,7 @@ fn stays(arena: &Arena, page: usize, class: Class, index: usize, colour: bool) -
 /// Looks at a block of a page: where it is allocated and hasn't the colour, it goes on the page's list. Whatever
 /// records of other pages the page's record and the words go together with, they still do.
 #[inline(always)]
-fn look(arena: &mut Arena, page: usize, row: &mut PageRecord, index: usize, colour: bool)
+fn look(arena: &mut Arena, page: usize, row: &mut PageRow, index: usize, colour: bool)
     requires page { page < 4096 }
     requires within { 2048 * page + 2048 ≤ length arena.old }
     requires chain { IsFreeList arena.old (2048 * page) row.old.class row.old.first row.old.allocated }
@@ -157,7 +157,7 @@ fn look(arena: &mut Arena, page: usize, row: &mut PageRecord, index: usize, colo
 pub fn sweep(
     arena: &mut Arena,
     page: usize,
-    row: &mut PageRecord,
+    row: &mut PageRow,
     from: usize,
     count: usize,
     colour: bool,

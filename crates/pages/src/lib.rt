@@ -10,6 +10,6 @@ mod page;
 pub mod table;
 pub mod view;
 
-pub use page::PageRecord;
+pub use page::PageRow;
 pub use table::{Block, PageTable};
 pub use view::PageView;

@@ -7,7 +7,7 @@ use size_classes::Class;
 /// A page in use: its class, its first free block (the address plus one, 0 for none), how many of its
 /// blocks are allocated, and its marks.
 #[derive(Clone, Copy)]
-pub struct PageRecord {
+pub struct PageRow {
     pub class: Class,
     pub first: u64,
     pub allocated: usize,
@@ -16,7 +16,7 @@ pub struct PageRecord {
 }
 
 /// Whether a page is of its class, isn't evacuating, and has a free block.
-pub fn is_usable(class: Class, row: Option<PageRecord>) -> bool
+pub fn is_usable(class: Class, row: Option<PageRow>) -> bool
     requires { OfClass class row }
     ensures { result ≡ row_usable class row }
 {
@@ -28,7 +28,7 @@ pub fn is_usable(class: Class, row: Option<PageRecord>) -> bool
 
 /// How many free blocks of a class a page has, none if it is evacuating.
 #[inline(always)]
-pub fn free_on(class: Class, row: Option<PageRecord>) -> usize
+pub fn free_on(class: Class, row: Option<PageRow>) -> usize
     ensures free { result ≡ row_free_on class row }
     ensures within { result ≤ 512 }
 {
@@ -41,7 +41,7 @@ pub fn free_on(class: Class, row: Option<PageRecord>) -> usize
 }
 
 /// Whether a page is of the class, and neither evacuating nor a target.
-pub fn is_choosable(class: Class, row: Option<PageRecord>) -> bool
+pub fn is_choosable(class: Class, row: Option<PageRow>) -> bool
     ensures { result ≡ row_choosable class row }
 {
     match row {

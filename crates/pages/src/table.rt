@@ -5,13 +5,13 @@ ghost use Rattle.heap_model.specs.Action.{closed};
 ghost use Rattle.pages.specs.Index.{row_at, OfClass, row_usable, row_free, bit, HasFree};
 ghost use Rattle.heap_model.specs.Store.{address_of};
 ghost use Rattle.pages.specs.FreeList.{index_on};
-ghost use Rattle.pages.specs.Places.{CanReceive, TakesAt};
+ghost use Rattle.pages.specs.Places.{CanBeTarget, TakesAt};
 ghost use Rattle.pages.specs.Sweeping.{Looks};
 ghost use Rattle.pages.specs.Together.{joined, pages_in, Together, KeepsAllocated};
 
 use crate::bits::BitRow;
 use crate::free_list::{link_blocks, pop, sweep};
-use crate::page::{PageRecord, free_on, is_usable};
+use crate::page::{PageRow, free_on, is_usable};
 use graph_heap::NoMemory;
 use headers::Arena;
 use size_classes::{CLASSES, Class};
@@ -32,7 +32,7 @@ pub struct Block {
 /// many there are. Contracts see the list of the records. With the words of the arena they are the pages.
 #[derive(Drop)]
 pub struct PageTable {
-    rows: Vec<Option<PageRecord>>,
+    rows: Vec<Option<PageRow>>,
     usable: Vec<BitRow>,
     free: BitRow,
     free_blocks: Vec<usize>,
@@ -41,10 +41,10 @@ pub struct PageTable {
 
 impl Model for PageTable {
     ghost use Rattle.std.specs.Prelude.{List, Option};
-    ghost use Rattle.pages.specs.declared.page.PageRecord.{PageRecord};
+    ghost use Rattle.pages.specs.declared.page.PageRow.{PageRow};
     ghost use Rattle.pages.specs.Table.{rows_in, IsKept};
 
-    ghost Value = { List (Option PageRecord) };
+    ghost Value = { List (Option PageRow) };
 
     ghost view = { rows_in };
 
@@ -108,7 +108,7 @@ impl PageTable {
 
     /// The record of a page.
     #[inline(always)]
-    fn row(&self, page: usize) -> Option<PageRecord>
+    fn row(&self, page: usize) -> Option<PageRow>
         requires { page < length self.now }
         ensures row { result ≡ row_at self.now page }
         ensures few { page < 4096 }
@@ -117,7 +117,7 @@ impl PageTable {
     }
 
     /// Gives a page another record. It was free or of the class, and so it is then.
-    fn put(&mut self, page: usize, class: Class, row: Option<PageRecord>)
+    fn put(&mut self, page: usize, class: Class, row: Option<PageRow>)
         requires page { page < length self.old }
         requires was { OfClass class (row_at self.old page) }
         requires is { OfClass class row }
@@ -139,7 +139,7 @@ impl PageTable {
     /// Gives a page in use another record of its class. A bit is written only where the page gets its
     /// first free block or loses its last.
     #[inline(always)]
-    fn update(&mut self, page: usize, class: Class, row: Option<PageRecord>)
+    fn update(&mut self, page: usize, class: Class, row: Option<PageRow>)
         requires page { page < length self.old }
         requires was { IsSomeAnd (row_at self.old page) (λ r. r.class ≡ class) }
         requires is { IsSomeAnd row (λ r. r.class ≡ class) }
@@ -177,7 +177,7 @@ impl PageTable {
     /// Takes the first free block of a page that isn't evacuating, and answers its address. A bit is written
     /// only where the page has no other free block.
     #[inline(always)]
-    fn allocate_on(&mut self, arena: &mut Arena, page: usize, class: Class) -> usize
+    fn take_on(&mut self, arena: &mut Arena, page: usize, class: Class) -> usize
         requires page { page < length self.old }
         requires together { Together self.old arena.old }
         requires usable { HasFree class (row_at self.old page) }
@@ -206,7 +206,7 @@ impl PageTable {
     /// isn't evacuating and has one, else of the first free page, which gets the class. None where there is
     /// no such page, and then nothing changes. The words of allocated blocks stay.
     #[inline(always)]
-    pub fn allocate(&mut self, arena: &mut Arena, class: Class) -> Option<usize>
+    pub fn take(&mut self, arena: &mut Arena, class: Class) -> Option<usize>
         requires { Together self.old arena.old }
         ensures together { Together self.new arena.new }
         ensures none { IsNone result ↔ IsNone (page_for (pages_in self.old arena.old) class) }
@@ -216,11 +216,11 @@ impl PageTable {
         ensures kept { IsNone result → (self.new ≡ self.old) × (arena.new ≡ arena.old) }
     {
         match self.first_usable(class) {
-            Some(page) => Some(self.allocate_on(arena, page, class)),
+            Some(page) => Some(self.take_on(arena, page, class)),
             None => match self.first_free() {
                 Some(page) => {
                     self.use_page(arena, page, class);
-                    Some(self.allocate_on(arena, page, class))
+                    Some(self.take_on(arena, page, class))
                 }
                 None => None,
             },
@@ -246,10 +246,10 @@ impl PageTable {
 
     /// Takes the first free block of a page that isn't evacuating, for one that is moved there: it is allocated,
     /// and the page a target. The words of allocated blocks stay.
-    pub fn allocate_on_target(&mut self, arena: &mut Arena, page: usize) -> usize
+    pub fn take_on_target(&mut self, arena: &mut Arena, page: usize) -> usize
         requires together { Together self.old arena.old }
         requires page { page < length self.old }
-        requires free { CanReceive (page_at (pages_in self.old arena.old) page) }
+        requires free { CanBeTarget (page_at (pages_in self.old arena.old) page) }
         ensures together { Together self.new arena.new }
         ensures open { IsSomeAnd (page_at (pages_in self.old arena.old) page) (λ p. IsOpen p result) }
         ensures allocated { IfSome (page_at (pages_in self.old arena.old) page)
@@ -267,7 +267,7 @@ impl PageTable {
 
     /// Marks a page in use as evacuating: it gets no block from then on. Whatever words the table goes
     /// together with, it still does.
-    pub fn mark_evacuating(&mut self, page: usize)
+    pub fn leave(&mut self, page: usize)
         requires page { page < length self.old }
         requires is_target { IsSomeAnd (row_at self.old page) (λ r. r.is_target ≡ false) }
         ensures together { (words : List ℕ) → Together self.old words → Together self.new words }

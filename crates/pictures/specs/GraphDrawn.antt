@@ -1,7 +1,7 @@
 -- The outcome of drawing a graph heap.
 use Rattle.std.specs.Prelude.{◌≡◌, ℕ, List, ◌++◌, Result, Ok, Err}
-use Rattle.trace.specs.declared.fault.TextFault.{TextFault}
-use Rattle.trace.specs.declared.fault.TextFault.TheVariants.{Write, NoMemory}
+use Rattle.trace.specs.declared.fault.PlayFault.{PlayFault}
+use Rattle.trace.specs.declared.fault.PlayFault.TheVariants.{Write, NoMemory}
 use Rattle.trace.specs.Streams.{Taken, GrowsByPart}
 use Rattle.graph_heap.specs.Graph.{Graph}
 use Rattle.pictures.specs.declared.reachability.found.Found.{Found}
@@ -10,7 +10,7 @@ use Rattle.pictures.specs.GraphDrawing.{graph_picture}
 
 -- Of the objects that can be reached, the nearest to the roots are drawn, at most this many; or a part of this is
 -- written and then a write failed; or memory was refused, and nothing is written. There is no other fault.
-abbrev pub GraphDrawn : Graph → ℕ → Taken → Result (Unit {0}) TextFault → Type 0
+abbrev pub GraphDrawn : Graph → ℕ → Taken → Result (Unit {0}) PlayFault → Type 0
 GraphDrawn g most taken (Ok drawn) =
     (found : List Found) × FindsAll g found × (taken.after ≡ taken.before ++ graph_picture g most found)
 GraphDrawn g most taken (Err Write) =

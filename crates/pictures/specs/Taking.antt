@@ -1,7 +1,7 @@
 -- What it is to take samples of a run.
 use Rattle.std.specs.Prelude.{◌≡◌, List, [], ◌++◌, length, Result, Ok, Err}
 use Rattle.size_classes.specs.declared.config.Config.{Config}
-use Rattle.trace.specs.declared.fault.TextFault.{TextFault}
+use Rattle.trace.specs.declared.fault.PlayFault.{PlayFault}
 use Rattle.trace.specs.Streams.{Given}
 use Rattle.player.specs.declared.style.Style.TheVariants.{Nothing}
 use Rattle.player.specs.New.{IsNew}
@@ -20,7 +20,7 @@ AreSamplesOf given old new played s =
 
 -- The lines of an input are played on a new player, and the samples are those of the run; or the fault is that with
 -- which playing them ends; or memory was refused.
-abbrev pub SamplesTaken : Config → Given → Result Samples TextFault → Type 0
+abbrev pub SamplesTaken : Config → Given → Result Samples PlayFault → Type 0
 SamplesTaken config given (Ok samples) =
     (old : PlayerState) × (new : Session) × (played : Played Nothing given (session old []) new (Ok tt))
     × IsNew config old

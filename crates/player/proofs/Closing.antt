@@ -6,14 +6,14 @@ use Rattle.heap_model.specs.Event.{Event}
 use Rattle.trace.specs.declared.line.Line.{Line}
 use Rattle.trace.specs.declared.line.Line.TheVariants as lines
 use Rattle.trace.specs.declared.fault.LineFault.TheVariants.{TooLong, NotEnded, NotAnEvent, NotACommand, NoSuchMutator, NotAnEntry, ClockSpent}
-use Rattle.trace.specs.declared.fault.TextFault.{TextFault}
-use Rattle.trace.specs.declared.fault.TextFault.TheVariants.{Line as At_line, Read, Write, NoMemory}
+use Rattle.trace.specs.declared.fault.PlayFault.{PlayFault}
+use Rattle.trace.specs.declared.fault.PlayFault.TheVariants.{Line as At_line, Read, Write, NoMemory}
 use Rattle.trace.specs.declared.version.Version.{Version}
 use Rattle.trace.specs.LinesProcessed.{Reached, NextThere, LinesDone, LinesProcessed, ProcessingEnds, writes_failed}
 use Rattle.trace.specs.LineReader.{Lines}
 use Rattle.trace.specs.Streams.{Given, GrowsByPart}
 use Rattle.trace.specs.TextLine.{Text}
-use Rattle.trace.proofs.GoingOver.{SoFar, reached_by}
+use Rattle.trace.proofs.LinesProcessed.{SoFar, reached_by}
 use Rattle.player.specs.declared.style.Style.{Style}
 use Rattle.player.specs.Player.{PlayerState, entries_in}
 use Rattle.player.specs.Playing.{Session, session, PlaysLine, Stops, StopsText, IsWrittenUpTo, Played, PlayedUpTo, text_written}
@@ -40,7 +40,7 @@ pub grows_longer : (old new bytes : List ℕ) → GrowsByPart old new bytes → 
 grows_longer old new bytes g = omega (arith, ap length g.2, length-append old (take g.0 bytes))
 
 -- either a write failed or it didn't
-pub either : {P : Type 0} (fault : TextFault) → (writes_failed {A = Bool} (Err fault) ≡ 0 → P) → (fault ≡ Write → P) → P
+pub either : {P : Type 0} (fault : PlayFault) → (writes_failed {A = Bool} (Err fault) ≡ 0 → P) → (fault ≡ Write → P) → P
 either (At_line k f) p q = p refl
 either Read p q = p refl
 either Write p q = q refl
@@ -50,7 +50,7 @@ either NoMemory p q = p refl
 abbrev pub Left : Style → Line → ℕ → Session → Session → Type 0
 Left style line number mid new = (new.taken ≡ mid.taken) × ((new.player ≡ mid.player) ⊎ Stops style NoMemory line number mid (session new.player mid.taken))
 
-left : (style : Style) (fault : TextFault) (line : Line) (number : ℕ) (mid new : Session) → Stops style fault line number mid new → Left style line number mid new
+left : (style : Style) (fault : PlayFault) (line : Line) (number : ℕ) (mid new : Session) → Stops style fault line number mid new → Left style line number mid new
 left style (At_line k ClockSpent) lines.Skip number mid new s = elim s [ ]
 left style (At_line k ClockSpent) (lines.Command m c) number mid new s = elim s [ ]
 left style (At_line k ClockSpent) lines.Begin number mid new s = elim s [ ]
@@ -71,7 +71,7 @@ left style NoMemory (lines.Quantum b) number mid new s = elim s [ ]
 left style NoMemory (lines.Tick n) number mid new s = (s.1, inr (s.0, refl))
 
 -- and of its text
-pub stops_taken : (style : Style) (fault : TextFault) (text : Text) (mid new : Session) → StopsText style fault text mid new → new.taken ≡ mid.taken
+pub stops_taken : (style : Style) (fault : PlayFault) (text : Text) (mid new : Session) → StopsText style fault text mid new → new.taken ≡ mid.taken
 stops_taken style fault text mid new (inl none) = ap (λ (s : Session). s.taken) none.1
 stops_taken style fault text mid new (inr (line, spells, stops)) = (left style fault line text.number mid new stops).0
 
@@ -90,7 +90,7 @@ at_line : (style : Style) (reached : Reached Session Event) (line : Line) (numbe
 at_line style reached line number new next (e, inl same) = (e, inl same)
 at_line style reached line number new next (e, inr stops) = (e, inr (next stops))
 
-pub left_behind : (style : Style) (reached : Reached Session Event) (ended : Bool) (new : Session) (result : Result (Unit {0}) TextFault) → ProcessingEnds (StopsText style) reached ended new result → LeftBehind style reached new
+pub left_behind : (style : Style) (reached : Reached Session Event) (ended : Bool) (new : Session) (result : Result (Unit {0}) PlayFault) → ProcessingEnds (StopsText style) reached ended new result → LeftBehind style reached new
 left_behind style reached ended new (Ok all) e = same_left style reached new e.2
 left_behind style reached ended new (Err fault) (inl e) = same_left style reached new e.1
 left_behind style reached ended new (Err fault) (inr (text, more, whole, is, inl none)) = same_left style reached new none.1
@@ -98,7 +98,7 @@ left_behind style reached ended new (Err fault) (inr (text, more, whole, is, inr
     at_line style reached line (length reached.lines + 1) new (λ s. (text, more, whole, is, inr (line, spells, s))) (left style fault line (length reached.lines + 1) reached.state new stops)
 
 -- a write of what waits failed after the end
-module _ (style : Style) (given : Given) (old : Session) (player : PlayerState) (taken taken' waiting : List ℕ) (ended : Result (Unit {0}) TextFault) (low : length old.taken ≤ length taken) (grows : GrowsByPart taken taken' waiting) where
+module _ (style : Style) (given : Given) (old : Session) (player : PlayerState) (taken taken' waiting : List ℕ) (ended : Result (Unit {0}) PlayFault) (low : length old.taken ≤ length taken) (grows : GrowsByPart taken taken' waiting) where
   abbrev pub cut : (over : LinesProcessed (PlaysLine style) given old (λ reached. ProcessingEnds (StopsText style) reached given.ended (session player (taken ++ waiting)) ended)) → IsWrittenUpTo style old over.lines over.events over.rest taken'
       → Played style given old (session player taken') (Err Write)
   cut over behind =
@@ -116,7 +116,7 @@ module _ (style : Style) (given : Given) (old : Session) (player : PlayerState) 
       }) (λ _. behind)
 
 -- all is written at the end, or a write failed
-pub closed_up_to : (most : Option ℕ) (style : Style) (given : Given) (old : Session) (player : PlayerState) (taken taken' waiting : List ℕ) (ended result : Result (Unit {0}) TextFault) → Closes taken taken' waiting ended result → PlayedUpTo most style given old (session player (taken ++ waiting)) ended
+pub closed_up_to : (most : Option ℕ) (style : Style) (given : Given) (old : Session) (player : PlayerState) (taken taken' waiting : List ℕ) (ended result : Result (Unit {0}) PlayFault) → Closes taken taken' waiting ended result → PlayedUpTo most style given old (session player (taken ++ waiting)) ended
     → (GrowsByPart taken taken' waiting → PlayedUpTo most style given old (session player taken') (Err Write)) → PlayedUpTo most style given old (session player taken') result
 closed_up_to most style given old player taken taken' waiting ended result (inl (e, same)) p short = rw (e, same) p
 closed_up_to most style given old player taken taken' waiting ended result (inr (grows, is)) p short = rw is (short grows)

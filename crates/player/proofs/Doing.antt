@@ -5,15 +5,15 @@ use Rattle.graph_heap.specs.declared.command.Command.{Command}
 use Rattle.graph_heap.specs.declared.no_memory.NoMemory.{NoMemory}
 use Rattle.heap_model.specs.declared.phase.Phase.{Phase}
 use Rattle.heap_model.specs.declared.phase.Phase.TheVariants as phases
-use Rattle.heap_model.specs.Event.{Course, Command_done, Cycle_begun, Cycle_on, Does}
+use Rattle.heap_model.specs.Event.{Course, Command_done, Cycle_begun, Begin_refused, Does}
 use Rattle.quanta.specs.Timetable.{Timetable, with_reserved, IsPlacedAt}
 use Rattle.machine.specs.declared.recorded.Receipt.{Receipt}
 use Rattle.machine.specs.declared.collector.Busy.{Busy}
 use Rattle.machine.specs.declared.collector.BudgetOutOfRange.{BudgetOutOfRange}
 use Rattle.machine.specs.declared.collector.Spent.{Spent as Answer}
-use Rattle.machine.specs.HeapWithHistory.{begin_done, quantum_done}
+use Rattle.machine.specs.Recorded.{begin_done, quantum_done}
 use Rattle.trace.specs.declared.line.Line.TheVariants as lines
-use Rattle.player.specs.Player.{PlayerState, started, behind_quantum, placed, DoesLine, Commands, Begins, Goes_on}
+use Rattle.player.specs.Player.{PlayerState, started, timetable_after, placed, DoesLine, Commands, Begins, Goes_on}
 use Rattle.player.specs.Ticking.{Begun, Spent, DueDone}
 
 -- a command
@@ -31,10 +31,10 @@ cycle_begun old course t (Err busy) w d e = absurd (let z : false ≡ true = w i
 pub cycle_on : (old : PlayerState) (course : Course) (result : Result (Unit {0}) Busy) → is_ok result ≡ false → Does old.course (begin_done result) course → Begun old (record old { course = course })
 cycle_on old course (Ok done) w d = absurd (let z : true ≡ false = w in cc)
 cycle_on old course (Err busy) w d =
-    (Cycle_on ∷ [], subst (λ (r : Course). DoesLine old lines.Begin (Cycle_on ∷ []) (record old { course = r })) (sym d.1) (Goes_on (d.0, refl)))
+    (Begin_refused ∷ [], subst (λ (r : Course). DoesLine old lines.Begin (Begin_refused ∷ []) (record old { course = r })) (sym d.1) (Goes_on (d.0, refl)))
 
 -- a quantum
-same_behind : (p : Phase) (t : Timetable) → p ≢ phases.Idle → behind_quantum p t ≡ t
+same_behind : (p : Phase) (t : Timetable) → p ≢ phases.Idle → timetable_after p t ≡ t
 same_behind phases.Idle t b = absurd (b refl)
 same_behind (phases.Roots next) t b = refl
 same_behind (phases.Marking part cell) t b = refl
@@ -42,14 +42,14 @@ same_behind (phases.Sweeping page block) t b = refl
 same_behind (phases.Moving m) t b = refl
 
 pub quantum_line : (old : PlayerState) (budget : ℕ) (course : Course) (t : Timetable) (spent : Answer) (result : Result Answer BudgetOutOfRange) → result ≡ Ok spent → Does old.course (quantum_done budget result) course
-    → t ≡ behind_quantum spent.phase old.timetable → Spent old budget (record old { course = course; timetable = t })
+    → t ≡ timetable_after spent.phase old.timetable → Spent old budget (record old { course = course; timetable = t })
 quantum_line old budget course t spent result is d e =
     (spent.units, spent.phase, course, subst (λ r. Does old.course (quantum_done budget r) course) is d, ap (λ z. record old { course = course; timetable = z }) e)
 
-pub ended : (p : Phase) (t u : Timetable) → p ≡ phases.Idle → u ≡ record t { due = None } → with_reserved u 0 ≡ behind_quantum p (with_reserved t 0)
-ended p t u e same = ap (λ z. with_reserved z 0) same ∙ sym (ap (λ q. behind_quantum q (with_reserved t 0)) e)
+pub ended : (p : Phase) (t u : Timetable) → p ≡ phases.Idle → u ≡ record t { due = None } → with_reserved u 0 ≡ timetable_after p (with_reserved t 0)
+ended p t u e same = ap (λ z. with_reserved z 0) same ∙ sym (ap (λ q. timetable_after q (with_reserved t 0)) e)
 
-pub went_on : (p : Phase) (t : Timetable) → p ≢ phases.Idle → with_reserved t 0 ≡ behind_quantum p (with_reserved t 0)
+pub went_on : (p : Phase) (t : Timetable) → p ≢ phases.Idle → with_reserved t 0 ≡ timetable_after p (with_reserved t 0)
 went_on p t b = sym (same_behind p (with_reserved t 0) b)
 
 -- the quantum that is due has its interval
@@ -61,7 +61,7 @@ due_placed old reserved new due kept is at =
 
 pub due_done : (old new : PlayerState) (until due : ℕ) (t : Timetable) → old.timetable.due ≡ Some due → due < until → t ≡ placed due old.timetable → Spent (record old { timetable = t }) old.budget new → DueDone until old new (Ok true)
 due_done old new until due t is below e s =
-    (due, s.0, s.1, s.2, is, below, s.3, s.4 ∙ ap (λ z. record old { course = s.2; timetable = behind_quantum s.1 z }) e)
+    (due, s.0, s.1, s.2, is, below, s.3, s.4 ∙ ap (λ z. record old { course = s.2; timetable = timetable_after s.1 z }) e)
 
 pub due_refused : (old : PlayerState) (until due : ℕ) (t : Timetable) (result : Result Bool NoMemory) → IsErr result → old.timetable.due ≡ Some due → due < until → t ≡ old.timetable → DueDone until old (record old { timetable = t }) result
 due_refused old until due t (Ok b) w is below e = absurd (let z : false ≡ true = w in cc)

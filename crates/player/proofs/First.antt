@@ -15,11 +15,11 @@ use Rattle.trace.specs.Numbered.{LineRead}
 use Rattle.trace.specs.Spelling.{version_line, Spells, is_skipped}
 use Rattle.trace.specs.TextLine.{Text, IsVersionLine}
 use Rattle.trace.specs.Streams.{Given, GrowsByPart, text_of}
-use Rattle.trace.specs.declared.fault.TextFault.{TextFault}
-use Rattle.trace.specs.declared.fault.TextFault.TheVariants.{Write}
+use Rattle.trace.specs.declared.fault.PlayFault.{PlayFault}
+use Rattle.trace.specs.declared.fault.PlayFault.TheVariants.{Write}
 use Rattle.trace.proofs.Exact.{same_Some}
 use Rattle.trace.proofs.ReadLines.{unread}
-use Rattle.trace.proofs.GoingOver.{SoFar}
+use Rattle.trace.proofs.LinesProcessed.{SoFar}
 use Rattle.player.specs.declared.style.Style.{Style}
 use Rattle.heap_model.specs.Event.{Event}
 use Rattle.player.specs.Player.{PlayerState, DoesLine, entries_in}
@@ -130,12 +130,12 @@ last_left None false lines line some is e = absurd (cc)
 last_left (Some k) false lines line some is e = let none : k ≡ 0 = (let same = same_Some (k - 0) 0 e in omega (arith, same)) in absurd (some (ap Some none))
 
 -- what is played of the input, while some are left
-abbrev pub up_to : {style : Style} {given : Given} {old new : Session} {result : Result (Unit {0}) TextFault} (most : Option ℕ) (p : Played style given old new result) → ((n : ℕ) → most ≡ Some n → count_by is_event p.over.lines < n) → PlayedUpTo most style given old new result
+abbrev pub up_to : {style : Style} {given : Given} {old new : Session} {result : Result (Unit {0}) PlayFault} (most : Option ℕ) (p : Played style given old new result) → ((n : ℕ) → most ≡ Some n → count_by is_event p.over.lines < n) → PlayedUpTo most style given old new result
 up_to None p few = p
 up_to (Some n) p few = inl (p, few n refl)
 
 -- the same where a write of what waits fails at the end: what was kept before the last call waited, or nothing waits
-pub cut_waited : (most : Option ℕ) (style : Style) (given : Given) (old : Session) (player : PlayerState) (before taken taken' waiting kept : List ℕ) (ended : Result (Unit {0}) TextFault) → length old.taken ≤ length before → length before ≤ length taken → GrowsByPart taken taken' waiting
+pub cut_waited : (most : Option ℕ) (style : Style) (given : Given) (old : Session) (player : PlayerState) (before taken taken' waiting kept : List ℕ) (ended : Result (Unit {0}) PlayFault) → length old.taken ≤ length before → length before ≤ length taken → GrowsByPart taken taken' waiting
     → (over : LinesProcessed (PlaysLine style) given old (λ reached. ProcessingEnds (StopsText style) reached given.ended (session player (taken ++ waiting)) ended)) → IsWrittenUpTo style old over.lines over.events kept before → (kept ≡ over.rest) ⊎ (waiting ≡ [])
     → ((n : ℕ) → most ≡ Some n → count_by is_event over.lines < n) → PlayedUpTo most style given old (session player taken') (Err Write)
 cut_waited most style given old player before taken taken' waiting kept ended low more grows over behind (inl same) few =

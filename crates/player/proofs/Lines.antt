@@ -4,16 +4,16 @@ use Rattle.std.specs.Prelude.{◌⊎◌, Result, Ok, Err}
 use Rattle.std.proofs.lemmas.Grind.{flat_map-append}
 use Rattle.graph_heap.specs.declared.command.Command.{Command}
 use Rattle.graph_heap.specs.declared.command.Entry.{Entry}
-use Rattle.heap_model.specs.Event.{Course, Event, Command_done, Cycle_begun, Cycle_on, Quantum_done, Quantum_refused, Runs}
+use Rattle.heap_model.specs.Event.{Course, Event, Command_done, Cycle_begun, Begin_refused, Quantum_done, Quantum_refused, Runs}
 use Rattle.machine.proofs.Courses.{runs_then}
 use Rattle.trace.specs.declared.line.Line.{Line}
 use Rattle.trace.specs.declared.line.Line.TheVariants as lines
-use Rattle.trace.specs.declared.fault.TextFault.{TextFault}
-use Rattle.trace.specs.declared.fault.TextFault.TheVariants.{Line as At_line, Read, Write, NoMemory}
+use Rattle.trace.specs.declared.fault.PlayFault.{PlayFault}
+use Rattle.trace.specs.declared.fault.PlayFault.TheVariants.{Line as At_line, Read, Write, NoMemory}
 use Rattle.trace.specs.declared.version.Version.{Version}
 use Rattle.trace.specs.declared.version.Version.TheVariants.{Second}
 use Rattle.trace.specs.LinesProcessed.{Reached, LinesDone, No_lines, One_line_more, LinesProcessed, ProcessingEnds}
-use Rattle.trace.proofs.GoingOver.{next_told, next_same, reached_by}
+use Rattle.trace.proofs.LinesProcessed.{next_told, next_same, reached_by}
 use Rattle.trace.specs.Streams.{Given}
 use Rattle.player.specs.Player.{PlayerState, QuantaDue, None_yet, One_more, DoesLine, Skips, Commands, Begins, Goes_on, Spends, Ticks, entries_in}
 use Rattle.player.specs.declared.style.Style.{Style}
@@ -25,7 +25,7 @@ pub entries_more : (es fs : List Event) → entries_in (es ++ fs) ≡ entries_in
 entries_more [] fs = refl
 entries_more (Command_done m c reply ∷ es) fs = ap (λ l. (record { mutator = m; command = c; reply = reply }) ∷ l) (entries_more es fs)
 entries_more (Cycle_begun ∷ es) fs = entries_more es fs
-entries_more (Cycle_on ∷ es) fs = entries_more es fs
+entries_more (Begin_refused ∷ es) fs = entries_more es fs
 entries_more (Quantum_done budget units phase ∷ es) fs = entries_more es fs
 entries_more (Quantum_refused budget ∷ es) fs = entries_more es fs
 
@@ -64,7 +64,7 @@ history_grows [] r new w = ap (λ (x : Course). x.history) w ∙ sym (append-nil
 history_grows (Command_done m c reply ∷ es) r new w =
     history_grows es w.0 new w.2 ∙ ap (λ h. h ++ entries_in es) w.1.history ∙ append_assoc r.history (record { mutator = m; command = c; reply = reply } ∷ []) (entries_in es)
 history_grows (Cycle_begun ∷ es) r new w = history_grows es w.0 new w.2 ∙ ap (λ h. h ++ entries_in es) w.1.history
-history_grows (Cycle_on ∷ es) r new w = history_grows es w.0 new w.2 ∙ ap (λ (x : Course). x.history ++ entries_in es) w.1.1
+history_grows (Begin_refused ∷ es) r new w = history_grows es w.0 new w.2 ∙ ap (λ (x : Course). x.history ++ entries_in es) w.1.1
 history_grows (Quantum_done budget units phase ∷ es) r new w = history_grows es w.0 new w.2 ∙ ap (λ h. h ++ entries_in es) w.1.history
 history_grows (Quantum_refused budget ∷ es) r new w = history_grows es w.0 new w.2 ∙ ap (λ (x : Course). x.history ++ entries_in es) w.1.1
 
@@ -97,14 +97,14 @@ lines_written style old new ls version es (One_line_more ls' before version' es'
     (written_more style before old.taken mid.taken new'.taken es' more (lines_written style old mid ls' before es' d) does.1.2.1)
 
 -- what is played
-abbrev pub played : (style : Style) (given : Given) (old new : Session) (result : Result (Unit {0}) TextFault) (over : LinesProcessed (PlaysLine style) given old (λ reached. ProcessingEnds (StopsText style) reached given.ended new result ⊎ ((result ≡ Err Write) × CutShort style reached old new)))
+abbrev pub played : (style : Style) (given : Given) (old new : Session) (result : Result (Unit {0}) PlayFault) (over : LinesProcessed (PlaysLine style) given old (λ reached. ProcessingEnds (StopsText style) reached given.ended new result ⊎ ((result ≡ Err Write) × CutShort style reached old new)))
     → (result ≡ Err Write → IsWrittenUpTo style old over.lines over.events over.rest new.taken) → Played style given old new result
 played style given old new result over behind =
     let runs = lines_run style old over.mid over.lines over.version over.events over.done in
     record { over = over; runs = runs; grows = history_grows over.events old.player.course over.mid.player.course runs; written = lines_written style old over.mid over.lines over.version over.events over.done; behind = behind }
 
 -- no line ends in a failed write
-pub ends_otherwise : (style : Style) (reached : Reached Session Event) (ended : Bool) (new : Session) (result : Result (Unit {0}) TextFault) → ProcessingEnds (StopsText style) reached ended new result → result ≡ Err Write → ⊥
+pub ends_otherwise : (style : Style) (reached : Reached Session Event) (ended : Bool) (new : Session) (result : Result (Unit {0}) PlayFault) → ProcessingEnds (StopsText style) reached ended new result → result ≡ Err Write → ⊥
 ends_otherwise style reached ended new (Ok all) e is = cc
 ends_otherwise style reached ended new (Err (At_line k f)) e is = cc
 ends_otherwise style reached ended new (Err Read) e is = cc
@@ -130,7 +130,7 @@ pub ticks_enter_nothing : (p q : PlayerState) (n : ℕ) (es : List Event) → Do
 ticks_enter_nothing p q n es d = enters_nothing p (lines.Tick n) es q d (λ m c e. cc)
 
 -- an end is an end where no write fails
-abbrev pub ends_so : {style : Style} {given : Given} {old new : Session} {result : Result (Unit {0}) TextFault} → LinesProcessed (PlaysLine style) given old (λ reached. ProcessingEnds (StopsText style) reached given.ended new result) → Played style given old new result
+abbrev pub ends_so : {style : Style} {given : Given} {old new : Session} {result : Result (Unit {0}) PlayFault} → LinesProcessed (PlaysLine style) given old (λ reached. ProcessingEnds (StopsText style) reached given.ended new result) → Played style given old new result
 ends_so {style} {given} {old} {new} {result} over =
     played style given old new result (record { lines = over.lines; version = over.version; events = over.events; mid = over.mid; rest = over.rest; read = over.read; done = over.done; ends = inl over.ends })
     (λ is. absurd (ends_otherwise style (reached_by over) given.ended new result over.ends is))

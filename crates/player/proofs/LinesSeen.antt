@@ -4,8 +4,8 @@ use Rattle.std.specs.Prelude.{Option, Some, None, Result}
 use Rattle.std.proofs.lemmas.List.{map-append}
 use Rattle.size_classes.specs.declared.config.Config.{Config}
 use Rattle.heap_model.specs.Event.{Course, Event, Quantum_done}
-use Rattle.trace.specs.declared.fault.TextFault.{TextFault}
-use Rattle.trace.specs.declared.fault.TextFault.TheVariants.{Line as At_line, Read, Write, NoMemory as Without_memory}
+use Rattle.trace.specs.declared.fault.PlayFault.{PlayFault}
+use Rattle.trace.specs.declared.fault.PlayFault.TheVariants.{Line as At_line, Read, Write, NoMemory as Without_memory}
 use Rattle.trace.specs.declared.line.Line.{Line}
 use Rattle.trace.specs.declared.line_handler.InputEnd.{InputEnd}
 use Rattle.trace.specs.declared.version.Version.{Version}
@@ -55,7 +55,7 @@ events_brought old new ls version es (One_line_more before v next es' more line 
 
 module _ {O : Type 0} (HasSeen : Run → O → Type 0) where
   -- a fault at a line that was read is one at its text
-  pub text_stops : (Refuses : Type 0) (text : Text) (line : Line) (old new : Observed O) (fault : TextFault) → LineRead text (Ok (Some line)) → LineObserved HasSeen Refuses line text.number old new (Err fault) → TextStops fault text old.player new.player
+  pub text_stops : (Refuses : Type 0) (text : Text) (line : Line) (old new : Observed O) (fault : PlayFault) → LineRead text (Ok (Some line)) → LineObserved HasSeen Refuses line text.number old new (Err fault) → TextStops fault text old.player new.player
   text_stops Refuses text line old new Without_memory read stops = tt
   text_stops Refuses text line old new (At_line k why) read (inl stops) = inr (line, read.1, stops Nothing [])
   text_stops Refuses text line old new Read read (inl stops) = inr (line, read.1, stops Nothing [])
@@ -150,22 +150,22 @@ module _ {O : Type 0} (HasSeen : Run → O → Type 0) where
         (ends_so (over_all (TextObserved HasSeen) (PlaysLine Nothing) state first Known (StopsText Nothing) (Unit {0}) given new tt all), all.knows, all.count)
 
     -- a text stops as what is played
-    stops_so : (fault : TextFault) → LinesHandled (TextObserved HasSeen) given first new (Err fault) → ((text : Text) (mid : Observed O) → TextStops fault text mid.player new.player → StopsText Nothing fault text (state mid) (state new)) → Played Nothing given (state first) (state new) (Err fault)
+    stops_so : (fault : PlayFault) → LinesHandled (TextObserved HasSeen) given first new (Err fault) → ((text : Text) (mid : Observed O) → TextStops fault text mid.player new.player → StopsText Nothing fault text (state mid) (state new)) → Played Nothing given (state first) (state new) (Err fault)
     stops_so fault handled stops =
         ends_so (over_stopped (TextObserved HasSeen) (PlaysLine Nothing) state first Known (StopsText Nothing) (Unit {0}) given new fault (λ lines version events mid done known line stopped. stops _ mid stopped) along handled)
 
-    run_stops : (fault : TextFault) → LinesHandled (TextObserved HasSeen) given first new (Err fault) → RunObserved HasSeen given first new (Err fault)
+    run_stops : (fault : PlayFault) → LinesHandled (TextObserved HasSeen) given first new (Err fault) → RunObserved HasSeen given first new (Err fault)
     run_stops Without_memory handled = tt
     run_stops (At_line k why) handled = stops_so (At_line k why) handled (λ text mid stops. stops)
     run_stops Read handled = stops_so Read handled (λ text mid stops. stops)
     run_stops Write handled = stops_so Write handled (λ text mid stops. stops)
 
-    pub all_observed : (result : Result InputEnd TextFault) → LinesHandled (TextObserved HasSeen) given first new result → RunObserved HasSeen given first new result
+    pub all_observed : (result : Result InputEnd PlayFault) → LinesHandled (TextObserved HasSeen) given first new result → RunObserved HasSeen given first new result
     all_observed (Ok end) handled = run_observed end handled
     all_observed (Err fault) handled = run_stops fault handled
 
   -- a run on a new player that ends with a fault
-  pub stops_new : (config : Config) (given : Given) (old new : Observed O) (fault : TextFault) → RunObserved HasSeen given old new (Err fault) → IsNew config old.player → StopsNew config given fault
+  pub stops_new : (config : Config) (given : Given) (old new : Observed O) (fault : PlayFault) → RunObserved HasSeen given old new (Err fault) → IsNew config old.player → StopsNew config given fault
   stops_new config given old new Without_memory stops is = tt
   stops_new config given old new (At_line k why) stops is = (old.player, session new.player [], stops, is)
   stops_new config given old new Read stops is = (old.player, session new.player [], stops, is)

@@ -13,8 +13,8 @@ use Rattle.machine.specs.Space.{SpaceSuffices}
 use Rattle.machine.proofs.Courses.{runs_then}
 use Rattle.machine.proofs.Headline.{always_holds}
 use Rattle.machine.proofs.Space.{space_suffices}
-use Rattle.trace.specs.declared.fault.TextFault.{TextFault}
-use Rattle.trace.specs.declared.fault.TextFault.TheVariants.{NoMemory}
+use Rattle.trace.specs.declared.fault.PlayFault.{PlayFault}
+use Rattle.trace.specs.declared.fault.PlayFault.TheVariants.{NoMemory}
 use Rattle.trace.specs.declared.line.Line.{Line}
 use Rattle.trace.specs.declared.line.Line.TheVariants as lines
 use Rattle.trace.specs.LinesProcessed.{Reached}
@@ -47,7 +47,7 @@ left_reached style reached new (e, inr (text, more, whole, is, inl none)) = same
 left_reached style reached new (e, inr (text, more, whole, is, inr (line, spells, stops))) = stop_reached style line (length reached.lines + 1) reached.state (session new.player reached.state.taken) stops
 
 -- where a write failed, what is left is the same
-play_reaches : (style : Style) (given : Given) (old new : Session) (result : Result (Unit {0}) TextFault) → Played style given old new result → Reaches old.player new.player
+play_reaches : (style : Style) (given : Given) (old new : Session) (result : Result (Unit {0}) PlayFault) → Played style given old new result → Reaches old.player new.player
 play_reaches style given old new result p =
     let o = p.over in
     let here : Reached Session Event = record { lines = o.lines; version = o.version; events = o.events; state = o.mid; rest = o.rest } in
@@ -58,12 +58,12 @@ play_reaches style given old new result p =
     let last = left_reached style here (session new.player o.mid.taken) behind in
     (o.events ++ last.0, runs_then o.events last.0 old.player.course o.mid.player.course new.player.course p.runs last.1)
 
-up_to_reaches : (most : Option ℕ) (style : Style) (given : Given) (old new : Session) (result : Result (Unit {0}) TextFault) → PlayedUpTo most style given old new result → Reaches old.player new.player
+up_to_reaches : (most : Option ℕ) (style : Style) (given : Given) (old new : Session) (result : Result (Unit {0}) PlayFault) → PlayedUpTo most style given old new result → Reaches old.player new.player
 up_to_reaches None style given old new result p = play_reaches style given old new result p
 up_to_reaches (Some n) style given old new result (inl (all, few)) = play_reaches style given old new result all
 up_to_reaches (Some n) style given old new result (inr w) = play_reaches style (record given { after = w.0; ended = true }) old new result w.2
 
-pub promised : (most : Option ℕ) (style : Style) (given : Given) (old new : Session) (result : Result (Unit {0}) TextFault) → PlayedUpTo most style given old new result → AlwaysHolds old.player.course → Holds new.player.course × Follows old.player.course new.player.course
+pub promised : (most : Option ℕ) (style : Style) (given : Given) (old new : Session) (result : Result (Unit {0}) PlayFault) → PlayedUpTo most style given old new result → AlwaysHolds old.player.course → Holds new.player.course × Follows old.player.course new.player.course
 promised most style given old new result p always = let w = up_to_reaches most style given old new result p in always w.0 new.player.course w.1
 
 -- a new player's heap is one that was just made
@@ -82,7 +82,7 @@ new_course config p n =
     subst IsCourse (sym (new_opened config p n)) (opening_course p.course.heap n.heap some)
 
 -- of what is played on a new player
-pub play_promised : (config : Config) (style : Style) (given : Given) (old new : Session) (result : Result (Unit {0}) TextFault) (p : Played style given old new result) → IsNew config old.player → Holds new.player.course × SpaceSuffices config p.over.events
+pub play_promised : (config : Config) (style : Style) (given : Given) (old new : Session) (result : Result (Unit {0}) PlayFault) (p : Played style given old new result) → IsNew config old.player → Holds new.player.course × SpaceSuffices config p.over.events
 play_promised config style given old new result p n =
     let w = play_reaches style given old new result p in
     ((always_holds old.player.course (new_course config old.player n) w.0 new.player.course w.1).0, starts_with_space old.player config p.over.events p.over.mid.player.course n p.runs)

@@ -4,7 +4,7 @@ use Rattle.std.specs.Prelude.{Some, None, Result}
 use Rattle.graph_heap.specs.declared.command.Command.{Command}
 use Rattle.graph_heap.specs.declared.command.Entry.{Entry}
 use Rattle.graph_heap.specs.declared.no_memory.NoMemory.{NoMemory}
-use Rattle.heap_model.specs.Event.{Course, Event, Command_done, Cycle_begun, Cycle_on, Quantum_done}
+use Rattle.heap_model.specs.Event.{Course, Event, Command_done, Cycle_begun, Begin_refused, Quantum_done}
 use Rattle.quanta.specs.declared.schedule.TheConstants.{CLOCK_LIMIT}
 use Rattle.quanta.specs.Timetable.{Timetable, due_below}
 use Rattle.trace.specs.declared.line.Line.{Line}
@@ -51,7 +51,7 @@ module _ {O : Type 0} (HasSeen : Run → O → Type 0) where
   sees_begin number p q line es a b Skips is sees = absurd (cc)
   sees_begin number p q line es a b (Commands m c reply course d) is sees = absurd (cc)
   sees_begin number p q line es a b (players.Begins course d) is sees = sees (step number Cycle_begun p.course course) (refl, refl, inl refl, d)
-  sees_begin number p q line es a b (Goes_on d) is sees = sees (step number Cycle_on p.course p.course) (refl, refl, inr refl, d)
+  sees_begin number p q line es a b (Goes_on d) is sees = sees (step number Begin_refused p.course p.course) (refl, refl, inr refl, d)
   sees_begin number p q line es a b (Spends budget units phase course d) is sees = absurd (cc)
   sees_begin number p q line es a b (Ticks n fs r small w none) is sees = absurd (cc)
 

@@ -7,7 +7,7 @@ use Rattle.heap_model.specs.Event.{Event, Quantum_done}
 use Rattle.quanta.specs.declared.schedule.TheConstants.{CLOCK_LIMIT}
 use Rattle.quanta.specs.Timetable.{Timetable, due_below}
 use Rattle.trace.specs.declared.line.Line.TheVariants as lines
-use Rattle.player.specs.Player.{PlayerState, QuantaDue, One_more, behind_quantum, placed, DoesLine, Ticks}
+use Rattle.player.specs.Player.{PlayerState, QuantaDue, One_more, timetable_after, placed, DoesLine, Ticks}
 use Rattle.player.specs.Ticking.{DueDone}
 
 -- the ticks from the next quantum on, below a time
@@ -16,7 +16,7 @@ left_until until None = 0
 left_until until (Some due) = until - due
 
 -- a quantum's end changes only when the next is due
-pub behind_same : (phase : Phase) (t : Timetable) → behind_quantum phase t ≡ record t { due = (behind_quantum phase t).due }
+pub behind_same : (phase : Phase) (t : Timetable) → timetable_after phase t ≡ record t { due = (timetable_after phase t).due }
 behind_same phases.Idle t = refl
 behind_same (phases.Roots next) t = refl
 behind_same (phases.Marking part cell) t = refl
@@ -24,7 +24,7 @@ behind_same (phases.Sweeping page block) t = refl
 behind_same (phases.Moving m) t = refl
 
 -- the next is due later, or none is
-behind_left : (phase : Phase) (t : Timetable) (until due : ℕ) → due < until → 1 ≤ t.collector_ticks → left_until until (behind_quantum phase (placed due t)).due < until - due
+behind_left : (phase : Phase) (t : Timetable) (until due : ℕ) → due < until → 1 ≤ t.collector_ticks → left_until until (timetable_after phase (placed due t)).due < until - due
 behind_left phases.Idle t until due l c = omega arith
 behind_left (phases.Roots next) t until due l c = omega arith
 behind_left (phases.Marking part cell) t until due l c = omega arith
@@ -37,7 +37,7 @@ module _ (old new : PlayerState) (until : ℕ) (d : DueDone until old new (Ok tr
   one_later c =
       let l = behind_left d.2 old.timetable until d.0 d.5 c in
       subst (λ (x : PlayerState). left_until until x.timetable.due < left_until until old.timetable.due) (sym d.7)
-      (subst (λ o. left_until until (behind_quantum d.2 (placed d.0 old.timetable)).due < left_until until o) (sym d.4) l)
+      (subst (λ o. left_until until (timetable_after d.2 (placed d.0 old.timetable)).due < left_until until o) (sym d.4) l)
 
   pub clock_stays : new.timetable.clock ≡ old.timetable.clock
   clock_stays = ap (λ (x : PlayerState). x.timetable.clock) d.7 ∙ ap (λ (t : Timetable). t.clock) (behind_same d.2 (placed d.0 old.timetable))

@@ -6,8 +6,8 @@ use Rattle.heap_model.specs.Event.{Course, Event}
 use Rattle.heap_model.specs.State.{HeapState}
 use Rattle.trace.specs.declared.line.Line.{Line}
 use Rattle.trace.specs.declared.line.Line.TheVariants as lines
-use Rattle.trace.specs.declared.fault.TextFault.{TextFault}
-use Rattle.trace.specs.declared.fault.TextFault.TheVariants.{NoMemory as Without_memory}
+use Rattle.trace.specs.declared.fault.PlayFault.{PlayFault}
+use Rattle.trace.specs.declared.fault.PlayFault.TheVariants.{NoMemory as Without_memory}
 use Rattle.trace.specs.declared.line_handler.InputEnd.{InputEnd}
 use Rattle.trace.specs.declared.version.Version.{Version}
 use Rattle.trace.specs.LinesProcessed.{LinesDone, No_lines, One_line_more}
@@ -96,12 +96,12 @@ abbrev pub observed : {O : Type 0} → PlayerState → O → Observed O
 observed player observer = record { player = player; observer = observer }
 
 -- what a fault at a line's text is; or memory was refused, for the line or to the observer
-abbrev pub TextStops : TextFault → Text → PlayerState → PlayerState → Type 0
+abbrev pub TextStops : PlayFault → Text → PlayerState → PlayerState → Type 0
 TextStops Without_memory text old new = Unit {0}
 TextStops fault text old new = StopsText Nothing fault text (session old []) (session new [])
 
 -- the fault is that with which playing an input on a new player ends; or memory was refused
-abbrev pub StopsNew : Config → Given → TextFault → Type 0
+abbrev pub StopsNew : Config → Given → PlayFault → Type 0
 StopsNew config given Without_memory = Unit {0}
 StopsNew config given fault = (old : PlayerState) × (new : Session)
     × Played Nothing given (session old []) new (Err fault) × IsNew config old
@@ -141,7 +141,7 @@ module _ {O : Type 0} (HasSeen : Run → O → Type 0) where
   -- The outcome of a line of this number, whatever the style and the text before it: it may stop with a fault, or
   -- because memory was refused to the observer, where that may be.
   abbrev pub LineObserved :
-      Type 0 → Line → ℕ → Observed O → Observed O → Result (Unit {0}) TextFault → Type 0
+      Type 0 → Line → ℕ → Observed O → Observed O → Result (Unit {0}) PlayFault → Type 0
   LineObserved Refuses line number old new (Ok done) = LineSeen number line old new
   LineObserved Refuses line number old new (Err fault) =
       ((style : Style) (taken : List ℕ)
@@ -149,7 +149,7 @@ module _ {O : Type 0} (HasSeen : Run → O → Type 0) where
       ⊎ ((fault ≡ Without_memory) × Refuses)
 
   -- the same of a line's text, and the observer has seen its moment
-  abbrev pub TextObserved : Text → Observed O → Observed O → Result (Unit {0}) TextFault → Type 0
+  abbrev pub TextObserved : Text → Observed O → Observed O → Result (Unit {0}) PlayFault → Type 0
   TextObserved text old new (Ok done) =
       (es : List Event) × (goes : PlaysLine Nothing text (session old.player []) es (session new.player []))
       × ((run : Run) → HasSeen run old.observer → run.now ≡ old.player.course
@@ -167,7 +167,7 @@ module _ {O : Type 0} (HasSeen : Run → O → Type 0) where
 
   -- The lines of an input are played, and the observer has seen the run, of so many lines; or playing them ends with
   -- this fault; or memory was refused.
-  abbrev pub RunObserved : Given → Observed O → Observed O → Result InputEnd TextFault → Type 0
+  abbrev pub RunObserved : Given → Observed O → Observed O → Result InputEnd PlayFault → Type 0
   RunObserved given old new (Ok end) =
       (played : Played Nothing given (session old.player []) (session new.player []) (Ok tt))
       × HasSeen (run_by played) new.observer × (end.lines ≡ length played.over.lines)

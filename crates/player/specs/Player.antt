@@ -5,7 +5,7 @@ use Rattle.graph_heap.specs.declared.command.Reply.{Reply}
 use Rattle.graph_heap.specs.declared.command.Entry.{Entry}
 use Rattle.heap_model.specs.declared.phase.Phase.{Phase}
 use Rattle.heap_model.specs.declared.phase.Phase.TheVariants as phases
-use Rattle.heap_model.specs.Event.{Course, Event, IsBudget, Command_done, Cycle_begun, Cycle_on, Quantum_done, Does}
+use Rattle.heap_model.specs.Event.{Course, Event, IsBudget, Command_done, Cycle_begun, Begin_refused, Quantum_done, Does}
 use Rattle.quanta.specs.declared.schedule.TheConstants.{CLOCK_LIMIT}
 use Rattle.quanta.specs.Timetable.{Timetable, first_due, due_below, with_reserved}
 use Rattle.trace.specs.declared.line.Line.{Line}
@@ -28,9 +28,9 @@ abbrev pub started : Timetable → Timetable
 started t = record t { due = Some (first_due t) }
 
 -- a quantum that ends in idle ends the cycle
-abbrev pub behind_quantum : Phase → Timetable → Timetable
-behind_quantum phases.Idle t = record t { due = None }
-behind_quantum phase t = t
+abbrev pub timetable_after : Phase → Timetable → Timetable
+timetable_after phases.Idle t = record t { due = None }
+timetable_after phase t = t
 
 -- the quantum that is due at a time has its interval, and the next is due after it
 abbrev pub placed : ℕ → Timetable → Timetable
@@ -40,9 +40,9 @@ placed due t = record t {
 }
 
 -- the player once a quantum was done, with its interval
-abbrev pub quantum_behind : PlayerState → ℕ → Phase → Course → PlayerState
-quantum_behind p due phase course =
-    record p { course = course; timetable = behind_quantum phase (placed due p.timetable) }
+abbrev pub after_quantum : PlayerState → ℕ → Phase → Course → PlayerState
+after_quantum p due phase course =
+    record p { course = course; timetable = timetable_after phase (placed due p.timetable) }
 
 -- Quanta are done, with their intervals, in the order in which they are due below a time.
 pub data QuantaDue (until : ℕ) (p : PlayerState) : List Event → PlayerState → Type 0 where
@@ -50,7 +50,7 @@ pub data QuantaDue (until : ℕ) (p : PlayerState) : List Event → PlayerState 
   One_more : (es : List Event) (q : PlayerState) (due units : ℕ) (phase : Phase) (course : Course)
       → QuantaDue until p es q → q.timetable.due ≡ Some due → due < until
       → Does q.course (Quantum_done q.budget units phase) course
-      → QuantaDue until p (es ++ Quantum_done q.budget units phase ∷ []) (quantum_behind q due phase course)
+      → QuantaDue until p (es ++ Quantum_done q.budget units phase ∷ []) (after_quantum q due phase course)
 
 -- What a line does: the events that are done, and the player after them. A cycle that is running already
 -- goes on. Ticks are the quanta that are due in them, and then the clock.
@@ -60,10 +60,10 @@ pub data DoesLine (p : PlayerState) : Line → List Event → PlayerState → Ty
       → DoesLine p (lines.Command m c) (Command_done m c reply ∷ []) (record p { course = course })
   Begins : (course : Course) → Does p.course Cycle_begun course
       → DoesLine p lines.Begin (Cycle_begun ∷ []) (record p { course = course; timetable = started p.timetable })
-  Goes_on : Does p.course Cycle_on p.course → DoesLine p lines.Begin (Cycle_on ∷ []) p
+  Goes_on : Does p.course Begin_refused p.course → DoesLine p lines.Begin (Begin_refused ∷ []) p
   Spends : (budget units : ℕ) (phase : Phase) (course : Course) → Does p.course (Quantum_done budget units phase) course
       → DoesLine p (lines.Quantum budget) (Quantum_done budget units phase ∷ [])
-      (record p { course = course; timetable = behind_quantum phase p.timetable })
+      (record p { course = course; timetable = timetable_after phase p.timetable })
   Ticks : (n : ℕ) (es : List Event) (q : PlayerState) → p.timetable.clock + n ≤ CLOCK_LIMIT
       → QuantaDue (p.timetable.clock + n) p es q → due_below (p.timetable.clock + n) q.timetable.due ≡ None
       → DoesLine p (lines.Tick n) es (record q { timetable = record q.timetable { clock = p.timetable.clock + n } })

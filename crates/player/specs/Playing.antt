@@ -6,8 +6,8 @@ use Rattle.graph_heap.specs.declared.command.Entry.{Entry}
 use Rattle.trace.specs.declared.line.Line.{Line}
 use Rattle.trace.specs.declared.line.Line.TheVariants as lines
 use Rattle.trace.specs.declared.fault.LineFault.TheVariants.{ClockSpent}
-use Rattle.trace.specs.declared.fault.TextFault.{TextFault}
-use Rattle.trace.specs.declared.fault.TextFault.TheVariants.{Line as At_line, Write, NoMemory}
+use Rattle.trace.specs.declared.fault.PlayFault.{PlayFault}
+use Rattle.trace.specs.declared.fault.PlayFault.TheVariants.{Line as At_line, Write, NoMemory}
 use Rattle.trace.specs.declared.version.Version.{Version}
 use Rattle.trace.specs.declared.version.Version.TheVariants.{Second}
 use Rattle.trace.specs.LinesProcessed.{Reached, NextThere, LineEffect, LinesDone, LinesProcessed, ProcessingEnds}
@@ -68,7 +68,7 @@ abbrev pub PlaysLine : Style → Text → Session → List Event → Session →
 PlaysLine style = LineEffect (TellsVersionOf style) (PlaysText style)
 
 -- What a fault at a line of this number is.
-abbrev pub Stops : Style → TextFault → Line → ℕ → Session → Session → Type 0
+abbrev pub Stops : Style → PlayFault → Line → ℕ → Session → Session → Type 0
 -- its ticks would pass the clock's limit
 Stops style (At_line k ClockSpent) (lines.Tick n) number old new = (k ≡ number)
     × (CLOCK_LIMIT < old.player.timetable.clock + n) × (new.player ≡ old.player) × (new.taken ≡ old.taken)
@@ -81,7 +81,7 @@ Stops style NoMemory (lines.Tick n) number old new =
 Stops style fault line number old new = ⊥
 
 -- the same of its text, which may spell no event, and then doesn't tell the version
-abbrev pub StopsText : Style → TextFault → Text → Session → Session → Type 0
+abbrev pub StopsText : Style → PlayFault → Text → Session → Session → Type 0
 StopsText style fault text old new =
     (IsNoEvent fault text × (new ≡ old))
     ⊎ ((line : Line) × Spells text.version text.bytes line × Stops style fault line text.number old new)
@@ -114,7 +114,7 @@ pub record IsWrittenUpTo (style : Style) (old : Session) (lines : List (List ℕ
 -- written of their entries is written, and it ended so. Where a write failed, mid has all of that text, and the lines
 -- that weren't all written were waiting in a buffer of the input.
 pub record Played (style : Style) (given : Given) (old new : Session)
-    (result : Result (Unit {0}) TextFault) : Type 0 where
+    (result : Result (Unit {0}) PlayFault) : Type 0 where
   pub over : LinesProcessed (PlaysLine style) given old
       (λ reached. ProcessingEnds (StopsText style) reached given.ended new result
       ⊎ ((result ≡ Err Write) × CutShort style reached old new))
@@ -138,7 +138,7 @@ EndAtEvent lines = (lines ≡ [])
     ⊎ ((before : List (List ℕ)) × (last : List ℕ) × (lines ≡ before ++ last ∷ []) × IsTrue (is_event last))
 
 -- What was played of an input up to the line of its nth event.
-abbrev pub PlayedFirst : ℕ → Style → Given → Session → Session → Result (Unit {0}) TextFault → Type 0
+abbrev pub PlayedFirst : ℕ → Style → Given → Session → Session → Result (Unit {0}) PlayFault → Type 0
 PlayedFirst n style given old new result =
     -- fewer events were done: what is played of the whole input
     ((all : Played style given old new result) × (count_by is_event all.over.lines < n))
@@ -151,12 +151,12 @@ PlayedFirst n style given old new result =
     × ((result ≡ Ok tt) ⊎ (result ≡ Err Write)))
 
 -- the same, where n may be none: then the whole input is played
-abbrev pub PlayedUpTo : Option ℕ → Style → Given → Session → Session → Result (Unit {0}) TextFault → Type 0
+abbrev pub PlayedUpTo : Option ℕ → Style → Given → Session → Session → Result (Unit {0}) PlayFault → Type 0
 PlayedUpTo None = Played
 PlayedUpTo (Some n) = PlayedFirst n
 
 -- The outcome of a line's text: whether it is that of an event.
-abbrev pub LinePlayed : Style → Text → Session → Session → Result Bool TextFault → Type 0
+abbrev pub LinePlayed : Style → Text → Session → Session → Result Bool PlayFault → Type 0
 LinePlayed style text old new (Ok event) =
     (es : List Event) × PlaysLine style text old es new × (event ≡ is_event text.bytes)
 LinePlayed style text old new (Err fault) = StopsText style fault text old new

@@ -3,7 +3,7 @@ use Rattle.std.specs.Prelude.{◌≡◌, ◌⊎◌, ℕ, ◌+◌, List, [], ◌�
 use Rattle.std.proofs.Common.{inl, inr}
 use Rattle.graph_heap.specs.declared.command.Entry.{Entry}
 use Rattle.heap_model.specs.declared.phase.Phase.{Phase}
-use Rattle.heap_model.specs.Event.{Course, Event, Command_done, Cycle_begun, Cycle_on, Quantum_done, Does}
+use Rattle.heap_model.specs.Event.{Course, Event, Command_done, Cycle_begun, Begin_refused, Quantum_done, Does}
 use Rattle.trace.specs.declared.line.Line.{Line}
 use Rattle.trace.specs.TextLine.{Text}
 use Rattle.player.specs.declared.style.Style.TheVariants.{Nothing}
@@ -35,7 +35,8 @@ IsCommand e s = (s.event ≡ Command_done e.mutator e.command e.reply) × IsDone
 
 -- with the step a line of this number begins a cycle at this moment, or finds one running
 abbrev pub IsBegin : ℕ → Course → Step → Type 0
-IsBegin number now s = (s.line ≡ number) × (s.before ≡ now) × (s.event ≡ Cycle_begun ⊎ s.event ≡ Cycle_on) × IsDone s
+IsBegin number now s =
+    (s.line ≡ number) × (s.before ≡ now) × (s.event ≡ Cycle_begun ⊎ s.event ≡ Begin_refused) × IsDone s
 
 -- the step is a quantum of a budget
 abbrev pub IsQuantum : ℕ → Step → Type 0
@@ -55,7 +56,7 @@ steps_of line old text events new Skips = []
 steps_of line old text events new (Commands m c reply course does) =
     step line (Command_done m c reply) old.course course ∷ []
 steps_of line old text events new (Begins course does) = step line Cycle_begun old.course course ∷ []
-steps_of line old text events new (Goes_on does) = step line Cycle_on old.course old.course ∷ []
+steps_of line old text events new (Goes_on does) = step line Begin_refused old.course old.course ∷ []
 steps_of line old text events new (Spends budget units phase course does) =
     step line (Quantum_done budget units phase) old.course course ∷ []
 steps_of line old text events new (Ticks n es q within quanta none) =

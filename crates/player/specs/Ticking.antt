@@ -8,7 +8,7 @@ use Rattle.quanta.specs.Timetable.{due_below}
 use Rattle.trace.specs.declared.line.Line.TheVariants as lines
 use Rattle.player.specs.declared.player.TickFault.{TickFault}
 use Rattle.player.specs.declared.player.TickFault.TheVariants as faults
-use Rattle.player.specs.Player.{PlayerState, QuantaDue, behind_quantum, quantum_behind, DoesLine}
+use Rattle.player.specs.Player.{PlayerState, QuantaDue, timetable_after, after_quantum, DoesLine}
 
 -- a cycle is begun, or one is running already
 abbrev pub Begun : PlayerState → PlayerState → Type 0
@@ -18,14 +18,14 @@ Begun old new = (es : List Event) × DoesLine old lines.Begin es new
 abbrev pub Spent : PlayerState → ℕ → PlayerState → Type 0
 Spent old budget new =
     (units : ℕ) × (phase : Phase) × (course : Course) × Does old.course (Quantum_done budget units phase) course
-    × (new ≡ record old { course = course; timetable = behind_quantum phase old.timetable })
+    × (new ≡ record old { course = course; timetable = timetable_after phase old.timetable })
 
 -- the quantum that is due below a time is done, with its interval; or none is due; or memory was refused
 -- for the interval
 abbrev pub DueDone : ℕ → PlayerState → PlayerState → Result Bool NoMemory → Type 0
 DueDone until old new (Ok true) =
     (due : ℕ) × (units : ℕ) × (phase : Phase) × (course : Course) × (old.timetable.due ≡ Some due) × (due < until)
-    × Does old.course (Quantum_done old.budget units phase) course × (new ≡ quantum_behind old due phase course)
+    × Does old.course (Quantum_done old.budget units phase) course × (new ≡ after_quantum old due phase course)
 DueDone until old new (Ok false) = (due_below until old.timetable.due ≡ None) × (new ≡ old)
 DueDone until old new (Err refused) = (due : ℕ) × (old.timetable.due ≡ Some due) × (due < until) × (new ≡ old)
 

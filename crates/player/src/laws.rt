@@ -4,7 +4,7 @@ ghost use Rattle.size_classes.specs.declared.config.Config.{Config};
 ghost use Rattle.machine.specs.Headline.{Holds};
 ghost use Rattle.machine.specs.Space.{SpaceSuffices};
 ghost use Rattle.trace.specs.Streams.{Given};
-ghost use Rattle.trace.specs.declared.fault.TextFault.{TextFault};
+ghost use Rattle.trace.specs.declared.fault.PlayFault.{PlayFault};
 ghost use Rattle.player.specs.declared.style.Style.{Style};
 ghost use Rattle.player.specs.New.{IsNew};
 ghost use Rattle.player.specs.Playing.{Session, Played};
@@ -13,7 +13,7 @@ ghost use Rattle.player.specs.Playing.{Session, Played};
 /// events.
 pub fn plays_are_promised()
     ensures { (config : Config) (style : Style) (given : Given) (old new : Session)
-        (result : Result (Unit {0}) TextFault)
+        (result : Result (Unit {0}) PlayFault)
         (p : Played style given old new result) → IsNew config old.player → Holds new.player.course
         × SpaceSuffices config p.over.events }
 {}

@@ -12,7 +12,7 @@ use crate::observer::Observer;
 use crate::player::Player;
 use crate::style::Style;
 use graph_heap::Entry;
-use trace::{Line, TextFault, TextLine, WriteBuffer, read_numbered, version_line, write_entry};
+use trace::{Line, PlayFault, TextLine, WriteBuffer, read_numbered, version_line, write_entry};
 
 /// Adds the line of an entry to what waits. It stands apart so that its 256 bytes aren't cleared for each reply.
 #[inline(never)]
@@ -60,7 +60,7 @@ pub fn do_line<O: Observer>(
     number: u64,
     player: &mut Player,
     observer: &mut O,
-) -> Result<(), TextFault>
+) -> Result<(), PlayFault>
     requires { HasBudget line }
     ensures done { LineObserved O.has_seen O.may_be_refused line number (observed player.old observer.old)
         (observed player.new observer.new) result }
@@ -100,7 +100,7 @@ pub fn play_line(
     waiting: &mut WriteBuffer,
     player: &mut Player,
     style: Style,
-) -> Result<bool, TextFault>
+) -> Result<bool, PlayFault>
     requires { length waiting.old + 256 ≤ 65536 }
     // This is so after whatever was written before.
     ensures played { (before : List ℕ)

@@ -5,7 +5,7 @@ ghost use Rattle.player.specs.Observing.{Run, after_line, IsMark, SeesStep};
 
 use graph_heap::{Entry, NoMemory};
 use heap_model::phase::Phase;
-use machine::{Heap, HeapWithHistory};
+use machine::{Heap, Recorded};
 
 /// Where the collector of a heap is: its phase, and the units of the cycle.
 #[derive(Clone, Copy, Debug, PartialEq, Eq)]
@@ -42,18 +42,18 @@ pub trait Observer {
         ensures err { OnErr result may_be_refused };
 
     /// The line of this number begins a cycle next, or finds one running: so the heap is before that.
-    fn begins(&mut self, number: u64, recorded: &HeapWithHistory) -> Result<(), NoMemory>
+    fn begins(&mut self, number: u64, recorded: &Recorded) -> Result<(), NoMemory>
         ensures seen { OnOk result ((s : Step) → IsBegin number recorded.now.course s
             → SeesStep has_seen s self.old self.new) }
         ensures err { OnErr result may_be_refused };
 
     /// A quantum of this budget was done, before which the collector was at this mark.
-    fn quantum_done(&mut self, before: &Mark, budget: u32, recorded: &HeapWithHistory)
+    fn quantum_done(&mut self, before: &Mark, budget: u32, recorded: &Recorded)
         ensures seen { (s : Step) → IsQuantum budget s → IsMark s.before.heap before.now
             → s.after ≡ recorded.now.course → SeesStep has_seen s self.old self.new };
 
     /// The line of this number was done, which is that of an event.
-    fn line_done(&mut self, number: u64, recorded: &HeapWithHistory) -> Result<(), NoMemory>
+    fn line_done(&mut self, number: u64, recorded: &Recorded) -> Result<(), NoMemory>
         requires { (run : Run) × has_seen run self.old × (length run.moments < number) }
         ensures seen { OnOk result ((run : Run) → has_seen run self.old → run.now ≡ recorded.now.course
             → has_seen (after_line run number) self.new) }
@@ -72,15 +72,15 @@ impl Observer for () {
     }
 
     #[inline(always)]
-    fn begins(&mut self, _number: u64, _recorded: &HeapWithHistory) -> Result<(), NoMemory> {
+    fn begins(&mut self, _number: u64, _recorded: &Recorded) -> Result<(), NoMemory> {
         Ok(())
     }
 
     #[inline(always)]
-    fn quantum_done(&mut self, _before: &Mark, _budget: u32, _recorded: &HeapWithHistory) {}
+    fn quantum_done(&mut self, _before: &Mark, _budget: u32, _recorded: &Recorded) {}
 
     #[inline(always)]
-    fn line_done(&mut self, _number: u64, _recorded: &HeapWithHistory) -> Result<(), NoMemory> {
+    fn line_done(&mut self, _number: u64, _recorded: &Recorded) -> Result<(), NoMemory> {
         Ok(())
     }
 }

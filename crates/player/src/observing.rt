@@ -7,14 +7,14 @@ ghost use Rattle.player.specs.Observing.{run_from, IsObserved, TextObserved, Run
 use crate::line::{do_line, is_event};
 use crate::observed::Observed;
 use crate::observer::Observer;
-use trace::{InputEnd, LineHandler, Source, TextFault, TextLine, each_line, read_numbered};
+use trace::{InputEnd, LineHandler, PlayFault, Source, TextLine, each_line, read_numbered};
 
 impl<O: Observer + Drop> LineHandler for Observed<O> {
     ghost is_ready = { IsObserved O.has_seen };
 
     ghost handles = { TextObserved O.has_seen };
 
-    fn handle(&mut self, text: TextLine) -> Result<(), TextFault> {
+    fn handle(&mut self, text: TextLine) -> Result<(), PlayFault> {
         let Some(line) = read_numbered(text)? else {
             return Ok(());
         };
@@ -34,7 +34,7 @@ impl<O: Observer + Drop> LineHandler for Observed<O> {
 pub fn observe<S: Source, O: Observer + Drop>(
     source: &mut S,
     run: &mut Observed<O>,
-) -> Result<InputEnd, TextFault>
+) -> Result<InputEnd, PlayFault>
     requires { O.has_seen (run_from run.old.player.course) run.old.observer }
     ensures observed { RunObserved O.has_seen (given_by S.given S.ended source.old source.new) run.old run.new result }
     ensures reads { S.failures source.new ≡ S.failures source.old + reads_failed result }

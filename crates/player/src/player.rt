@@ -13,17 +13,17 @@ ghost use Rattle.player.specs.Ticking.{DueDone, Spent};
 use crate::observer::{Mark, Observer};
 use graph_heap::{Command, NoMemory};
 use heap_model::phase::Phase;
-use machine::{HeapWithHistory, Receipt};
+use machine::{Receipt, Recorded};
 use quanta::{CLOCK_LIMIT, Schedule};
 use size_classes::Config;
 use std::alloc::Global;
 use std::marker::Model;
-use trace::{LineFault, TextFault};
+use trace::{LineFault, PlayFault};
 
 /// A heap with its history, and the schedule of its collector: when quanta are due, and the intervals
 /// that they took. Contracts see the course of the heap, the timetable, and the budget of a quantum.
 pub struct Player {
-    recorded: HeapWithHistory,
+    recorded: Recorded,
     schedule: Schedule,
     budget: u32,
 }
@@ -72,17 +72,17 @@ impl From<NoMemory> for TickFault {
 
 impl TickFault {
     ghost use Rattle.trace.specs.declared.fault.LineFault.TheVariants as line_faults;
-    ghost use Rattle.trace.specs.declared.fault.TextFault.TheVariants as text_faults;
+    ghost use Rattle.trace.specs.declared.fault.PlayFault.TheVariants as text_faults;
     ghost use Rattle.player.specs.declared.player.TickFault.TheVariants as faults;
 
     /// What is wrong with an input whose line of this number lets the ticks pass.
-    pub fn at_line(self, number: u64) -> TextFault
+    pub fn at_line(self, number: u64) -> PlayFault
         ensures spent { self ≡ faults.ClockSpent → result ≡ text_faults.Line number line_faults.ClockSpent }
         ensures memory { self ≡ faults.NoMemory → result ≡ text_faults.NoMemory }
     {
         match self {
-            TickFault::ClockSpent => TextFault::Line(number, LineFault::ClockSpent),
-            TickFault::NoMemory => TextFault::NoMemory,
+            TickFault::ClockSpent => PlayFault::Line(number, LineFault::ClockSpent),
+            TickFault::NoMemory => PlayFault::NoMemory,
         }
     }
 }
@@ -100,14 +100,14 @@ impl Player {
         ensures { IfOk result (IsNew config.now) }
     {
         Ok(Player {
-            recorded: HeapWithHistory::new(alloc, config)?,
+            recorded: Recorded::new(alloc, config)?,
             schedule: Schedule::new(alloc, config),
             budget: config.budget(),
         })
     }
 
     /// The heap with its history.
-    pub fn recorded(&self) -> &HeapWithHistory
+    pub fn recorded(&self) -> &Recorded
         ensures { result.now.course ≡ self.now.course }
     {
         &self.recorded

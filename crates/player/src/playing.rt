@@ -10,14 +10,14 @@ ghost use Rattle.player.specs.Closing.{Closes};
 use crate::line::play_line;
 use crate::player::Player;
 use crate::style::Style;
-use trace::{LineReader, Sink, Source, TextFault, WriteBuffer};
+use trace::{LineReader, PlayFault, Sink, Source, WriteBuffer};
 
 /// Writes what still waits when the lines have ended. Where that fails, it is what the play ends with.
 fn close<K: Sink>(
     waiting: &mut WriteBuffer,
     sink: &mut K,
-    ended: Result<(), TextFault>,
-) -> Result<(), TextFault>
+    ended: Result<(), PlayFault>,
+) -> Result<(), PlayFault>
     requires { 0 < reads_failed ended + writes_failed ended → waiting.old ≡ [] }
     ensures closes { Closes (K.taken sink.old) (K.taken sink.new) waiting.old ended result }
     ensures reads { reads_failed result ≡ reads_failed ended }
@@ -25,7 +25,7 @@ fn close<K: Sink>(
 {
     match waiting.flush(sink) {
         Ok(()) => ended,
-        Err(_) => Err(TextFault::Write),
+        Err(_) => Err(PlayFault::Write),
     }
 }
 
@@ -57,14 +57,14 @@ fn play_lines<S: Source, K: Sink>(
     waiting: &mut WriteBuffer,
     player: &mut Player,
     style: Style,
-) -> Result<(), TextFault>
+) -> Result<(), PlayFault>
     requires { waiting.old ≡ [] }
     ensures played { PlayedUpTo n style (given_by S.given S.ended source.old source.new)
         (session player.old (K.taken sink.old)) (session player.new (K.taken sink.new ++ waiting.new)) result }
     // The same where a write of what waits then fails.
     ensures cut { (taken : List ℕ) → GrowsByPart (K.taken sink.new) taken waiting.new
         → PlayedUpTo n style (given_by S.given S.ended source.old source.new) (session player.old (K.taken sink.old))
-        (session player.new taken) (Err TextFault.Write) }
+        (session player.new taken) (Err PlayFault.Write) }
     ensures none { n ≡ Some 0 → source.new ≡ source.old }
     ensures nothing { 0 < reads_failed result + writes_failed result → waiting.new ≡ [] }
     ensures reads { S.failures source.new ≡ S.failures source.old + reads_failed result }
@@ -87,7 +87,7 @@ fn play_up_to<S: Source, K: Sink>(
     sink: &mut K,
     player: &mut Player,
     style: Style,
-) -> Result<(), TextFault>
+) -> Result<(), PlayFault>
     ensures played { PlayedUpTo n style (given_by S.given S.ended source.old source.new)
         (session player.old (K.taken sink.old)) (session player.new (K.taken sink.new)) result }
     ensures none { n ≡ Some 0 → source.new ≡ source.old }
@@ -110,7 +110,7 @@ pub fn play<S: Source, K: Sink>(
     sink: &mut K,
     player: &mut Player,
     style: Style,
-) -> Result<(), TextFault>
+) -> Result<(), PlayFault>
     ensures played { Played style (given_by S.given S.ended source.old source.new)
         (session player.old (K.taken sink.old))
         (session player.new (K.taken sink.new)) result }
@@ -133,7 +133,7 @@ pub fn play_first<S: Source, K: Sink>(
     sink: &mut K,
     player: &mut Player,
     style: Style,
-) -> Result<(), TextFault>
+) -> Result<(), PlayFault>
     ensures played { PlayedFirst n style (given_by S.given S.ended source.old source.new)
         (session player.old (K.taken sink.old)) (session player.new (K.taken sink.new)) result }
     ensures none { n ≡ 0 → source.new ≡ source.old }

@@ -14,7 +14,7 @@ use Rattle.nodes.specs.HeapFields.{state_of}
 use Rattle.nodes.specs.GreyAllocated.{AreAllocated}
 use Rattle.nodes.proofs.Keeping.{grey_kept, relinked_writes, writes_relinked}
 use Rattle.nodes.proofs.Sorting.{inserted_between, contains-inserted}
-use Rattle.nodes.proofs.Standing.{still}
+use Rattle.nodes.proofs.Representing.{still}
 use Rattle.satb_barrier.proofs.Listing.{are_grey_by, mutator_within, own_record}
 
 -- the heap a, the heap mid whose blocks were threaded anew, and the main copy's colour written in that

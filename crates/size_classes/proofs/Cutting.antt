@@ -1,6 +1,6 @@
 -- The arithmetic of parts.
 use Rattle.std.proofs.Common.{◌≡◌, ℕ, ◌+◌, ◌-◌, ◌*◌, ◌/◌, ◌%◌, ◌<◌, ◌≤◌, ◌⊎◌, arith}
-use Rattle.size_classes.specs.Parts.{pieces_of, spines_of, first_by, count_by, holder_by, seat_by}
+use Rattle.size_classes.specs.Parts.{pieces_of, spines_of, first_by, count_by, spine_by, spine_cell_by}
 
 -- The three forms, of n cells in k pieces under s spines. 16003008 is 252 times 252 times 252
 pub record Pieces (n k : ℕ) : Type 0 where
@@ -27,15 +27,15 @@ module _ (n k s : ℕ) (a : Pieces n k) (b : Spines k s) where
   count_small p l = grind arith
 
   -- a part but part 0 is referred to by an earlier spine
-  pub referrers_are : (p : ℕ) → 0 < p → p < s + k → (holder_by k s p < s) × (holder_by k s p < p) × (seat_by k s p < count_by n k s (holder_by k s p)) × (first_by s (holder_by k s p) + seat_by k s p ≡ p)
+  pub referrers_are : (p : ℕ) → 0 < p → p < s + k → (spine_by k s p < s) × (spine_by k s p < p) × (spine_cell_by k s p < count_by n k s (spine_by k s p)) × (first_by s (spine_by k s p) + spine_cell_by k s p ≡ p)
   referrers_are p l m = (grind arith, grind arith, grind arith, grind arith)
 
   -- a cell of a spine refers to a later part, and no other does
-  pub holds : (q c : ℕ) → q < s → c < count_by n k s q → (q < first_by s q + c) × (first_by s q + c < s + k) × (holder_by k s (first_by s q + c) ≡ q) × (seat_by k s (first_by s q + c) ≡ c)
+  pub holds : (q c : ℕ) → q < s → c < count_by n k s q → (q < first_by s q + c) × (first_by s q + c < s + k) × (spine_by k s (first_by s q + c) ≡ q) × (spine_cell_by k s (first_by s q + c) ≡ c)
   holds q c l m = (grind arith, grind arith, grind arith, grind arith)
 
   -- from part 0 it takes two steps at most
-  pub two_steps : (p : ℕ) → 0 < p → p < s + k → (holder_by k s p ≡ 0) ⊎ ((0 < holder_by k s p) × (holder_by k s (holder_by k s p) ≡ 0))
+  pub two_steps : (p : ℕ) → 0 < p → p < s + k → (spine_by k s p ≡ 0) ⊎ ((0 < spine_by k s p) × (spine_by k s (spine_by k s p) ≡ 0))
   two_steps p l m = grind arith
 
   -- each cell stands in a piece

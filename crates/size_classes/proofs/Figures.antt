@@ -2,7 +2,7 @@
 use Rattle.std.specs.Prelude.{◌≡◌, Some, None}
 use Rattle.std.proofs.Common.{refl}
 use Rattle.size_classes.specs.Sizes.{class_for}
-use Rattle.size_classes.specs.Parts.{parts_in, part_words, holder_of, seat_of}
+use Rattle.size_classes.specs.Parts.{parts_in, part_words, spine_of, spine_cell_of}
 
 -- a block of no words, and of more than the largest has
 no_words : class_for 0 ≡ Some 0
@@ -31,8 +31,8 @@ most_spines : (parts_in 4000000 ≡ 15938) × (part_words 4000000 0 ≡ 67) × (
 most_spines = (refl, refl, refl, refl, refl, refl)
 
 -- which spine refers to a part, and in which cell
-referred_to_of_two_spines : (holder_of 63505 2 ≡ 0) × (seat_of 63505 2 ≡ 1) × (holder_of 63505 254 ≡ 1) × (seat_of 63505 254 ≡ 251) × (holder_of 63505 255 ≡ 2) × (seat_of 63505 255 ≡ 0)
+referred_to_of_two_spines : (spine_of 63505 2 ≡ 0) × (spine_cell_of 63505 2 ≡ 1) × (spine_of 63505 254 ≡ 1) × (spine_cell_of 63505 254 ≡ 251) × (spine_of 63505 255 ≡ 2) × (spine_cell_of 63505 255 ≡ 0)
 referred_to_of_two_spines = (refl, refl, refl, refl, refl, refl)
 
-referred_to_of_most_spines : (holder_of 4000000 63 ≡ 0) × (seat_of 4000000 63 ≡ 62) × (holder_of 4000000 64 ≡ 1) × (seat_of 4000000 64 ≡ 0) × (holder_of 4000000 15937 ≡ 63) × (seat_of 4000000 15937 ≡ 249)
+referred_to_of_most_spines : (spine_of 4000000 63 ≡ 0) × (spine_cell_of 4000000 63 ≡ 62) × (spine_of 4000000 64 ≡ 1) × (spine_cell_of 4000000 64 ≡ 0) × (spine_of 4000000 15937 ≡ 63) × (spine_cell_of 4000000 15937 ≡ 249)
 referred_to_of_most_spines = (refl, refl, refl, refl, refl, refl)

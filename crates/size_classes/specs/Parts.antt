@@ -70,17 +70,17 @@ unfoldable pub column_in : ℕ → ℕ
 column_in i = i % PART_CELLS
 
 -- which spine refers to a part other than part 0, of an object with k pieces and s spines
-abbrev pub holder_by : ℕ → ℕ → ℕ → ℕ
-holder_by k s part = if nat_le part (heads_by k s) then 0 else (part - s) / PART_CELLS + 1
+abbrev pub spine_by : ℕ → ℕ → ℕ → ℕ
+spine_by k s part = if nat_le part (heads_by k s) then 0 else (part - s) / PART_CELLS + 1
 
 -- in which cell of that spine, of an object with k pieces and s spines
-abbrev pub seat_by : ℕ → ℕ → ℕ → ℕ
-seat_by k s part = if nat_le part (heads_by k s) then part - 1 else (part - s) % PART_CELLS
+abbrev pub spine_cell_by : ℕ → ℕ → ℕ → ℕ
+spine_cell_by k s part = if nat_le part (heads_by k s) then part - 1 else (part - s) % PART_CELLS
 
 -- which spine refers to a part, of an object with n cells
-abbrev pub holder_of : ℕ → ℕ → ℕ
-holder_of n part = holder_by (pieces_of n) (spines_of n) part
+abbrev pub spine_of : ℕ → ℕ → ℕ
+spine_of n part = spine_by (pieces_of n) (spines_of n) part
 
 -- in which cell of that spine
-abbrev pub seat_of : ℕ → ℕ → ℕ
-seat_of n part = seat_by (pieces_of n) (spines_of n) part
+abbrev pub spine_cell_of : ℕ → ℕ → ℕ
+spine_cell_of n part = spine_cell_by (pieces_of n) (spines_of n) part

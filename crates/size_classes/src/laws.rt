@@ -2,7 +2,7 @@
 //! contract is the law.
 ghost use Rattle.std.specs.Prelude.{◌≡◌, ℕ, ◌+◌, ◌<◌, ◌≤◌, ◌⊎◌, [], ◌∷◌};
 ghost use Rattle.graph_heap.specs.declared.command.TheConstants.{ARRAY_CELLS};
-ghost use Rattle.size_classes.specs.Parts.{parts_in, spines_of, run_of, part_in, column_in, holder_of, seat_of};
+ghost use Rattle.size_classes.specs.Parts.{parts_in, spines_of, run_of, part_in, column_in, spine_of, spine_cell_of};
 ghost use Rattle.size_classes.specs.declared.class.TheConstants.{CLASSES, MOST_BLOCKS, PAGE_WORDS};
 ghost use Rattle.size_classes.specs.declared.config.TheConstants.{LEAST_BUDGET, MOST_BUDGET, MOST_PAGES};
 ghost use Rattle.size_classes.specs.declared.key.Key.{Key};
@@ -19,13 +19,14 @@ pub fn parts_are_small()
 /// Each part but part 0 is referred to by one cell of an earlier spine, and each cell of a spine refers to
 /// one part. From part 0 each part is at most two steps away.
 pub fn spines_refer()
-    ensures to { (n p : ℕ) → 0 < p → p < parts_in n → (holder_of n p < spines_of n) × (holder_of n p < p)
-        × (seat_of n p < (run_of n (holder_of n p)).count) × ((run_of n (holder_of n p)).first + seat_of n p ≡ p) }
+    ensures to { (n p : ℕ) → 0 < p → p < parts_in n → (spine_of n p < spines_of n) × (spine_of n p < p)
+        × (spine_cell_of n p < (run_of n (spine_of n p)).count)
+        × ((run_of n (spine_of n p)).first + spine_cell_of n p ≡ p) }
     ensures from { (n q c : ℕ) → q < spines_of n → c < (run_of n q).count → (q < (run_of n q).first + c)
-        × ((run_of n q).first + c < parts_in n) × (holder_of n ((run_of n q).first + c) ≡ q)
-        × (seat_of n ((run_of n q).first + c) ≡ c) }
-    ensures steps { (n p : ℕ) → 0 < p → p < parts_in n → (holder_of n p ≡ 0)
-        ⊎ ((0 < holder_of n p) × (holder_of n (holder_of n p) ≡ 0)) }
+        × ((run_of n q).first + c < parts_in n) × (spine_of n ((run_of n q).first + c) ≡ q)
+        × (spine_cell_of n ((run_of n q).first + c) ≡ c) }
+    ensures steps { (n p : ℕ) → 0 < p → p < parts_in n → (spine_of n p ≡ 0)
+        ⊎ ((0 < spine_of n p) × (spine_of n (spine_of n p) ≡ 0)) }
 {}
 
 /// Each cell of an object stands in one piece at one place, and each cell of a piece is one of the object.

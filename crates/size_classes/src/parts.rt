@@ -1,7 +1,7 @@
 //! The parts that an object is cut into.
 ghost use Rattle.std.specs.Prelude.{◌≡◌, ◌+◌, ◌-◌, ◌*◌, ◌/◌, ◌^◌, ◌<◌, ◌≤◌, ◌↔◌, IsNone, IfSome, false};
 ghost use Rattle.graph_heap.specs.Shape.{fits};
-ghost use Rattle.size_classes.specs.Parts.{cells_of, pieces_of, spines_of, parts_in, run_of, part_words, holder_of, seat_of};
+ghost use Rattle.size_classes.specs.Parts.{cells_of, pieces_of, spines_of, parts_in, run_of, part_words, spine_of, spine_cell_of};
 
 use graph_heap::{ARRAY_CELLS, PLAIN_CELLS, Shape};
 use std::marker::Model;
@@ -88,9 +88,9 @@ impl Position {
         requires few { cells ≤ ARRAY_CELLS }
         requires some { 0 < part }
         requires part { part < parts_in cells }
-        ensures spine { result.spine ≡ holder_of cells part }
-        ensures cell { result.cell ≡ seat_of cells part }
-        ensures root { 0 < result.spine → seat_of cells result.spine ≡ result.spine - 1 }
+        ensures spine { result.spine ≡ spine_of cells part }
+        ensures cell { result.cell ≡ spine_cell_of cells part }
+        ensures root { 0 < result.spine → spine_cell_of cells result.spine ≡ result.spine - 1 }
     {
         let spines = spines_in(cells) as u32;
         if spines <= 1 || part < spines {
@@ -162,8 +162,8 @@ impl Parts {
     pub fn position(&self, part: u32) -> Position
         requires some { 0 < part }
         requires part { part < parts_in self.now }
-        ensures spine { result.spine ≡ holder_of self.now part }
-        ensures cell { result.cell ≡ seat_of self.now part }
+        ensures spine { result.spine ≡ spine_of self.now part }
+        ensures cell { result.cell ≡ spine_cell_of self.now part }
     {
         Position::of_part(self.cells as usize, part)
     }

@@ -8,7 +8,7 @@ use Rattle.size_classes.specs.declared.class.TheConstants.{CLASSES}
 use Rattle.heap_model.specs.Event.{Event, Command_done, Cycle_begun}
 use Rattle.space.specs.Demand.{LiveWithin, blocks_of, asked_for}
 use Rattle.fragmentation.specs.Season.{Season, Lives, opening_season, made_since, needed_since, season_swept, AllKeep}
-use Rattle.fragmentation.specs.Suffice.{WithinBlocks, WithinPages, pages_of, season_pages, Budget, WithinBudget}
+use Rattle.fragmentation.specs.Suffice.{WithinBlocks, WithinPages, pages_of, season_pages, PageDemand, WithinPageDemand}
 use Rattle.fragmentation.proofs.Paging.{pages_more}
 use Rattle.sizing.specs.declared.meter.Meter.{Meter}
 use Rattle.sizing.specs.declared.season.Season.{Season as Counted}
@@ -121,7 +121,7 @@ module _ (l : Limits) (es : List Event) where
     abbrev made : ℕ
     made = max w.made (pages_of (λ class. made_since u.base u class + more class))
 
-    made_above : (live : Lives) (b : Budget) → AllKeep (WithinBudget b) live (opening_season l) es → AllKeep (WithinBudget b) live (season l es one live) one → w.made ≤ b.made → made ≤ b.made
+    made_above : (live : Lives) (b : PageDemand) → AllKeep (WithinPageDemand b) live (opening_season l) es → AllKeep (WithinPageDemand b) live (season l es one live) one → w.made ≤ b.made → made ≤ b.made
     made_above live b k n least =
         let x = pages_more (λ class. made_since u.base u class + more class) (λ class. made_since (season l es one live).base (season l es one live) class + asked_for (season l es one live).graph m c class)
         (λ class low. (let q = base_so live class in let r = asked_so live class in omega (arith, q, r))) in
@@ -130,7 +130,7 @@ module _ (l : Limits) (es : List Event) where
         both : (a b c d : ℕ) → a ≤ d → b ≤ c → c ≤ d → max a b ≤ d
         both a b c d e f g = omega (arith, e, f, g)
 
-    made_below : (live : Lives) (b : Budget) → made ≤ b.made → (w.made ≤ b.made) × AllKeep (WithinBudget b) live (season l es one live) one
+    made_below : (live : Lives) (b : PageDemand) → made ≤ b.made → (w.made ≤ b.made) × AllKeep (WithinPageDemand b) live (season l es one live) one
     made_below live b least =
         let x = pages_more (λ class. made_since (season l es one live).base (season l es one live) class + asked_for (season l es one live).graph m c class) (λ class. made_since u.base u class + more class)
         (λ class low. (let q = base_so live class in let r = asked_so live class in omega (arith, q, r))) in
@@ -159,7 +159,7 @@ module _ (l : Limits) (es : List Event) where
       gathered_least = least_more l es one w.lives w.lives command_agree ℕ (λ pages live. WithinPages pages) (λ pages. w.gathered ≤ pages) (λ pages. gathered ≤ pages) w.gathered_least gathered_above (λ live q g n. gathered_below live q (command_agree live g) n);
       gathered_counted = asks.gathered w.gathered w.before (made_since u.swept u) more w.gathered_counted w.before_counted swept a;
       made = made;
-      made_least = least_more l es one w.lives w.lives command_agree Budget (λ b live. WithinBudget b) (λ (b : Budget). w.made ≤ b.made) (λ (b : Budget). made ≤ b.made) w.made_least made_above (λ live b g n. made_below live b n);
+      made_least = least_more l es one w.lives w.lives command_agree PageDemand (λ b live. WithinPageDemand b) (λ (b : PageDemand). w.made ≤ b.made) (λ (b : PageDemand). made ≤ b.made) w.made_least made_above (λ live b g n. made_below live b n);
       made_counted = asks.made w.made (made_since u.base u) more w.made_counted base a;
       live = w.live;
       live_least = λ live_at pages k most. w.live_least live_at pages ((keep_append Anything live_at (opening_season l) es one).0 k).0 most;

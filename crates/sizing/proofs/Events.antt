@@ -2,7 +2,7 @@
 use Rattle.std.proofs.Common.{◌≡◌, ℕ, ◌<◌, ◌≤◌, ◌↔◌, List, [], ◌∷◌, ◌++◌, max, length, arith, refl, sym, subst}
 use Rattle.graph_heap.specs.declared.command.Limits.{Limits}
 use Rattle.size_classes.specs.declared.class.TheConstants.{CLASSES}
-use Rattle.heap_model.specs.Event.{Event, Command_done, Cycle_begun, Cycle_on, Quantum_done, Quantum_refused, HaveBudgets}
+use Rattle.heap_model.specs.Event.{Event, Command_done, Cycle_begun, Begin_refused, Quantum_done, Quantum_refused, HaveBudgets}
 use Rattle.space.specs.Pace.{Pace, Beat, opening_beat, next_beat, AllKeepPace}
 use Rattle.sizing.specs.Meter.{beat_after, AreQuanta}
 use Rattle.sizing.specs.Measured.{IsPaceWithin, IsLeastPace}
@@ -24,7 +24,7 @@ budgets_append k (Quantum_done budget units phase ∷ es) fs =
     (λ w. (let s = r.0 w.1 in ((w.0, s.0), s.1)), λ w. (w.0.0, r.1 (w.0.1, w.1)))
 budgets_append k (Command_done m c reply ∷ es) fs = budgets_append k es fs
 budgets_append k (Cycle_begun ∷ es) fs = budgets_append k es fs
-budgets_append k (Cycle_on ∷ es) fs = budgets_append k es fs
+budgets_append k (Begin_refused ∷ es) fs = budgets_append k es fs
 budgets_append k (Quantum_refused budget ∷ es) fs = budgets_append k es fs
 
 -- the least pace of more events
@@ -72,7 +72,7 @@ quanta_pace p k b budget (Quantum_done given units phase ∷ qs) each =
     let r = quanta_pace p k (next_beat b (Quantum_done given units phase)) budget qs each.1 in (λ w. (w.0, r.0 w.1), λ w. (w.0, r.1 w.1))
 quanta_pace p k b budget (Command_done m c reply ∷ qs) each = elim each [ ]
 quanta_pace p k b budget (Cycle_begun ∷ qs) each = elim each [ ]
-quanta_pace p k b budget (Cycle_on ∷ qs) each = elim each [ ]
+quanta_pace p k b budget (Begin_refused ∷ qs) each = elim each [ ]
 quanta_pace p k b budget (Quantum_refused given ∷ qs) each = elim each [ ]
 
 all_budgets : (k budget : ℕ) (qs : List Event) → AreQuanta budget qs → k ≤ budget → HaveBudgets k qs
@@ -80,7 +80,7 @@ all_budgets k budget [] each w = tt
 all_budgets k budget (Quantum_done given units phase ∷ qs) each w = (subst (λ n. k ≤ n) (sym each.0) w, all_budgets k budget qs each.1 w)
 all_budgets k budget (Command_done m c reply ∷ qs) each w = elim each [ ]
 all_budgets k budget (Cycle_begun ∷ qs) each w = elim each [ ]
-all_budgets k budget (Cycle_on ∷ qs) each w = elim each [ ]
+all_budgets k budget (Begin_refused ∷ qs) each w = elim each [ ]
 all_budgets k budget (Quantum_refused given ∷ qs) each w = elim each [ ]
 
 one_budget : (k budget : ℕ) (qs : List Event) → AreQuanta budget qs → 0 < length qs → HaveBudgets k qs → k ≤ budget
@@ -88,7 +88,7 @@ one_budget k budget [] each some w = absurd (omega (arith, some))
 one_budget k budget (Quantum_done given units phase ∷ qs) each some w = subst (λ n. k ≤ n) each.0 w.0
 one_budget k budget (Command_done m c reply ∷ qs) each some w = elim each [ ]
 one_budget k budget (Cycle_begun ∷ qs) each some w = elim each [ ]
-one_budget k budget (Cycle_on ∷ qs) each some w = elim each [ ]
+one_budget k budget (Begin_refused ∷ qs) each some w = elim each [ ]
 one_budget k budget (Quantum_refused given ∷ qs) each some w = elim each [ ]
 
 pub quanta_budgets : (k budget : ℕ) (qs : List Event) → AreQuanta budget qs → 0 < length qs → HaveBudgets k qs ↔ (k ≤ budget)

@@ -12,7 +12,7 @@ use Rattle.graph_heap.specs.History.{after_entry, IsEntryOf}
 use Rattle.heap_model.specs.State.{HeapState}
 use Rattle.heap_model.specs.Opening.{IsOpening}
 use Rattle.heap_model.specs.ReachedFrom.{opened}
-use Rattle.heap_model.specs.Event.{Course, Event, Command_done, Cycle_on, Enters, IsCourse, HaveBudgets, present_of, snapshot_of, room_for, change_by}
+use Rattle.heap_model.specs.Event.{Course, Event, Command_done, Begin_refused, Enters, IsCourse, HaveBudgets, present_of, snapshot_of, room_for, change_by}
 use Rattle.heap_model.proofs.Left.{change_left}
 use Rattle.heap_model.proofs.Freed.{objects_stay}
 use Rattle.heap_model.proofs.Course.{founded, present_row, enters_step, enters_present}
@@ -59,7 +59,7 @@ opening_shifts l m last base before n = record {
   live_counted = (let e = n.live in omega (arith, e));
 }
 
-pub opening_measures : (h : HeapState) (m : Meter) → IsOpening h → m.graph ≡ opening h.limits → m.on ≡ false → m.budget ≡ None → m.season.tracing ≡ false
+pub opening_measures : (h : HeapState) (m : Meter) → IsOpening h → m.graph ≡ opening h.limits → m.cycle_running ≡ false → m.budget ≡ None → m.season.awaiting_sweep_end ≡ false
     → AreBlocks m.season.live_last (λ class. 0) × AreBlocks m.season.live_base (λ class. 0) × AreBlocks m.season.before (λ class. 0)
     → AreBlocks m.season.since_last (λ class. 0) × AreBlocks m.season.since_base (λ class. 0) × AreBlocks m.season.since_swept (λ class. 0)
     → IsNothing m.most → AreBlocks m.asked (λ class. 0) → AreBlocks m.live (λ class. 0) → AreBlocks m.busy (λ class. 0) → AreBlocks m.idle (λ class. 0) → Measures h.limits [] (opened h) m
@@ -67,15 +67,15 @@ opening_measures h m o graph off none still lives since nothing asked live busy 
   are = record {
     graph = refl;
     same = refl;
-    on = sym (ap in_cycle o.phase);
-    tracing = sym (ap awaits_sweep_end o.phase);
+    cycle_running = sym (ap in_cycle o.phase);
+    awaiting_sweep_end = sym (ap awaits_sweep_end o.phase);
     last = omega arith;
     base = omega arith;
     swept = omega arith;
     number = omega arith;
     shapes = fit_opening h.limits;
   };
-  holds = record { graph = graph; on = off; tracing = still; last = since.0; base = since.1; swept = since.2; asked = asked };
+  holds = record { graph = graph; cycle_running = off; awaiting_sweep_end = still; last = since.0; base = since.1; swept = since.2; asked = asked };
   needs = record {
     pace = record { live = λ class. 0; busy = λ class. 0; idle = λ class. 0 };
     paces = λ q k. (λ w. (λ class l. (omega arith, omega arith, omega arith), tt), λ w. tt);
@@ -127,7 +127,7 @@ module _ (l : Limits) (es : List Event) (r new : Course) (m : ℕ) (c : Command)
   meter_graph = v.holds.graph ∙ v.are.graph
 
   meter_row : length old.graph.roots ≡ root_cells old.graph.limits
-  meter_row = subst (λ (z : Graph). length z.roots ≡ root_cells z.limits) (sym meter_graph) (present_row r.heap g (snapshot_of r) w.stands.consistent)
+  meter_row = subst (λ (z : Graph). length z.roots ≡ root_cells z.limits) (sym meter_graph) (present_row r.heap g (snapshot_of r) w.represents.consistent)
 
   after_is : (z : Graph) → z ≡ g → after_entry z entry ≡ changed g change
   after_is z s = ap (λ y. after_entry y entry) s ∙ steps
@@ -145,13 +145,13 @@ module _ (l : Limits) (es : List Event) (r new : Course) (m : ℕ) (c : Command)
   are_command = record {
     graph = into t.graph v.are.graph;
     same = into b.graph v.are.same;
-    on = v.are.on ∙ ap in_cycle (sym phase_stays);
-    tracing = v.are.tracing ∙ ap awaits_sweep_end (sym phase_stays);
+    cycle_running = v.are.cycle_running ∙ ap in_cycle (sym phase_stays);
+    awaiting_sweep_end = v.are.awaiting_sweep_end ∙ ap awaits_sweep_end (sym phase_stays);
     last = (let q = v.are.last in let o = longer in omega (arith, q, o));
     base = (let q = v.are.base in let o = longer in omega (arith, q, o));
     swept = (let q = v.are.swept in let o = longer in omega (arith, q, o));
     number = v.are.number;
-    shapes = subst AllFit (sym (enters_present r new m c reply w e)) (fit_after g change v.are.shapes (founded g (room_for r.heap c) m c (present_row r.heap g (snapshot_of r) w.stands.consistent)));
+    shapes = subst AllFit (sym (enters_present r new m c reply w e)) (fit_after g change v.are.shapes (founded g (room_for r.heap c) m c (present_row r.heap g (snapshot_of r) w.represents.consistent)));
   }
 
   asked_same : (z : Graph) → z ≡ g → (class : ℕ) → asked_for z m c class ≡ asked_for g m c class
@@ -191,10 +191,10 @@ module _ (l : Limits) (es : List Event) (r new : Course) (m : ℕ) (c : Command)
     abbrev given : Bool → Pace → ℕ → ℕ
     given o q class = if o then q.busy class else q.idle class
 
-    keeps_by : (o : Bool) → b.on ≡ o → (q : Pace) (k : ℕ) → AllKeepPace q k b (event ∷ []) ↔ (Least now (given o q) × HaveBudgets k (event ∷ []))
+    keeps_by : (o : Bool) → b.cycle_running ≡ o → (q : Pace) (k : ℕ) → AllKeepPace q k b (event ∷ []) ↔ (Least now (given o q) × HaveBudgets k (event ∷ []))
     keeps_by o is q k = (λ h. ((λ class low. subst (λ y. now class ≤ given y q class) is (h.0 class low)), tt), λ h. ((λ class low. subst (λ y. now class ≤ given y q class) (sym is) (h.0 class low)), tt))
 
-    needs_with : (o : Bool) → b.on ≡ o → (busy idle : ℕ → ℕ) → ((q : Pace) → (IsPaceWithin v.needs.pace q × Least now (given o q)) ↔ IsPaceWithin (record { live = v.needs.pace.live; busy = busy; idle = idle }) q)
+    needs_with : (o : Bool) → b.cycle_running ≡ o → (busy idle : ℕ → ℕ) → ((q : Pace) → (IsPaceWithin v.needs.pace q × Least now (given o q)) ↔ IsPaceWithin (record { live = v.needs.pace.live; busy = busy; idle = idle }) q)
         → AreBlocks mid.busy busy → AreBlocks mid.idle idle → Needs l (es ++ event ∷ []) mid
     needs_with o is busy idle both are_busy are_idle =
         let pace_new : Pace = record { live = v.needs.pace.live; busy = busy; idle = idle } in
@@ -207,18 +207,18 @@ module _ (l : Limits) (es : List Event) (r new : Course) (m : ℕ) (c : Command)
           budget = budgets;
         }
 
-    needs_by : (o : Bool) → b.on ≡ o → Needs l (es ++ event ∷ []) mid
+    needs_by : (o : Bool) → b.cycle_running ≡ o → Needs l (es ++ event ∷ []) mid
     needs_by true on =
         needs_with true on (λ class. max (v.needs.pace.busy class) (now class)) v.needs.pace.idle (pace_busy v.needs.pace now)
-        (are_max old.busy mid.asked mid.busy v.needs.pace.busy now v.needs.busy now_counted (s.busy (v.holds.on ∙ on)))
-        (subst (λ z. AreBlocks z v.needs.pace.idle) (sym (s.not_idle (v.holds.on ∙ on))) v.needs.idle)
+        (are_max old.busy mid.asked mid.busy v.needs.pace.busy now v.needs.busy now_counted (s.busy (v.holds.cycle_running ∙ on)))
+        (subst (λ z. AreBlocks z v.needs.pace.idle) (sym (s.not_idle (v.holds.cycle_running ∙ on))) v.needs.idle)
     needs_by false off =
         needs_with false off v.needs.pace.busy (λ class. max (v.needs.pace.idle class) (now class)) (pace_idle v.needs.pace now)
-        (subst (λ z. AreBlocks z v.needs.pace.busy) (sym (s.not_busy (v.holds.on ∙ off))) v.needs.busy)
-        (are_max old.idle mid.asked mid.idle v.needs.pace.idle now v.needs.idle now_counted (s.idle (v.holds.on ∙ off)))
+        (subst (λ z. AreBlocks z v.needs.pace.busy) (sym (s.not_busy (v.holds.cycle_running ∙ off))) v.needs.busy)
+        (are_max old.idle mid.asked mid.idle v.needs.pace.idle now v.needs.idle now_counted (s.idle (v.holds.cycle_running ∙ off)))
 
     needs_now : Needs l (es ++ event ∷ []) mid
-    needs_now = needs_by b.on refl
+    needs_now = needs_by b.cycle_running refl
 
     module _ (step : Meter) (by_entry : IsEntryOf mid.graph entry → step ≡ record mid { graph = after_entry mid.graph entry }) where
       z : step ≡ record mid { graph = after_entry mid.graph entry }
@@ -274,8 +274,8 @@ module _ (l : Limits) (es : List Event) (r new : Course) (m : ℕ) (c : Command)
       pub allocated_measures : (fin : Meter) → length mid.graph.objects < length step.graph.objects → Allocates asked step fin → Measures l (es ++ event ∷ []) new fin
       allocated_measures fin more al = measured_by fin (record {
         graph = ap (λ (x : Meter). x.graph) al.same ∙ step_graph;
-        on = ap (λ (x : Meter). x.on) (al.same) ∙ ap (λ (x : Meter). x.on) z ∙ s.on ∙ v.holds.on;
-        tracing = ap (λ (x : Counted). x.tracing) (al.season.same) ∙ ap (λ (x : Counted). x.tracing) season_stays ∙ v.holds.tracing;
+        cycle_running = ap (λ (x : Meter). x.cycle_running) (al.same) ∙ ap (λ (x : Meter). x.cycle_running) z ∙ s.cycle_running ∙ v.holds.cycle_running;
+        awaiting_sweep_end = ap (λ (x : Counted). x.awaiting_sweep_end) (al.season.same) ∙ ap (λ (x : Counted). x.awaiting_sweep_end) season_stays ∙ v.holds.awaiting_sweep_end;
         last = counts t.last fin.season.since_last v.are.last (are_sum step.season.since_last asked fin.season.since_last (made_since t.last t) (asked_for t.graph m c) (allocated_before t.last (λ (x : Counted). x.since_last) v.holds.last) asked_is al.season.last);
         base = counts t.base fin.season.since_base v.are.base (are_sum step.season.since_base asked fin.season.since_base (made_since t.base t) (asked_for t.graph m c) (allocated_before t.base (λ (x : Counted). x.since_base) v.holds.base) asked_is al.season.base);
         swept = counts t.swept fin.season.since_swept v.are.swept (are_sum step.season.since_swept asked fin.season.since_swept (made_since t.swept t) (asked_for t.graph m c) (allocated_before t.swept (λ (x : Counted). x.since_swept) v.holds.swept) asked_is al.season.swept);
@@ -296,8 +296,8 @@ module _ (l : Limits) (es : List Event) (r new : Course) (m : ℕ) (c : Command)
       pub kept_measures : length step.graph.objects ≤ length mid.graph.objects → Measures l (es ++ event ∷ []) new step
       kept_measures less = measured_by step (record {
         graph = step_graph;
-        on = ap (λ (x : Meter). x.on) z ∙ s.on ∙ v.holds.on;
-        tracing = ap (λ (x : Counted). x.tracing) season_stays ∙ v.holds.tracing;
+        cycle_running = ap (λ (x : Meter). x.cycle_running) z ∙ s.cycle_running ∙ v.holds.cycle_running;
+        awaiting_sweep_end = ap (λ (x : Counted). x.awaiting_sweep_end) season_stays ∙ v.holds.awaiting_sweep_end;
         last = counts t.last step.season.since_last v.are.last (allocated_before t.last (λ (x : Counted). x.since_last) v.holds.last);
         base = counts t.base step.season.since_base v.are.base (allocated_before t.base (λ (x : Counted). x.since_base) v.holds.base);
         swept = counts t.swept step.season.since_swept v.are.swept (allocated_before t.swept (λ (x : Counted). x.since_swept) v.holds.swept);
@@ -311,19 +311,19 @@ module _ (l : Limits) (es : List Event) (r new : Course) (m : ℕ) (c : Command)
 pub skip_measures : (l : Limits) (es : List Event) (r : Course) (m : Meter) → Measures l es r m → Measures l (es ++ []) r m
 skip_measures l es r m v = subst (λ x. Measures l x r m) (sym (append-nil es)) v
 
-pub goes_on_measures : (l : Limits) (es : List Event) (r : Course) (m : Meter) → Measures l es r m → Measures l (es ++ Cycle_on ∷ []) r m
+pub goes_on_measures : (l : Limits) (es : List Event) (r : Course) (m : Meter) → Measures l es r m → Measures l (es ++ Begin_refused ∷ []) r m
 goes_on_measures l es r m v = record {
-  are = subst (λ x. AreOf x (beat_after (opening_beat l) (es ++ Cycle_on ∷ [])) r) (sym (season_append none_live (opening_season l) es (Cycle_on ∷ [])))
-      (subst (λ x. AreOf (season_at none_live (opening_season l) es) x r) (sym (beat_append (opening_beat l) es (Cycle_on ∷ []))) v.are);
-  holds = subst (λ x. Holds x (beat_after (opening_beat l) (es ++ Cycle_on ∷ [])) m) (sym (season_append none_live (opening_season l) es (Cycle_on ∷ [])))
-      (subst (λ x. Holds (season_at none_live (opening_season l) es) x m) (sym (beat_append (opening_beat l) es (Cycle_on ∷ []))) v.holds);
+  are = subst (λ x. AreOf x (beat_after (opening_beat l) (es ++ Begin_refused ∷ [])) r) (sym (season_append none_live (opening_season l) es (Begin_refused ∷ [])))
+      (subst (λ x. AreOf (season_at none_live (opening_season l) es) x r) (sym (beat_append (opening_beat l) es (Begin_refused ∷ []))) v.are);
+  holds = subst (λ x. Holds x (beat_after (opening_beat l) (es ++ Begin_refused ∷ [])) m) (sym (season_append none_live (opening_season l) es (Begin_refused ∷ [])))
+      (subst (λ x. Holds (season_at none_live (opening_season l) es) x m) (sym (beat_append (opening_beat l) es (Begin_refused ∷ []))) v.holds);
   needs = record {
     pace = v.needs.pace;
-    paces = pace_more l es (Cycle_on ∷ []) v.needs.pace v.needs.pace (λ q. Unit {0}) v.needs.paces (λ q k. (λ h. (tt, tt), λ h. (tt, tt))) (pace_same v.needs.pace);
+    paces = pace_more l es (Begin_refused ∷ []) v.needs.pace v.needs.pace (λ q. Unit {0}) v.needs.paces (λ q k. (λ h. (tt, tt), λ h. (tt, tt))) (pace_same v.needs.pace);
     live = v.needs.live;
     busy = v.needs.busy;
     idle = v.needs.idle;
-    budget = λ k. (let p = budgets_append k es (Cycle_on ∷ []) in let q = v.needs.budget k in (λ h. q.0 (p.0 h).0, λ h. p.1 (q.1 h, tt)));
+    budget = λ k. (let p = budgets_append k es (Begin_refused ∷ []) in let q = v.needs.budget k in (λ h. q.0 (p.0 h).0, λ h. p.1 (q.1 h, tt)));
   };
-  shifts = shifts_still l es (Cycle_on ∷ []) m m v.shifts (λ Bound live. (tt, tt)) (λ live. refl) refl refl;
+  shifts = shifts_still l es (Begin_refused ∷ []) m m v.shifts (λ Bound live. (tt, tt)) (λ live. refl) refl refl;
 }

@@ -8,7 +8,7 @@ use Rattle.size_classes.specs.declared.config.TheConstants.{LEAST_BUDGET}
 use Rattle.heap_model.specs.State.{HeapState}
 use Rattle.heap_model.specs.Settings.{HeapSettings, settings_of, settings_by}
 use Rattle.heap_model.specs.Opening.{IsOpening}
-use Rattle.heap_model.specs.Event.{Course, Event, Command_done, Cycle_begun, Cycle_on, Quantum_done, Quantum_refused, Runs, HaveBudgets}
+use Rattle.heap_model.specs.Event.{Course, Event, Command_done, Cycle_begun, Begin_refused, Quantum_done, Quantum_refused, Runs, HaveBudgets}
 use Rattle.heap_model.specs.ReachedFrom.{opened}
 use Rattle.size_classes.specs.declared.class.TheConstants.{CLASSES}
 use Rattle.space.specs.declared.pace.Pace.{Pace as PaceTable}
@@ -20,10 +20,10 @@ use Rattle.space.proofs.Configured.{pace_configured}
 use Rattle.fragmentation.specs.Season.{Season, opening_season, AllKeep}
 use Rattle.fragmentation.specs.Suffice.{WithinPages, sparse_pages}
 use Rattle.fragmentation.specs.Configured.{MovesAll, FitsTogether}
-use Rattle.fragmentation.proofs.Configured.{joint_configured, moving_configured, budget_configured}
+use Rattle.fragmentation.proofs.Configured.{joint_configured, moving_configured, page_demand_configured}
 use Rattle.sizing.specs.declared.needed.Needed.{Needed}
 use Rattle.sizing.specs.declared.measured.Measured.{Measured}
-use Rattle.sizing.specs.Measured.{IsMeasured, AreLeast, CanBeStated, KeepTogether, KeepGathered, together_in, budget_in, IsLeastPace, IsLeastBudget, IsPaceStated, least_units, HasUnits}
+use Rattle.sizing.specs.Measured.{IsMeasured, AreLeast, CanBeStated, KeepTogether, KeepGathered, together_in, page_demand_in, IsLeastPace, IsLeastBudget, IsPaceStated, least_units, HasUnits}
 use Rattle.sizing.specs.Reckoned.{still_pages, moved_pages, moves_all, needed_pages}
 use Rattle.sizing.specs.Promises.{EachFindsRoom, NeedNoMore, Suffices, Promises}
 use Rattle.sizing.proofs.Seasons.{keep_looser}
@@ -33,7 +33,7 @@ pub run_budgets : (es : List Event) (r new : Course) → Runs r es new → HaveB
 run_budgets [] r new runs = tt
 run_budgets (Command_done m c reply ∷ es) r new runs = run_budgets es runs.0 new runs.2
 run_budgets (Cycle_begun ∷ es) r new runs = run_budgets es runs.0 new runs.2
-run_budgets (Cycle_on ∷ es) r new runs = run_budgets es runs.0 new runs.2
+run_budgets (Begin_refused ∷ es) r new runs = run_budgets es runs.0 new runs.2
 run_budgets (Quantum_done budget units phase ∷ es) r new runs = (runs.1.allowed.0, run_budgets es runs.0 new runs.2)
 run_budgets (Quantum_refused budget ∷ es) r new runs = run_budgets es runs.0 new runs.2
 
@@ -79,7 +79,7 @@ suffices n = record {
   still = λ c none enough. each_together c n (inl (subst (λ z. pages_for (together_in n) z CLASSES ≤ c.pages) (sym (still_spare c none)) enough));
   moved = λ c enough. each_together c n (fits_together c n enough);
   gathered = λ c moves enough. each_gathered c n.gathered moves enough;
-  budget = λ c moves enough h es new o same runs keeps. budget_configured c h o same c.pages_in_range.0 es new keeps.0 runs (budget_in n) moves keeps.1 keeps.2 enough;
+  page_demand = λ c moves enough h es new o same runs keeps. page_demand_configured c h o same c.pages_in_range.0 es new keeps.0 runs (page_demand_in n) moves keeps.1 keeps.2 enough;
 }
 
 -- a configuration that gathers every class

@@ -12,7 +12,7 @@ use Rattle.heap_model.specs.State.{HeapState}
 use Rattle.heap_model.specs.Opening.{IsOpening}
 use Rattle.heap_model.specs.Settings.{HeapSettings, settings_of, settings_by}
 use Rattle.heap_model.specs.ReachedFrom.{opened}
-use Rattle.heap_model.specs.Event.{Course, Event, Command_done, Cycle_begun, Cycle_on, Quantum_done, Does, Runs, Enters, Begins, IsCourse}
+use Rattle.heap_model.specs.Event.{Course, Event, Command_done, Cycle_begun, Begin_refused, Quantum_done, Does, Runs, Enters, Begins, IsCourse}
 use Rattle.heap_model.proofs.Course.{runs_course, opening_course}
 use Rattle.machine.proofs.Courses.{runs_then}
 use Rattle.space.specs.Pace.{in_cycle}
@@ -86,23 +86,23 @@ module _ (run : Run) (s : Step) (old new : Meter) (seen : HasMeasured run old) (
       one_measured e is.0 d (measured l es run.now s.after seen.measures course d)
 
   -- whether a cycle is running
-  at_on : old.on ≡ in_cycle run.now.heap.phase
-  at_on = seen.measures.holds.on ∙ seen.measures.are.on
+  at_on : old.cycle_running ≡ in_cycle run.now.heap.phase
+  at_on = seen.measures.holds.cycle_running ∙ seen.measures.are.cycle_running
 
   -- a beginning, where none is running, and where one is
-  pub begin_measured : (number : ℕ) (r : Course) → IsBegin number r s → old.on ≡ false
+  pub begin_measured : (number : ℕ) (r : Course) → IsBegin number r s → old.cycle_running ≡ false
       → ((l : Limits) (es : List Event) (x y : Course) → Measures l es x old → IsCourse x → Begins x y → Measures l (es ++ Cycle_begun ∷ []) y new) → HasMeasured (after_steps run (s ∷ []) s.after) new
   begin_measured number r is off measured = elim is.2 [
     | inl begun ↦ (let d = done_by Cycle_begun begun is.3 in one_measured Cycle_begun begun d (measured l es run.now s.after seen.measures course d))
-    | inr on ↦ absurd ((done_by Cycle_on on is.3).0 (idle_phase run.now.heap.phase (sym at_on ∙ off)))
+    | inr on ↦ absurd ((done_by Begin_refused on is.3).0 (idle_phase run.now.heap.phase (sym at_on ∙ off)))
   ]
 
-  pub on_measured : (number : ℕ) (r : Course) → IsBegin number r s → old.on ≡ true → new ≡ old → HasMeasured (after_steps run (s ∷ []) s.after) new
+  pub on_measured : (number : ℕ) (r : Course) → IsBegin number r s → old.cycle_running ≡ true → new ≡ old → HasMeasured (after_steps run (s ∷ []) s.after) new
   on_measured number r is on same = elim is.2 [
     | inl begun ↦ absurd (not_idle run.now.heap.phase (sym at_on ∙ on) (done_by Cycle_begun begun is.3).idle)
     | inr still ↦
-        let d = done_by Cycle_on still is.3 in
-        one_measured Cycle_on still d (subst (λ r. Measures l (es ++ Cycle_on ∷ []) r new) (sym d.1) (subst (Measures l (es ++ Cycle_on ∷ []) run.now) (sym same) (goes_on_measures l es run.now old seen.measures)))
+        let d = done_by Begin_refused still is.3 in
+        one_measured Begin_refused still d (subst (λ r. Measures l (es ++ Begin_refused ∷ []) r new) (sym d.1) (subst (Measures l (es ++ Begin_refused ∷ []) run.now) (sym same) (goes_on_measures l es run.now old seen.measures)))
   ]
 
   -- a quantum

@@ -8,7 +8,7 @@ use Rattle.size_classes.specs.declared.class.TheConstants.{CLASSES}
 use Rattle.heap_model.specs.Event.{Event, Command_done, Cycle_begun}
 use Rattle.space.specs.Demand.{LiveWithin, blocks_of, asked_for}
 use Rattle.fragmentation.specs.Season.{Season, Lives, opening_season, made_since, needed_since, season_swept, AllKeep}
-use Rattle.fragmentation.specs.Suffice.{WithinBlocks, WithinPages, pages_of, season_pages, Budget, WithinBudget}
+use Rattle.fragmentation.specs.Suffice.{WithinBlocks, WithinPages, pages_of, season_pages, PageDemand, WithinPageDemand}
 use Rattle.fragmentation.proofs.Paging.{pages_more}
 use Rattle.sizing.specs.declared.meter.Meter.{Meter}
 use Rattle.sizing.specs.declared.season.Season.{Season as Counted}
@@ -48,7 +48,7 @@ module _ (l : Limits) (es : List Event) where
         gathered_least = least_on ℕ (λ pages live. WithinPages pages) (λ pages. w.gathered ≤ pages) w.gathered_least;
         gathered_counted = subst (λ (z : Most). IsPages z.gathered w.gathered) (sym most) w.gathered_counted;
         made = w.made;
-        made_least = least_on Budget (λ b live. WithinBudget b) (λ (b : Budget). w.made ≤ b.made) w.made_least;
+        made_least = least_on PageDemand (λ b live. WithinPageDemand b) (λ (b : PageDemand). w.made ≤ b.made) w.made_least;
         made_counted = subst (λ (z : Most). IsPages z.made w.made) (sym most) w.made_counted;
         live = w.live;
         live_least = λ live_at pages k most_at. w.live_least live_at pages (kept live_at k) most_at;
@@ -139,7 +139,7 @@ module _ (l : Limits) (es : List Event) where
     abbrev lives : Lives
     lives n = if n == t.cycles + 1 then now else w.lives n
 
-    begun_all : season_at none_live (opening_season l) (es ++ fs) ≡ record t { cycles = t.cycles + 1; tracing = true; last = length t.graph.objects }
+    begun_all : season_at none_live (opening_season l) (es ++ fs) ≡ record t { cycles = t.cycles + 1; awaiting_sweep_end = true; last = length t.graph.objects }
     begun_all = goes l es fs none_live
 
     begun_cycles : (season_at none_live (opening_season l) (es ++ fs)).cycles ≡ t.cycles + 1
@@ -229,7 +229,7 @@ module _ (l : Limits) (es : List Event) where
       gathered_least = least_begun ℕ (λ pages live. WithinPages pages) (λ pages. w.gathered ≤ pages) w.gathered_least;
       gathered_counted = subst (λ z. IsPages z w.gathered) (sym (ap (λ (z : Most). z.gathered) m.same)) w.gathered_counted;
       made = w.made;
-      made_least = least_begun Budget (λ b live. WithinBudget b) (λ (b : Budget). w.made ≤ b.made) w.made_least;
+      made_least = least_begun PageDemand (λ b live. WithinPageDemand b) (λ (b : PageDemand). w.made ≤ b.made) w.made_least;
       made_counted = subst (λ z. IsPages z w.made) (sym (ap (λ (z : Most). z.made) m.same)) w.made_counted;
       live = max w.live (pages_of now);
       live_least = begun_few;

@@ -8,12 +8,12 @@ use Rattle.space.specs.declared.pace.Pace.{Pace as PaceTable}
 use Rattle.space.specs.Pace.{Pace, opening_beat, AllKeepPace}
 use Rattle.space.specs.Fitting.{pace_in}
 use Rattle.fragmentation.specs.Season.{Lives, Season, opening_season, AllKeep}
-use Rattle.fragmentation.specs.Suffice.{WithinBlocks, WithinPages, pages_of, Budget, WithinBudget}
+use Rattle.fragmentation.specs.Suffice.{WithinBlocks, WithinPages, pages_of, PageDemand, WithinPageDemand}
 use Rattle.sizing.specs.declared.meter.Meter.{Meter}
 use Rattle.sizing.specs.declared.needed.Needed.{Needed}
 use Rattle.sizing.specs.Counts.{MOST, TOO_MANY, AreBlocks, IsTable, HasOver, IsPages}
 use Rattle.sizing.specs.Season.{AreStated, CannotBeStated}
-use Rattle.sizing.specs.Measured.{IsLeastPace, IsPaceStated, IsLeastBudget, CanBeStated, AreLeast, KeepTogether, KeepGathered, KeepBudget}
+use Rattle.sizing.specs.Measured.{IsLeastPace, IsPaceStated, IsLeastBudget, CanBeStated, AreLeast, KeepTogether, KeepGathered, KeepPageDemand}
 use Rattle.sizing.specs.Meter.{season_at, none_live, Needs, Shifts}
 use Rattle.sizing.proofs.Counting.{equal_at, high_at}
 use Rattle.sizing.proofs.Seasons.{stated as said}
@@ -76,9 +76,9 @@ module _ (l : Limits) (es : List Event) (m : Meter) (w : Shifts l es m) where
   keep_gathered : (pages : ℕ) → KeepGathered pages l es ↔ (w.gathered ≤ pages)
   keep_gathered pages = (λ k. w.gathered_least.above k.0 pages k.1, λ n. (w.lives, w.gathered_least.below w.lives pages same n))
 
-  keep_budget : (b : Budget) → KeepBudget b l es ↔ ((w.live ≤ b.live) × (w.made ≤ b.made))
-  keep_budget b = (
-    λ k. (w.live_least k.0 b.live (said (WithinBudget b) k.0 (opening_season l) es k.2) k.1, w.made_least.above k.0 b k.2),
+  keep_page_demand : (b : PageDemand) → KeepPageDemand b l es ↔ ((w.live ≤ b.live) × (w.made ≤ b.made))
+  keep_page_demand b = (
+    λ k. (w.live_least k.0 b.live (said (WithinPageDemand b) k.0 (opening_season l) es k.2) k.1, w.made_least.above k.0 b k.2),
     λ n. (w.lives, (λ k. (let x = w.live_most k in let y = n.0 in omega (arith, x, y))), w.made_least.below w.lives b same n.1),
   )
 
@@ -89,7 +89,7 @@ module _ (l : Limits) (es : List Event) (m : Meter) (w : Shifts l es m) where
       λ h. (keep_together blocks).1 (λ class low. subst (λ x. x ≤ blocks class) (sym (together class low)) (h class low)),
     );
     gathered = λ pages. subst (λ x. KeepGathered pages l es ↔ (x ≤ pages)) gathered (keep_gathered pages);
-    budget = λ b. subst (λ x. KeepBudget b l es ↔ ((x ≤ b.live) × (n.made ≤ b.made))) live (subst (λ x. KeepBudget b l es ↔ ((w.live ≤ b.live) × (x ≤ b.made))) made (keep_budget b));
+    page_demand = λ b. subst (λ x. KeepPageDemand b l es ↔ ((x ≤ b.live) × (n.made ≤ b.made))) live (subst (λ x. KeepPageDemand b l es ↔ ((w.live ≤ b.live) × (x ≤ b.made))) made (keep_page_demand b));
   }
     where
       together : (class : ℕ) → class < CLASSES → w.together class ≡ slice_index n.together class
@@ -106,6 +106,6 @@ module _ (l : Limits) (es : List Event) (m : Meter) (w : Shifts l es m) where
   needed_measured None some none = λ s. elim (none refl) [
     | inl o ↦ over (2 ^ 64) m.most.together w.together s.blocks o w.together_counted ((keep_together s.blocks).0 s.together) s.small_blocks
     | inr (inl o) ↦ (let x = more_pages m.most.gathered w.gathered w.gathered_counted o in let y = (keep_gathered s.pages).0 s.gathered in let z = s.small_pages.0 in omega (arith, x, y, z))
-    | inr (inr (inl o)) ↦ (let x = more_pages m.most.live w.live w.live_counted o in let y = ((keep_budget s.budget).0 s.budgeted).0 in let z = s.small_pages.1 in omega (arith, x, y, z))
-    | inr (inr (inr o)) ↦ (let x = more_pages m.most.made w.made w.made_counted o in let y = ((keep_budget s.budget).0 s.budgeted).1 in let z = s.small_pages.2 in omega (arith, x, y, z))
+    | inr (inr (inl o)) ↦ (let x = more_pages m.most.live w.live w.live_counted o in let y = ((keep_page_demand s.page_demand).0 s.demanded).0 in let z = s.small_pages.1 in omega (arith, x, y, z))
+    | inr (inr (inr o)) ↦ (let x = more_pages m.most.made w.made w.made_counted o in let y = ((keep_page_demand s.page_demand).0 s.demanded).1 in let z = s.small_pages.2 in omega (arith, x, y, z))
   ]

@@ -3,7 +3,7 @@ use Rattle.std.specs.Prelude.{◌≡◌, ℕ, ◌+◌, ◌-◌, ◌*◌, ◌<◌
 use Rattle.graph_heap.specs.Graph.{Graph}
 use Rattle.graph_heap.specs.History.{after_entry}
 use Rattle.size_classes.specs.declared.class.TheConstants.{CLASSES}
-use Rattle.heap_model.specs.Event.{Event, Command_done, Cycle_begun, Cycle_on, Quantum_done, Quantum_refused}
+use Rattle.heap_model.specs.Event.{Event, Command_done, Cycle_begun, Begin_refused, Quantum_done, Quantum_refused}
 use Rattle.trace.specs.declared.line.Line.{Line}
 use Rattle.trace.specs.declared.line.Line.TheVariants as lines
 use Rattle.trace.specs.declared.version.Version.{Version}
@@ -101,7 +101,7 @@ AllLive live g [] = Unit {0}
 AllLive live g (Command_done m c reply ∷ es) =
     AllLive live (after_entry g (record { mutator = m; command = c; reply = reply })) es
 AllLive live g (Cycle_begun ∷ es) = LiveWithin g live × AllLive live g es
-AllLive live g (Cycle_on ∷ es) = AllLive live g es
+AllLive live g (Begin_refused ∷ es) = AllLive live g es
 AllLive live g (Quantum_done budget units phase ∷ es) = AllLive live g es
 AllLive live g (Quantum_refused budget ∷ es) = AllLive live g es
 

@@ -4,7 +4,7 @@ use Rattle.graph_heap.specs.declared.command.Command.{Command}
 use Rattle.size_classes.specs.declared.class.TheConstants.{CLASSES}
 use Rattle.trace.specs.declared.line.Line.{Line}
 use Rattle.trace.specs.declared.line.Line.TheVariants as lines
-use Rattle.trace.specs.declared.fault.TextFault.{TextFault}
+use Rattle.trace.specs.declared.fault.PlayFault.{PlayFault}
 use Rattle.trace.specs.LinesProcessed.{Reached, NextLine, NextThere, LinesProcessed, ProcessingEnds}
 use Rattle.trace.specs.Spelling.{Spells}
 use Rattle.trace.specs.Streams.{Given}
@@ -50,7 +50,7 @@ BreaksBy l k said (lines.Quantum budget) SmallQuantum = budget < k
 BreaksBy l k said line by = ⊥
 
 -- How checking ends.
-abbrev pub CheckEnds : AllocationProfile → ℕ → Bool → Result Conformance TextFault → Reached (Unit {0}) Line → Type 0
+abbrev pub CheckEnds : AllocationProfile → ℕ → Bool → Result Conformance PlayFault → Reached (Unit {0}) Line → Type 0
 -- all lines of the input are read
 CheckEnds l k ended (Ok Keeps) reached = (reached.rest ≡ []) × IsTrue ended
 -- the next line breaks the load
@@ -63,7 +63,7 @@ CheckEnds l k ended (Err fault) reached = ProcessingEnds NoEvent {A = Conformanc
 -- What was checked of an input: the lines that are done keep to the load. These are all of its lines, or those
 -- before the line at which checking stopped; where that breaks the load, they don't keep to it with that line.
 pub record LoadChecked (l : AllocationProfile) (k : ℕ) (given : Given)
-    (result : Result Conformance TextFault) : Type 0 where
+    (result : Result Conformance PlayFault) : Type 0 where
   pub over : LinesProcessed SaysText given tt (CheckEnds l k given.ended result)
   pub keeps : KeepsLoad l k over.lines
   pub breaks : (number : ℕ) (by : Violation) → result ≡ Ok (Breaks number by)

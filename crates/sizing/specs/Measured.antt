@@ -8,7 +8,7 @@ use Rattle.heap_model.specs.Event.{Event, HaveBudgets}
 use Rattle.space.specs.Pace.{Pace, opening_beat, AllKeepPace}
 use Rattle.space.specs.Fitting.{pace_in}
 use Rattle.fragmentation.specs.Season.{Lives, opening_season, AllKeep}
-use Rattle.fragmentation.specs.Suffice.{WithinBlocks, WithinPages, pages_of, Budget, WithinBudget}
+use Rattle.fragmentation.specs.Suffice.{WithinBlocks, WithinPages, pages_of, PageDemand, WithinPageDemand}
 use Rattle.sizing.specs.declared.needed.Needed.{Needed}
 use Rattle.sizing.specs.declared.measured.Measured.{Measured}
 
@@ -20,37 +20,37 @@ KeepTogether blocks l es = (live : Lives) × AllKeep (WithinBlocks blocks live) 
 abbrev pub KeepGathered : ℕ → Limits → List Event → Type 0
 KeepGathered pages l es = (live : Lives) × AllKeep (WithinPages pages) live (opening_season l) es
 
--- They keep to a budget of pages, of what is live and of what is made.
-abbrev pub KeepBudget : Budget → Limits → List Event → Type 0
-KeepBudget b l es =
-    (live : Lives) × ((n : ℕ) → pages_of (live n) ≤ b.live) × AllKeep (WithinBudget b) live (opening_season l) es
+-- They keep to a demand in pages, of what is live and of what is made.
+abbrev pub KeepPageDemand : PageDemand → Limits → List Event → Type 0
+KeepPageDemand b l es =
+    (live : Lives) × ((n : ℕ) → pages_of (live n) ≤ b.live) × AllKeep (WithinPageDemand b) live (opening_season l) es
 
 -- the blocks of each class that are needed together
 abbrev pub together_in : Needed → ℕ → ℕ
 together_in n class = slice_index n.together class
 
 -- the pages of what is live, and of what is made
-abbrev pub budget_in : Needed → Budget
-budget_in n = record { live = n.live; made = n.made }
+abbrev pub page_demand_in : Needed → PageDemand
+page_demand_in n = record { live = n.live; made = n.made }
 
--- Events keep to a demand taken together, within pages, and to a budget, exactly where these are at least as large as
--- what was needed.
+-- Events keep to a demand taken together, within pages, and to a demand in pages, exactly where these are at least as
+-- large as what was needed.
 pub record AreLeast (l : Limits) (es : List Event) (n : Needed) : Type 0 where
   pub together : (blocks : ℕ → ℕ)
       → KeepTogether blocks l es ↔ ((class : ℕ) → class < CLASSES → together_in n class ≤ blocks class)
   pub gathered : (pages : ℕ) → KeepGathered pages l es ↔ (n.gathered ≤ pages)
-  pub budget : (b : Budget) → KeepBudget b l es ↔ ((n.live ≤ b.live) × (n.made ≤ b.made))
+  pub page_demand : (b : PageDemand) → KeepPageDemand b l es ↔ ((n.live ≤ b.live) × (n.made ≤ b.made))
 
 -- Events keep to some numbers that can be stated.
 pub record CanBeStated (l : Limits) (es : List Event) : Type 0 where
   pub blocks : ℕ → ℕ
   pub pages : ℕ
-  pub budget : Budget
+  pub page_demand : PageDemand
   pub small_blocks : (class : ℕ) → class < CLASSES → blocks class < 2 ^ 64
-  pub small_pages : (pages < 2 ^ 64) × (budget.live < 2 ^ 64) × (budget.made < 2 ^ 64)
+  pub small_pages : (pages < 2 ^ 64) × (page_demand.live < 2 ^ 64) × (page_demand.made < 2 ^ 64)
   pub together : KeepTogether blocks l es
   pub gathered : KeepGathered pages l es
-  pub budgeted : KeepBudget budget l es
+  pub demanded : KeepPageDemand page_demand l es
 
 -- one pace is at least another, in each class
 abbrev pub IsPaceWithin : Pace → Pace → Type 0

@@ -4,7 +4,7 @@ use Rattle.size_classes.specs.declared.config.Config.{Config}
 use Rattle.heap_model.specs.Opening.{IsOpening}
 use Rattle.heap_model.specs.ReachedFrom.{opened}
 use Rattle.heap_model.specs.Event.{Runs}
-use Rattle.trace.specs.declared.fault.TextFault.{TextFault}
+use Rattle.trace.specs.declared.fault.PlayFault.{PlayFault}
 use Rattle.trace.specs.Streams.{Given}
 use Rattle.player.specs.declared.style.Style.TheVariants.{Nothing}
 use Rattle.player.specs.New.{IsNew}
@@ -29,7 +29,7 @@ pub record RunMeasured (config : Config) (given : Given) (m : Measured) : Type 0
 
 -- The lines of an input are played on a new player, and what they needed is answered; or the fault with which
 -- playing them ends; or memory was refused.
-abbrev pub TraceMeasured : Config → Given → Result Measured TextFault → Type 0
+abbrev pub TraceMeasured : Config → Given → Result Measured PlayFault → Type 0
 TraceMeasured config given (Ok m) = RunMeasured config given m
 TraceMeasured config given (Err fault) = StopsNew config given fault
 

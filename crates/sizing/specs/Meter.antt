@@ -8,10 +8,10 @@ use Rattle.heap_model.specs.Event.{Course, Event, Quantum_done, Runs, HaveBudget
 use Rattle.space.specs.Tally.{awaits_sweep_end}
 use Rattle.space.specs.Pace.{Pace, Beat, opening_beat, next_beat, in_cycle}
 use Rattle.fragmentation.specs.Season.{Season, Lives, opening_season, season_after, made_since, AllKeep}
-use Rattle.fragmentation.specs.Suffice.{WithinBlocks, WithinPages, pages_of, Budget, WithinBudget}
+use Rattle.fragmentation.specs.Suffice.{WithinBlocks, WithinPages, pages_of, PageDemand, WithinPageDemand}
 use Rattle.sizing.specs.declared.meter.Meter.{Meter}
 use Rattle.sizing.specs.Counts.{MOST, AreBlocks, IsPages}
-use Rattle.sizing.specs.Season.{AreAllocated, AsksMost}
+use Rattle.sizing.specs.Season.{AddsBlocks, AsksMost}
 use Rattle.sizing.specs.Measured.{IsLeastPace}
 
 -- nothing is live where a cycle begins
@@ -35,31 +35,31 @@ AllFit g = (id : ℕ) → fits (object_of g.objects id).shape ≡ true
 -- these blocks are asked for
 pub record Asks (asked : List ℕ) (old new : Meter) : Type 0 where
   pub graph : new.graph ≡ old.graph
-  pub on : new.on ≡ old.on
+  pub cycle_running : new.cycle_running ≡ old.cycle_running
   pub season : new.season ≡ old.season
   pub live : new.live ≡ old.live
   pub budget : new.budget ≡ old.budget
   pub most : AsksMost old.season asked old.most new.most
   pub sum : (class : ℕ) → class < CLASSES
       → slice_index new.asked class ≡ min (slice_index old.asked class + slice_index asked class) MOST
-  pub busy : old.on ≡ true → (class : ℕ) → class < CLASSES
+  pub busy : old.cycle_running ≡ true → (class : ℕ) → class < CLASSES
       → slice_index new.busy class ≡ max (slice_index old.busy class) (slice_index new.asked class)
-  pub idle : old.on ≡ false → (class : ℕ) → class < CLASSES
+  pub idle : old.cycle_running ≡ false → (class : ℕ) → class < CLASSES
       → slice_index new.idle class ≡ max (slice_index old.idle class) (slice_index new.asked class)
-  pub not_busy : old.on ≡ false → new.busy ≡ old.busy
-  pub not_idle : old.on ≡ true → new.idle ≡ old.idle
+  pub not_busy : old.cycle_running ≡ false → new.busy ≡ old.busy
+  pub not_idle : old.cycle_running ≡ true → new.idle ≡ old.idle
 
 -- an object is allocated that needs these
 pub record Allocates (blocks : List ℕ) (old new : Meter) : Type 0 where
   pub same : new ≡ record old { season = new.season }
-  pub season : AreAllocated blocks old.season new.season
+  pub season : AddsBlocks blocks old.season new.season
 
 -- The season and the beat of events that lead to a course.
 pub record AreOf (s : Season) (b : Beat) (r : Course) : Type 0 where
   pub graph : s.graph ≡ present_of r
   pub same : b.graph ≡ present_of r
-  pub on : b.on ≡ in_cycle r.heap.phase
-  pub tracing : s.tracing ≡ awaits_sweep_end r.heap.phase
+  pub cycle_running : b.cycle_running ≡ in_cycle r.heap.phase
+  pub awaiting_sweep_end : s.awaiting_sweep_end ≡ awaits_sweep_end r.heap.phase
   pub last : s.last ≤ length (present_of r).objects
   pub base : s.base ≤ length (present_of r).objects
   pub swept : s.swept ≤ length (present_of r).objects
@@ -69,8 +69,8 @@ pub record AreOf (s : Season) (b : Beat) (r : Course) : Type 0 where
 -- the meter holds this season and this beat
 pub record Holds (s : Season) (b : Beat) (m : Meter) : Type 0 where
   pub graph : m.graph ≡ s.graph
-  pub on : m.on ≡ b.on
-  pub tracing : m.season.tracing ≡ s.tracing
+  pub cycle_running : m.cycle_running ≡ b.cycle_running
+  pub awaiting_sweep_end : m.season.awaiting_sweep_end ≡ s.awaiting_sweep_end
   pub last : AreBlocks m.season.since_last (made_since s.last s)
   pub base : AreBlocks m.season.since_base (made_since s.base s)
   pub swept : AreBlocks m.season.since_swept (made_since s.swept s)
@@ -128,7 +128,7 @@ pub record Shifts (l : Limits) (es : List Event) (m : Meter) : Type 0 where
   pub gathered_least : IsLeastOf ℕ (λ pages live. WithinPages pages) (λ pages. gathered ≤ pages) l es lives
   pub gathered_counted : IsPages m.most.gathered gathered
   pub made : ℕ
-  pub made_least : IsLeastOf Budget (λ b live. WithinBudget b) (λ b. made ≤ b.made) l es lives
+  pub made_least : IsLeastOf PageDemand (λ b live. WithinPageDemand b) (λ b. made ≤ b.made) l es lives
   pub made_counted : IsPages m.most.made made
   pub live : ℕ
   pub live_least : (live_at : Lives) (pages : ℕ) → AllKeep Anything live_at (opening_season l) es

@@ -4,7 +4,7 @@ use Rattle.size_classes.specs.declared.class.TheConstants.{CLASSES}
 use Rattle.graph_heap.specs.declared.command.Command.{Command}
 use Rattle.trace.specs.declared.line.Line.{Line}
 use Rattle.trace.specs.declared.line.Line.TheVariants as lines
-use Rattle.trace.specs.declared.fault.TextFault.{TextFault}
+use Rattle.trace.specs.declared.fault.PlayFault.{PlayFault}
 use Rattle.trace.specs.Numbered.{IsNoEvent}
 use Rattle.trace.specs.Spelling.{Spells}
 use Rattle.trace.specs.TextLine.{Text, IsVersionLine}
@@ -60,11 +60,11 @@ Metered l k old (lines.Quantum budget) new (Some SmallQuantum) = budget < k
 Metered l k old line new (Some by) = ⊥
 
 -- a fault at a line
-abbrev pub NoEvent : TextFault → Text → Unit {0} → Unit {0} → Type 0
+abbrev pub NoEvent : PlayFault → Text → Unit {0} → Unit {0} → Type 0
 NoEvent fault text old new = IsNoEvent fault text
 
 -- The outcome of the text of a line: it tells the version of those after it, or is metered.
-abbrev pub TextMetered : AllocationProfile → ℕ → Text → Meter → Meter → Result (Option Violation) TextFault → Type 0
+abbrev pub TextMetered : AllocationProfile → ℕ → Text → Meter → Meter → Result (Option Violation) PlayFault → Type 0
 TextMetered l k text old new (Ok found) =
     (IsVersionLine text × (new ≡ old) × (found ≡ None))
     ⊎ ((¬ IsVersionLine text)

@@ -4,7 +4,7 @@ use Rattle.heap_model.specs.Event.{Event}
 use Rattle.graph_heap.specs.Graph.{opening}
 use Rattle.size_classes.specs.declared.config.Config.{Config}
 use Rattle.size_classes.specs.Config.{limits_of}
-use Rattle.trace.specs.declared.fault.TextFault.{TextFault}
+use Rattle.trace.specs.declared.fault.PlayFault.{PlayFault}
 use Rattle.trace.specs.declared.version.Version.{Version}
 use Rattle.trace.specs.LinesProcessed.{LinesDone}
 use Rattle.trace.specs.Streams.{Given, Taken}
@@ -32,7 +32,7 @@ LoadFindsRoom config l =
 -- What was played of an input on a new player of a configuration. Where the lines that were done keep to a load
 -- whose pace fits in the configuration's pages, no reply is the refusal for lack of space.
 pub record PlayedNew (config : Config) (style : Style) (given : Given) (taken : Taken) (new : PlayerState)
-    (result : Result (Unit {0}) TextFault) : Type 0 where
+    (result : Result (Unit {0}) PlayFault) : Type 0 where
   pub old : PlayerState
   pub is_new : IsNew config old
   pub played : Played style given (session old taken.before) (session new taken.after) result

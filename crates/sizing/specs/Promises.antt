@@ -11,11 +11,11 @@ use Rattle.space.specs.declared.pace.Pace.{Pace as PaceTable}
 use Rattle.space.specs.Pace.{opening_beat, AllKeepPace}
 use Rattle.space.specs.Fitting.{pace_in, FitsIn}
 use Rattle.space.specs.Room.{AllHaveRoom}
-use Rattle.fragmentation.specs.Suffice.{budget_pages}
+use Rattle.fragmentation.specs.Suffice.{demand_pages}
 use Rattle.fragmentation.specs.Configured.{MovesAll}
 use Rattle.sizing.specs.declared.needed.Needed.{Needed}
 use Rattle.sizing.specs.declared.measured.Measured.{Measured}
-use Rattle.sizing.specs.Measured.{KeepTogether, KeepGathered, KeepBudget, together_in, budget_in, least_units, HasUnits}
+use Rattle.sizing.specs.Measured.{KeepTogether, KeepGathered, KeepPageDemand, together_in, page_demand_in, least_units, HasUnits}
 use Rattle.sizing.specs.Reckoned.{still_pages, moved_pages, needed_pages}
 
 -- in every run from a new heap of a configuration for which this holds, no reply is the refusal for lack of space
@@ -30,14 +30,14 @@ NeedNoMore n l es = KeepTogether (together_in n) l es × KeepGathered n.gathered
 
 -- For which runs these numbers of pages suffice, on any configuration that has them: where blocks are never moved, and
 -- with moving as it is configured, for those that need no more blocks of any class; where moving follows each sweep
--- and may empty all pages, for those that need no more pages so; and for those that keep to the budget.
+-- and may empty all pages, for those that need no more pages so; and for those that keep to the demand in pages.
 pub record Suffices (n : Needed) : Type 0 where
   pub still : (c : Config) → c.defrag_below ≡ 0 → still_pages n ≤ c.pages
       → EachFindsRoom c (KeepTogether (together_in n))
   pub moved : (c : Config) → moved_pages c n ≤ c.pages → EachFindsRoom c (KeepTogether (together_in n))
   pub gathered : (c : Config) → MovesAll c → n.gathered ≤ c.pages → EachFindsRoom c (KeepGathered n.gathered)
-  pub budget : (c : Config) → MovesAll c → budget_pages (budget_in n) ≤ c.pages
-      → EachFindsRoom c (KeepBudget (budget_in n))
+  pub page_demand : (c : Config) → MovesAll c → demand_pages (page_demand_in n) ≤ c.pages
+      → EachFindsRoom c (KeepPageDemand (page_demand_in n))
 
 -- What is promised of a run with these events, of which this was measured, on a new heap of a configuration. Where the
 -- pages are as many as it must have, no reply of this run is the refusal for lack of space, nor is one of any run that

@@ -15,7 +15,7 @@ AreAdded more old new =
     (class : ℕ) → class < CLASSES → slice_index new class ≡ min (slice_index old class + slice_index more class) MOST
 
 -- an object is allocated that needs these blocks
-pub record AreAllocated (more : List ℕ) (old new : Season) : Type 0 where
+pub record AddsBlocks (more : List ℕ) (old new : Season) : Type 0 where
   pub same : new ≡ record old {
     since_last = new.since_last;
     since_base = new.since_base;
@@ -27,13 +27,13 @@ pub record AreAllocated (more : List ℕ) (old new : Season) : Type 0 where
 
 -- a cycle is begun, while this many blocks are live
 pub record IsBegun (live : List ℕ) (old new : Season) : Type 0 where
-  pub same : new ≡ record old { tracing = true; live_last = live; since_last = new.since_last }
+  pub same : new ≡ record old { awaiting_sweep_end = true; live_last = live; since_last = new.since_last }
   pub none : AreBlocks new.since_last (λ class. 0)
 
 -- the sweep of the last cycle has ended
 pub record IsSwept (old new : Season) : Type 0 where
   pub same : new ≡ record old {
-    tracing = false;
+    awaiting_sweep_end = false;
     live_base = old.live_last;
     since_base = old.since_last;
     since_swept = new.since_swept;

@@ -9,7 +9,7 @@ use crate::meter::Meter;
 use player::{Observed, Player, observe};
 use size_classes::Config;
 use std::alloc::Global;
-use trace::{Source, TextFault};
+use trace::{PlayFault, Source};
 
 /// What a trace needs on a new heap of a configuration: its lines are played, one after the other, and nothing
 /// is written. The run keeps to what is answered, and to nothing that is less in some number. Where the configuration
@@ -20,7 +20,7 @@ pub fn measure<S: Source>(
     alloc: Global,
     config: &Config,
     source: &mut S,
-) -> Result<Measured, TextFault>
+) -> Result<Measured, PlayFault>
     ensures measured { TraceMeasured config.now (given_by S.given S.ended source.old source.new) result }
     ensures reads { S.failures source.new ≡ S.failures source.old + reads_failed result }
     ensures input { reads_failed result ≡ 0 → Stays (S.input source.old) (S.input source.new) }

@@ -30,7 +30,7 @@ use std::alloc::Global;
 pub struct Meter {
     graph: Reference,
     /// Whether a cycle is running.
-    on: bool,
+    cycle_running: bool,
     season: Season,
     /// What was asked for since the last beginning, or quantum of a cycle.
     asked: Blocks,
@@ -61,7 +61,7 @@ impl Meter {
         let nothing = none();
         Ok(Meter {
             graph: Reference::new(alloc, limits)?,
-            on: false,
+            cycle_running: false,
             season: Season::new(),
             asked: nothing,
             live: nothing,
@@ -73,10 +73,10 @@ impl Meter {
     }
 
     /// Whether a cycle is running.
-    pub fn is_on(&self) -> bool
-        ensures { result ≡ self.now.on }
+    pub fn is_cycle_running(&self) -> bool
+        ensures { result ≡ self.now.cycle_running }
     {
-        self.on
+        self.cycle_running
     }
 
     /// The blocks for which a command asks, where nothing but lack of space refuses it.
@@ -96,7 +96,7 @@ impl Meter {
     {
         self.most.ask(&self.season, asked);
         add(&mut self.asked, asked);
-        if self.on {
+        if self.cycle_running {
             raise(&mut self.busy, &self.asked);
         } else {
             raise(&mut self.idle, &self.asked);
@@ -159,19 +159,20 @@ impl Meter {
         self.most.begin(&live);
         self.season.begin(&live);
         self.asked = none();
-        self.on = true;
+        self.cycle_running = true;
         Ok(())
     }
 
     /// Quanta are done, which end in this phase: what was asked for is counted anew while a cycle runs.
     fn beat(&mut self, phase: Phase)
-        ensures same { self.new ≡ record self.old { on = self.new.on; asked = self.new.asked } }
-        ensures on { self.old.on ≡ true → (self.new.on ≡ pace.in_cycle phase) × AreBlocks self.new.asked (λ class. 0) }
-        ensures off { self.old.on ≡ false → self.new ≡ self.old }
+        ensures same { self.new ≡ record self.old { cycle_running = self.new.cycle_running; asked = self.new.asked } }
+        ensures on { self.old.cycle_running ≡ true → (self.new.cycle_running ≡ pace.in_cycle phase)
+            × AreBlocks self.new.asked (λ class. 0) }
+        ensures off { self.old.cycle_running ≡ false → self.new ≡ self.old }
     {
-        if self.on {
+        if self.cycle_running {
             self.asked = none();
-            self.on = in_cycle(phase);
+            self.cycle_running = in_cycle(phase);
         }
     }
 

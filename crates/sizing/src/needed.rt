@@ -3,8 +3,8 @@ ghost use Rattle.std.specs.Prelude.{◌≡◌, ◌≤◌, ◌*◌};
 ghost use Rattle.size_classes.specs.declared.class.TheConstants.{CLASSES};
 ghost use Rattle.space.specs.declared.pages.TheConstants.{MOST_CLASS_PAGES};
 ghost use Rattle.space.specs.Space.{pages_for};
-ghost use Rattle.fragmentation.specs.Suffice.{sparse_pages, budget_pages};
-ghost use Rattle.sizing.specs.Measured.{together_in, budget_in};
+ghost use Rattle.fragmentation.specs.Suffice.{sparse_pages, demand_pages};
+ghost use Rattle.sizing.specs.Measured.{together_in, page_demand_in};
 ghost use Rattle.sizing.specs.Reckoned.{still_pages, moved_pages, moves_all, needed_pages};
 
 use crate::page_counts::gathered_of;
@@ -79,7 +79,7 @@ impl Needed {
     /// How many suffice whatever the sizes of objects are and however these shift, where moving follows each sweep and
     /// may empty all pages.
     pub fn budgeted(&self) -> u128
-        ensures { result ≡ budget_pages (budget_in self.now) }
+        ensures { result ≡ demand_pages (page_demand_in self.now) }
     {
         u128::from(self.live) + 2 * u128::from(self.made) + CLASSES as u128
     }

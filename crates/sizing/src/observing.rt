@@ -3,7 +3,7 @@ ghost use Rattle.sizing.specs.Measuring.{HasMeasured};
 
 use crate::meter::Meter;
 use graph_heap::{Entry, NoMemory};
-use machine::HeapWithHistory;
+use machine::Recorded;
 use player::{Mark, Observer};
 
 impl Observer for Meter {
@@ -15,18 +15,18 @@ impl Observer for Meter {
         self.command(entry)
     }
 
-    fn begins(&mut self, _number: u64, _recorded: &HeapWithHistory) -> Result<(), NoMemory> {
-        if self.is_on() {
+    fn begins(&mut self, _number: u64, _recorded: &Recorded) -> Result<(), NoMemory> {
+        if self.is_cycle_running() {
             return Ok(());
         }
         self.begun()
     }
 
-    fn quantum_done(&mut self, _before: &Mark, budget: u32, recorded: &HeapWithHistory) {
+    fn quantum_done(&mut self, _before: &Mark, budget: u32, recorded: &Recorded) {
         self.quanta(budget, recorded.heap().phase());
     }
 
-    fn line_done(&mut self, _number: u64, _recorded: &HeapWithHistory) -> Result<(), NoMemory> {
+    fn line_done(&mut self, _number: u64, _recorded: &Recorded) -> Result<(), NoMemory> {
         Ok(())
     }
 }

@@ -2,7 +2,7 @@
 ghost use Rattle.std.specs.Prelude.{◌≡◌, ◌⊎◌, false, true};
 ghost use Rattle.space.specs.Tally as tally;
 ghost use Rattle.sizing.specs.Counts.{AreNone};
-ghost use Rattle.sizing.specs.Season.{AreAllocated, IsBegun, IsSwept};
+ghost use Rattle.sizing.specs.Season.{AddsBlocks, IsBegun, IsSwept};
 
 use crate::blocks::{Blocks, add, none};
 use crate::phases::awaits_sweep_end;
@@ -12,7 +12,7 @@ use heap_model::phase::Phase;
 #[derive(Clone, Copy, Debug, PartialEq, Eq)]
 pub struct Season {
     /// Whether a cycle is running, and its sweep hasn't ended.
-    pub tracing: bool,
+    pub awaiting_sweep_end: bool,
     /// What was live when the last cycle began.
     pub live_last: Blocks,
     /// What was live when that cycle began whose sweep ended last.
@@ -30,13 +30,13 @@ pub struct Season {
 impl Season {
     /// Before the first event.
     pub fn new() -> Season
-        ensures tracing { result.tracing ≡ false }
+        ensures awaiting_sweep_end { result.awaiting_sweep_end ≡ false }
         ensures live { AreNone result.live_last × AreNone result.live_base × AreNone result.before }
         ensures since { AreNone result.since_last × AreNone result.since_base × AreNone result.since_swept }
     {
         let nothing = none();
         Season {
-            tracing: false,
+            awaiting_sweep_end: false,
             live_last: nothing,
             live_base: nothing,
             since_last: nothing,
@@ -48,7 +48,7 @@ impl Season {
 
     /// An object is allocated that needs these blocks.
     pub fn allocate(&mut self, blocks: &Blocks)
-        ensures { AreAllocated blocks.now self.old self.new }
+        ensures { AddsBlocks blocks.now self.old self.new }
     {
         add(&mut self.since_last, blocks);
         add(&mut self.since_base, blocks);
@@ -59,7 +59,7 @@ impl Season {
     pub fn begin(&mut self, live: &Blocks)
         ensures { IsBegun live.now self.old self.new }
     {
-        self.tracing = true;
+        self.awaiting_sweep_end = true;
         self.live_last = *live;
         self.since_last = none();
     }
@@ -70,19 +70,20 @@ impl Season {
     {
         self.before = self.live_base;
         add(&mut self.before, &self.since_base);
-        self.tracing = false;
+        self.awaiting_sweep_end = false;
         self.live_base = self.live_last;
         self.since_base = self.since_last;
         self.since_swept = none();
     }
 
-    /// Quanta are done, which end in this phase: where it isn't tracing, the sweep of the last cycle has ended.
+    /// Quanta are done, which end in this phase: where it awaits no sweep's end, the sweep of the last cycle has ended.
     pub fn rest(&mut self, phase: Phase)
-        ensures tracing { tally.awaits_sweep_end phase ≡ true → self.new ≡ self.old }
-        ensures rested { self.old.tracing ≡ false → self.new ≡ self.old }
-        ensures swept { tally.awaits_sweep_end phase ≡ false → self.old.tracing ≡ true → IsSwept self.old self.new }
+        ensures awaiting_sweep_end { tally.awaits_sweep_end phase ≡ true → self.new ≡ self.old }
+        ensures rested { self.old.awaiting_sweep_end ≡ false → self.new ≡ self.old }
+        ensures swept { tally.awaits_sweep_end phase ≡ false → self.old.awaiting_sweep_end ≡ true
+            → IsSwept self.old self.new }
     {
-        if self.tracing && !awaits_sweep_end(phase) {
+        if self.awaiting_sweep_end && !awaits_sweep_end(phase) {
             self.swept();
         }
     }

@@ -51,7 +51,7 @@ pub both_true : (x y : Bool) → (x && y) ≡ true → (x ≡ true) × (y ≡ tr
 both_true true y h = (refl, h)
 both_true false y h = absurd (cc)
 
--- the blocks of a page are free or held
+-- the blocks of a page are free or allocated
 own_page : (class : ℕ) (o : Option Page) → ((p : Page) → o ≡ Some p → IsPage p) → free_on class o + main_on class o ≡ blocks_in class * stay_on class o
 own_page class None w = let z : blocks_in class * 0 ≡ 0 = mul-zero (blocks_in class) in omega (arith, z)
 own_page class (Some p) w = by_test ((p.class == class) && not p.evacuating) refl
@@ -81,7 +81,7 @@ own class (o ∷ os) w =
     let s : blocks_in class * count_by (stays class) (o ∷ os) ≡ blocks_in class * (stay_on class o + count_by (stays class) os) = ap (λ z. blocks_in class * z) c in
     omega (arith, r, h, a, b, t, s)
 
--- each page of a class stays or leaves
+-- each page of a class stays or is evacuating
 used_page : (class : ℕ) (o : Option Page) → (one_if (is_of class o) ≡ stay_on class o + evacuating_on class o) × (evacuating_on class o ≤ one_if (is_evacuating o))
 used_page class None = (refl, omega arith)
 used_page class (Some p) = by_tests (p.class == class) p.evacuating

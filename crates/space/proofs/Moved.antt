@@ -12,24 +12,24 @@ use Rattle.heap_model.specs.State.{HeapState}
 use Rattle.heap_model.specs.Opening.{IsOpening}
 use Rattle.heap_model.specs.Settings.{HeapSettings, settings_of}
 use Rattle.heap_model.specs.Spent.{IsWithin, cycle_limit, swept_units}
-use Rattle.heap_model.specs.Standing.{Represents}
+use Rattle.heap_model.specs.Represents.{Represents}
 use Rattle.heap_model.specs.Action.{Action, Scans_root, Ends_roots, Scans_header, Scans_cell, Ends_marking, Frees_block, Passes_block, Closes_page, Ends_sweep, Looks_at_page, Chooses_page, Chooses_none, Moves_block, Ends_moving, Chain, Nothing_done, Then}
-use Rattle.heap_model.specs.Event.{Course, Event, Command_done, Cycle_begun, Cycle_on, Quantum_done, Quantum_refused, Collects, Does, Runs, IsCourse, present_of, snapshot_of, room_for, change_by}
+use Rattle.heap_model.specs.Event.{Course, Event, Command_done, Cycle_begun, Begin_refused, Quantum_done, Quantum_refused, Collects, Does, Runs, IsCourse, present_of, snapshot_of, room_for, change_by}
 use Rattle.heap_model.specs.ReachedFrom.{opened}
 use Rattle.heap_model.specs.Left.{LeavesCycle}
 use Rattle.heap_model.proofs.Spent.{moving_bound}
 use Rattle.heap_model.proofs.Settings.{does_settings}
-use Rattle.heap_model.proofs.Stood.{stands_chain, idle_chain}
+use Rattle.heap_model.proofs.Stood.{represents_chain, idle_chain}
 use Rattle.heap_model.proofs.Turns.{chain_units}
 use Rattle.heap_model.proofs.Costs.{turn_left}
 use Rattle.heap_model.proofs.Left.{change_left}
-use Rattle.heap_model.proofs.Changed.{stands_changed}
+use Rattle.heap_model.proofs.Changed.{represents_changed}
 use Rattle.heap_model.proofs.Course.{founded, present_row, opening_course}
 use Rattle.space.specs.Tally.{Tally, opening_tally, after_event, awaits_sweep_end, AllKeepTo}
 use Rattle.space.specs.Pace.{Pace, Beat, opening_beat, in_cycle, KeepsPace, AllKeepPace, moving_units, moved_quanta, demand_of}
 use Rattle.space.proofs.Pacing.{idle_phase, quanta_after, runs_keep, opening_paced}
 use Rattle.space.proofs.Spending.{limit_stays, same_swept, swept_kept, all_spent, few_quanta}
-use Rattle.space.proofs.Shifted.{at_units, chain_at, change_at, stands_at}
+use Rattle.space.proofs.Shifted.{at_units, chain_at, change_at, represents_at}
 
 next_times : (n d : ℕ) → (n + 1) * d ≡ n * d + d
 next_times n d = grind arith
@@ -135,15 +135,15 @@ module _ (h : HeapState) (k : ℕ) (great : 256 ≤ k) where
 
       by_sweep : (b : Bool) → awaits_sweep_end r.heap.phase ≡ b → n + 1 ≤ (swept_units h + moving_units h + 255 * (moving_units h / (k - 255) + 1)) / k + 1
       by_sweep true e =
-          let l = swept_kept r.heap (present_of r) (snapshot_of r) w.stands e in
+          let l = swept_kept r.heap (present_of r) (snapshot_of r) w.represents e in
           let s = i.spent on in
           let z = i.none e in
           few_quanta k (swept_units h + moving_units h + 255 * (moving_units h / (k - 255) + 1)) n (n * k) (omega (arith, great)) (omega arith) (let some : n * k ≤ swept_units h = omega (arith, l, s, z, same) in omega (arith, some))
       by_sweep false e =
           let m = a_move r.heap.phase on e in
           let v = i.moved on e in
-          let l = moving_high r.heap (present_of r) (snapshot_of r) w.stands m.0 m.1 in
-          let u = moving_high (at_units i.units r.heap) (present_of r) (snapshot_of r) (stands_at i.units r.heap (present_of r) (snapshot_of r) w.stands v.within) m.0 m.1 in
+          let l = moving_high r.heap (present_of r) (snapshot_of r) w.represents m.0 m.1 in
+          let u = moving_high (at_units i.units r.heap) (present_of r) (snapshot_of r) (represents_at i.units r.heap (present_of r) (snapshot_of r) w.represents v.within) m.0 m.1 in
           let a = v.spent in
           let few : i.more ≤ moving_units h / (k - 255) = le-div i.more (moving_units h) (k - 255) (omega (arith, great)) (let x : i.more * (k - 255) ≤ moving_units r.heap = omega (arith, u, a, same) in subst (λ z. i.more * (k - 255) ≤ z) same_moving x) in
           let s = i.spent on in
@@ -159,7 +159,7 @@ module _ (h : HeapState) (k : ℕ) (great : 256 ≤ k) where
       away idle = let z : true ≡ false = sym stays ∙ ap in_cycle idle in cc
 
       after : Represents new.heap (present_of r) (snapshot_of r)
-      after = stands_chain r.heap new.heap spends (present_of r) (snapshot_of r) w.stands q.turn.chain
+      after = represents_chain r.heap new.heap spends (present_of r) (snapshot_of r) w.represents q.turn.chain
 
       total : new.heap.units ≡ r.heap.units + spends
       total = chain_units r.heap new.heap spends q.turn.chain
@@ -200,8 +200,8 @@ module _ (h : HeapState) (k : ℕ) (great : 256 ≤ k) where
       by_sweep false true e f = absurd (let z : true ≡ false = sym (chain_tracing r.heap new.heap spends q.turn.chain f) ∙ e in cc)
       by_sweep false false e f =
           let v = i.moved on e in
-          let at = stands_chain (at_units i.units r.heap) (at_units (i.units + spends) new.heap) spends (present_of r) (snapshot_of r)
-          (stands_at i.units r.heap (present_of r) (snapshot_of r) w.stands v.within) (chain_at i.units r.heap new.heap spends q.turn.chain) in
+          let at = represents_chain (at_units i.units r.heap) (at_units (i.units + spends) new.heap) spends (present_of r) (snapshot_of r)
+          (represents_at i.units r.heap (present_of r) (snapshot_of r) w.represents v.within) (chain_at i.units r.heap new.heap spends q.turn.chain) in
           record {
             limit = limit;
             settings = settings;
@@ -237,8 +237,8 @@ module _ (h : HeapState) (k : ℕ) (great : 256 ≤ k) where
       left = change_left r.heap new.heap (present_of r) (change_by (room_for r.heap c) (present_of r) m c) does.change
 
       within : (u : ℕ) → IsWithin (at_units u r.heap) r.heap.phase → IsWithin (at_units u new.heap) new.heap.phase
-      within u v = (stands_changed (at_units u r.heap) (at_units u new.heap) (present_of r) (snapshot_of r) (change_by (room_for r.heap c) (present_of r) m c) (stands_at u r.heap (present_of r) (snapshot_of r) w.stands v)
-          (founded (present_of r) (room_for r.heap c) m c (present_row r.heap (present_of r) (snapshot_of r) w.stands.consistent)) (change_at u r.heap new.heap (present_of r) _ does.change)).within
+      within u v = (represents_changed (at_units u r.heap) (at_units u new.heap) (present_of r) (snapshot_of r) (change_by (room_for r.heap c) (present_of r) m c) (represents_at u r.heap (present_of r) (snapshot_of r) w.represents v)
+          (founded (present_of r) (room_for r.heap c) m c (present_row r.heap (present_of r) (snapshot_of r) w.represents.consistent)) (change_at u r.heap new.heap (present_of r) _ does.change)).within
   spent_next r Cycle_begun new t b n p w i keeps does = record {
     limit = limit_stays r Cycle_begun new does ∙ i.limit;
     settings = does_settings r Cycle_begun new does ∙ i.settings;
@@ -249,7 +249,7 @@ module _ (h : HeapState) (k : ℕ) (great : 256 ≤ k) where
     none = λ on. refl;
     moved = λ on past. absurd (let z : true ≡ false = sym (ap (λ (z : HeapState). awaits_sweep_end z.phase) does.heap) ∙ past in cc);
   }
-  spent_next r Cycle_on new t b n p w i keeps does = subst (λ z. IsSpent k h z t n) (sym does.1) i
+  spent_next r Begin_refused new t b n p w i keeps does = subst (λ z. IsSpent k h z t n) (sym does.1) i
   spent_next r (Quantum_done budget units phase) new t b n p w i keeps does = by_on (in_cycle r.heap.phase) (in_cycle new.heap.phase) refl refl
     where
       limit : cycle_limit new.heap ≡ cycle_limit h

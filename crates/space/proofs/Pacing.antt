@@ -20,7 +20,7 @@ use Rattle.heap_model.specs.declared.phase.Phase.{Phase}
 use Rattle.heap_model.specs.declared.phase.Phase.TheVariants as phases
 use Rattle.heap_model.specs.State.{HeapState}
 use Rattle.heap_model.specs.Opening.{IsOpening}
-use Rattle.heap_model.specs.Event.{Course, Event, Command_done, Cycle_begun, Cycle_on, Quantum_done, Quantum_refused, Enters, Begins, Collects, Does, Runs, IsCourse, present_of, room_for, change_by}
+use Rattle.heap_model.specs.Event.{Course, Event, Command_done, Cycle_begun, Begin_refused, Quantum_done, Quantum_refused, Enters, Begins, Collects, Does, Runs, IsCourse, present_of, room_for, change_by}
 use Rattle.heap_model.specs.ReachedFrom.{opened}
 use Rattle.heap_model.specs.Left.{LeavesCycle}
 use Rattle.heap_model.proofs.Stood.{idle_chain}
@@ -109,7 +109,7 @@ command_less h g m _ k = omega arith
 abbrev pub quanta_after : Course → Event → ℕ → ℕ
 quanta_after r (Command_done m c reply) n = n
 quanta_after r Cycle_begun n = 0
-quanta_after r Cycle_on n = n
+quanta_after r Begin_refused n = n
 quanta_after r (Quantum_done budget units phase) n = if in_cycle r.heap.phase then n + 1 else n
 quanta_after r (Quantum_refused budget) n = n
 
@@ -117,12 +117,12 @@ quanta_after r (Quantum_refused budget) n = n
 pub record IsPaced (r : Course) (t : Tally) (b : Beat) (p : Pace) (most n : ℕ) : Type 0 where
   pub graph : t.graph ≡ present_of r
   pub same : b.graph ≡ present_of r
-  pub on : b.on ≡ in_cycle r.heap.phase
+  pub cycle_running : b.cycle_running ≡ in_cycle r.heap.phase
   pub last : t.last ≤ length t.graph.objects
   pub base : t.base ≤ length t.graph.objects
-  pub asked : (class : ℕ) → class < CLASSES → b.asked class ≤ (if b.on then p.busy class else p.idle class)
-  pub since_last : (class : ℕ) → class < CLASSES → blocks_of (drop t.last t.graph.objects) class ≤ (if b.on then n * p.busy class else most * p.busy class) + b.asked class
-  pub since_base : (class : ℕ) → class < CLASSES → blocks_of (drop t.base t.graph.objects) class ≤ (if b.on then most * p.busy class + p.idle class + n * p.busy class else most * p.busy class) + b.asked class
+  pub asked : (class : ℕ) → class < CLASSES → b.asked class ≤ (if b.cycle_running then p.busy class else p.idle class)
+  pub since_last : (class : ℕ) → class < CLASSES → blocks_of (drop t.last t.graph.objects) class ≤ (if b.cycle_running then n * p.busy class else most * p.busy class) + b.asked class
+  pub since_base : (class : ℕ) → class < CLASSES → blocks_of (drop t.base t.graph.objects) class ≤ (if b.cycle_running then most * p.busy class + p.idle class + n * p.busy class else most * p.busy class) + b.asked class
 
 -- only in idle no cycle is running
 pub idle_phase : (f : Phase) → in_cycle f ≡ false → f ≡ phases.Idle
@@ -139,13 +139,13 @@ module _ (p : Pace) (k most : ℕ) where
       next_times : (n b : ℕ) → (n + 1) * b ≡ n * b + b
       next_times n b = grind arith
 
-  paced_keeps : (r : Course) (t : Tally) (b : Beat) (n m : ℕ) (c : Command) (reply : Reply) → IsPaced r t b p most n → (b.on ≡ true → n + 1 ≤ most) → KeepsPace p k b (Command_done m c reply) → KeepsTo (demand_of p most) t (Command_done m c reply)
-  paced_keeps r t b n m c reply i few keeps class small = by_on b.on refl (keeps class small) (i.since_base class small)
+  paced_keeps : (r : Course) (t : Tally) (b : Beat) (n m : ℕ) (c : Command) (reply : Reply) → IsPaced r t b p most n → (b.cycle_running ≡ true → n + 1 ≤ most) → KeepsPace p k b (Command_done m c reply) → KeepsTo (demand_of p most) t (Command_done m c reply)
+  paced_keeps r t b n m c reply i few keeps class small = by_on b.cycle_running refl (keeps class small) (i.since_base class small)
     where
       asked : asked_for t.graph m c class ≡ asked_for b.graph m c class
       asked = ap (λ z. asked_for z m c class) (i.graph ∙ sym i.same)
 
-      by_on : (o : Bool) → b.on ≡ o → b.asked class + asked_for b.graph m c class ≤ (if o then p.busy class else p.idle class)
+      by_on : (o : Bool) → b.cycle_running ≡ o → b.asked class + asked_for b.graph m c class ≤ (if o then p.busy class else p.idle class)
           → blocks_of (drop t.base t.graph.objects) class ≤ (if o then most * p.busy class + p.idle class + n * p.busy class else most * p.busy class) + b.asked class
           → blocks_of (drop t.base t.graph.objects) class + asked_for t.graph m c class ≤ 2 * (most * p.busy class) + p.idle class
       by_on true e a l = let x = times class n (few e) in omega (arith, asked, a, l, x)
@@ -156,7 +156,7 @@ module _ (p : Pace) (k most : ℕ) where
   paced_command r new t b n m c reply w i keeps e = record {
     graph = enters_graph r new m c reply w e t.graph i.graph;
     same = enters_graph r new m c reply w e b.graph i.same;
-    on = i.on ∙ ap in_cycle (sym left.phase);
+    cycle_running = i.cycle_running ∙ ap in_cycle (sym left.phase);
     last = (let l = i.last in let q = longer in omega (arith, l, q));
     base = (let l = i.base in let q = longer in omega (arith, l, q));
     asked = keeps;
@@ -196,16 +196,16 @@ module _ (p : Pace) (k most : ℕ) where
   paced_begins r new t b n i e = record {
     graph = i.graph ∙ sym (begins_present r new e);
     same = i.same ∙ sym (begins_present r new e);
-    on = sym (ap (λ (z : HeapState). in_cycle z.phase) e.heap);
+    cycle_running = sym (ap (λ (z : HeapState). in_cycle z.phase) e.heap);
     last = omega arith;
     base = i.base;
     asked = λ class small. omega arith;
     since_last = λ class small. (let z : blocks_of (drop (length t.graph.objects) t.graph.objects) class ≡ 0 = ap (λ (y : List Object). blocks_of y class) (drop-length t.graph.objects) in omega (arith, z));
-    since_base = λ class small. by_off b.on off (i.asked class small) (i.since_base class small);
+    since_base = λ class small. by_off b.cycle_running off (i.asked class small) (i.since_base class small);
   }
     where
-      off : b.on ≡ false
-      off = i.on ∙ ap in_cycle e.idle
+      off : b.cycle_running ≡ false
+      off = i.cycle_running ∙ ap in_cycle e.idle
 
       by_off : {class : ℕ} (o : Bool) → o ≡ false → b.asked class ≤ (if o then p.busy class else p.idle class)
           → blocks_of (drop t.base t.graph.objects) class ≤ (if o then most * p.busy class + p.idle class + n * p.busy class else most * p.busy class) + b.asked class
@@ -213,28 +213,28 @@ module _ (p : Pace) (k most : ℕ) where
       by_off true z a l = absurd (cc)
       by_off false z a l = omega (arith, a, l)
 
-  paced_quantum : (r new : Course) (budget units : ℕ) (phase : Phase) (t : Tally) (b : Beat) (n : ℕ) → IsCourse r → IsPaced r t b p most n → (b.on ≡ true → n + 1 ≤ most) → Collects r budget units phase new
+  paced_quantum : (r new : Course) (budget units : ℕ) (phase : Phase) (t : Tally) (b : Beat) (n : ℕ) → IsCourse r → IsPaced r t b p most n → (b.cycle_running ≡ true → n + 1 ≤ most) → Collects r budget units phase new
       → IsPaced new (after_event t (Quantum_done budget units phase)) (next_beat b (Quantum_done budget units phase)) p most (if in_cycle r.heap.phase then n + 1 else n)
   paced_quantum r new budget units phase t b n w i few q = subst
-      (λ z. IsPaced new (after_event t (Quantum_done budget units phase)) (next_beat b (Quantum_done budget units phase)) p most (if z then n + 1 else n)) i.on (by_on b.on refl)
+      (λ z. IsPaced new (after_event t (Quantum_done budget units phase)) (next_beat b (Quantum_done budget units phase)) p most (if z then n + 1 else n)) i.cycle_running (by_on b.cycle_running refl)
     where
       present : present_of new ≡ present_of r
       present = collects_present r new budget units phase w q
 
       -- with no cycle running
-      at_rest : b.on ≡ false → IsPaced new (if awaits_sweep_end phase then t else record t { base = t.last }) b p most n
+      at_rest : b.cycle_running ≡ false → IsPaced new (if awaits_sweep_end phase then t else record t { base = t.last }) b p most n
       at_rest off =
-          let still = idle_chain r.heap new.heap units q.turn.chain (idle_phase r.heap.phase (sym i.on ∙ off)) in
-          let ends : phase ≡ phases.Idle = sym q.ends ∙ ap (λ (z : HeapState). z.phase) still.0 ∙ idle_phase r.heap.phase (sym i.on ∙ off) in
+          let still = idle_chain r.heap new.heap units q.turn.chain (idle_phase r.heap.phase (sym i.cycle_running ∙ off)) in
+          let ends : phase ≡ phases.Idle = sym q.ends ∙ ap (λ (z : HeapState). z.phase) still.0 ∙ idle_phase r.heap.phase (sym i.cycle_running ∙ off) in
           subst (λ z. IsPaced new (if awaits_sweep_end z then t else record t { base = t.last }) b p most n) (sym ends) (record {
             graph = i.graph ∙ sym present;
             same = i.same ∙ sym present;
-            on = i.on ∙ ap (λ (z : HeapState). in_cycle z.phase) (sym still.0);
+            cycle_running = i.cycle_running ∙ ap (λ (z : HeapState). in_cycle z.phase) (sym still.0);
             last = i.last;
             base = i.last;
             asked = i.asked;
             since_last = i.since_last;
-            since_base = λ class small. by_off class b.on off (i.since_last class small);
+            since_base = λ class small. by_off class b.cycle_running off (i.since_last class small);
           })
         where
           by_off : (class : ℕ) (o : Bool) → o ≡ false → blocks_of (drop t.last t.graph.objects) class ≤ (if o then n * p.busy class else most * p.busy class) + b.asked class
@@ -243,11 +243,11 @@ module _ (p : Pace) (k most : ℕ) where
           by_off class false z l = l
 
       -- with a cycle running
-      at_work : b.on ≡ true → IsPaced new (if awaits_sweep_end phase then t else record t { base = t.last }) (record b { on = in_cycle phase; asked = λ class. 0 }) p most (n + 1)
+      at_work : b.cycle_running ≡ true → IsPaced new (if awaits_sweep_end phase then t else record t { base = t.last }) (record b { cycle_running = in_cycle phase; asked = λ class. 0 }) p most (n + 1)
       at_work on = by_phase phase q.ends
         where
           since_last : (class : ℕ) → class < CLASSES → (blocks_of (drop t.last t.graph.objects) class ≤ (n + 1) * p.busy class) × (blocks_of (drop t.last t.graph.objects) class ≤ most * p.busy class)
-          since_last class small = by_true b.on on (i.asked class small) (i.since_last class small)
+          since_last class small = by_true b.cycle_running on (i.asked class small) (i.since_last class small)
             where
               by_true : (o : Bool) → o ≡ true → b.asked class ≤ (if o then p.busy class else p.idle class) → blocks_of (drop t.last t.graph.objects) class ≤ (if o then n * p.busy class else most * p.busy class) + b.asked class
                   → (blocks_of (drop t.last t.graph.objects) class ≤ (n + 1) * p.busy class) × (blocks_of (drop t.last t.graph.objects) class ≤ most * p.busy class)
@@ -255,7 +255,7 @@ module _ (p : Pace) (k most : ℕ) where
               by_true true z a l = let x = times class n (few on) in let s = step_times n (p.busy class) in (omega (arith, a, l, s), omega (arith, a, l, x))
 
           since_base : (class : ℕ) → class < CLASSES → blocks_of (drop t.base t.graph.objects) class ≤ most * p.busy class + p.idle class + (n + 1) * p.busy class
-          since_base class small = by_true b.on on (i.asked class small) (i.since_base class small)
+          since_base class small = by_true b.cycle_running on (i.asked class small) (i.since_base class small)
             where
               by_true : (o : Bool) → o ≡ true → b.asked class ≤ (if o then p.busy class else p.idle class)
                   → blocks_of (drop t.base t.graph.objects) class ≤ (if o then most * p.busy class + p.idle class + n * p.busy class else most * p.busy class) + b.asked class
@@ -267,11 +267,11 @@ module _ (p : Pace) (k most : ℕ) where
           ended : (f : Phase) (o : Bool) (start : ℕ) → new.heap.phase ≡ f → in_cycle f ≡ o → start ≤ length t.graph.objects
               → ((class : ℕ) → class < CLASSES → blocks_of (drop t.last t.graph.objects) class ≤ (if o then (n + 1) * p.busy class else most * p.busy class))
               → ((class : ℕ) → class < CLASSES → blocks_of (drop start t.graph.objects) class ≤ (if o then most * p.busy class + p.idle class + (n + 1) * p.busy class else most * p.busy class))
-              → IsPaced new (record t { base = start }) (record b { on = o; asked = λ class. 0 }) p most (n + 1)
+              → IsPaced new (record t { base = start }) (record b { cycle_running = o; asked = λ class. 0 }) p most (n + 1)
           ended f o start e is low last base = record {
             graph = i.graph ∙ sym present;
             same = i.same ∙ sym present;
-            on = sym (ap in_cycle e ∙ is);
+            cycle_running = sym (ap in_cycle e ∙ is);
             last = i.last;
             base = low;
             asked = λ class small. omega arith;
@@ -279,34 +279,34 @@ module _ (p : Pace) (k most : ℕ) where
             since_base = λ class small. (let l = base class small in omega (arith, l));
           }
 
-          tracing : (f : Phase) → new.heap.phase ≡ f → in_cycle f ≡ true → IsPaced new t (record b { on = true; asked = λ class. 0 }) p most (n + 1)
+          tracing : (f : Phase) → new.heap.phase ≡ f → in_cycle f ≡ true → IsPaced new t (record b { cycle_running = true; asked = λ class. 0 }) p most (n + 1)
           tracing f e o = ended f true t.base e o i.base (λ class small. (since_last class small).0) since_base
 
-          by_phase : (f : Phase) → new.heap.phase ≡ f → IsPaced new (if awaits_sweep_end f then t else record t { base = t.last }) (record b { on = in_cycle f; asked = λ class. 0 }) p most (n + 1)
+          by_phase : (f : Phase) → new.heap.phase ≡ f → IsPaced new (if awaits_sweep_end f then t else record t { base = t.last }) (record b { cycle_running = in_cycle f; asked = λ class. 0 }) p most (n + 1)
           by_phase (phases.Roots next) e = tracing (phases.Roots next) e refl
           by_phase (phases.Marking part cell) e = tracing (phases.Marking part cell) e refl
           by_phase (phases.Sweeping page block) e = tracing (phases.Sweeping page block) e refl
           by_phase (phases.Moving m) e = ended (phases.Moving m) true t.last e refl i.last (λ class small. (since_last class small).0) (λ class small. (let l = (since_last class small).0 in omega (arith, l)))
           by_phase phases.Idle e = ended phases.Idle false t.last e refl i.last (λ class small. (since_last class small).1) (λ class small. (since_last class small).1)
 
-      by_on : (o : Bool) → b.on ≡ o → IsPaced new (if awaits_sweep_end phase then t else record t { base = t.last }) (if b.on then record b { on = in_cycle phase; asked = λ class. 0 } else b) p most (if b.on then n + 1 else n)
-      by_on true e = subst (λ z. IsPaced new (if awaits_sweep_end phase then t else record t { base = t.last }) (if z then record b { on = in_cycle phase; asked = λ class. 0 } else b) p most (if z then n + 1 else n)) (sym e) (at_work e)
-      by_on false e = subst (λ z. IsPaced new (if awaits_sweep_end phase then t else record t { base = t.last }) (if z then record b { on = in_cycle phase; asked = λ class. 0 } else b) p most (if z then n + 1 else n)) (sym e) (at_rest e)
+      by_on : (o : Bool) → b.cycle_running ≡ o → IsPaced new (if awaits_sweep_end phase then t else record t { base = t.last }) (if b.cycle_running then record b { cycle_running = in_cycle phase; asked = λ class. 0 } else b) p most (if b.cycle_running then n + 1 else n)
+      by_on true e = subst (λ z. IsPaced new (if awaits_sweep_end phase then t else record t { base = t.last }) (if z then record b { cycle_running = in_cycle phase; asked = λ class. 0 } else b) p most (if z then n + 1 else n)) (sym e) (at_work e)
+      by_on false e = subst (λ z. IsPaced new (if awaits_sweep_end phase then t else record t { base = t.last }) (if z then record b { cycle_running = in_cycle phase; asked = λ class. 0 } else b) p most (if z then n + 1 else n)) (sym e) (at_rest e)
 
   -- an event keeps to the demand
-  paced_to : (r : Course) (e : Event) (t : Tally) (b : Beat) (n : ℕ) → IsPaced r t b p most n → (b.on ≡ true → n + 1 ≤ most) → KeepsPace p k b e → KeepsTo (demand_of p most) t e
+  paced_to : (r : Course) (e : Event) (t : Tally) (b : Beat) (n : ℕ) → IsPaced r t b p most n → (b.cycle_running ≡ true → n + 1 ≤ most) → KeepsPace p k b e → KeepsTo (demand_of p most) t e
   paced_to r (Command_done m c reply) t b n i few keeps = paced_keeps r t b n m c reply i few keeps
   paced_to r Cycle_begun t b n i few keeps = subst (λ z. LiveWithin z p.live) (i.same ∙ sym i.graph) keeps
-  paced_to r Cycle_on t b n i few keeps = tt
+  paced_to r Begin_refused t b n i few keeps = tt
   paced_to r (Quantum_done budget units phase) t b n i few keeps = tt
   paced_to r (Quantum_refused budget) t b n i few keeps = tt
 
   -- and what is kept holds after it
-  paced_next : (r : Course) (e : Event) (new : Course) (t : Tally) (b : Beat) (n : ℕ) → IsCourse r → IsPaced r t b p most n → (b.on ≡ true → n + 1 ≤ most) → KeepsPace p k b e → Does r e new
+  paced_next : (r : Course) (e : Event) (new : Course) (t : Tally) (b : Beat) (n : ℕ) → IsCourse r → IsPaced r t b p most n → (b.cycle_running ≡ true → n + 1 ≤ most) → KeepsPace p k b e → Does r e new
       → IsPaced new (after_event t e) (next_beat b e) p most (quanta_after r e n)
   paced_next r (Command_done m c reply) new t b n w i few keeps does = paced_command r new t b n m c reply w i keeps does
   paced_next r Cycle_begun new t b n w i few keeps does = paced_begins r new t b n i does
-  paced_next r Cycle_on new t b n w i few keeps does = subst (λ z. IsPaced z t b p most n) (sym does.1) i
+  paced_next r Begin_refused new t b n w i few keeps does = subst (λ z. IsPaced z t b p most n) (sym does.1) i
   paced_next r (Quantum_done budget units phase) new t b n w i few keeps does = paced_quantum r new budget units phase t b n w i few does
   paced_next r (Quantum_refused budget) new t b n w i few keeps does = subst (λ z. IsPaced z t b p most n) (sym does.1) i
 
@@ -317,7 +317,7 @@ module _ (p : Pace) (k most : ℕ) where
       → (es : List Event) (r new : Course) (t : Tally) (b : Beat) (n : ℕ) → IsCourse r → Kept r t n → IsPaced r t b p most n → Runs r es new → AllKeepPace p k b es → AllKeepTo (demand_of p most) t es
   runs_keep Kept few step [] r new t b n w kept i runs keeps = tt
   runs_keep Kept few step (e ∷ es) r new t b n w kept i runs keeps =
-      let low : b.on ≡ true → n + 1 ≤ most = λ on. few r t n w kept (sym i.on ∙ on) in
+      let low : b.cycle_running ≡ true → n + 1 ≤ most = λ on. few r t n w kept (sym i.cycle_running ∙ on) in
       let to = paced_to r e t b n i low keeps.0 in (
         to,
         runs_keep Kept few step es runs.0 new (after_event t e) (next_beat b e) (quanta_after r e n) (does_course r e runs.0 w runs.1)
@@ -329,7 +329,7 @@ pub opening_paced : (h : HeapState) (p : Pace) (most : ℕ) → IsOpening h → 
 opening_paced h p most o = record {
   graph = refl;
   same = refl;
-  on = sym (ap in_cycle o.phase);
+  cycle_running = sym (ap in_cycle o.phase);
   last = omega arith;
   base = omega arith;
   asked = λ class small. omega arith;

@@ -16,7 +16,7 @@ use Rattle.graph_heap.specs.Graph.{Object, Graph}
 use Rattle.graph_heap.specs.Effect.{◌>>=◌, slot_at, static_at, found, object_at, ref_cell, word_cell, ref_at, word_at, fitting, next_identity, with_room, admits, admitted, is_join, admitted_effect, effect_of, settled, reply_of}
 use Rattle.graph_heap.specs.History.{had_room}
 use Rattle.size_classes.specs.Need.{needed}
-use Rattle.heap_model.specs.Event.{Course, Event, Command_done, Cycle_begun, Cycle_on, Quantum_done, Quantum_refused, Runs, Enters, present_of, room_for}
+use Rattle.heap_model.specs.Event.{Course, Event, Command_done, Cycle_begun, Begin_refused, Quantum_done, Quantum_refused, Runs, Enters, present_of, room_for}
 use Rattle.space.specs.Demand.{asked_by, asked_for}
 use Rattle.space.specs.Tally.{EveryNewFindsRoom}
 use Rattle.space.specs.Room.{AllHaveRoom, asks}
@@ -182,6 +182,6 @@ all_have_room (Command_done m (commands.Describe a) reply ∷ es) r new runs non
 all_have_room (Command_done m commands.Join reply ∷ es) r new runs none = (reply_has_room r runs.0 m commands.Join reply (λ n. n) runs.1, all_have_room es runs.0 new runs.2 none.1)
 all_have_room (Command_done m commands.Leave reply ∷ es) r new runs none = (reply_has_room r runs.0 m commands.Leave reply (λ n. n) runs.1, all_have_room es runs.0 new runs.2 none.1)
 all_have_room (Cycle_begun ∷ es) r new runs none = (tt, all_have_room es runs.0 new runs.2 none.1)
-all_have_room (Cycle_on ∷ es) r new runs none = (tt, all_have_room es runs.0 new runs.2 none.1)
+all_have_room (Begin_refused ∷ es) r new runs none = (tt, all_have_room es runs.0 new runs.2 none.1)
 all_have_room (Quantum_done budget units phase ∷ es) r new runs none = (tt, all_have_room es runs.0 new runs.2 none.1)
 all_have_room (Quantum_refused budget ∷ es) r new runs none = (tt, all_have_room es runs.0 new runs.2 none.1)

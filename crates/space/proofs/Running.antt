@@ -27,17 +27,17 @@ use Rattle.heap_model.specs.State.{HeapState, seen, collector_of, progress_of, i
 use Rattle.heap_model.specs.Agreement.{Consistent}
 use Rattle.heap_model.specs.Opening.{IsOpening}
 use Rattle.heap_model.specs.Action.{Chain, Nothing_done, Then}
-use Rattle.heap_model.specs.Standing.{Represents}
+use Rattle.heap_model.specs.Represents.{Represents}
 use Rattle.heap_model.specs.Settings.{HeapSettings}
 use Rattle.heap_model.specs.Change.{DoesChange}
-use Rattle.heap_model.specs.Event.{Course, Event, Command_done, Cycle_begun, Cycle_on, Quantum_done, Quantum_refused, Enters, Begins, Collects, Does, Runs, IsCourse, present_of, snapshot_of, room_for, change_by}
+use Rattle.heap_model.specs.Event.{Course, Event, Command_done, Cycle_begun, Begin_refused, Quantum_done, Quantum_refused, Enters, Begins, Collects, Does, Runs, IsCourse, present_of, snapshot_of, room_for, change_by}
 use Rattle.heap_model.specs.ReachedFrom.{opened}
 use Rattle.heap_model.proofs.Seen.{behind}
 use Rattle.heap_model.proofs.Allocated.{allocated_block}
 use Rattle.heap_model.proofs.Collector.{stage_at}
 use Rattle.heap_model.proofs.Rest.{allocated_kept}
-use Rattle.heap_model.proofs.Stood.{stands_chain}
-use Rattle.heap_model.proofs.Relinked.{stands_relinked}
+use Rattle.heap_model.proofs.Stood.{represents_chain}
+use Rattle.heap_model.proofs.Relinked.{represents_relinked}
 use Rattle.heap_model.proofs.Settings.{change_settings}
 use Rattle.heap_model.proofs.Marks.{action_count}
 use Rattle.heap_model.proofs.Opening.{page_none}
@@ -89,7 +89,7 @@ chain_went h after spent g s objects blocks spare st tidy bounded Nothing_done =
 chain_went h after spent g s objects blocks spare st tidy bounded (Then u cost j k linked chain links action) =
     let w = chain_went h j u g s objects blocks spare st tidy bounded chain in
     let i : HeapState = record j { store = linked } in
-    let si = stands_relinked j linked links g s (stands_chain h j u g s st chain) in
+    let si = represents_relinked j linked links g s (represents_chain h j u g s st chain) in
     record {
       tidy = tidy_action i k cost g s objects si action (tidy_same j.store linked objects (shrinks_keeps j.store linked links.blocks) links.pages w.tidy);
       bounded = bounded_action i k cost blocks spare si.pages si.closed (bounded_same j i blocks spare w.bounded (record { most = refl; below = refl }) links.pages w.bounded.evacuating) action;
@@ -163,7 +163,7 @@ tracked_command r new m c reply t d spare w k keeps e = (
     kept = shapes_into _ _ _ objects (shapes_then _ _ _ k.kept (shapes_kept g change));
     only = only_change r.heap new.heap g change (length k.first) k.ids next_identity_is k.kept.more e.change k.only;
     tidy = subst (IsTidy new.heap.store) (sym objects) (tidy_change r.heap new.heap g change next_identity_is e.change k.tidy);
-    bounded = bounded_change r.heap new.heap g change (blocks_for d) spare w.stands.pages (λ n l. (let a = asks n l in let same = ap (λ z. asked_by z n) finds.1 in omega (arith, a, same))) e.change k.bounded;
+    bounded = bounded_change r.heap new.heap g change (blocks_for d) spare w.represents.pages (λ n l. (let a = asks n l in let same = ap (λ z. asked_by z n) finds.1 in omega (arith, a, same))) e.change k.bounded;
     pages = (let p = k.pages in let l = change_count r.heap new.heap g change e.change in omega (arith, p, l));
   },
   subst (FindsRoom c) (sym e.replies) finds.0,
@@ -182,11 +182,11 @@ tracked_command r new m c reply t d spare w k keeps e = (
     objects = ap (λ (z : Graph). z.objects) present
 
     next_identity_is : r.heap.next ≡ length g.objects + 1
-    next_identity_is = (consistent_agrees r.heap g (snapshot_of r) w.stands.consistent).next
+    next_identity_is = (consistent_agrees r.heap g (snapshot_of r) w.represents.consistent).next
 
     asks : (n : ℕ) → n < CLASSES → main_blocks r.heap.store.pages n + asked_for g m c n ≤ blocks_for d n
     asks n l =
-        let counted = census r.heap.store w.stands.pages n g.objects k.tidy k.first k.ids k.kept k.only in
+        let counted = census r.heap.store w.represents.pages n g.objects k.tidy k.first k.ids k.kept k.only in
         let a = keeps n l in
         let live = k.within n l in
         let asked : asked_for t.graph m c n ≡ asked_for g m c n = ap (λ z. asked_for z m c n) k.graph in
@@ -194,7 +194,7 @@ tracked_command r new m c reply t d spare w k keeps e = (
         omega (arith, counted, a, live, asked, allocated)
 
     finds : FindsRoom c (reply_of (room_for r.heap c) g m c) × (change_by (room_for r.heap c) g m c ≡ change_by true g m c)
-    finds = command_has_room r.heap g (blocks_for d) spare w.stands.pages (bounded_pages r.heap (blocks_for d) spare k.bounded) k.pages m c asks
+    finds = command_has_room r.heap g (blocks_for d) spare w.represents.pages (bounded_pages r.heap (blocks_for d) spare k.bounded) k.pages m c asks
 
 tracked_begins : (r new : Course) (t : Tally) (d : Demand) (spare : ℕ) → IsCourse r → IsTracked r t d spare → LiveWithin t.graph d.live → Begins r new → IsTracked new (after_event t Cycle_begun) d spare
 tracked_begins r new t d spare w k live b = record {
@@ -235,10 +235,10 @@ tracked_quantum r new budget units phase t d spare w k q = by_tracing (awaits_sw
         ap (λ z. after (opening z) (take new.place new.history)) limits ∙ ap (after (opening r.heap.limits)) front
 
     went : Went r.heap new.heap (present_of r).objects (blocks_for d) spare
-    went = chain_went r.heap new.heap units (present_of r) (snapshot_of r) (present_of r).objects (blocks_for d) spare w.stands k.tidy k.bounded q.turn.chain
+    went = chain_went r.heap new.heap units (present_of r) (snapshot_of r) (present_of r).objects (blocks_for d) spare w.represents k.tidy k.bounded q.turn.chain
 
-    stands : Represents new.heap (present_of r) (snapshot_of r)
-    stands = stands_chain r.heap new.heap units (present_of r) (snapshot_of r) w.stands q.turn.chain
+    represents : Represents new.heap (present_of r) (snapshot_of r)
+    represents = represents_chain r.heap new.heap units (present_of r) (snapshot_of r) w.represents q.turn.chain
 
     live : LiveWithin (snapshot_of new) d.live
     live = subst (λ z. LiveWithin z d.live) (sym snapshot) k.live
@@ -281,7 +281,7 @@ tracked_quantum r new budget units phase t d spare w k q = by_tracing (awaits_sw
       base = k.last;
       within = k.live.blocks;
       kept = shapes_into _ _ _ (ap (λ (z : Graph). z.objects) present) k.kept_last;
-      only = rest_only new.heap (present_of r) (snapshot_of r) k.live.ids stands (ap awaits_sweep_end q.ends ∙ off) k.live.reached;
+      only = rest_only new.heap (present_of r) (snapshot_of r) k.live.ids represents (ap awaits_sweep_end q.ends ∙ off) k.live.reached;
       tidy = tidy;
       bounded = went.bounded;
       pages = pages;
@@ -290,7 +290,7 @@ tracked_quantum r new budget units phase t d spare w k q = by_tracing (awaits_sw
 pub tracked_does : (r : Course) (e : Event) (new : Course) (t : Tally) (d : Demand) (spare : ℕ) → IsCourse r → IsTracked r t d spare → KeepsTo d t e → Does r e new → IsTracked new (after_event t e) d spare × NewFindsRoom e
 tracked_does r (Command_done m c reply) new t d spare w k keeps does = tracked_command r new m c reply t d spare w k keeps does
 tracked_does r Cycle_begun new t d spare w k keeps does = (tracked_begins r new t d spare w k keeps does, tt)
-tracked_does r Cycle_on new t d spare w k keeps does = (subst (λ z. IsTracked z t d spare) (sym does.1) k, tt)
+tracked_does r Begin_refused new t d spare w k keeps does = (subst (λ z. IsTracked z t d spare) (sym does.1) k, tt)
 tracked_does r (Quantum_done budget units phase) new t d spare w k keeps does = (tracked_quantum r new budget units phase t d spare w k does, tt)
 tracked_does r (Quantum_refused budget) new t d spare w k keeps does = (subst (λ z. IsTracked z t d spare) (sym does.1) k, tt)
 
@@ -313,7 +313,7 @@ module _ (h : HeapState) (o : IsOpening h) (some : 0 < length h.store.pages) whe
 
   none_reached : (id : ℕ) → Reaches (opening h.limits) id → ⊥
   unfolding Reaches
-  none_reached id r = let g = (consistent_agrees h (opening h.limits) (opening h.limits) course.stands.consistent).given id r in let l = g.below in let p = r.0 in omega (arith, l, p)
+  none_reached id r = let g = (consistent_agrees h (opening h.limits) (opening h.limits) course.represents.consistent).given id r in let l = g.below in let p = r.0 in omega (arith, l, p)
 
   pub opening_tracked : (d : Demand) (spare : ℕ) → MaySpare h (blocks_for d) spare → space_for d spare ≤ length h.store.pages → IsTracked (opened h) (opening_tally h.limits) d spare
   opening_tracked d spare may fits = record {

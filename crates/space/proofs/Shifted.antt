@@ -5,7 +5,7 @@ use Rattle.graph_heap.specs.declared.command.Change.{Change}
 use Rattle.heap_model.specs.declared.phase.Candidate.{Candidate}
 use Rattle.heap_model.specs.State.{HeapState}
 use Rattle.heap_model.specs.Spent.{IsWithin}
-use Rattle.heap_model.specs.Standing.{Represents}
+use Rattle.heap_model.specs.Represents.{Represents}
 use Rattle.heap_model.specs.Action.{Action, Scans_root, Ends_roots, Scans_header, Scans_cell, Ends_marking, Frees_block, Passes_block, Closes_page, Ends_sweep, Looks_at_page, Chooses_page, Chooses_none, Moves_block, Ends_moving, Shades, Was_marked, Is_marked, AtPass, In_pass, After_page, MovingDone, No_class, No_page, Chain, Nothing_done, Then}
 use Rattle.heap_model.specs.Change.{Records, Records_nothing, Records_main, Clears, Clears_none, Clears_next, DoesChange, Does_nothing, Does_root, Does_ref, Does_word, Does_new, Does_join, Does_leave}
 
@@ -65,9 +65,9 @@ change_at u h after g c (Does_new cell id shape k new at r makes takes) = Does_n
 change_at u h after g c (Does_join m) = Does_join m
 change_at u h after g c (Does_leave m k clears) = Does_leave m (at_units u k) (clears_at u h _ _ k clears)
 
--- it stands for the same graph heaps, if this many units are within those of its phase
-pub stands_at : (u : ℕ) (h : HeapState) (present snapshot : Graph) → Represents h present snapshot → IsWithin (at_units u h) h.phase → Represents (at_units u h) present snapshot
-stands_at u h present snapshot w within =
+-- it represents the same graph heaps, if this many units are within those of its phase
+pub represents_at : (u : ℕ) (h : HeapState) (present snapshot : Graph) → Represents h present snapshot → IsWithin (at_units u h) h.phase → Represents (at_units u h) present snapshot
+represents_at u h present snapshot w within =
     let c = w.consistent in
     record {
       pages = w.pages;

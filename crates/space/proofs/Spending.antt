@@ -11,8 +11,8 @@ use Rattle.heap_model.specs.State.{HeapState}
 use Rattle.heap_model.specs.Settings.{HeapSettings, settings_of}
 use Rattle.heap_model.specs.Spent.{IsWithin, cycle_limit, swept_units}
 use Rattle.heap_model.specs.QuantumSpending.{NextCosts, Of_move, Of_other, QuantumSpends}
-use Rattle.heap_model.specs.Event.{Course, Event, Command_done, Cycle_begun, Cycle_on, Quantum_done, Quantum_refused, Does, present_of, room_for, change_by}
-use Rattle.heap_model.specs.Standing.{Represents}
+use Rattle.heap_model.specs.Event.{Course, Event, Command_done, Cycle_begun, Begin_refused, Quantum_done, Quantum_refused, Does, present_of, room_for, change_by}
+use Rattle.heap_model.specs.Represents.{Represents}
 use Rattle.heap_model.proofs.Spent.{marking_bound}
 use Rattle.heap_model.proofs.Stood.{idle_chain}
 use Rattle.heap_model.proofs.Turns.{chain_units}
@@ -26,7 +26,7 @@ use Rattle.space.proofs.Pacing.{idle_phase, quanta_after}
 pub limit_stays : (r : Course) (e : Event) (new : Course) → Does r e new → cycle_limit new.heap ≡ cycle_limit r.heap
 limit_stays r (Command_done m c reply) new does = (change_left r.heap new.heap (present_of r) (change_by (room_for r.heap c) (present_of r) m c) does.change).limit
 limit_stays r Cycle_begun new does = ap cycle_limit does.heap
-limit_stays r Cycle_on new does = ap (λ (z : Course). cycle_limit z.heap) does.1
+limit_stays r Begin_refused new does = ap (λ (z : Course). cycle_limit z.heap) does.1
 limit_stays r (Quantum_done budget units phase) new does = chain_limit r.heap new.heap units does.turn.chain
 limit_stays r (Quantum_refused budget) new does = ap (λ (z : Course). cycle_limit z.heap) does.1
 
@@ -69,7 +69,7 @@ HaveSpent d r n = in_cycle r.heap.phase ≡ true → n * d ≤ r.heap.units
 abbrev pub Spends : ℕ → Event → Type 0
 Spends d (Command_done m c reply) = Unit {0}
 Spends d Cycle_begun = Unit {0}
-Spends d Cycle_on = Unit {0}
+Spends d Begin_refused = Unit {0}
 Spends d (Quantum_done budget units phase) = phase ≢ phases.Idle → d ≤ units
 Spends d (Quantum_refused budget) = Unit {0}
 
@@ -80,7 +80,7 @@ spent_next d r (Command_done m c reply) new n spent enough does on =
     let q = left.units in
     omega (arith, u, q)
 spent_next d r Cycle_begun new n spent enough does on = omega arith
-spent_next d r Cycle_on new n spent enough does on = subst (λ (z : Course). n * d ≤ z.heap.units) (sym does.1) (spent (sym (ap (λ (z : Course). in_cycle z.heap.phase) does.1) ∙ on))
+spent_next d r Begin_refused new n spent enough does on = subst (λ (z : Course). n * d ≤ z.heap.units) (sym does.1) (spent (sym (ap (λ (z : Course). in_cycle z.heap.phase) does.1) ∙ on))
 spent_next d r (Quantum_done budget units phase) new n spent enough does on = by_on (in_cycle r.heap.phase) refl
   where
     away : phase ≢ phases.Idle

@@ -20,7 +20,7 @@ use Rattle.heap_model.specs.Collector.{In_sweep, contains}
 use Rattle.heap_model.specs.State.{HeapState, seen, is_evacuating, reference_of, collector_of, progress_of}
 use Rattle.heap_model.specs.Agreement.{Consistent}
 use Rattle.heap_model.specs.Action.{Shades, Was_marked, Is_marked, KeepsBlocks, Frees, MovesBlock, IsNext, Action, Scans_root, Ends_roots, Scans_header, Scans_cell, Ends_marking, Frees_block, Passes_block, Closes_page, Ends_sweep, Looks_at_page, Chooses_page, Chooses_none, Moves_block, Ends_moving, allocated_on, closed, is_looked_at, is_sparse}
-use Rattle.heap_model.specs.Standing.{Represents}
+use Rattle.heap_model.specs.Represents.{Represents}
 use Rattle.heap_model.proofs.Seen.{allocated_pages, node_kept, behind}
 use Rattle.heap_model.proofs.Allocated.{set_page, page_within, allocated_block, size_some, is_page, block_within, page_of_place}
 use Rattle.heap_model.proofs.Moved.{same_number, usable_fits, below_end}

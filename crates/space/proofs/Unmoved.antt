@@ -12,7 +12,7 @@ use Rattle.heap_model.specs.Placed.{IsPlaced}
 use Rattle.heap_model.specs.Opening.{IsOpening}
 use Rattle.heap_model.specs.Settings.{settings_of}
 use Rattle.heap_model.specs.Spent.{cycle_limit, swept_units}
-use Rattle.heap_model.specs.Event.{Course, Event, Command_done, Cycle_begun, Cycle_on, Quantum_done, Quantum_refused, Does, Runs, IsCourse, present_of, snapshot_of}
+use Rattle.heap_model.specs.Event.{Course, Event, Command_done, Cycle_begun, Begin_refused, Quantum_done, Quantum_refused, Does, Runs, IsCourse, present_of, snapshot_of}
 use Rattle.heap_model.specs.ReachedFrom.{opened}
 use Rattle.heap_model.proofs.Allocated.{page_within}
 use Rattle.heap_model.proofs.Moved.{same_number}
@@ -67,20 +67,20 @@ record IsStill (h : HeapState) (d : Demand) (k : ℕ) (r : Course) (t : Tally) (
   spent : HaveSpent k r n
 
 still_none : (d : Demand) (r : Course) (t : Tally) → IsCourse r → IsTracked r t d 0 → (m : Moving) → r.heap.phase ≡ phases.Moving m → ⊥
-still_none d r t w i m e = none_moving r.heap (blocks_for d) m w.stands.placed i.bounded e
+still_none d r t w i m e = none_moving r.heap (blocks_for d) m w.represents.placed i.bounded e
 
 module _ (h : HeapState) (p : Pace) (k : ℕ) (some : 0 < k) where
   still_few : (r : Course) (t : Tally) (n : ℕ) → IsCourse r → IsStill h (demand_of p (unmoved_quanta h k)) k r t n → in_cycle r.heap.phase ≡ true → n + 1 ≤ unmoved_quanta h k
   still_few r t n w i on =
       let none = still_none (demand_of p (unmoved_quanta h k)) r t w i.tracked in
-      let l = swept_kept r.heap (present_of r) (snapshot_of r) w.stands (still_tracing r.heap.phase none on) in
+      let l = swept_kept r.heap (present_of r) (snapshot_of r) w.represents (still_tracing r.heap.phase none on) in
       let same = same_swept h r.heap i.limit i.settings in
       few_quanta k (swept_units h) n r.heap.units some (i.spent on) (omega (arith, l, same))
 
   still_spends : (r : Course) (e : Event) (new : Course) (t : Tally) (b : Beat) → IsCourse new → IsTracked new (after_event t e) (demand_of p (unmoved_quanta h k)) 0 → KeepsPace p k b e → Does r e new → Spends k e
   still_spends r (Command_done m c reply) new t b w i keeps does = tt
   still_spends r Cycle_begun new t b w i keeps does = tt
-  still_spends r Cycle_on new t b w i keeps does = tt
+  still_spends r Begin_refused new t b w i keeps does = tt
   still_spends r (Quantum_done budget units phase) new t b w i keeps does = λ away.
       let none = still_none (demand_of p (unmoved_quanta h k)) new (after_event t (Quantum_done budget units phase)) w i in
       let l = all_spent r.heap new.heap budget units does.turn none (λ idle. away (sym does.ends ∙ idle)) in

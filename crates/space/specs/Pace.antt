@@ -8,7 +8,7 @@ use Rattle.heap_model.specs.declared.phase.Phase.{Phase}
 use Rattle.heap_model.specs.declared.phase.Phase.TheVariants as phases
 use Rattle.heap_model.specs.State.{HeapState}
 use Rattle.heap_model.specs.Spent.{arena_words, swept_units}
-use Rattle.heap_model.specs.Event.{Event, Command_done, Cycle_begun, Cycle_on, Quantum_done, Quantum_refused}
+use Rattle.heap_model.specs.Event.{Event, Command_done, Cycle_begun, Begin_refused, Quantum_done, Quantum_refused}
 use Rattle.space.specs.Demand.{Demand, LiveWithin, asked_for}
 
 -- Of each size class: how many blocks live objects need at most where a cycle begins; how many are asked for
@@ -23,12 +23,12 @@ pub record Pace : Type 0 where
 -- the last beginning, or quantum of a cycle.
 pub record Beat : Type 0 where
   pub graph : Graph
-  pub on : Bool
+  pub cycle_running : Bool
   pub asked : ℕ → ℕ
 
 -- where no event was done yet
 abbrev pub opening_beat : Limits → Beat
-opening_beat l = record { graph = opening l; on = false; asked = λ class. 0 }
+opening_beat l = record { graph = opening l; cycle_running = false; asked = λ class. 0 }
 
 -- a cycle runs in this phase
 abbrev pub in_cycle : Phase → Bool
@@ -42,17 +42,18 @@ next_beat b (Command_done m c reply) =
       graph = after_entry b.graph (record { mutator = m; command = c; reply = reply });
       asked = λ class. b.asked class + asked_for b.graph m c class;
     }
-next_beat b Cycle_begun = record b { on = true; asked = λ class. 0 }
-next_beat b Cycle_on = b
-next_beat b (Quantum_done budget units phase) = if b.on then record b { on = in_cycle phase; asked = λ class. 0 } else b
+next_beat b Cycle_begun = record b { cycle_running = true; asked = λ class. 0 }
+next_beat b Begin_refused = b
+next_beat b (Quantum_done budget units phase) =
+    if b.cycle_running then record b { cycle_running = in_cycle phase; asked = λ class. 0 } else b
 next_beat b (Quantum_refused budget) = b
 
 -- an event keeps to a pace, with quanta of at least k units
 abbrev pub KeepsPace : Pace → ℕ → Beat → Event → Type 0
 KeepsPace p k b (Command_done m c reply) = (class : ℕ) → class < CLASSES
-    → b.asked class + asked_for b.graph m c class ≤ (if b.on then p.busy class else p.idle class)
+    → b.asked class + asked_for b.graph m c class ≤ (if b.cycle_running then p.busy class else p.idle class)
 KeepsPace p k b Cycle_begun = LiveWithin b.graph p.live
-KeepsPace p k b Cycle_on = Unit {0}
+KeepsPace p k b Begin_refused = Unit {0}
 KeepsPace p k b (Quantum_done budget units phase) = k ≤ budget
 KeepsPace p k b (Quantum_refused budget) = Unit {0}
 

@@ -5,7 +5,7 @@ use Rattle.graph_heap.specs.declared.command.Command.TheVariants as commands
 use Rattle.graph_heap.specs.Shape.{fits}
 use Rattle.graph_heap.specs.History.{had_room}
 use Rattle.size_classes.specs.Need.{needed}
-use Rattle.heap_model.specs.Event.{Event, Command_done, Cycle_begun, Cycle_on, Quantum_done, Quantum_refused}
+use Rattle.heap_model.specs.Event.{Event, Command_done, Cycle_begun, Begin_refused, Quantum_done, Quantum_refused}
 
 -- the blocks of a class for which a command asks at most: those of a new object, where its shape isn't too large
 abbrev pub asks : Command → ℕ → ℕ
@@ -16,7 +16,7 @@ asks _ class = 0
 abbrev pub HasRoom : Event → Type 0
 HasRoom (Command_done m c reply) = had_room reply ≡ true
 HasRoom Cycle_begun = Unit {0}
-HasRoom Cycle_on = Unit {0}
+HasRoom Begin_refused = Unit {0}
 HasRoom (Quantum_done budget units phase) = Unit {0}
 HasRoom (Quantum_refused budget) = Unit {0}
 

@@ -9,7 +9,7 @@ use Rattle.graph_heap.specs.History.{after_entry, had_room}
 use Rattle.size_classes.specs.declared.class.TheConstants.{CLASSES}
 use Rattle.heap_model.specs.declared.phase.Phase.{Phase}
 use Rattle.heap_model.specs.declared.phase.Phase.TheVariants as phases
-use Rattle.heap_model.specs.Event.{Event, Command_done, Cycle_begun, Cycle_on, Quantum_done, Quantum_refused}
+use Rattle.heap_model.specs.Event.{Event, Command_done, Cycle_begun, Begin_refused, Quantum_done, Quantum_refused}
 use Rattle.space.specs.Demand.{Demand, LiveWithin, blocks_of, asked_for}
 
 -- The graph heap to which the events lead; how many objects there were when the last cycle began; and how
@@ -34,7 +34,7 @@ abbrev pub after_event : Tally → Event → Tally
 after_event t (Command_done m c reply) =
     record t { graph = after_entry t.graph (record { mutator = m; command = c; reply = reply }) }
 after_event t Cycle_begun = record t { last = length t.graph.objects }
-after_event t Cycle_on = t
+after_event t Begin_refused = t
 after_event t (Quantum_done budget units phase) = if awaits_sweep_end phase then t else record t { base = t.last }
 after_event t (Quantum_refused budget) = t
 
@@ -44,7 +44,7 @@ abbrev pub KeepsTo : Demand → Tally → Event → Type 0
 KeepsTo d t (Command_done m c reply) = (class : ℕ) → class < CLASSES
     → blocks_of (drop t.base t.graph.objects) class + asked_for t.graph m c class ≤ d.allocated class
 KeepsTo d t Cycle_begun = LiveWithin t.graph d.live
-KeepsTo d t Cycle_on = Unit {0}
+KeepsTo d t Begin_refused = Unit {0}
 KeepsTo d t (Quantum_done budget units phase) = Unit {0}
 KeepsTo d t (Quantum_refused budget) = Unit {0}
 
@@ -62,7 +62,7 @@ FindsRoom _ reply = Unit {0}
 abbrev pub NewFindsRoom : Event → Type 0
 NewFindsRoom (Command_done m c reply) = FindsRoom c reply
 NewFindsRoom Cycle_begun = Unit {0}
-NewFindsRoom Cycle_on = Unit {0}
+NewFindsRoom Begin_refused = Unit {0}
 NewFindsRoom (Quantum_done budget units phase) = Unit {0}
 NewFindsRoom (Quantum_refused budget) = Unit {0}
 

@@ -88,8 +88,8 @@ pub struct Needs {
 }
 
 impl Needs {
-    /// What a pace takes where a cycle takes so many quanta: with so many pages that may be left sparse for each
-    /// class, and so many others that stay free.
+    /// What a pace takes where a cycle takes this many quanta: with `sparse` pages that may be left sparse for each
+    /// class, and `free` others that stay free.
     fn of(pace: &Pace, quanta: u64, sparse: u32, free: u32) -> Needs
         requires { quanta ≤ MOST_QUANTA }
         ensures pages { result.pages ≡ space_for (demand_of (pace_in pace.now) quanta) sparse + free }

@@ -12,7 +12,7 @@ ghost use Rattle.heap_model.specs.Taking.{Takes};
 ghost use Rattle.heap_model.specs.Action.{Action};
 ghost use Rattle.heap_model.specs.Marks.{AreClosed};
 ghost use Rattle.heap_model.specs.Change.{DoesChange};
-ghost use Rattle.heap_model.specs.Standing.{Represents};
+ghost use Rattle.heap_model.specs.Represents.{Represents};
 ghost use Rattle.space.specs.Demand.{asked_by, blocks_of};
 ghost use Rattle.space.specs.Tally.{awaits_sweep_end};
 ghost use Rattle.space.specs.Space.{pages_for};

@@ -10,7 +10,7 @@ ghost use Rattle.nodes.specs.HeapFields.{state_of, AreHeapFields};
 
 use heap_model::cost::{CLOSE, LOOK, TURN};
 use heap_model::phase::{Moving, Phase};
-use nodes::{BlockStore, HeapFields};
+use nodes::{HeapFields, Nodes};
 
 /// Looks at the next blocks of a page, as many as are left or as there is room for: a block that is allocated and
 /// whose colour isn't the one that means marked is freed. Where none is left, it closes the page, and the
@@ -59,7 +59,7 @@ fn close_pages(heap: &mut HeapFields, page: u32, block: u32, room: u32)
 }
 
 /// The first page from one on, up to another, that isn't free; the other where all are.
-fn free_until(nodes: &BlockStore, from: usize, end: usize) -> usize
+fn free_until(nodes: &Nodes, from: usize, end: usize) -> usize
     requires from { from ≤ end }
     requires within { end ≤ length nodes.now.pages }
     ensures within { (from ≤ result) × (result ≤ end) }

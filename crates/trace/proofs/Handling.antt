@@ -1,7 +1,7 @@
 -- What a handler of lines did, as what lines do to a state.
 use Rattle.std.proofs.Common.{◌≡◌, ℕ, List, [], ◌∷◌, ◌++◌, length, inl, inr, refl, sym, subst, ap}
 use Rattle.std.specs.Prelude.{IsTrue, Result, Ok, Err}
-use Rattle.trace.specs.declared.fault.TextFault.{TextFault}
+use Rattle.trace.specs.declared.fault.PlayFault.{PlayFault}
 use Rattle.trace.specs.declared.line_handler.InputEnd.{InputEnd}
 use Rattle.trace.specs.declared.version.Version.{Version}
 use Rattle.trace.specs.declared.version.Version.TheVariants.{First}
@@ -11,7 +11,7 @@ use Rattle.trace.specs.Streams.{Given}
 use Rattle.trace.specs.TextLine.{Text, text_after, IsNextVersion}
 
 -- state: the state in which a handler is. Knows lines version events now done: what is known of it after these lines.
-module _ {H S E : Type 0} (Handles : Text → H → H → Result (Unit {0}) TextFault → Type 0) (Moves : Text → S → List E → S → Type 0) (state : H → S) (first : H)
+module _ {H S E : Type 0} (Handles : Text → H → H → Result (Unit {0}) PlayFault → Type 0) (Moves : Text → S → List E → S → Type 0) (state : H → S) (first : H)
     (Knows : (lines : List (List ℕ)) (version : Version) (events : List E) (now : H) → LinesDone Moves (state first) lines version events (state now) → Type 0) where
   -- a line more that the handler did moves the state, and as much is known
   pub record Follows : Type 0 where
@@ -54,12 +54,12 @@ module _ {H S E : Type 0} (Handles : Text → H → H → Result (Unit {0}) Text
       let o = h.over in
       done_all f given new o.mid end o.lines o.version o.events o.rest o.read o.done o.ends.0 o.ends.1 o.ends.2 h.tells.0 h.tells.1
 
-  module _ (Stops : TextFault → Text → S → S → Type 0) (A : Type 0) (given : Given) (new : H) where
+  module _ (Stops : PlayFault → Text → S → S → Type 0) (A : Type 0) (given : Given) (new : H) where
     -- all of the input is done
     abbrev pub over_all : {end : InputEnd} (all : A) → AllMoved given new end → LinesProcessed Moves given (state first) (λ reached. ProcessingEnds Stops reached given.ended (state new) (Ok all))
     over_all {end = end} all a = record { lines = a.lines; version = end.version; events = a.events; mid = state new; rest = a.rest; read = a.read; done = a.done; ends = (a.none, a.ended, refl) }
 
-    module _ (fault : TextFault)
+    module _ (fault : PlayFault)
         (stops : (lines : List (List ℕ)) (version : Version) (events : List E) (mid : H) (done : LinesDone Moves (state first) lines version events (state mid)) → Knows lines version events mid done
         → (line : List ℕ) → Handles (text_after lines version line) mid new (Err fault) → Stops fault (text_after lines version line) (state mid) (state new)) where
       -- how the fault ends the lines

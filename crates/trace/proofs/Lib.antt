@@ -10,6 +10,6 @@ pub mod Feeds
 pub mod Cutting
 pub mod ReadReplies
 pub mod ReadEntries
-pub mod GoingOver
+pub mod LinesProcessed
 pub mod Handling
 pub mod Reading

@@ -4,8 +4,8 @@ use Rattle.graph_heap.specs.declared.command.Entry.{Entry}
 use Rattle.graph_heap.specs.Graph.{Graph}
 use Rattle.graph_heap.specs.History.{IsEntryOf, after_entry, after, IsLegal}
 use Rattle.trace.specs.declared.fault.LineFault.TheVariants.{NotAnEntry}
-use Rattle.trace.specs.declared.fault.TextFault.{TextFault}
-use Rattle.trace.specs.declared.fault.TextFault.TheVariants.{Line as At_line, NoMemory}
+use Rattle.trace.specs.declared.fault.PlayFault.{PlayFault}
+use Rattle.trace.specs.declared.fault.PlayFault.TheVariants.{Line as At_line, NoMemory}
 use Rattle.trace.specs.declared.entry.EntryLine.{EntryLine}
 use Rattle.trace.specs.declared.entry.EntryLine.TheVariants as lines
 use Rattle.trace.specs.declared.version.Version.{Version}
@@ -35,14 +35,14 @@ IsWrong g text = (e : Entry) × SpellsEntry text.version text.bytes (lines.Entry
 
 -- A fault at a line: no entry is spelled so, it isn't skipped, and it doesn't tell the version; or memory was
 -- refused at an entry.
-abbrev pub HistoryStops : TextFault → Text → Graph → Graph → Type 0
+abbrev pub HistoryStops : PlayFault → Text → Graph → Graph → Type 0
 HistoryStops (At_line k NotAnEntry) text old new = (k ≡ text.number)
     × ((x : EntryLine) → SpellsEntry text.version text.bytes x → ⊥) × (¬ IsVersionLine text) × (new ≡ old)
 HistoryStops NoMemory text old new = (e : Entry) × SpellsEntry text.version text.bytes (lines.Entry e) × (new ≡ old)
 HistoryStops fault text old new = ⊥
 
 -- How checking ends.
-abbrev pub HistoryEnds : Bool → Graph → Result Checked TextFault → Reached Graph Entry → Type 0
+abbrev pub HistoryEnds : Bool → Graph → Result Checked PlayFault → Reached Graph Entry → Type 0
 -- all lines of the input are done, and these are all the entries
 HistoryEnds ended new (Ok (Good n)) reached = (reached.rest ≡ []) × IsTrue ended × (new ≡ reached.state)
     × (n ≡ length reached.events)
@@ -53,13 +53,13 @@ HistoryEnds ended new (Err fault) reached = ProcessingEnds HistoryStops {A = Che
 
 -- A history, as it was checked from one graph heap to another: the entries of the lines done are legal, and
 -- lead to the graph heap after them.
-pub record EntriesChecked (given : Given) (old new : Graph) (result : Result Checked TextFault) : Type 0 where
+pub record EntriesChecked (given : Given) (old new : Graph) (result : Result Checked PlayFault) : Type 0 where
   pub over : LinesProcessed (LineEffect DoesNothing DoesEntry) given old (HistoryEnds given.ended new result)
   pub legal : IsLegal old over.events
   pub leads : over.mid ≡ after old over.events
 
 -- The outcome of one line.
-abbrev pub LineChecked : Text → Graph → Graph → Result Outcome TextFault → Type 0
+abbrev pub LineChecked : Text → Graph → Graph → Result Outcome PlayFault → Type 0
 LineChecked text old new (Ok outcomes.Skipped) = LineEffect DoesNothing DoesEntry text old [] new
 LineChecked text old new (Ok outcomes.Done) = (e : Entry) × LineEffect DoesNothing DoesEntry text old (e ∷ []) new
 LineChecked text old new (Ok outcomes.Wrong) = IsWrong old text × (new ≡ old)

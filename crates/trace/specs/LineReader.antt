@@ -1,6 +1,6 @@
 -- What a reader of lines shows, and what its outcomes say.
 use Rattle.std.specs.Prelude.{◌≡◌, ℕ, ◌+◌, ◌≤◌, Bool, true, false, IsTrue, List, [], ◌∷◌, ◌++◌, length, Result, Ok, Err}
-use Rattle.trace.specs.declared.fault.TextFault.{TextFault}
+use Rattle.trace.specs.declared.fault.PlayFault.{PlayFault}
 use Rattle.trace.specs.declared.version.Version.{Version}
 use Rattle.trace.specs.declared.version.Version.TheVariants.{First}
 use Rattle.trace.specs.LinesProcessed.{NoLine}
@@ -20,13 +20,13 @@ no_lines = record { text = record { bytes = []; number = 0; version = First }; k
 
 -- the bytes that were kept and those that came: with a line, the line, its LF and what is kept now; else what is kept
 -- now
-abbrev pub text_by : Result Bool TextFault → Lines → List ℕ
+abbrev pub text_by : Result Bool PlayFault → Lines → List ℕ
 text_by (Ok true) new = new.text.bytes ++ 10 ∷ new.kept
 text_by (Ok false) new = new.kept
 text_by (Err e) new = new.kept
 
 -- what an outcome says of the reader after it, and of whether its input has ended
-abbrev pub IsOutcome : Result Bool TextFault → Lines → Bool → Type 0
+abbrev pub IsOutcome : Result Bool PlayFault → Lines → Bool → Type 0
 -- there is a line
 IsOutcome (Ok true) new ended = IsLine new.text.bytes
 -- the input has ended, and all lines were handed out
@@ -34,20 +34,20 @@ IsOutcome (Ok false) new ended = (new.kept ≡ []) × IsTrue ended
 IsOutcome (Err fault) new ended = NoLine fault new.text.number new.kept ended
 
 -- how many lines an outcome hands out
-abbrev pub lines_by : Result Bool TextFault → ℕ
+abbrev pub lines_by : Result Bool PlayFault → ℕ
 lines_by (Ok true) = 1
 lines_by (Ok false) = 0
 lines_by (Err e) = 0
 
 -- what an outcome does to versions: a line that is handed out has that which was to be the next one's
-abbrev pub Versions : Result Bool TextFault → Lines → Lines → Type 0
+abbrev pub Versions : Result Bool PlayFault → Lines → Lines → Type 0
 Versions (Ok true) old new = (new.text.version ≡ old.next) × IsNextVersion new.text new.next
 Versions (Ok false) old new = new.next ≡ old.next
 Versions (Err e) old new = new.next ≡ old.next
 
 -- What a call for the next line does, with what its source gave meanwhile: what was kept and what came are the line
 -- and what is kept, which with what came after it fits into a buffer.
-pub record ReadsLine (given : Given) (old new : Lines) (result : Result Bool TextFault) : Type 0 where
+pub record ReadsLine (given : Given) (old new : Lines) (result : Result Bool PlayFault) : Type 0 where
   pub text : Comes given.before given.after old.kept (text_by result new)
   pub says : IsOutcome result new given.ended
   pub number : new.text.number ≡ old.text.number + lines_by result

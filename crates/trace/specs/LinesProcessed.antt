@@ -1,8 +1,8 @@
 -- What it is to go through the lines of an input, one after the other, where the first may tell their version.
 use Rattle.std.specs.Prelude.{◌≡◌, ℕ, ◌+◌, ◌<◌, ◌≤◌, Bool, IsTrue, ◌⊎◌, List, [], ◌∷◌, ◌++◌, length, take, Result, Ok, Err}
 use Rattle.trace.specs.declared.fault.LineFault.TheVariants.{TooLong, NotEnded}
-use Rattle.trace.specs.declared.fault.TextFault.{TextFault}
-use Rattle.trace.specs.declared.fault.TextFault.TheVariants.{Line as At_line, Read, Write, NoMemory}
+use Rattle.trace.specs.declared.fault.PlayFault.{PlayFault}
+use Rattle.trace.specs.declared.fault.PlayFault.TheVariants.{Line as At_line, Read, Write, NoMemory}
 use Rattle.trace.specs.declared.version.Version.{Version}
 use Rattle.trace.specs.declared.version.Version.TheVariants.{First}
 use Rattle.trace.specs.Streams.{Given, IsLine, NoLf, Splits}
@@ -16,7 +16,7 @@ pub record LinesRead (given : Given) (lines : List (List ℕ)) (rest : List ℕ)
   pub small : length rest ≤ 65536
 
 -- After this many lines the rest has no further line, because of this fault.
-abbrev pub NoLine : TextFault → ℕ → List ℕ → Bool → Type 0
+abbrev pub NoLine : PlayFault → ℕ → List ℕ → Bool → Type 0
 -- 256 bytes came, and the next byte is there and is no LF
 NoLine (At_line k TooLong) count rest ended = (k ≡ count + 1) × (256 < length rest) × NoLf (take 257 rest)
 -- the input has ended after at least one byte of a line and before its LF
@@ -76,9 +76,9 @@ module _ {S E : Type 0} (Moves : Text → S → List E → S → Type 0) where
     pub ends : ProcessingEnds (record { lines = lines; version = version; events = events; state = mid; rest = rest })
 
 -- Stops fault text old new: at the line, a fault comes, and leaves this state.
-module _ {S E : Type 0} (Stops : TextFault → Text → S → S → Type 0) where
+module _ {S E : Type 0} (Stops : PlayFault → Text → S → S → Type 0) where
   -- How going through lines ends, with this state.
-  abbrev pub ProcessingEnds : {A : Type 0} → Reached S E → Bool → S → Result A TextFault → Type 0
+  abbrev pub ProcessingEnds : {A : Type 0} → Reached S E → Bool → S → Result A PlayFault → Type 0
   -- all lines of the input are done
   ProcessingEnds reached ended new (Ok all) = (reached.rest ≡ []) × IsTrue ended × (new ≡ reached.state)
   -- there is no next line, or the next line leads to the fault
@@ -87,11 +87,11 @@ module _ {S E : Type 0} (Stops : TextFault → Text → S → S → Type 0) wher
       ⊎ NextThere reached (λ text. Stops fault text reached.state new)
 
 -- how many reads failed, and how many writes
-abbrev pub reads_failed : {A : Type 0} → Result A TextFault → ℕ
+abbrev pub reads_failed : {A : Type 0} → Result A PlayFault → ℕ
 reads_failed (Err Read) = 1
 reads_failed _ = 0
 
 -- how many writes failed
-abbrev pub writes_failed : {A : Type 0} → Result A TextFault → ℕ
+abbrev pub writes_failed : {A : Type 0} → Result A PlayFault → ℕ
 writes_failed (Err Write) = 1
 writes_failed _ = 0

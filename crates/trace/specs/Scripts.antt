@@ -5,8 +5,8 @@ use Rattle.std.specs.declared.alloc.Global.{Global}
 use Rattle.graph_heap.specs.declared.command.Command.{Command}
 use Rattle.trace.specs.declared.fault.LineFault.{LineFault}
 use Rattle.trace.specs.declared.fault.LineFault.TheVariants as faults
-use Rattle.trace.specs.declared.fault.TextFault.{TextFault}
-use Rattle.trace.specs.declared.fault.TextFault.TheVariants.{Line as At_line, NoMemory}
+use Rattle.trace.specs.declared.fault.PlayFault.{PlayFault}
+use Rattle.trace.specs.declared.fault.PlayFault.TheVariants.{Line as At_line, NoMemory}
 use Rattle.trace.specs.declared.line.Line.{Line}
 use Rattle.trace.specs.declared.line.Line.TheVariants as lines
 use Rattle.trace.specs.declared.version.Version.{Version}
@@ -58,7 +58,7 @@ abbrev pub IsCommand : ℕ → Version → List ℕ → Type 0
 IsCommand mutators version text = (m : ℕ) × (c : Command) × Spells version text (lines.Command m c) × (m < mutators)
 
 -- a fault at a line: the line doesn't tell the version and is refused, or memory was at a command
-abbrev pub ScriptStops : ℕ → TextFault → Text → Unit {0} → Unit {0} → Type 0
+abbrev pub ScriptStops : ℕ → PlayFault → Text → Unit {0} → Unit {0} → Type 0
 ScriptStops mutators (At_line k fault) text old new = (k ≡ text.number)
     × ScriptLineIs mutators text.version fault text.bytes × (¬ IsVersionLine text)
 ScriptStops mutators NoMemory text old new = IsCommand mutators text.version text.bytes
@@ -69,13 +69,13 @@ abbrev pub ReadScripts : Type 0
 ReadScripts = Version × Vec (Vec Command Global) Global
 
 -- Scripts of this many mutators, as the lines of an input are.
-pub record AreScripts (given : Given) (mutators : ℕ) (result : Result ReadScripts TextFault) : Type 0 where
+pub record AreScripts (given : Given) (mutators : ℕ) (result : Result ReadScripts PlayFault) : Type 0 where
   pub over : LinesProcessed (LineEffect AsksNothing (DoesScript mutators)) given tt
       (λ reached. ProcessingEnds (ScriptStops mutators) reached given.ended tt result)
   pub are : IfOk result (λ read. (read.0 ≡ over.version) × (lists_in read.1 ≡ scripts_of mutators over.events))
 
 -- What was read of an input; or memory was refused before anything was read.
-abbrev pub ScriptsRead : Given → ℕ → Result ReadScripts TextFault → Type 0
+abbrev pub ScriptsRead : Given → ℕ → Result ReadScripts PlayFault → Type 0
 ScriptsRead given mutators result = ((result ≡ Err NoMemory) × (given.after ≡ given.before))
     ⊎ AreScripts given mutators result
 
@@ -95,7 +95,7 @@ with_line scripts line = scripts
 
 -- The outcome of one line: it tells the version of those after it, or asks for something.
 abbrev pub LineAdded : Text → Vec (Vec Command Global) Global → Vec (Vec Command Global) Global
-    → Result (Unit {0}) TextFault → Type 0
+    → Result (Unit {0}) PlayFault → Type 0
 LineAdded text old new (Ok done) =
     ((IsVersionLine text × (lists_in new ≡ lists_in old))
     ⊎ ((¬ IsVersionLine text) × ((line : Line)

@@ -1,6 +1,6 @@
 //! What can be wrong with a read or a write, with a line, and with an input.
 ghost use Rattle.std.specs.Prelude.{◌≡◌};
-ghost use Rattle.trace.specs.declared.fault.TextFault.TheVariants as faults;
+ghost use Rattle.trace.specs.declared.fault.PlayFault.TheVariants as faults;
 
 use graph_heap::NoMemory;
 use thiserror::Error;
@@ -43,7 +43,7 @@ pub enum LineFault {
 
 /// Why the lines of an input were not all done. What was done before stands.
 #[derive(Clone, Copy, Debug, PartialEq, Eq, Error)]
-pub enum TextFault {
+pub enum PlayFault {
     /// A line, by its number from 1, and what is wrong with it.
     #[error("line {0}: {1}")]
     Line(u64, LineFault),
@@ -58,10 +58,10 @@ pub enum TextFault {
     NoMemory,
 }
 
-impl From<NoMemory> for TextFault {
+impl From<NoMemory> for PlayFault {
     ghost from_gives = { λ why fault. fault ≡ faults.NoMemory };
 
-    fn from(_why: NoMemory) -> TextFault {
-        TextFault::NoMemory
+    fn from(_why: NoMemory) -> PlayFault {
+        PlayFault::NoMemory
     }
 }

@@ -26,7 +26,7 @@ pub mod write_buffer;
 
 pub use entry::{EntryLine, read_entry};
 pub use fail_at::FailAt;
-pub use fault::{LineFault, ReadFailed, TextFault, WriteFailed};
+pub use fault::{LineFault, PlayFault, ReadFailed, WriteFailed};
 pub use laws::{one_cutting, one_more_line};
 pub use line::{Line, is_skipped, read_line, read_numbered};
 pub use line_handler::{InputEnd, LineHandler, each_line};

@@ -7,7 +7,7 @@ ghost use Rattle.trace.specs.Numbered.{LineRead};
 ghost use Rattle.trace.specs.TextLine.{text_in};
 
 use crate::commands::mutator_and_command;
-use crate::fault::{LineFault, TextFault};
+use crate::fault::{LineFault, PlayFault};
 use crate::field::{Spelled, cut};
 use crate::text_line::TextLine;
 use crate::version::Version;
@@ -88,7 +88,7 @@ pub fn read_line(version: Version, bytes: &[u8]) -> Option<Line>
 /// Reads a line of a trace. Answers none for the line that tells the version of those after it. A line that says
 /// nothing that a trace of its version may say is a fault.
 #[inline(always)]
-pub fn read_numbered(text: TextLine) -> Result<Option<Line>, TextFault>
+pub fn read_numbered(text: TextLine) -> Result<Option<Line>, PlayFault>
     ensures { LineRead (text_in text.entry) result }
 {
     if text.tells_version() {
@@ -96,6 +96,6 @@ pub fn read_numbered(text: TextLine) -> Result<Option<Line>, TextFault>
     }
     match read_line(text.version, text.bytes) {
         Some(line) => Ok(Some(line)),
-        None => Err(TextFault::Line(text.number, LineFault::NotAnEvent)),
+        None => Err(PlayFault::Line(text.number, LineFault::NotAnEvent)),
     }
 }

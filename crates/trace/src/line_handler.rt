@@ -1,12 +1,12 @@
 //! Going through the lines of an input.
 ghost use Rattle.std.specs.Prelude.{◌≡◌, ℕ, ◌+◌, Result, OnOk};
-ghost use Rattle.trace.specs.declared.fault.TextFault.{TextFault};
+ghost use Rattle.trace.specs.declared.fault.PlayFault.{PlayFault};
 ghost use Rattle.trace.specs.LinesProcessed.{reads_failed};
 ghost use Rattle.trace.specs.Streams.{Stays, given_by};
 ghost use Rattle.trace.specs.TextLine.{Text, text_in};
 ghost use Rattle.trace.specs.Handling.{LinesHandled};
 
-use crate::fault::TextFault;
+use crate::fault::PlayFault;
 use crate::line_reader::LineReader;
 use crate::source::Source;
 use crate::text_line::TextLine;
@@ -18,10 +18,10 @@ pub trait LineHandler {
     ghost is_ready: { ℕ → Self → Type 0 };
 
     /// What a line does: the handler before and after it, and the outcome.
-    ghost handles: { Text → Self → Self → Result (Unit {0}) TextFault → Type 0 };
+    ghost handles: { Text → Self → Self → Result (Unit {0}) PlayFault → Type 0 };
 
     /// Does a line, and reads nothing.
-    fn handle(&mut self, text: TextLine) -> Result<(), TextFault>
+    fn handle(&mut self, text: TextLine) -> Result<(), PlayFault>
         requires { is_ready text.number self.old }
         ensures handles { handles (text_in text.entry) self.old self.new result }
         ensures ready { OnOk result (is_ready (text.entry.number + 1) self.new) }
@@ -42,7 +42,7 @@ pub struct InputEnd {
 pub fn each_line<S: Source, H: LineHandler>(
     source: &mut S,
     handler: &mut H,
-) -> Result<InputEnd, TextFault>
+) -> Result<InputEnd, PlayFault>
     requires { H.is_ready 1 handler.old }
     ensures handled { LinesHandled
         H.handles (given_by S.given S.ended source.old source.new) handler.old handler.new result }

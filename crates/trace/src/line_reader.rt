@@ -2,7 +2,7 @@
 ghost use Rattle.std.specs.Prelude.{true, false, ◌⊎◌, Ok, Err, ◌∷◌, ◌++◌, ◌≡◌, ◌==◌, ◌+◌, ◌-◌, ◌<◌, ◌≤◌, ◌^◌, [], length, take, slice_range, IfOk, IfSome, IsNone, OnOk, OnErr, IsTrue};
 ghost use Rattle.trace.specs.Streams.{failed, Comes, Stays, NoLf, IsLine, FirstLf, GrowsByPart, given_by};
 
-use crate::fault::{LineFault, ReadFailed, TextFault, WriteFailed};
+use crate::fault::{LineFault, PlayFault, ReadFailed, WriteFailed};
 use crate::sink::Sink;
 use crate::source::Source;
 use crate::text_line::TextLine;
@@ -36,7 +36,7 @@ fn to_front(buffer: &mut [u8], start: usize, end: usize)
 }
 
 /// Reads into a buffer, after the bytes at its front. Answers how many bytes were read.
-fn read_behind<S: Source>(source: &mut S, buffer: &mut [u8], at: usize) -> Result<usize, ReadFailed>
+fn read_after<S: Source>(source: &mut S, buffer: &mut [u8], at: usize) -> Result<usize, ReadFailed>
     requires { at < length buffer.old }
     ensures within { IfOk result (λ n. at + n ≤ length buffer.new) }
     ensures bytes { IfOk result (λ n. Comes (S.given source.old) (S.given source.new) (take at buffer.old)
@@ -155,7 +155,7 @@ impl LineReader {
         self.line_end = 0;
         self.start = 0;
         self.end = kept;
-        let n = read_behind(source, &mut self.buffer, kept)?;
+        let n = read_after(source, &mut self.buffer, kept)?;
         self.end += n;
         Ok(n)
     }
@@ -193,16 +193,16 @@ impl LineReader {
     }
 
     /// The fault of the line that begins with the bytes kept.
-    fn fault(&self, fault: LineFault) -> TextFault
+    fn fault(&self, fault: LineFault) -> PlayFault
         requires { 0 < length self.now.kept }
-        ensures { result ≡ TextFault.Line (self.now.text.number + 1) fault }
+        ensures { result ≡ PlayFault.Line (self.now.text.number + 1) fault }
     {
-        TextFault::Line(self.number + 1, fault)
+        PlayFault::Line(self.number + 1, fault)
     }
 
     /// Hands out the next line. Ok(false) is the end of the input. An error takes no line: what has come
     /// of one is kept.
-    pub fn next_line<S: Source>(&mut self, source: &mut S) -> Result<bool, TextFault>
+    pub fn next_line<S: Source>(&mut self, source: &mut S) -> Result<bool, PlayFault>
         // The source has given the bytes that are kept, and at least one for each line.
         requires { self.old.text.number + length self.old.kept ≤ length (S.given source.old) }
         ensures hands { ReadsLine (given_by S.given S.ended source.old source.new) self.old self.new result }
@@ -219,7 +219,7 @@ impl LineReader {
                 Ok(0) if self.kept() == 0 => return Ok(false),
                 Ok(0) => return Err(self.fault(LineFault::NotEnded)),
                 Ok(_) => {}
-                Err(ReadFailed) => return Err(TextFault::Read),
+                Err(ReadFailed) => return Err(PlayFault::Read),
             }
         }
         Ok(true)
@@ -232,13 +232,13 @@ impl LineReader {
         waiting: &mut WriteBuffer,
         source: &mut S,
         sink: &mut K,
-    ) -> Result<bool, TextFault>
+    ) -> Result<bool, PlayFault>
         requires { self.old.text.number + length self.old.kept ≤ length (S.given source.old) }
         // The source was asked for nothing, or all that waited is written.
         ensures asked { (source.new ≡ source.old) ⊎ (waiting.new ≡ []) }
         ensures room { result ≡ Ok true → length waiting.new + 256 ≤ 65536 }
         ensures whole { writes_failed result ≡ 0 → K.taken sink.new ++ waiting.new ≡ K.taken sink.old ++ waiting.old }
-        ensures part { result ≡ Err TextFault.Write → GrowsByPart (K.taken sink.old) (K.taken sink.new) waiting.old
+        ensures part { result ≡ Err PlayFault.Write → GrowsByPart (K.taken sink.old) (K.taken sink.new) waiting.old
             × (waiting.new ≡ []) }
         ensures grows { length (K.taken sink.old) ≤ length (K.taken sink.new) }
         ensures hands { writes_failed result ≡ 0
@@ -246,7 +246,7 @@ impl LineReader {
         ensures behind { self.new.text.number + length self.new.kept ≤ length (S.given source.new) }
         ensures counted { self.new.text.number < 2 ^ 64 }
         // Where a write failed, no line was handed out, and nothing was read.
-        ensures stays { result ≡ Err TextFault.Write → (self.new ≡ self.old) × (source.new ≡ source.old) }
+        ensures stays { result ≡ Err PlayFault.Write → (self.new ≡ self.old) × (source.new ≡ source.old) }
         ensures writes { K.failures sink.new ≡ K.failures sink.old + writes_failed result }
         ensures reads { S.failures source.new ≡ S.failures source.old + reads_failed result }
         ensures input { reads_failed result ≡ 0 → Stays (S.input source.old) (S.input source.new) }
@@ -256,7 +256,7 @@ impl LineReader {
         }
         match waiting.flush(sink) {
             Ok(()) => self.next_line(source),
-            Err(WriteFailed) => Err(TextFault::Write),
+            Err(WriteFailed) => Err(PlayFault::Write),
         }
     }
 }

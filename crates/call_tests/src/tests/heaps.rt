@@ -2,7 +2,7 @@
 use super::*;
 use graph_heap::{NoMemory, Reply};
 use heap_model::phase::Phase;
-use machine::HeapWithHistory;
+use machine::Recorded;
 
 const TWO_SLOTS: Settings = Settings {
     slots: 2,
@@ -12,7 +12,7 @@ const TWO_SLOTS: Settings = Settings {
 /// An object is made behind the sweep, and is kept.
 #[test]
 fn events_are_done_in_their_order(rt: HostRuntime) -> Result<(), NoMemory> {
-    let mut heap = HeapWithHistory::new(rt.alloc(), &config_of(&rt, &TWO_SLOTS))?;
+    let mut heap = Recorded::new(rt.alloc(), &config_of(&rt, &TWO_SLOTS))?;
     let put = Command::Put {
         obj: 0,
         i: 0,

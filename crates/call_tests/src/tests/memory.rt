@@ -1,7 +1,7 @@
 //! Heaps where memory may be refused: the answer says so, and nothing has changed then.
 use super::*;
 use graph_heap::{Entry, NoMemory, Reference, Reply};
-use machine::HeapWithHistory;
+use machine::Recorded;
 use std::alloc::AllocGlobal;
 
 /// The slow heap does a command and accepts another, or says that memory was refused and does it when asked again.
@@ -29,12 +29,12 @@ fn of_a_slow_heap(rt: HostRuntime) -> Result<(), NoMemory> {
 }
 
 /// A page with its history.
-fn recorded(rt: &(impl Abort + AllocGlobal)) -> Result<HeapWithHistory, NoMemory> {
-    HeapWithHistory::new(rt.alloc(), &config_of(rt, &ONE_PAGE))
+fn recorded(rt: &(impl Abort + AllocGlobal)) -> Result<Recorded, NoMemory> {
+    Recorded::new(rt.alloc(), &config_of(rt, &ONE_PAGE))
 }
 
 /// The reply to a command of mutator 0.
-fn reply_to(heap: &mut HeapWithHistory, command: Command) -> Result<Reply, NoMemory> {
+fn reply_to(heap: &mut Recorded, command: Command) -> Result<Reply, NoMemory> {
     Ok(heap.call(0, command)?.entry().reply)
 }
 

@@ -6,7 +6,7 @@ use player::{Player, Style, TickFault, play, play_first};
 use std::alloc::AllocGlobal;
 use std::test::Fail;
 use trace::{
-    FailAt, LineFault, MemorySink, MemorySource, ReadFailed, Sink, TextFault, WriteFailed,
+    FailAt, LineFault, MemorySink, MemorySource, PlayFault, ReadFailed, Sink, WriteFailed,
     WriteSink,
 };
 
@@ -53,7 +53,7 @@ fn ticks_end_where_memory_is_refused(rt: HostRuntime) -> Result<(), Fail> {
 fn replies_up_to_an_event_are_written(rt: HostRuntime) -> Result<(), Fail> {
     let trace = "0 new 0 plain 0 1\n0 put 0 0 7\n0 get 0 0\n";
     for (n, replies) in [(1u32, "made 1\n"), (2, "made 1\ndone\n")] {
-        for (call, written, answer) in [(1u64, "", Err(TextFault::Write)), (2, replies, Ok(()))] {
+        for (call, written, answer) in [(1u64, "", Err(PlayFault::Write)), (2, replies, Ok(()))] {
             let mut player = player(&rt)?;
             let mut source = MemorySource::new(trace.as_bytes());
             let mut sink = FailAt::new(MemorySink::new(rt.alloc()), call);
@@ -70,16 +70,16 @@ fn replies_up_to_an_event_are_written(rt: HostRuntime) -> Result<(), Fail> {
 fn faults_have_texts(rt: HostRuntime) -> Result<(), Fail> {
     let faults = [
         (
-            TextFault::Line(2, LineFault::NotEnded),
+            PlayFault::Line(2, LineFault::NotEnded),
             "line 2: line not ended",
         ),
         (
-            TextFault::Line(18446744073709551615, LineFault::NotEnded),
+            PlayFault::Line(18446744073709551615, LineFault::NotEnded),
             "line 18446744073709551615: line not ended",
         ),
-        (TextFault::Read, "cannot read"),
-        (TextFault::Write, "cannot write"),
-        (TextFault::NoMemory, "no memory"),
+        (PlayFault::Read, "cannot read"),
+        (PlayFault::Write, "cannot write"),
+        (PlayFault::NoMemory, "no memory"),
     ];
     for (fault, text) in faults {
         assert_eq!(rt; format!(in rt.alloc(); "{fault}")?.as_str(), text);

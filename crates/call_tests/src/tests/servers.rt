@@ -67,7 +67,7 @@ fn call<N: Naming, R: Wait + Abort>(
     Ok(receipt.entry().reply)
 }
 
-/// Looks whether each seat sees so many calls.
+/// Looks whether each seat sees this many calls.
 fn each_sees<N: Naming, R: Abort>(rt: &R, server: &Server<N>, seats: &mut [Seat<N>], calls: usize) {
     for seat in seats {
         assert!(rt; server.place_now(seat) == calls as u64);
@@ -89,7 +89,7 @@ fn take_turns<N: Naming, R: Wait + Abort + AllocGlobal>(
         let Some(seat) = seats.get_mut(*number) else {
             panic!(rt; "there are two seats");
         };
-        assert!(rt; call(rt, &server, seat, place, *command).is_ok_and(|told| told == *reply));
+        assert!(rt; call(rt, &server, seat, place, *command).is_ok_and(|given| given == *reply));
         each_sees(rt, &server, seats.as_mut_slice(), place + 1);
     }
     Ok(())

@@ -4,7 +4,7 @@ use Rattle.std.specs.Prelude.{Option, Some, None, count_by, sum_by}
 use Rattle.heap_model.specs.Event.{Course}
 use Rattle.heap_model.specs.Pages.{free_pages}
 use Rattle.nodes.specs.Copies.{copies_in}
-use Rattle.nodes.specs.declared.block_store.counting.Copies.{Copies}
+use Rattle.nodes.specs.declared.nodes.counting.Copies.{Copies}
 use Rattle.inspector.specs.declared.cycles.cycle.Sweep.{Sweep}
 use Rattle.inspector.specs.declared.cycles.open.Base.{Base}
 use Rattle.inspector.specs.Made.{makes, blocks_made, entered_since}

@@ -3,14 +3,14 @@ use Rattle.std.proofs.Common.{◌≡◌, ℕ, ◌+◌, ◌-◌, ◌^◌, min, ma
 use Rattle.std.specs.Prelude.{Option, Some, None, count_by}
 use Rattle.heap_model.specs.Event.{Course}
 use Rattle.nodes.specs.Copies.{copies_in}
-use Rattle.nodes.specs.declared.block_store.counting.Copies.{Copies}
+use Rattle.nodes.specs.declared.nodes.counting.Copies.{Copies}
 use Rattle.inspector.specs.declared.cycles.cycle.Cycle.{Cycle}
 use Rattle.inspector.specs.declared.cycles.open.Base.{Base}
 use Rattle.inspector.specs.declared.cycles.open.Open.{Open}
 use Rattle.inspector.specs.declared.cycles.log.Log.{Log}
 use Rattle.player.specs.Steps.{Step}
 use Rattle.inspector.specs.Steps.{is_quantum, begins, works, ends_sweep, ends_cycle}
-use Rattle.inspector.specs.Cycles.{counted, behind_last, copies_at, units_by, end_of, SweptBy, IsCycle, AreCycles, No_cycle, One_cycle_more}
+use Rattle.inspector.specs.Cycles.{counted, after_last, copies_at, units_by, end_of, SweptBy, IsCycle, AreCycles, No_cycle, One_cycle_more}
 use Rattle.inspector.specs.Log.{place_at, IsBase, AreCounted, IsEnd, IsStart, IsOpen, HasOpen, IsOpenIn, IsLog}
 use Rattle.std.proofs.lemmas.List.Sums.{fold_push}
 use Rattle.inspector.proofs.cycles.Stepping.{count_push, count_other, fewer, idles, ends_none, no_quantum, end_here, last_push, swept_other, end_other, counted_more}
@@ -34,10 +34,10 @@ place_more false r o n m is was = was
 
 module _ (steps : List Step) (s : Step) (old : Base) (base : IsBase steps old) where
   abbrev swept : Option Course
-  swept = behind_last ends_sweep None steps
+  swept = after_last ends_sweep None steps
 
   abbrev ended : Option Course
-  ended = behind_last ends_cycle None steps
+  ended = after_last ends_cycle None steps
 
   pub base_more : (copies : Copies) (place : ℕ) (new : Base) → AreCounted s copies → place ≡ length s.after.history
       → new.objects ≡ cond (ends_sweep s) copies.objects old.objects → new.parts ≡ cond (ends_sweep s) copies.parts old.parts → new.old ≡ cond (ends_cycle s) copies.old old.old → new.place ≡ cond (ends_sweep s) place old.place

@@ -2,14 +2,14 @@
 use Rattle.std.proofs.Common.{◌≡◌, ◌≢◌, ◌⊎◌, ℕ, ◌+◌, ◌-◌, ◌^◌, min, Bool, true, false, not, ◌&&◌, cond, inl, inr, List, [], ◌∷◌, ◌++◌, refl, ap, ◌∙◌, sym, arith, append_assoc}
 use Rattle.std.specs.Prelude.{Option, Some, None, is_some, count_by}
 use Rattle.std.proofs.lemmas.List.Sums.{sum_by_push, sum_by-cons, fold_push}
-use Rattle.heap_model.specs.Event.{Course, Event, Command_done, Cycle_begun, Cycle_on, Quantum_done, Quantum_refused}
+use Rattle.heap_model.specs.Event.{Course, Event, Command_done, Cycle_begun, Begin_refused, Quantum_done, Quantum_refused}
 use Rattle.space.specs.Tally.{awaits_sweep_end}
 use Rattle.space.specs.Pace.{in_cycle}
 use Rattle.inspector.specs.declared.cycles.cycle.Sweep.{Sweep}
 use Rattle.inspector.specs.declared.cycles.open.End.{End}
 use Rattle.player.specs.Steps.{Step}
 use Rattle.inspector.specs.Steps.{is_beginning, is_quantum, begins, works, ends_sweep, ends_cycle}
-use Rattle.inspector.specs.Cycles.{counted, behind_last, end_of, IsSweep, SweptBy}
+use Rattle.inspector.specs.Cycles.{counted, after_last, end_of, IsSweep, SweptBy}
 use Rattle.inspector.specs.Log.{IsEnd, end_at}
 
 -- a count with one step more
@@ -49,7 +49,7 @@ ends_none s e = (ap (λ b. b && (awaits_sweep_end s.before.heap.phase && not (aw
 pub no_quantum : (e : Event) → is_beginning e ≡ true → is_quantum e ≡ false
 no_quantum (Command_done m c reply) is = refl
 no_quantum Cycle_begun is = refl
-no_quantum Cycle_on is = refl
+no_quantum Begin_refused is = refl
 no_quantum (Quantum_done budget units phase) is = sym is
 no_quantum (Quantum_refused budget) is = refl
 
@@ -81,7 +81,7 @@ end_stays f (t ∷ later) rest over = by (ends_cycle f) refl over (λ o. end_sta
     by false is (inr some) so = ap (λ b. cond b f.after (end_of t (later ++ rest))) is ∙ so (some_left t later (ends_cycle t) refl some) ∙ sym (ap (λ b. cond b f.after (end_of t later)) is)
 
 -- the moment behind the last of some steps
-pub last_push : (is : Step → Bool) (o : Option Course) (steps : List Step) (s : Step) → behind_last is o (steps ++ s ∷ []) ≡ cond (is s) (Some s.after) (behind_last is o steps)
+pub last_push : (is : Step → Bool) (o : Option Course) (steps : List Step) (s : Step) → after_last is o (steps ++ s ∷ []) ≡ cond (is s) (Some s.after) (after_last is o steps)
 last_push is o steps s = fold_push (λ last x. cond (is x) (Some x.after) last) o steps s
 
 -- the sweep with one step more
@@ -116,7 +116,7 @@ module _ (earlier : List Step) (first : Step) (later : List Step) (s : Step) whe
   swept_none None e ends none = count_other ends_sweep later s ends ∙ none
   swept_none (Some sweep) e ends is = absurd (cc)
 
-  pub swept_now : (o : Option Sweep) → is_some o ≡ false → ends_sweep s ≡ true → SweptBy earlier first later o → (sweep : Sweep) → IsSweep (behind_last ends_sweep None earlier) (behind_last ends_cycle None earlier) first.before s.after sweep
+  pub swept_now : (o : Option Sweep) → is_some o ≡ false → ends_sweep s ≡ true → SweptBy earlier first later o → (sweep : Sweep) → IsSweep (after_last ends_sweep None earlier) (after_last ends_cycle None earlier) first.before s.after sweep
       → SweptBy earlier first (later ++ s ∷ []) (Some sweep)
   swept_now None e ends none sweep is = (later, s, [], refl, none, ends, is)
   swept_now (Some other) e ends none sweep is = absurd (cc)
@@ -143,6 +143,6 @@ begins_on s is = (ends_none s (idles s (no_quantum s.event is))).1
 pub quantum_begins_none : (e : Event) → is_quantum e ≡ true → is_beginning e ≡ false
 quantum_begins_none (Command_done m c reply) is = refl
 quantum_begins_none Cycle_begun is = sym is
-quantum_begins_none Cycle_on is = refl
+quantum_begins_none Begin_refused is = refl
 quantum_begins_none (Quantum_done budget units phase) is = refl
 quantum_begins_none (Quantum_refused budget) is = refl

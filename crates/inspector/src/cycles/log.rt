@@ -11,7 +11,7 @@ use crate::cycles::cycle::{Cycle, Cycles};
 use crate::cycles::open::{Base, Open};
 use crate::cycles::turn::QuantumEffect;
 use graph_heap::NoMemory;
-use machine::{Heap, HeapWithHistory};
+use machine::{Heap, Recorded};
 use nodes::Copies;
 use player::Mark;
 use std::alloc::Global;
@@ -37,12 +37,7 @@ impl Log {
     }
 
     /// The cycle that is open after one more quantum.
-    fn open_after(
-        &self,
-        turn: &QuantumEffect,
-        copies: &Copies,
-        recorded: &HeapWithHistory,
-    ) -> Option<Open>
+    fn open_after(&self, turn: &QuantumEffect, copies: &Copies, recorded: &Recorded) -> Option<Open>
         ensures { (steps : List Step) (s : Step) → IsOpenIn steps s.before self.now.closed.items self.now.last
             → begins s ≡ false → IsQuantumEffect s turn.now → AreCounted s copies.now → s.after ≡ recorded.now.course
             → IsOpenIn (steps ++ s ∷ []) s.after self.now.closed.items result }
@@ -54,7 +49,7 @@ impl Log {
     }
 
     /// A quantum was done, before which the collector was at this mark.
-    pub fn quantum(&mut self, before: &Mark, recorded: &HeapWithHistory)
+    pub fn quantum(&mut self, before: &Mark, recorded: &Recorded)
         ensures { (steps : List Step) (s : Step) → IsLog steps s.before self.old → is_quantum s.event ≡ true
             → IsMark s.before.heap before.now → s.after ≡ recorded.now.course
             → IsLog (steps ++ s ∷ []) s.after self.new }
@@ -82,7 +77,7 @@ impl Log {
     }
 
     /// A line begins a cycle.
-    pub fn begin_at(&mut self, line: u64, recorded: &HeapWithHistory) -> Result<(), NoMemory>
+    pub fn begin_at(&mut self, line: u64, recorded: &Recorded) -> Result<(), NoMemory>
         ensures { OnOk result ((steps : List Step) (s : Step) → IsLog steps s.before self.old → begins s ≡ true
             → s.line ≡ line → s.before ≡ recorded.now.course → IsLog (steps ++ s ∷ []) s.after self.new) }
     {

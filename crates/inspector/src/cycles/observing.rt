@@ -3,7 +3,7 @@ ghost use Rattle.inspector.specs.Log.{HasLogged};
 
 use crate::cycles::log::Log;
 use graph_heap::{Entry, NoMemory};
-use machine::HeapWithHistory;
+use machine::Recorded;
 use player::{Mark, Observer};
 use sizing::in_cycle;
 
@@ -16,18 +16,18 @@ impl Observer for Log {
         Ok(())
     }
 
-    fn begins(&mut self, number: u64, recorded: &HeapWithHistory) -> Result<(), NoMemory> {
+    fn begins(&mut self, number: u64, recorded: &Recorded) -> Result<(), NoMemory> {
         if in_cycle(recorded.heap().phase()) {
             return Ok(());
         }
         self.begin_at(number, recorded)
     }
 
-    fn quantum_done(&mut self, before: &Mark, _budget: u32, recorded: &HeapWithHistory) {
+    fn quantum_done(&mut self, before: &Mark, _budget: u32, recorded: &Recorded) {
         self.quantum(before, recorded);
     }
 
-    fn line_done(&mut self, _number: u64, _recorded: &HeapWithHistory) -> Result<(), NoMemory> {
+    fn line_done(&mut self, _number: u64, _recorded: &Recorded) -> Result<(), NoMemory> {
         Ok(())
     }
 }

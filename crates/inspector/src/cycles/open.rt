@@ -11,7 +11,7 @@ ghost use Rattle.inspector.specs.Log.{IsBase, IsBaseAt, IsOpen, IsEnd, IsQuantum
 use crate::cycles::cycle::{Cycle, Sweep};
 use crate::cycles::made::{from_place, made_by};
 use crate::cycles::turn::QuantumEffect;
-use machine::{Heap, HeapWithHistory};
+use machine::{Heap, Recorded};
 use nodes::Copies;
 
 /// What is known of the last sweep, and of the last cycle's end.
@@ -119,7 +119,7 @@ impl End {
 
 impl Start {
     /// What the sweep of the cycle did, which has just ended and left these copies.
-    fn swept(&self, recorded: &HeapWithHistory, copies: &Copies) -> Sweep
+    fn swept(&self, recorded: &Recorded, copies: &Copies) -> Sweep
         ensures { (swept ended : Option Course) (first : Course) → IsBaseAt swept ended self.now.base
             → self.now.place ≡ length first.history
             → self.now.free ≡ page_list.free_pages first.heap.store.pages
@@ -144,7 +144,7 @@ impl Start {
 
 impl Open {
     /// A cycle that a line begins.
-    pub fn new(line: u64, base: &Base, recorded: &HeapWithHistory) -> Open
+    pub fn new(line: u64, base: &Base, recorded: &Recorded) -> Open
         ensures { (earlier : List Step) (s : Step) → IsBase earlier base.now → s.line ≡ line
             → s.before ≡ recorded.now.course → IsOpen earlier s [] result }
     {
@@ -167,7 +167,7 @@ impl Open {
         &self,
         turn: &QuantumEffect,
         copies: &Copies,
-        recorded: &HeapWithHistory,
+        recorded: &Recorded,
     ) -> Option<Sweep>
         ensures { (earlier later : List Step) (first s : Step) → IsOpen earlier first later self.now
             → IsQuantumEffect s turn.now
@@ -200,7 +200,7 @@ impl Open {
     }
 
     /// The cycle after one more quantum, with the copies in the heap where they were counted.
-    pub fn after(self, turn: &QuantumEffect, copies: &Copies, recorded: &HeapWithHistory) -> Open
+    pub fn after(self, turn: &QuantumEffect, copies: &Copies, recorded: &Recorded) -> Open
         ensures { (earlier later : List Step) (first s : Step) → begins first ≡ true → IsOpen earlier first later self
             → IsQuantumEffect s turn.now → AreCounted s copies.now → s.after ≡ recorded.now.course
             → IsOpen earlier first (later ++ s ∷ []) result }

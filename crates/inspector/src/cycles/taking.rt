@@ -9,7 +9,7 @@ use crate::cycles::log::Log;
 use player::{Observed, Player, observe};
 use size_classes::Config;
 use std::alloc::Global;
-use trace::{Source, TextFault};
+use trace::{PlayFault, Source};
 
 /// Plays the lines of a trace on a new heap of a configuration, one after the other, writes nothing of them, and
 /// answers the cycles of the run, with the figures of each. A fault is that with which playing the trace ends; or
@@ -18,7 +18,7 @@ pub fn take_cycles<S: Source>(
     alloc: Global,
     config: &Config,
     source: &mut S,
-) -> Result<Cycles, TextFault>
+) -> Result<Cycles, PlayFault>
     ensures taken { CyclesTaken config.now (given_by S.given S.ended source.old source.new) result }
     ensures reads { S.failures source.new ≡ S.failures source.old + reads_failed result }
     ensures input { reads_failed result ≡ 0 → Stays (S.input source.old) (S.input source.new) }

@@ -1,7 +1,7 @@
 //! What is reported of what a run needed.
 ghost use Rattle.std.specs.Prelude.{◌≡◌, ◌≤◌, IfOk, string_bytes};
 ghost use Rattle.size_classes.specs.declared.config.TheConstants.{MOST_PAGES};
-ghost use Rattle.inspector.specs.NeededReport.{blocks_line, still_line, moved_line, gathered_line, budget_line, form_lines};
+ghost use Rattle.inspector.specs.NeededReport.{blocks_line, still_line, moved_line, gathered_line, page_demand_line, form_lines};
 ghost use Rattle.inspector.specs.NeededReport.{fewest_pages, keys_line, fewest_line, needed_report, needed_told};
 
 use crate::class_lines::class_lines;
@@ -47,8 +47,8 @@ fn gathered_line(alloc: Global, pages: u64) -> Result<String, AllocError>
 }
 
 /// How many suffice with such moving, whatever the sizes of objects are.
-fn budget_line(alloc: Global, pages: u128, needed: &Needed) -> Result<String, AllocError>
-    ensures { IfOk result (λ line. string_bytes line ≡ budget_line pages needed.now) }
+fn page_demand_line(alloc: Global, pages: u128, needed: &Needed) -> Result<String, AllocError>
+    ensures { IfOk result (λ line. string_bytes line ≡ page_demand_line pages needed.now) }
 {
     let (live, made) = (needed.live, needed.made);
     format!(in alloc;
@@ -70,7 +70,7 @@ fn form_lines(
         still_line(alloc, still)?,
         moved_line(alloc, moved)?,
         gathered_line(alloc, needed.gathered)?,
-        budget_line(alloc, budgeted, needed)?,
+        page_demand_line(alloc, budgeted, needed)?,
     ]
     .concat(alloc)
 }

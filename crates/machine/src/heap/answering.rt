@@ -17,7 +17,7 @@ impl Heap {
         ensures { (g : Graph) → Agrees self.now g
             → result ≡ reply_of (room_for self.now command.now) g mutator command.now }
     {
-        match self.raw.roots.admit(mutator, command.is_join()) {
+        match self.fields.roots.admit(mutator, command.is_join()) {
             Ok(_) => reply_to(self.plan(mutator, *command)),
             Err(refusal) => Reply::Refused(refusal),
         }

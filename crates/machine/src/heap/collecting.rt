@@ -4,7 +4,7 @@ ghost use Rattle.graph_heap.specs.Graph.{Graph};
 ghost use Rattle.heap_model.specs.declared.phase.Phase.TheVariants as phases;
 ghost use Rattle.heap_model.specs.Agreement.{Agrees};
 ghost use Rattle.heap_model.specs.Spent.{cycle_limit};
-ghost use Rattle.heap_model.specs.Standing.{Represents};
+ghost use Rattle.heap_model.specs.Represents.{Represents};
 ghost use Rattle.heap_model.specs.QuantumSpending.{QuantumSpends};
 ghost use Rattle.nodes.specs.Acting.{ActsIn};
 ghost use Rattle.nodes.specs.Grey.{in_buffers};
@@ -45,7 +45,7 @@ fn act(heap: &mut HeapFields, room: u32) -> bool
 fn spend(heap: &mut HeapFields, budget: u32) -> u32
     requires heap { AreHeapFields heap.old }
     requires buffers { in_buffers heap.old.grey.buffers ≡ [] }
-    ensures raw { AreHeapFields heap.new }
+    ensures fields { AreHeapFields heap.new }
     ensures turn { QuantumSpends (state_of heap.old) budget (state_of heap.new) result }
 {
     let before = heap.units;
@@ -57,13 +57,13 @@ fn spend(heap: &mut HeapFields, budget: u32) -> u32
 }
 
 impl Heap {
-    /// The phase of the collector, with how far it has come. A heap always stands for some graph heap at
-    /// present, and for one when the last cycle began.
+    /// The phase of the collector, with how far it has come. A heap always represents some graph heap at present, and
+    /// one when the last cycle began.
     pub fn phase(&self) -> Phase
         ensures phase { result ≡ self.now.phase }
-        ensures stands { (present : Graph) × (snapshot : Graph) × Represents self.now present snapshot }
+        ensures represents { (present : Graph) × (snapshot : Graph) × Represents self.now present snapshot }
     {
-        self.raw.phase
+        self.fields.phase
     }
 
     /// The units of work that were spent since the last cycle began: no more than a cycle may spend.
@@ -71,7 +71,7 @@ impl Heap {
         ensures units { result ≡ self.now.units }
         ensures within { result ≤ cycle_limit self.now }
     {
-        self.raw.units
+        self.fields.units
     }
 
     /// Begins a cycle: the mark parity is turned, so that no block is marked. It costs nothing.
@@ -80,12 +80,12 @@ impl Heap {
         ensures begins { Begins self.old self.new result }
         ensures agrees { (g : Graph) → Agrees self.old g → Agrees self.new g }
     {
-        if !self.raw.phase.is_idle() {
+        if !self.fields.phase.is_idle() {
             return Err(Busy);
         }
-        self.raw.mark_parity = !self.raw.mark_parity;
-        self.raw.phase = Phase::Roots { next: 0 };
-        self.raw.units = 0;
+        self.fields.mark_parity = !self.fields.mark_parity;
+        self.fields.phase = Phase::Roots { next: 0 };
+        self.fields.units = 0;
         Ok(())
     }
 
@@ -100,11 +100,11 @@ impl Heap {
         if budget < LEAST_BUDGET || MOST_BUDGET < budget {
             return Err(BudgetOutOfRange);
         }
-        flush_all(&mut self.raw);
-        let units = spend(&mut self.raw, budget);
+        flush_all(&mut self.fields);
+        let units = spend(&mut self.fields, budget);
         Ok(Spent {
             units,
-            phase: self.raw.phase,
+            phase: self.fields.phase,
         })
     }
 }

@@ -17,7 +17,7 @@ impl Heap {
         ensures pages { result ≡ length self.now.store.pages }
         ensures within { result ≤ 4096 }
     {
-        self.raw.nodes.pages()
+        self.fields.nodes.pages()
     }
 
     /// How many pages are free.
@@ -25,7 +25,7 @@ impl Heap {
         ensures free { result ≡ page_list.free_pages self.now.store.pages }
         ensures within { result ≤ 4096 }
     {
-        self.raw.nodes.free_pages()
+        self.fields.nodes.free_pages()
     }
 
     /// What can be seen of a page: None where it is free, or where there is no such page.
@@ -33,7 +33,7 @@ impl Heap {
         ensures view { result ≡ view_of (page_at self.now.store.pages page) }
         ensures within { IfSome result (λ v. v.allocated ≤ 512) }
     {
-        self.raw.nodes.page(page)
+        self.fields.nodes.page(page)
     }
 
     /// How many words are wasted inside the allocated blocks of a page: of each block those behind the last cell of its
@@ -42,14 +42,14 @@ impl Heap {
         ensures wasted { result ≡ wasted_on self.now.store page }
         ensures within { result ≤ 131072 }
     {
-        self.raw.nodes.wasted_inside(page)
+        self.fields.nodes.wasted_inside(page)
     }
 
     /// How many root cells there are.
     pub fn root_cells(&self) -> usize
         ensures { result ≡ length self.now.roots }
     {
-        self.raw.roots.cells().len()
+        self.fields.roots.cells().len()
     }
 
     /// How many root cells aren't null.
@@ -57,20 +57,20 @@ impl Heap {
         ensures used { result ≡ used_in self.now.roots }
         ensures within { result ≤ length self.now.roots }
     {
-        self.raw.roots.used()
+        self.fields.roots.used()
     }
 
     /// Whether some block of an object is allocated.
     pub fn holds(&self, id: u64) -> bool
         ensures { IsTrue result ↔ HasBlock self.now.store id }
     {
-        self.raw.nodes.holds(id)
+        self.fields.nodes.holds(id)
     }
 
     /// How many main copies and old copies there are.
     pub fn copies(&self) -> Copies
         ensures { result ≡ copies_in self.now.store }
     {
-        self.raw.nodes.copies()
+        self.fields.nodes.copies()
     }
 }

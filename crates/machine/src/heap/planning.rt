@@ -23,16 +23,16 @@ pub(super) type Plan = Result<Planned, Refusal>;
 pub(super) fn make(heap: &Heap, mutator: u32, dst: u32, shape: Shape) -> Plan
     ensures { IsPlan heap.now mutator (Command.New dst shape) result }
 {
-    let cell = heap.raw.roots.slot(mutator, dst)?;
+    let cell = heap.fields.roots.slot(mutator, dst)?;
     let parts = parts_of(&shape).ok_or(Refusal::TooLarge)?;
-    if heap.raw.next > heap.raw.roots.limits().identities {
+    if heap.fields.next > heap.fields.roots.limits().identities {
         return Err(Refusal::IdentitiesSpent);
     }
-    if !heap.raw.nodes.room(&parts) {
+    if !heap.fields.nodes.room(&parts) {
         return Err(Refusal::NoSpace);
     }
     Ok(Planned {
-        reply: Reply::Made(heap.raw.next),
+        reply: Reply::Made(heap.fields.next),
         write: Write::New { cell, shape },
     })
 }
@@ -42,8 +42,8 @@ pub(super) fn make(heap: &Heap, mutator: u32, dst: u32, shape: Shape) -> Plan
 pub(super) fn load(heap: &Heap, mutator: u32, dst: u32, obj: u32, i: u32) -> Plan
     ensures { IsPlan heap.now mutator (Command.Load dst obj i) result }
 {
-    let cell = heap.raw.roots.slot(mutator, dst)?;
-    let root = heap.raw.roots.slot(mutator, obj)?;
+    let cell = heap.fields.roots.slot(mutator, dst)?;
+    let root = heap.fields.roots.slot(mutator, obj)?;
     let at = heap.find(root, Kind::Ref, i)?;
     let value = heap.referent_in_cell(at);
     Ok(Planned {
@@ -60,7 +60,7 @@ pub(super) fn load(heap: &Heap, mutator: u32, dst: u32, obj: u32, i: u32) -> Pla
 pub(super) fn store(heap: &Heap, mutator: u32, obj: u32, i: u32, src: u32) -> Plan
     ensures { IsPlan heap.now mutator (Command.Store obj i src) result }
 {
-    let root = heap.raw.roots.slot(mutator, obj)?;
+    let root = heap.fields.roots.slot(mutator, obj)?;
     let value = heap.referent_in_slot(mutator, src)?;
     let at = heap.find(root, Kind::Ref, i)?;
     Ok(Planned::done(Write::Ref {
@@ -81,9 +81,9 @@ pub(super) fn compare_store(
 ) -> Plan
     ensures { IsPlan heap.now mutator (Command.CompareStore obj i expect new) result }
 {
-    let root = heap.raw.roots.slot(mutator, obj)?;
+    let root = heap.fields.roots.slot(mutator, obj)?;
     let expected = heap.referent_in_slot(mutator, expect)?;
-    let source = heap.raw.roots.slot(mutator, new)?;
+    let source = heap.fields.roots.slot(mutator, new)?;
     let at = heap.find(root, Kind::Ref, i)?;
     Ok(heap.compared(heap.referent_in_cell(at), expected, source, Target::Ref(at)))
 }
@@ -93,7 +93,7 @@ pub(super) fn compare_store(
 pub(super) fn get(heap: &Heap, mutator: u32, obj: u32, i: u32) -> Plan
     ensures { IsPlan heap.now mutator (Command.Get obj i) result }
 {
-    let root = heap.raw.roots.slot(mutator, obj)?;
+    let root = heap.fields.roots.slot(mutator, obj)?;
     let at = heap.find(root, Kind::Word, i)?;
     Ok(Planned::reply(Reply::Word(heap.word_in(at))))
 }
@@ -103,7 +103,7 @@ pub(super) fn get(heap: &Heap, mutator: u32, obj: u32, i: u32) -> Plan
 pub(super) fn put(heap: &Heap, mutator: u32, obj: u32, i: u32, word: u64) -> Plan
     ensures { IsPlan heap.now mutator (Command.Put obj i word) result }
 {
-    let root = heap.raw.roots.slot(mutator, obj)?;
+    let root = heap.fields.roots.slot(mutator, obj)?;
     let at = heap.find(root, Kind::Word, i)?;
     Ok(Planned::done(Write::Word { at, word }))
 }
@@ -113,7 +113,7 @@ pub(super) fn put(heap: &Heap, mutator: u32, obj: u32, i: u32, word: u64) -> Pla
 pub(super) fn compare_put(heap: &Heap, mutator: u32, obj: u32, i: u32, old: u64, new: u64) -> Plan
     ensures { IsPlan heap.now mutator (Command.ComparePut obj i old new) result }
 {
-    let root = heap.raw.roots.slot(mutator, obj)?;
+    let root = heap.fields.roots.slot(mutator, obj)?;
     let at = heap.find(root, Kind::Word, i)?;
     let word = heap.word_in(at);
     if word != old {
@@ -130,7 +130,7 @@ pub(super) fn compare_put(heap: &Heap, mutator: u32, obj: u32, i: u32, old: u64,
 pub(super) fn copy(heap: &Heap, mutator: u32, dst: u32, src: u32) -> Plan
     ensures { IsPlan heap.now mutator (Command.Copy dst src) result }
 {
-    let cell = heap.raw.roots.slot(mutator, dst)?;
+    let cell = heap.fields.roots.slot(mutator, dst)?;
     let value = heap.referent_in_slot(mutator, src)?;
     Ok(Planned::done(Write::Root {
         cell,
@@ -143,7 +143,7 @@ pub(super) fn copy(heap: &Heap, mutator: u32, dst: u32, src: u32) -> Plan
 pub(super) fn clear(heap: &Heap, mutator: u32, dst: u32) -> Plan
     ensures { IsPlan heap.now mutator (Command.Clear dst) result }
 {
-    let cell = heap.raw.roots.slot(mutator, dst)?;
+    let cell = heap.fields.roots.slot(mutator, dst)?;
     Ok(Planned::done(Write::Root { cell, reference: 0 }))
 }
 
@@ -152,8 +152,8 @@ pub(super) fn clear(heap: &Heap, mutator: u32, dst: u32) -> Plan
 pub(super) fn load_static(heap: &Heap, mutator: u32, dst: u32, k: u32) -> Plan
     ensures { IsPlan heap.now mutator (Command.LoadStatic dst k) result }
 {
-    let cell = heap.raw.roots.slot(mutator, dst)?;
-    let source = heap.raw.roots.static_cell(k)?;
+    let cell = heap.fields.roots.slot(mutator, dst)?;
+    let source = heap.fields.roots.static_cell(k)?;
     let referent = heap.referent(source);
     Ok(Planned {
         reply: Reply::Ref(referent.identity),
@@ -170,7 +170,7 @@ pub(super) fn store_static(heap: &Heap, mutator: u32, k: u32, src: u32) -> Plan
     ensures { IsPlan heap.now mutator (Command.StoreStatic k src) result }
 {
     let value = heap.referent_in_slot(mutator, src)?;
-    let cell = heap.raw.roots.static_cell(k)?;
+    let cell = heap.fields.roots.static_cell(k)?;
     Ok(Planned::done(Write::Root {
         cell,
         reference: value.reference,
@@ -183,8 +183,8 @@ pub(super) fn compare_static(heap: &Heap, mutator: u32, k: u32, expect: u32, new
     ensures { IsPlan heap.now mutator (Command.CompareStatic k expect new) result }
 {
     let expected = heap.referent_in_slot(mutator, expect)?;
-    let source = heap.raw.roots.slot(mutator, new)?;
-    let cell = heap.raw.roots.static_cell(k)?;
+    let source = heap.fields.roots.slot(mutator, new)?;
+    let cell = heap.fields.roots.static_cell(k)?;
     Ok(heap.compared(heap.referent(cell), expected, source, Target::Root(cell)))
 }
 
@@ -203,7 +203,7 @@ pub(super) fn same(heap: &Heap, mutator: u32, a: u32, b: u32) -> Plan
 pub(super) fn describe(heap: &Heap, mutator: u32, a: u32) -> Plan
     ensures { IsPlan heap.now mutator (Command.Describe a) result }
 {
-    let root = heap.raw.roots.slot(mutator, a)?;
+    let root = heap.fields.roots.slot(mutator, a)?;
     let found = heap.object(root)?;
     Ok(Planned::reply(Reply::Described(found.id, found.shape)))
 }
@@ -233,7 +233,7 @@ impl Heap {
         ensures names { (g : Graph) → Agrees self.now g → IfOk result (HoldsBy self.now g mutator slot) }
         ensures refused { IfErr result (λ e. slot_at self.now.limits mutator slot ≡ Err e) }
     {
-        let root = self.raw.roots.slot(mutator, slot)?;
+        let root = self.fields.roots.slot(mutator, slot)?;
         Ok(self.referent(root))
     }
 

@@ -4,11 +4,11 @@ ghost use Rattle.graph_heap.specs.Graph.{Graph, object_of};
 ghost use Rattle.graph_heap.specs.Shape.{fits};
 ghost use Rattle.heap_model.specs.Store.{is_allocated};
 ghost use Rattle.heap_model.specs.Agreement.{Agrees};
-ghost use Rattle.machine.specs.Reading.{Names, Finds, place_of, FindsCell, IsRefPlace, IsWordPlace};
+ghost use Rattle.machine.specs.Reading.{Names, Finds, position_in, FindsCell, IsRefPlace, IsWordPlace};
 
 use super::Heap;
 use crate::plan::{Cell, Found, Kind};
-use arraylets::{CellPosition, part_block, ref_place, word_place};
+use arraylets::{CellPosition, part_block, ref_position, word_position};
 use graph_heap::{Refusal, Shape};
 use nodes::Referent;
 
@@ -19,7 +19,7 @@ impl Heap {
         requires { root < length self.now.roots }
         ensures { (g : Graph) → Agrees self.now g → Names self.now g (slice_index g.roots root) result }
     {
-        self.raw.nodes.resolve(self.raw.roots.get(root))
+        self.fields.nodes.resolve(self.fields.roots.get(root))
     }
 
     /// The object that a root holds, by its main copy.
@@ -30,13 +30,13 @@ impl Heap {
         ensures allocated { IfOk result (λ f. is_allocated self.now.store f.block ≡ true) }
         ensures fits { IfOk result (λ f. fits f.shape ≡ true) }
     {
-        let reference = self.raw.roots.get(root);
+        let reference = self.fields.roots.get(root);
         if reference == 0 {
             return Err(Refusal::NullSlot);
         }
-        let referent = self.raw.nodes.follow(reference);
+        let referent = self.fields.nodes.follow(reference);
         let block = referent.reference as usize - 1;
-        let shape = self.raw.nodes.shape(block);
+        let shape = self.fields.nodes.shape(block);
         Ok(Found {
             block,
             id: referent.identity,
@@ -51,8 +51,8 @@ impl Heap {
         ensures { (g : Graph) → Agrees self.now g → FindsCell self.now g kind (slice_index g.roots root) i result }
     {
         let found = self.object(root)?;
-        let place = place_of(kind, found.shape, i)?;
-        let block = part_block(&self.raw.nodes, found.shape, found.block, place.part);
+        let place = position_in(kind, found.shape, i)?;
+        let block = part_block(&self.fields.nodes, found.shape, found.block, place.part);
         Ok(Cell {
             block,
             index: place.cell,
@@ -66,9 +66,9 @@ impl Heap {
         ensures { (g : Graph) (id i : ℕ) → Agrees self.now g → IsRefPlace self.now g id i at
             → Names self.now g (slice_index (object_of g.objects id).refs i) result }
     {
-        self.raw
+        self.fields
             .nodes
-            .resolve(self.raw.nodes.cell(at.block, at.index))
+            .resolve(self.fields.nodes.cell(at.block, at.index))
     }
 
     /// What a word cell holds.
@@ -78,18 +78,18 @@ impl Heap {
         ensures { (g : Graph) (id i : ℕ) → Agrees self.now g → IsWordPlace self.now g id i at
             → result ≡ slice_index (object_of g.objects id).words i }
     {
-        self.raw.nodes.cell(at.block, at.index)
+        self.fields.nodes.cell(at.block, at.index)
     }
 }
 
 /// Where cell i of a kind stands in an object of a shape, or why there is none.
 #[inline(always)]
-fn place_of(kind: Kind, shape: Shape, i: u32) -> Result<CellPosition, Refusal>
+fn position_in(kind: Kind, shape: Shape, i: u32) -> Result<CellPosition, Refusal>
     requires { fits shape ≡ true }
-    ensures { result ≡ place_of kind shape i }
+    ensures { result ≡ position_in kind shape i }
 {
     match kind {
-        Kind::Ref => ref_place(shape, i),
-        Kind::Word => word_place(shape, i),
+        Kind::Ref => ref_position(shape, i),
+        Kind::Word => word_position(shape, i),
     }
 }

@@ -97,7 +97,7 @@ impl PageTable {
     }
 
     /// How many blocks of a page are allocated.
-    pub fn allocated(&self, page: usize) -> usize
+    pub fn held(&self, page: usize) -> usize
         requires { page < length self.now }
         ensures allocated { Tells self.now (λ pages. result ≡ allocated_on (page_at pages page)) }
         ensures within { Tells self.now (λ pages. result ≤ 512) }

@@ -13,7 +13,7 @@ use crate::reachability::{Found, Holder, Search, holder, search};
 use crate::writing::{write_line, write_lines};
 use graph_heap::{Limits, Reference};
 use std::alloc::Global;
-use trace::{Sink, TextFault, WriteFailed};
+use trace::{PlayFault, Sink, WriteFailed};
 
 /// The root at a place of the row of roots.
 fn root_at(limits: &Limits, place: usize) -> Root
@@ -162,7 +162,7 @@ pub fn draw_graph<K: Sink>(
     graph: &Reference,
     most: u32,
     sink: &mut K,
-) -> Result<(), TextFault>
+) -> Result<(), PlayFault>
     ensures drawn { GraphDrawn graph.now most (taken_by K.taken sink.old sink.new) result }
     ensures cause { K.failures sink.new ≡ K.failures sink.old + writes_failed result }
 {
@@ -174,6 +174,6 @@ pub fn draw_graph<K: Sink>(
     };
     match drawing.write(sink) {
         Ok(()) => Ok(()),
-        Err(WriteFailed) => Err(TextFault::Write),
+        Err(WriteFailed) => Err(PlayFault::Write),
     }
 }

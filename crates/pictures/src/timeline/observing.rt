@@ -3,7 +3,7 @@ ghost use Rattle.pictures.specs.Sampler.{HasSampled};
 
 use crate::timeline::sampler::Sampler;
 use graph_heap::{Entry, NoMemory};
-use machine::HeapWithHistory;
+use machine::Recorded;
 use player::{Mark, Observer};
 
 impl Observer for Sampler {
@@ -15,13 +15,13 @@ impl Observer for Sampler {
         Ok(())
     }
 
-    fn begins(&mut self, _number: u64, _recorded: &HeapWithHistory) -> Result<(), NoMemory> {
+    fn begins(&mut self, _number: u64, _recorded: &Recorded) -> Result<(), NoMemory> {
         Ok(())
     }
 
-    fn quantum_done(&mut self, _before: &Mark, _budget: u32, _recorded: &HeapWithHistory) {}
+    fn quantum_done(&mut self, _before: &Mark, _budget: u32, _recorded: &Recorded) {}
 
-    fn line_done(&mut self, number: u64, recorded: &HeapWithHistory) -> Result<(), NoMemory> {
+    fn line_done(&mut self, number: u64, recorded: &Recorded) -> Result<(), NoMemory> {
         self.event(number, recorded.heap())
     }
 }

@@ -9,7 +9,7 @@ use crate::timeline::samples::Samples;
 use player::{Observed, Player, observe};
 use size_classes::Config;
 use std::alloc::Global;
-use trace::{Source, TextFault};
+use trace::{PlayFault, Source};
 
 /// Plays the lines of a trace on a new heap of a configuration, one after the other, writes nothing of
 /// them, and takes samples of the heap: the first of the new heap, and then one after each stride of
@@ -21,7 +21,7 @@ pub fn take_samples<S: Source>(
     alloc: Global,
     config: &Config,
     source: &mut S,
-) -> Result<Samples, TextFault>
+) -> Result<Samples, PlayFault>
     ensures taken { SamplesTaken config.now (given_by S.given S.ended source.old source.new) result }
     ensures reads { S.failures source.new ≡ S.failures source.old + reads_failed result }
     ensures input { reads_failed result ≡ 0 → Stays (S.input source.old) (S.input source.new) }

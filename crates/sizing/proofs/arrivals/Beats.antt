@@ -2,7 +2,7 @@
 use Rattle.std.proofs.Common.{◌≡◌, ◌≢◌, ℕ, ◌⊎◌, inl, inr, Bool, true, false, if◌then◌else◌, List, [], ◌∷◌, ◌++◌, ap, sym, subst, refl}
 use Rattle.heap_model.specs.declared.phase.Phase.{Phase}
 use Rattle.heap_model.specs.declared.phase.Phase.TheVariants as phases
-use Rattle.heap_model.specs.Event.{Event, Command_done, Cycle_begun, Cycle_on, Quantum_done, Quantum_refused}
+use Rattle.heap_model.specs.Event.{Event, Command_done, Cycle_begun, Begin_refused, Quantum_done, Quantum_refused}
 use Rattle.space.specs.Pace.{Pace, Beat, next_beat, in_cycle, AllKeepPace}
 use Rattle.sizing.specs.AllocationProfile.{AllLive}
 use Rattle.sizing.proofs.arrivals.Steps.{along, along_append}
@@ -18,16 +18,16 @@ pub keep_more : (p : Pace) (k : ℕ) (b : Beat) (es fs : List Event) → AllKeep
 keep_more p k b [] fs a c = c
 keep_more p k b (e ∷ es) fs a c = (a.0, keep_more p k (next_beat b e) es fs a.1 c)
 
-pub next_on : (b : Beat) (budget units : ℕ) (phase : Phase) → b.on ≡ true → next_beat b (Quantum_done budget units phase) ≡ record b { on = in_cycle phase; asked = λ class. 0 }
-next_on b budget units phase e = ap (λ z. if z then record b { on = in_cycle phase; asked = λ class. 0 } else b) e
+pub next_on : (b : Beat) (budget units : ℕ) (phase : Phase) → b.cycle_running ≡ true → next_beat b (Quantum_done budget units phase) ≡ record b { cycle_running = in_cycle phase; asked = λ class. 0 }
+next_on b budget units phase e = ap (λ z. if z then record b { cycle_running = in_cycle phase; asked = λ class. 0 } else b) e
 
-pub next_off : (b : Beat) (budget units : ℕ) (phase : Phase) → b.on ≡ false → next_beat b (Quantum_done budget units phase) ≡ b
-next_off b budget units phase e = ap (λ z. if z then record b { on = in_cycle phase; asked = λ class. 0 } else b) e
+pub next_off : (b : Beat) (budget units : ℕ) (phase : Phase) → b.cycle_running ≡ false → next_beat b (Quantum_done budget units phase) ≡ b
+next_off b budget units phase e = ap (λ z. if z then record b { cycle_running = in_cycle phase; asked = λ class. 0 } else b) e
 
 pub next_graph : (b : Beat) (budget units : ℕ) (phase : Phase) → (next_beat b (Quantum_done budget units phase)).graph ≡ b.graph
-next_graph b budget units phase = by_on b.on
+next_graph b budget units phase = by_on b.cycle_running
   where
-    by_on : (o : Bool) → (if o then record b { on = in_cycle phase; asked = λ class. 0 } else b).graph ≡ b.graph
+    by_on : (o : Bool) → (if o then record b { cycle_running = in_cycle phase; asked = λ class. 0 } else b).graph ≡ b.graph
     by_on true = refl
     by_on false = refl
 
@@ -35,7 +35,7 @@ pub live_more : (live : ℕ → ℕ) (b : Beat) (es fs : List Event) → AllLive
 live_more live b [] fs a = (tt, a)
 live_more live b (Command_done m c reply ∷ es) fs a = live_more live (next_beat b (Command_done m c reply)) es fs a
 live_more live b (Cycle_begun ∷ es) fs a = let r = live_more live (next_beat b Cycle_begun) es fs a.1 in ((a.0, r.0), r.1)
-live_more live b (Cycle_on ∷ es) fs a = live_more live b es fs a
+live_more live b (Begin_refused ∷ es) fs a = live_more live b es fs a
 live_more live b (Quantum_done budget units phase ∷ es) fs a =
     let s = next_graph b budget units phase in
     let r = live_more live (next_beat b (Quantum_done budget units phase)) es fs (subst (λ g. AllLive live g (es ++ fs)) (sym s) a) in
@@ -47,7 +47,7 @@ pub pace_lives : (p : Pace) (k : ℕ) (b : Beat) (es : List Event) → AllKeepPa
 pace_lives p k b [] a = tt
 pace_lives p k b (Command_done m c reply ∷ es) a = pace_lives p k (next_beat b (Command_done m c reply)) es a.1
 pace_lives p k b (Cycle_begun ∷ es) a = (a.0, pace_lives p k (next_beat b Cycle_begun) es a.1)
-pace_lives p k b (Cycle_on ∷ es) a = pace_lives p k b es a.1
+pace_lives p k b (Begin_refused ∷ es) a = pace_lives p k b es a.1
 pace_lives p k b (Quantum_done budget units phase ∷ es) a =
     subst (λ g. AllLive p.live g es) (next_graph b budget units phase) (pace_lives p k (next_beat b (Quantum_done budget units phase)) es a.1)
 pace_lives p k b (Quantum_refused budget ∷ es) a = pace_lives p k b es a.1

@@ -5,7 +5,7 @@ use Rattle.std.specs.Prelude.{Result}
 use Rattle.size_classes.specs.declared.class.TheConstants.{CLASSES}
 use Rattle.trace.specs.declared.line.Line.{Line}
 use Rattle.trace.specs.declared.line.Line.TheVariants as lines
-use Rattle.trace.specs.declared.fault.TextFault.{TextFault}
+use Rattle.trace.specs.declared.fault.PlayFault.{PlayFault}
 use Rattle.trace.specs.declared.version.Version.{Version}
 use Rattle.trace.specs.LinesProcessed.{One_line_more, LinesProcessed}
 use Rattle.trace.specs.Spelling.{Spells}
@@ -109,7 +109,7 @@ text_keeps l k text version said m says i = record {
   budgets = λ v s reading. subst (λ z. AreBudgets k z) (one_reading text text version v said s tt tt refl says reading).1 i.budgets;
 }
 
-pub checked : (l : AllocationProfile) (k budget : ℕ) (given : Given) (result : Result Conformance TextFault) (m : Meter) → k ≡ budget → (over : LinesProcessed SaysText given tt (CheckEnds l k given.ended result)) → IsMeterOf l k over.events m
+pub checked : (l : AllocationProfile) (k budget : ℕ) (given : Given) (result : Result Conformance PlayFault) (m : Meter) → k ≡ budget → (over : LinesProcessed SaysText given tt (CheckEnds l k given.ended result)) → IsMeterOf l k over.events m
     → LoadChecked l budget given result
 checked l k budget given result m same over i = subst (λ z. LoadChecked l z given result) same (record {
   over = over;

@@ -12,7 +12,7 @@ use Rattle.quanta.specs.Timetable.{first_due, start_after, due_below}
 use Rattle.quanta.specs.declared.interval.Interval.{Interval}
 use Rattle.trace.specs.declared.line.Line.{Line}
 use Rattle.trace.specs.declared.line.Line.TheVariants as lines
-use Rattle.player.specs.Player.{PlayerState, behind_quantum, quantum_behind, QuantaDue, None_yet, One_more, DoesLine, Skips, Commands, Begins, Goes_on, Spends, Ticks}
+use Rattle.player.specs.Player.{PlayerState, timetable_after, after_quantum, QuantaDue, None_yet, One_more, DoesLine, Skips, Commands, Begins, Goes_on, Spends, Ticks}
 use Rattle.space.specs.Demand.{asked_for}
 use Rattle.space.specs.Room.{asks}
 use Rattle.space.specs.Pace.{Beat, next_beat, in_cycle, KeepsPace, AllKeepPace}
@@ -29,10 +29,10 @@ since_is gap ls a b e w = subst (λ z. BeginsOften gap z ls) e w
 pub record IsClocked (l : AllocationProfile) (c q k : ℕ) (p : PlayerState) (b : Beat) (start last : ℕ) (asked : ℕ → ℕ) : Type 0 where
   pub timed : IsTimed c q k p b
   pub soon : IsSoon c q start p.timetable.clock p.timetable b
-  pub ahead : (d : ℕ) → b.on ≡ true → p.timetable.due ≡ Some d → p.timetable.clock ≤ d
+  pub ahead : (d : ℕ) → b.cycle_running ≡ true → p.timetable.due ≡ Some d → p.timetable.clock ≤ d
   pub begun : start ≤ p.timetable.clock
   pub past : last ≤ p.timetable.clock
-  pub since : b.on ≡ false → last ≤ start
+  pub since : b.cycle_running ≡ false → last ≤ start
   pub counted : (class : ℕ) → b.asked class ≤ asked class
 
 within : (rate burst span ticks a : ℕ) → a ≤ rate * span + burst → span ≤ ticks → a ≤ rate * ticks + burst
@@ -48,12 +48,12 @@ module _ (l : AllocationProfile) (c q k : ℕ) (some : 1 ≤ c) where
   -- a command keeps to the pace
   command_keeps : (p : PlayerState) (b : Beat) (start last : ℕ) (asked : ℕ → ℕ) (m : ℕ) (d : Command) (reply : Reply) → IsClocked l c q k p b start last asked
       → ((class : ℕ) → class < CLASSES → asked class + asks d class ≤ l.rate class * (p.timetable.clock - start) + l.burst class) → p.timetable.clock - last ≤ l.gap → KeepsPace (pace_of l c q) k b (Command_done m d reply)
-  command_keeps p b start last asked m d reply i a g class small = by_on b.on refl
+  command_keeps p b start last asked m d reply i a g class small = by_on b.cycle_running refl
     where
       low : b.asked class + asked_for b.graph m d class ≤ l.rate class * (p.timetable.clock - start) + l.burst class
       low = let x = i.counted class in let y = asks_less b.graph m d class in let z = a class small in omega (arith, x, y, z)
 
-      by_on : (o : Bool) → b.on ≡ o → b.asked class + asked_for b.graph m d class ≤ (if o then l.rate class * (c + q - 1) + l.burst class else l.rate class * l.gap + l.burst class)
+      by_on : (o : Bool) → b.cycle_running ≡ o → b.asked class + asked_for b.graph m d class ≤ (if o then l.rate class * (c + q - 1) + l.burst class else l.rate class * l.gap + l.burst class)
       by_on true e =
           let w = i.soon.due e in
           let ahead = i.ahead w.0 e w.1 in
@@ -74,7 +74,7 @@ module _ (l : AllocationProfile) (c q k : ℕ) (some : 1 ≤ c) where
           last,
           (λ class. asked class + asks d class),
           record {
-            timed = record { collector = i.timed.collector; mutator = i.timed.mutator; budget = i.timed.budget; on = i.timed.on ∙ sym (ap in_cycle phase); off = i.timed.off };
+            timed = record { collector = i.timed.collector; mutator = i.timed.mutator; budget = i.timed.budget; cycle_running = i.timed.cycle_running ∙ sym (ap in_cycle phase); off = i.timed.off };
             soon = record { due = i.soon.due; spaced = i.soon.spaced };
             ahead = i.ahead;
             begun = i.begun;
@@ -98,7 +98,7 @@ module _ (l : AllocationProfile) (c q k : ℕ) (some : 1 ≤ c) where
           p.timetable.clock,
           (λ class. 0),
           record {
-            timed = record { collector = i.timed.collector; mutator = i.timed.mutator; budget = i.timed.budget; on = sym (ap (λ (h : HeapState). in_cycle h.phase) does.heap); off = λ o. absurd (cc) };
+            timed = record { collector = i.timed.collector; mutator = i.timed.mutator; budget = i.timed.budget; cycle_running = sym (ap (λ (h : HeapState). in_cycle h.phase) does.heap); off = λ o. absurd (cc) };
             soon = record { due = λ o. (first_due p.timetable, refl, less); spaced = spaced };
             ahead = λ d o e. (let z : first_due p.timetable ≡ d = same_due (Some (first_due p.timetable)) (first_due p.timetable) d refl e in omega (arith, z, low));
             begun = omega arith;
@@ -117,7 +117,7 @@ module _ (l : AllocationProfile) (c q k : ℕ) (some : 1 ≤ c) where
       at_most : (a b n : ℕ) → a < n → b < n → max a b < n
       at_most a b n x y = grind (arith, x, y)
   line_keeps p b start last asked line ls es new i from often budgets arrives live (Goes_on does) =
-      let on : b.on ≡ true = i.timed.on ∙ busy_phase p.course.heap.phase does.0 in (
+      let on : b.cycle_running ≡ true = i.timed.cycle_running ∙ busy_phase p.course.heap.phase does.0 in (
         (tt, tt),
         (
           start,
@@ -138,17 +138,17 @@ module _ (l : AllocationProfile) (c q k : ℕ) (some : 1 ≤ c) where
       )
   line_keeps p b start last asked line ls es new i from often budgets arrives live (Spends budget units phase course does) = (
     (budgets.0, tt),
-    elim (on_or_off b.on) [
+    elim (on_or_off b.cycle_running) [
       | inl on ↦ at_work on
       | inr off ↦ at_rest off
     ],
   )
     where
-      w : EndsQuantum phase p.timetable (behind_quantum phase p.timetable)
+      w : EndsQuantum phase p.timetable (timetable_after phase p.timetable)
       w = ends_quantum phase p.timetable
 
       after : PlayerState
-      after = record p { course = course; timetable = behind_quantum phase p.timetable }
+      after = record p { course = course; timetable = timetable_after phase p.timetable }
 
       same : after.timetable.clock ≡ p.timetable.clock
       same = w.clock
@@ -164,10 +164,10 @@ module _ (l : AllocationProfile) (c q k : ℕ) (some : 1 ≤ c) where
       not_later : (n : ℕ) → n ≤ p.timetable.clock → n ≤ after.timetable.clock
       not_later n h = let s = same in omega (arith, s, h)
 
-      timed : (z : Beat) → z.on ≡ in_cycle course.heap.phase → (z.on ≡ false → after.timetable.due ≡ None) → IsTimed c q k after z
-      timed z on off = record { collector = w.collector ∙ i.timed.collector; mutator = w.mutator ∙ i.timed.mutator; budget = i.timed.budget; on = on; off = off }
+      timed : (z : Beat) → z.cycle_running ≡ in_cycle course.heap.phase → (z.cycle_running ≡ false → after.timetable.due ≡ None) → IsTimed c q k after z
+      timed z on off = record { collector = w.collector ∙ i.timed.collector; mutator = w.mutator ∙ i.timed.mutator; budget = i.timed.budget; cycle_running = on; off = off }
 
-      at_work : b.on ≡ true → IsFurther after (next_beat b (Quantum_done budget units phase)) ls
+      at_work : b.cycle_running ≡ true → IsFurther after (next_beat b (Quantum_done budget units phase)) ls
       at_work on =
           let begun = i.begun in
           let s = same in
@@ -179,9 +179,9 @@ module _ (l : AllocationProfile) (c q k : ℕ) (some : 1 ≤ c) where
             last,
             (λ class. 0),
             record {
-              timed = timed (record b { on = in_cycle phase; asked = λ class. 0 }) (sym (ap in_cycle does.ends)) w.off;
-              soon = record { due = λ o. (soon.0, w.on o ∙ soon.1, omega (arith, less, begun)); spaced = spaced };
-              ahead = λ d o f. (let z = same_due p.timetable.due soon.0 d soon.1 (sym (w.on o) ∙ f) in omega (arith, s, z, ahead));
+              timed = timed (record b { cycle_running = in_cycle phase; asked = λ class. 0 }) (sym (ap in_cycle does.ends)) w.off;
+              soon = record { due = λ o. (soon.0, w.cycle_running o ∙ soon.1, omega (arith, less, begun)); spaced = spaced };
+              ahead = λ d o f. (let z = same_due p.timetable.due soon.0 d soon.1 (sym (w.cycle_running o) ∙ f) in omega (arith, s, z, ahead));
               begun = not_later p.timetable.clock (omega arith);
               past = not_later last i.past;
               since = λ o. i.past;
@@ -191,15 +191,15 @@ module _ (l : AllocationProfile) (c q k : ℕ) (some : 1 ≤ c) where
             subst (λ z. BeginsOften l.gap (z - last) ls) (sym s) often,
           )
 
-      at_rest : b.on ≡ false → IsFurther after (next_beat b (Quantum_done budget units phase)) ls
+      at_rest : b.cycle_running ≡ false → IsFurther after (next_beat b (Quantum_done budget units phase)) ls
       at_rest off =
-          let still = rests p.course course b budget units phase off i.timed.on does in
+          let still = rests p.course course b budget units phase off i.timed.cycle_running does in
           subst (λ z. IsFurther after z ls) (sym (next_off b budget units phase off)) (
             start,
             last,
             asked,
             record {
-              timed = timed b (i.timed.on ∙ sym (ap (λ (h : HeapState). in_cycle h.phase) still.0)) (λ o. w.off (ap in_cycle still.1));
+              timed = timed b (i.timed.cycle_running ∙ sym (ap (λ (h : HeapState). in_cycle h.phase) still.0)) (λ o. w.off (ap in_cycle still.1));
               soon = record { due = λ o. absurd (let z : true ≡ false = sym o ∙ off in cc); spaced = spaced };
               ahead = λ d o f. absurd (let z : true ≡ false = sym o ∙ off in cc);
               begun = not_later start i.begun;
@@ -233,7 +233,7 @@ module _ (l : AllocationProfile) (c q k : ℕ) (some : 1 ≤ c) where
             last,
             asked,
             record {
-              timed = record { collector = t.collector; mutator = t.mutator; budget = t.budget; on = t.on; off = t.off };
+              timed = record { collector = t.collector; mutator = t.mutator; budget = t.budget; cycle_running = t.cycle_running; off = t.off };
               soon = record { due = i.soon.due; spaced = omega (arith, spaced) };
               ahead = λ d o e. not_below (p.timetable.clock + n) d p.timetable.due e none;
               begun = omega (arith, begun);
@@ -249,13 +249,13 @@ module _ (l : AllocationProfile) (c q k : ℕ) (some : 1 ≤ c) where
           let y = (dues_timed c q k (p.timetable.clock + n) (pace_of l c q) p s b gs w i.timed).1 in
           let soon = due_soon c q k (p.timetable.clock + n) (pace_of l c q) s (beats b gs) due units phase course y is below d in
           let same = sym (beats_more b gs (Quantum_done s.budget units phase)) in
-          let fresh = subst (λ z. IsSoon c q (p.timetable.clock + n) (p.timetable.clock + n) (quantum_behind s due phase course).timetable z) same soon.0 in
+          let fresh = subst (λ z. IsSoon c q (p.timetable.clock + n) (p.timetable.clock + n) (after_quantum s due phase course).timetable z) same soon.0 in
           let zero_asked = subst (λ (z : Beat). (class : ℕ) → z.asked class ≡ 0) same soon.1 in (
             p.timetable.clock + n,
             last,
             (λ class. 0),
             record {
-              timed = record { collector = t.collector; mutator = t.mutator; budget = t.budget; on = t.on; off = t.off };
+              timed = record { collector = t.collector; mutator = t.mutator; budget = t.budget; cycle_running = t.cycle_running; off = t.off };
               soon = record { due = fresh.due; spaced = fresh.spaced };
               ahead = λ d o e. not_below (p.timetable.clock + n) d r.timetable.due e none;
               begun = omega arith;

@@ -68,7 +68,7 @@ load_keeps style old new text version es l k c q o t some budget done keeps live
       0,
       (λ class. 0),
       record {
-        timed = record { collector = ap (λ (z : Timetable). z.collector_ticks) t; mutator = ap (λ (z : Timetable). z.mutator_ticks) t; budget = budget; on = sym (ap in_cycle o.phase); off = λ off. due };
+        timed = record { collector = ap (λ (z : Timetable). z.collector_ticks) t; mutator = ap (λ (z : Timetable). z.mutator_ticks) t; budget = budget; cycle_running = sym (ap in_cycle o.phase); off = λ off. due };
         soon = record { due = λ on. absurd (cc); spaced = omega (arith, intervals, some) };
         ahead = λ d on e. omega (arith, clock);
         begun = omega arith;

@@ -11,7 +11,7 @@ ghost use Rattle.sizing.specs.Keeping.{LoadChecked};
 use crate::arrivals::load::AllocationProfile;
 use graph_heap::Command;
 use size_classes::{CLASSES, Class, Config, Need, parts_of};
-use trace::{Line, LineReader, Source, TextFault, TextLine, read_numbered};
+use trace::{Line, LineReader, PlayFault, Source, TextLine, read_numbered};
 
 /// In which way a line breaks a load.
 #[derive(Clone, Copy, Debug, PartialEq, Eq)]
@@ -148,7 +148,7 @@ fn check_line(
     meter: &mut Meter,
     load: &AllocationProfile,
     budget: u32,
-) -> Result<Option<Violation>, TextFault>
+) -> Result<Option<Violation>, PlayFault>
     requires { IsWithin (load_in load.now) meter.old }
     ensures { TextMetered (load_in load.now) budget (text_in text.entry) meter.old meter.new result }
 {
@@ -165,7 +165,7 @@ pub fn keeps_load<S: Source>(
     source: &mut S,
     load: &AllocationProfile,
     config: &Config,
-) -> Result<Conformance, TextFault>
+) -> Result<Conformance, PlayFault>
     ensures checked { LoadChecked (load_in load.now) (config.now.collector_ticks * config.now.rate)
         (given_by S.given S.ended source.old source.new) result }
     ensures reads { S.failures source.new ≡ S.failures source.old + reads_failed result }

@@ -8,13 +8,13 @@ use graph_heap::NoMemory;
 use player::{Player, Style, play};
 use size_classes::Config;
 use std::alloc::Global;
-use trace::{Sink, Source, TextFault};
+use trace::{PlayFault, Sink, Source};
 
 /// What was played on a new player: the player after it, and how the play ended.
 #[derive(Drop)]
 pub struct PlayedTrace {
     pub player: Player,
-    pub ended: Result<(), TextFault>,
+    pub ended: Result<(), PlayFault>,
 }
 
 /// Plays the lines of a source on a new player of a configuration, as `player::play` does. Where the lines that

@@ -4,7 +4,7 @@ use Rattle.graph_heap.specs.declared.command.Entry.{Entry}
 use Rattle.graph_heap.specs.Graph.{Graph}
 use Rattle.graph_heap.specs.History.{IsEntryOf, after_entry, after, IsLegal}
 use Rattle.graph_heap.proofs.Histories.{after-push, IsLegal-push}
-use Rattle.trace.specs.declared.fault.TextFault.{TextFault}
+use Rattle.trace.specs.declared.fault.PlayFault.{PlayFault}
 use Rattle.trace.specs.declared.version.Version.{Version}
 use Rattle.trace.specs.LinesProcessed.{LineEffect, LinesDone, No_lines, One_line_more, LinesProcessed}
 use Rattle.trace.specs.Streams.{Given}
@@ -39,7 +39,7 @@ leads_so old new ls version es (One_line_more ls' before version' es' fs text mi
     let so = leads_so old mid ls' before es' d in
     leads_on old mid new es' fs before text so.0 so.1 does.1
 
-pub checked : (given : Given) (old new : Graph) (result : Result Checked TextFault) → LinesProcessed (LineEffect DoesNothing DoesEntry) given old (HistoryEnds given.ended new result) → EntriesChecked given old new result
+pub checked : (given : Given) (old new : Graph) (result : Result Checked PlayFault) → LinesProcessed (LineEffect DoesNothing DoesEntry) given old (HistoryEnds given.ended new result) → EntriesChecked given old new result
 checked given old new result over =
     let so = leads_so old over.mid over.lines over.version over.events over.done in
     record { over = over; legal = so.0; leads = so.1 }

@@ -10,7 +10,7 @@ use Rattle.graph_heap.specs.declared.command.Command.{Command}
 use Rattle.trace.specs.declared.line.Line.{Line}
 use Rattle.trace.specs.declared.line.Line.TheVariants as lines
 use Rattle.trace.specs.declared.version.Version.{Version}
-use Rattle.trace.specs.declared.fault.TextFault.{TextFault}
+use Rattle.trace.specs.declared.fault.PlayFault.{PlayFault}
 use Rattle.trace.specs.declared.line_handler.InputEnd.{InputEnd}
 use Rattle.trace.specs.declared.transcripts.scripts.Scripts.{Scripts}
 use Rattle.trace.specs.LinesProcessed.{LineEffect, LinesDone}
@@ -123,7 +123,7 @@ line_goes text mutators old new len (inr (other, (line, does, lists)), same) =
     (line ∷ [], inr (other, (does.0, below)), λ ls e. lists ∙ ap (λ s. with_line s line) e ∙ sym (scripts_more mutators ls line below))
 
 -- the scripts so far, as lines add to them
-abbrev Adds : Text → Scripts → Scripts → Result (Unit {0}) TextFault → Type 0
+abbrev Adds : Text → Scripts → Scripts → Result (Unit {0}) PlayFault → Type 0
 Adds text old new result = LineAdded text old.lists new.lists result
 
 module _ (given : Given) (mutators : ℕ) (first new : Scripts) (none : lists_in first.lists ≡ replicate mutators []) (len : vec_len first.lists ≡ mutators) where
@@ -146,7 +146,7 @@ module _ (given : Given) (mutators : ℕ) (first new : Scripts) (none : lists_in
       (inr (record { over = over_all Adds (LineEffect AsksNothing (DoesScript mutators)) (λ scripts. tt) first Known (ScriptStops mutators) ReadScripts given new (end.version, new.lists) a; are = (refl, a.knows.0) }), a.knows.1)
 
   -- a fault
-  pub scripts_stopped : (fault : TextFault) → LinesHandled Adds given first new (Err fault) → ScriptsRead given mutators (Err fault)
+  pub scripts_stopped : (fault : PlayFault) → LinesHandled Adds given first new (Err fault) → ScriptsRead given mutators (Err fault)
   scripts_stopped fault h = inr (record {
     over = over_stopped Adds (LineEffect AsksNothing (DoesScript mutators)) (λ scripts. tt) first Known (ScriptStops mutators) ReadScripts given new fault
         (λ lines version spelled mid done known line stops. subst (λ n. ScriptStops n fault (text_after lines version line) tt tt) known.1 stops) follows h;

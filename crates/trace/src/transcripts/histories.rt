@@ -5,7 +5,7 @@ ghost use Rattle.trace.specs.Streams.{Stays, given_by};
 ghost use Rattle.trace.specs.TextLine.{text_in};
 ghost use Rattle.trace.specs.Histories.{LineChecked, EntriesChecked};
 
-use crate::{EntryLine, LineFault, LineReader, Source, TextFault, TextLine, read_entry};
+use crate::{EntryLine, LineFault, LineReader, PlayFault, Source, TextLine, read_entry};
 use graph_heap::Reference;
 
 /// The outcome of checking a history.
@@ -29,14 +29,14 @@ enum Outcome {
 }
 
 /// Checks one line, and does its entry if that is a step.
-fn check_line(text: TextLine, reference: &mut Reference) -> Result<Outcome, TextFault>
+fn check_line(text: TextLine, reference: &mut Reference) -> Result<Outcome, PlayFault>
     ensures { LineChecked (text_in text.entry) reference.old reference.new result }
 {
     if text.tells_version() {
         return Ok(Outcome::Skipped);
     }
     let Some(line) = read_entry(text.version, text.bytes) else {
-        return Err(TextFault::Line(text.number, LineFault::NotAnEntry));
+        return Err(PlayFault::Line(text.number, LineFault::NotAnEntry));
     };
     let EntryLine::Entry(entry) = line else {
         return Ok(Outcome::Skipped);
@@ -54,7 +54,7 @@ fn check_line(text: TextLine, reference: &mut Reference) -> Result<Outcome, Text
 pub fn check_entries<S: Source>(
     source: &mut S,
     reference: &mut Reference,
-) -> Result<Checked, TextFault>
+) -> Result<Checked, PlayFault>
     ensures checked { EntriesChecked
         (given_by S.given S.ended source.old source.new) reference.old reference.new result }
     ensures reads { S.failures source.new ≡ S.failures source.old + reads_failed result }

@@ -6,7 +6,7 @@ ghost use Rattle.trace.specs.Spelling.{Spells};
 ghost use Rattle.trace.specs.Scripts.{line_of, lists_in, one_more, IsOfScripts, ScriptLineIs, LineAdded, ScriptsRead};
 
 use crate::{
-    Line, LineFault, LineHandler, Source, TextFault, TextLine, Version, each_line, read_line,
+    Line, LineFault, LineHandler, PlayFault, Source, TextLine, Version, each_line, read_line,
 };
 use graph_heap::{Command, Limits, NoMemory};
 use std::alloc::Global;
@@ -58,14 +58,14 @@ impl LineHandler for Scripts {
 
     ghost handles = { λ text old new result. LineAdded text old.lists new.lists result };
 
-    fn handle(&mut self, text: TextLine) -> Result<(), TextFault> {
+    fn handle(&mut self, text: TextLine) -> Result<(), PlayFault> {
         if text.tells_version() {
             return Ok(());
         }
         match script_line(text.version, text.bytes, self.lists.len()) {
             Ok(None) => Ok(()),
             Ok(Some((mutator, command))) => Ok(add(&mut self.lists, mutator as usize, command)?),
-            Err(fault) => Err(TextFault::Line(text.number, fault)),
+            Err(fault) => Err(PlayFault::Line(text.number, fault)),
         }
     }
 }
@@ -88,7 +88,7 @@ pub fn read_scripts<S: Source>(
     alloc: Global,
     source: &mut S,
     limits: &Limits,
-) -> Result<(Version, Vec<Vec<Command>>), TextFault>
+) -> Result<(Version, Vec<Vec<Command>>), PlayFault>
     ensures read { ScriptsRead (given_by S.given S.ended source.old source.new) limits.now.mutators result }
     ensures len { IfOk result (λ read. vec_len read.1 ≡ limits.now.mutators) }
     ensures reads { S.failures source.new ≡ S.failures source.old + reads_failed result }

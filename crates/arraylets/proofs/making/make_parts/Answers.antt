@@ -1,6 +1,6 @@
 use Rattle.std.proofs.Common.{◌≡◌, ◌∙◌, ℕ, ◌+◌, ◌/◌, ◌<◌, ◌≤◌, true, length, get_or, ap, sym, subst, arith}
 use Rattle.std.proofs.lemmas.List.{get_or-replicate}
-use Rattle.size_classes.specs.Parts.{cells_of, parts_in, part_cells, holder_of}
+use Rattle.size_classes.specs.Parts.{cells_of, parts_in, part_cells, spine_of}
 use Rattle.heap_model.specs.Pages.{has_room, TakesBlock}
 use Rattle.heap_model.specs.Room.{needed_from}
 use Rattle.heap_model.specs.Store.{is_allocated, record_of}
@@ -19,8 +19,8 @@ loop-part-init c = record {
 
 -- the spine that refers to the next part stands, once that part is made
 spine_there : (c : After-make_part-block) → 0 < c.loop-part.part
-    → (is_allocated c.make_part-block.new.nodes (get_or c.loop-part.spines (holder_of (cells_of c.args.shape) c.loop-part.part) 0) ≡ true)
-    × (length (record_of c.make_part-block.new.nodes (get_or c.loop-part.spines (holder_of (cells_of c.args.shape) c.loop-part.part) 0)).cells ≡ part_cells (cells_of c.args.shape) (holder_of (cells_of c.args.shape) c.loop-part.part))
+    → (is_allocated c.make_part-block.new.nodes (get_or c.loop-part.spines (spine_of (cells_of c.args.shape) c.loop-part.part) 0) ≡ true)
+    × (length (record_of c.make_part-block.new.nodes (get_or c.loop-part.spines (spine_of (cells_of c.args.shape) c.loop-part.part) 0)).cells ≡ part_cells (cells_of c.args.shape) (spine_of (cells_of c.args.shape) c.loop-part.part))
 spine_there c some =
     let count : c.count-part-end.result ≡ parts_in (cells_of c.args.shape) = c.count-part-end.ensures.count ∙ ap parts_in c.requires.parts in
     spine_later c.args.nodes.now c.loop-part.nodes c.loop-part.nodes c.args.shape c.args.colour c.args.identity c.loop-part.spines c.loop-part.spines c.loop-part.part c.make_part-block.result c.requires.fits
@@ -34,11 +34,11 @@ link-requires-clause-part c = omega (arith, c.count-part-end.ensures.count, c.lo
 
 pub link-requires-clause-allocated : goal.link-requires-clause-allocated
 link-requires-clause-allocated c some =
-    subst (λ n. is_allocated c.make_part-block.new.nodes (get_or c.loop-part.spines (holder_of n c.loop-part.part) 0) ≡ true) (sym c.requires.parts) (spine_there (goal.at.link-requires-clause-allocated c).After-make_part-block some).0
+    subst (λ n. is_allocated c.make_part-block.new.nodes (get_or c.loop-part.spines (spine_of n c.loop-part.part) 0) ≡ true) (sym c.requires.parts) (spine_there (goal.at.link-requires-clause-allocated c).After-make_part-block some).0
 
 pub link-requires-clause-cells : goal.link-requires-clause-cells
 link-requires-clause-cells c some =
-    subst (λ n. length (record_of c.make_part-block.new.nodes (get_or c.loop-part.spines (holder_of n c.loop-part.part) 0)).cells ≡ part_cells n (holder_of n c.loop-part.part)) (sym c.requires.parts) (spine_there (goal.at.link-requires-clause-cells c).After-make_part-block some).1
+    subst (λ n. length (record_of c.make_part-block.new.nodes (get_or c.loop-part.spines (spine_of n c.loop-part.part) 0)).cells ≡ part_cells n (spine_of n c.loop-part.part)) (sym c.requires.parts) (spine_there (goal.at.link-requires-clause-cells c).After-make_part-block some).1
 
 pub loop-part-preserved : goal.loop-part-preserved
 loop-part-preserved c =
@@ -46,8 +46,8 @@ loop-part-preserved c =
     let e = c.make_part-block.ensures in
     let n = c.note.ensures in
     let count : c.count-part-end.result ≡ parts_in (cells_of c.args.shape) = c.count-part-end.ensures.count ∙ ap parts_in c.requires.parts in
-    let linked : LinksPart (cells_of c.args.shape) c.make_part-block.new.nodes (get_or c.loop-part.spines (holder_of (cells_of c.args.shape) c.loop-part.part) 0) c.loop-part.part c.make_part-block.result c.link.new.nodes =
-    subst (λ k. LinksPart k c.make_part-block.new.nodes (get_or c.loop-part.spines (holder_of k c.loop-part.part) 0) c.loop-part.part c.make_part-block.result c.link.new.nodes) c.requires.parts c.link.ensures.linked in
+    let linked : LinksPart (cells_of c.args.shape) c.make_part-block.new.nodes (get_or c.loop-part.spines (spine_of (cells_of c.args.shape) c.loop-part.part) 0) c.loop-part.part c.make_part-block.result c.link.new.nodes =
+    subst (λ k. LinksPart k c.make_part-block.new.nodes (get_or c.loop-part.spines (spine_of k c.loop-part.part) 0) c.loop-part.part c.make_part-block.result c.link.new.nodes) c.requires.parts c.link.ensures.linked in
     let pages = linked_pages _ _ _ _ _ _ linked in
     record {
       made = one_more c.args.nodes.now c.loop-part.nodes c.link.new.nodes c.args.shape c.args.colour c.args.identity c.loop-part.spines c.note.new.spines c.loop-part.part c.make_part-block.result c.requires.fits

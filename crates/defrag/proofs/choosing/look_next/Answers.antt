@@ -7,7 +7,7 @@ use Rattle.heap_model.proofs.Grey.{passing}
 use Rattle.nodes.proofs.Keeping.{store_still}
 use Rattle.nodes.specs.declared.heap_fields.HeapFields.{HeapFields}
 use Rattle.nodes.specs.HeapFields.{state_of}
-use Rattle.nodes.proofs.Standing.{units_small}
+use Rattle.nodes.proofs.Representing.{units_small}
 use Rattle.defrag.proofs.Looks.{looks, chooses, chooses_none}
 use Rattle.defrag.proofs.choosing.look_next.Goals as goal
 use Rattle.defrag.proofs.choosing.look_next.Goals.{in_default-via-in-Some+else-is_chosen, in_default-via-in_default}
@@ -31,12 +31,12 @@ returns-then-page-pages-clause-acts c =
 pub returns-in-Some-clause-acts : goal.returns-in-Some-clause-acts
 returns-in-Some-clause-acts c =
     subst (λ (x : HeapFields). Action (state_of c.args.heap.now) 1 (state_of x)) (sym c.charge-in-Some.ensures)
-    (subst (λ (h : HeapState). Action (state_of c.args.heap.now) 1 (goes_to h 1 (phases.Moving (moves.Emptying c.args.class c.in-Some.found.page 0 (c.args.chosen + 1))))) (sym (store_still c.args.heap.now c.requires.heap (passing (state_of c.args.heap.now) c.args.class c.args.page c.args.candidate c.args.chosen c.requires.pass) c.mark_evacuating.new.self))
+    (subst (λ (h : HeapState). Action (state_of c.args.heap.now) 1 (goes_to h 1 (phases.Moving (moves.Emptying c.args.class c.in-Some.found.page 0 (c.args.chosen + 1))))) (sym (store_still c.args.heap.now c.requires.heap (passing (state_of c.args.heap.now) c.args.class c.args.page c.args.candidate c.args.chosen c.requires.pass) c.leave.new.self))
     (chooses c.args.class c.args.page c.args.candidate c.requires.class c.args.heap.now.nodes c.consider-candidate.result
     (subst (λ k. c.consider-candidate.result ≡ candidate_after c.args.heap.now.nodes.pages k c.args.page c.args.candidate) c.new-number.ensures c.consider-candidate.ensures) (state_of c.args.heap.now) c.args.chosen refl c.requires.pass
-    c.in-Some.found c.mark_evacuating.new.self c.in-Some.is (omega (arith, c.pages.ensures.pages, c.requires.page, c.if-page-pages.false))
+    c.in-Some.found c.leave.new.self c.in-Some.is (omega (arith, c.pages.ensures.pages, c.requires.page, c.if-page-pages.false))
     (subst (λ k. is_chosen c.args.heap.now.nodes.pages k (Some c.in-Some.found) ≡ true) c.new-number.ensures (sym c.is_chosen.ensures ∙ c.if-is_chosen.true))
-    c.mark_evacuating.ensures.kept c.mark_evacuating.ensures.pages))
+    c.leave.ensures.kept c.leave.ensures.pages))
 
 pub returns-in_default-clause-acts : goal.returns-in_default-clause-acts
 returns-in_default-clause-acts c =

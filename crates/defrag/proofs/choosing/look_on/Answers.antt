@@ -1,17 +1,17 @@
 use Rattle.std.proofs.Common.{◌≡◌, suc, ◌+◌, ◌-◌, ◌∙◌, ap, subst, refl, arith}
 use Rattle.heap_model.specs.Action.{candidate_after}
-use Rattle.defrag.specs.Looking.{looked_on}
+use Rattle.defrag.specs.Candidates.{candidate_after_pages}
 use Rattle.defrag.proofs.choosing.look_on.Goals as goal
 
 pub loop-page-init : goal.loop-page-init
-unfolding looked_on
+unfolding candidate_after_pages
 loop-page-init c =
-    (omega arith, subst (λ n. c.args.best ≡ looked_on c.args.nodes.now.pages c.args.class c.args.from c.args.best n) (let e : 0 ≡ c.args.from - c.args.from = omega arith in e) refl)
+    (omega arith, subst (λ n. c.args.best ≡ candidate_after_pages c.args.nodes.now.pages c.args.class c.args.from c.args.best n) (let e : 0 ≡ c.args.from - c.args.from = omega arith in e) refl)
 
 pub loop-page-preserved : goal.loop-page-preserved
-unfolding looked_on
+unfolding candidate_after_pages
 loop-page-preserved c =
-    let i = c.loop-page.invariant in let from = c.args.from in let page = c.loop-page.page in let on = looked_on c.args.nodes.now.pages c.args.class from c.args.best in (
+    let i = c.loop-page.invariant in let from = c.args.from in let page = c.loop-page.page in let on = candidate_after_pages c.args.nodes.now.pages c.args.class from c.args.best in (
       omega (arith, i.0),
       c.consider-candidate.ensures
           ∙ ap (candidate_after c.args.nodes.now.pages c.args.class page) i.1

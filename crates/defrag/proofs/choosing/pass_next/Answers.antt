@@ -7,8 +7,8 @@ use Rattle.heap_model.specs.Spent.{IsWithin}
 use Rattle.nodes.specs.declared.heap_fields.HeapFields.{HeapFields}
 use Rattle.nodes.specs.HeapFields.{state_of}
 use Rattle.nodes.proofs.Chains.{runs_once}
-use Rattle.nodes.proofs.Standing.{units_small}
-use Rattle.defrag.specs.Looking.{looked_on}
+use Rattle.nodes.proofs.Representing.{units_small}
+use Rattle.defrag.specs.Candidates.{candidate_after_pages}
 use Rattle.defrag.proofs.Looks.{looks_run}
 use Rattle.defrag.proofs.choosing.pass_next.Goals as goal
 
@@ -24,7 +24,7 @@ charge-requires-2 c = let u = units_small c.args.heap.now c.requires.heap in ome
 pub returns-then-class-clause-acts : goal.returns-then-class-clause-acts
 returns-then-class-clause-acts c =
     let a = c.args.heap.now in
-    let most = (subst (IsWithin (state_of a)) c.requires.phase c.requires.heap.heap.stands.within).1 in
+    let most = (subst (IsWithin (state_of a)) c.requires.phase c.requires.heap.heap.represents.within).1 in
     runs_once a c.charge.new.self c.args.room 1 c.requires.heap
     (subst (λ (x : HeapFields). Action (state_of a) 1 (state_of x)) (sym c.charge.ensures)
     (Ends_moving (No_class c.args.page c.args.candidate c.args.chosen (subst (λ z. a.phase ≡ phases.Moving (moves.Pass z c.args.page c.args.candidate c.args.chosen)) (omega (arith, c.if-class.true, most)) c.requires.phase))))
@@ -39,8 +39,8 @@ returns-clause-acts c =
     let low = c.if-class.false in let left = c.if-left-eq0.false in let pages = c.pages.ensures.pages in let room = c.requires.room in
     let few : n ≤ c.saturating_sub-left.result = omega (arith, c.min-count.ensures) in
     let some : 0 < n = omega (arith, c.min-count.ensures, left, room) in
-    let found : looked_on a.nodes.pages c.args.class page best n ≡ c.look_on.result =
-    sym (c.look_on.ensures ∙ ap (λ k. looked_on a.nodes.pages k page best (page + n - page)) c.new.ensures ∙ ap (looked_on a.nodes.pages c.args.class page best) (let e : page + n - page ≡ n = omega arith in e)) in (
+    let found : candidate_after_pages a.nodes.pages c.args.class page best n ≡ c.look_on.result =
+    sym (c.look_on.ensures ∙ ap (λ k. candidate_after_pages a.nodes.pages k page best (page + n - page)) c.new.ensures ∙ ap (candidate_after_pages a.nodes.pages c.args.class page best) (let e : page + n - page ≡ n = omega arith in e)) in (
       n,
       subst (λ (x : HeapFields). Chain h n (state_of x)) (sym c.charge-2.ensures)
           (subst (λ m. Chain h n (goes_to h m (phases.Moving (moves.Pass c.args.class (page + n) c.look_on.result c.args.chosen)))) (let e : n ≡ n * LOOK = omega arith in e)

@@ -10,7 +10,7 @@ use Rattle.nodes.proofs.Keeping.{store_still}
 use Rattle.nodes.specs.declared.heap_fields.HeapFields.{HeapFields}
 use Rattle.nodes.specs.HeapFields.{state_of}
 use Rattle.nodes.proofs.Chains.{runs_once}
-use Rattle.nodes.proofs.Standing.{units_small}
+use Rattle.nodes.proofs.Representing.{units_small}
 use Rattle.defrag.proofs.Moves.{page_in, class_small, chosen_small, looks_again, ends, costs_words, can_move, moves_block}
 use Rattle.defrag.proofs.moving.empty_next.Goals as goal
 

@@ -3,7 +3,7 @@ use Rattle.heap_model.specs.Action.{Action, Ends_moving}
 use Rattle.nodes.specs.declared.heap_fields.HeapFields.{HeapFields}
 use Rattle.nodes.specs.HeapFields.{state_of}
 use Rattle.nodes.proofs.Chains.{runs_once}
-use Rattle.nodes.proofs.Standing.{units_small}
+use Rattle.nodes.proofs.Representing.{units_small}
 use Rattle.defrag.proofs.moving.page_done.Goals as goal
 
 pub charge-requires : goal.charge-requires

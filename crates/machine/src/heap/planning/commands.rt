@@ -7,7 +7,7 @@ use graph_heap::{Command, Reply, Shape};
 /// Does what is planned for a mutator, if that may ask for it. Nothing is planned before it is known that it may.
 macro_rules! committed {
     ($heap:expr, $mutator:expr, $joins:expr, $plan:ident($($field:expr),*)) => {
-        match $heap.raw.roots.admit($mutator, $joins) {
+        match $heap.fields.roots.admit($mutator, $joins) {
             Ok(_) => $heap.commit($mutator, planning::$plan($heap, $mutator $(, $field)*)),
             Err(refusal) => Reply::Refused(refusal),
         }

@@ -7,7 +7,7 @@ use Rattle.heap_model.specs.Store.{is_allocated}
 use Rattle.nodes.specs.declared.heap_fields.HeapFields.{HeapFields}
 use Rattle.nodes.specs.HeapFields.{state_of}
 use Rattle.nodes.proofs.Chains.{one_action}
-use Rattle.nodes.proofs.Standing.{are_grey}
+use Rattle.nodes.proofs.Representing.{are_grey}
 use Rattle.marker.specs.declared.scan.Scan.{Scan}
 use Rattle.marker.specs.Scanning.{scanning}
 use Rattle.marker.proofs.Scanned.{width_small}

@@ -6,7 +6,7 @@ use Rattle.nodes.specs.declared.heap_fields.HeapFields.{HeapFields}
 use Rattle.nodes.specs.Grey.{in_buffers}
 use Rattle.nodes.specs.HeapFields.{state_of}
 use Rattle.nodes.proofs.Chains.{heap_after_chain}
-use Rattle.nodes.proofs.Standing.{units_small}
+use Rattle.nodes.proofs.Representing.{units_small}
 use Rattle.marker.specs.declared.scan.Scan.{Scan}
 use Rattle.marker.specs.Scanning.{scanning}
 use Rattle.marker.proofs.Scanned.{part_allocated}

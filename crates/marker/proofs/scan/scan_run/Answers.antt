@@ -3,13 +3,13 @@ use Rattle.std.proofs.lemmas.Bool.{cases_eq}
 use Rattle.heap_model.specs.State.{width_at}
 use Rattle.heap_model.specs.Store.{record_of}
 use Rattle.heap_model.proofs.Seen.{allocated_pages}
-use Rattle.nodes.specs.declared.block_store.Referent.{Referent}
+use Rattle.nodes.specs.declared.nodes.Referent.{Referent}
 use Rattle.nodes.specs.Referent.{CanFollow, referent_of}
 use Rattle.nodes.specs.declared.heap_fields.HeapFields.{HeapFields}
 use Rattle.nodes.specs.HeapFields.{state_of}
 use Rattle.nodes.proofs.Chains.{one_action}
 use Rattle.nodes.proofs.Keeping.{are_allocated, store_kept}
-use Rattle.nodes.proofs.Standing.{are_grey}
+use Rattle.nodes.proofs.Representing.{are_grey}
 use Rattle.marker.specs.Scanning.{scanning}
 use Rattle.marker.proofs.Acting.{cell_scanned, corrected_grey}
 use Rattle.marker.proofs.Chains.{nulls_scanned, shades_width, writes_width}

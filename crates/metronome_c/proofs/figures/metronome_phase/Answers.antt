@@ -8,5 +8,5 @@ use Rattle.metronome_c.proofs.figures.metronome_phase.Goals as goal
 pub returns-clause-phase : goal.returns-clause-phase
 returns-clause-phase c = tells (λ h. phase_number h.phase) _ _ _ _ _ _ (asks_so _ _ (λ h a k met. search rules) _ _ _ c.ask.ensures) c.tell.ensures
 
-pub returns-clause-stands : goal.returns-clause-stands
-returns-clause-stands c = shows RepresentsSome _ _ _ (asks_so _ _ (λ h a k met. search rules) _ _ _ c.ask.ensures)
+pub returns-clause-represents : goal.returns-clause-represents
+returns-clause-represents c = shows RepresentsSome _ _ _ (asks_so _ _ (λ h a k met. search rules) _ _ _ c.ask.ensures)

@@ -1,5 +1,5 @@
 use Rattle.std.proofs.Common.{ap, ◌∙◌, sym, subst, refl, ◌*◌, length, length-set}
-use Rattle.pages.specs.declared.page.PageRecord.{PageRecord}
+use Rattle.pages.specs.declared.page.PageRow.{PageRow}
 use Rattle.pages.specs.FreeList.{IsFreeList}
 use Rattle.pages.specs.Together.{Together}
 use Rattle.pages.proofs.Sweeping.{row_same, stays_there, goes_together, goes_there}
@@ -21,10 +21,10 @@ pub returns-clause-len : goal.returns-clause-len
 returns-clause-len c = ap (λ w. length w) c.push.ensures.words ∙ length-set _ _ _ ∙ length-set _ _ _
 
 pub returns-clause-chain : goal.returns-clause-chain
-returns-clause-chain c = subst (IsFreeList c.push.new.arena (2048 * c.args.page) c.args.row.now.class c.push.new.row.first) (sym (ap (λ (r : PageRecord). r.allocated) c.push.ensures.row)) c.push.ensures.chain
+returns-clause-chain c = subst (IsFreeList c.push.new.arena (2048 * c.args.page) c.args.row.now.class c.push.new.row.first) (sym (ap (λ (r : PageRow). r.allocated) c.push.ensures.row)) c.push.ensures.chain
 
 pub returns-clause-row : goal.returns-clause-row
-returns-clause-row c = c.push.ensures.row ∙ sym (ap (λ (r : PageRecord). record c.args.row.now { first = c.push.new.row.first; allocated = r.allocated }) c.push.ensures.row)
+returns-clause-row c = c.push.ensures.row ∙ sym (ap (λ (r : PageRow). record c.args.row.now { first = c.push.new.row.first; allocated = r.allocated }) c.push.ensures.row)
 
 pub returns-clause-together : goal.returns-clause-together
 returns-clause-together c = λ rows t there. goes_together rows c.args.arena.now c.push.new.arena t c.args.page c.args.row.now c.push.new.row there c.args.index (c.if-stays.ensures.goes refl).0 c.push.ensures.row c.push.ensures.flags c.push.ensures.chain c.push.ensures.words

@@ -1,6 +1,6 @@
 use Rattle.std.proofs.Common.{◌≡◌, ◌*◌, Some, set, ap, ◌∙◌, sym, subst, refl, arith}
 use Rattle.size_classes.specs.Sizes.{blocks_in}
-use Rattle.pages.specs.declared.page.PageRecord.{PageRecord}
+use Rattle.pages.specs.declared.page.PageRow.{PageRow}
 use Rattle.pages.specs.FreeList.{IsFreeList}
 use Rattle.pages.specs.Sweeping.{Looks}
 use Rattle.pages.specs.Together.{joined}
@@ -20,11 +20,11 @@ look-requires-clause-within c = omega (arith, c.requires.within, c.loop-looked.i
 pub look-requires-clause-chain : goal.look-requires-clause-chain
 look-requires-clause-chain c =
     let i = c.loop-looked.invariant in
-    subst (λ n. IsFreeList c.loop-looked.arena (2048 * c.args.page) n c.loop-looked.row.first c.loop-looked.row.allocated) (sym (ap (λ (r : PageRecord). r.class) i.3)) i.2
+    subst (λ n. IsFreeList c.loop-looked.arena (2048 * c.args.page) n c.loop-looked.row.first c.loop-looked.row.allocated) (sym (ap (λ (r : PageRow). r.class) i.3)) i.2
 
 pub look-requires-clause-block : goal.look-requires-clause-block
 look-requires-clause-block c =
-    let e = ap (λ (r : PageRecord). blocks_in r.class) c.loop-looked.invariant.3 in
+    let e = ap (λ (r : PageRow). blocks_in r.class) c.loop-looked.invariant.3 in
     omega (arith, c.requires.blocks, c.loop-looked-test.true, e)
 
 pub loop-looked-preserved : goal.loop-looked-preserved
@@ -32,8 +32,8 @@ loop-looked-preserved c =
     let i = c.loop-looked.invariant in let e = c.look.ensures in let next = c.look.new.row in (
       omega (arith, c.loop-looked-test.true),
       e.len ∙ i.1,
-      subst (λ n. IsFreeList c.look.new.arena (2048 * c.args.page) n next.first next.allocated) (ap (λ (r : PageRecord). r.class) i.3) e.chain,
-      e.row ∙ ap (λ (r : PageRecord). record r { first = next.first; allocated = next.allocated }) i.3,
+      subst (λ n. IsFreeList c.look.new.arena (2048 * c.args.page) n next.first next.allocated) (ap (λ (r : PageRow). r.class) i.3) e.chain,
+      e.row ∙ ap (λ (r : PageRow). record r { first = next.first; allocated = next.allocated }) i.3,
       λ rows t there. one_more rows c.args.arena.now c.args.page c.args.row.now there c.args.colour c.args.from c.loop-looked.looked c.loop-looked.row next c.loop-looked.arena c.look.new.arena (i.4 rows t there) e.together e.looks,
     )
 

@@ -1,5 +1,5 @@
 use Rattle.std.proofs.Common.{◌≡◌, ◌*◌, ◌-◌, ◌≤◌, List, Option, Some, length}
-use Rattle.pages.specs.declared.page.PageRecord.{PageRecord}
+use Rattle.pages.specs.declared.page.PageRow.{PageRow}
 use Rattle.pages.specs.FreeList.{IsFreeList}
 use Rattle.pages.specs.Index.{row_at}
 use Rattle.pages.specs.Together.{Together}
@@ -10,7 +10,7 @@ use Rattle.pages.proofs.free_list.sweep.Given as goal
 abbrev pub invariant-loop-looked : goal.invariant-loop-looked
 invariant-loop-looked l =
     (l.looked ≤ l.count) × (length l.arena ≡ length l.fn.arena) × IsFreeList l.arena (2048 * l.page) l.fn.row.class l.row.first l.row.allocated × (l.row ≡ record l.fn.row { first = l.row.first; allocated = l.row.allocated })
-    × ((rows : List (Option PageRecord)) → Together rows l.fn.arena → (there : row_at rows l.page ≡ Some l.fn.row) → SoFar rows l.fn.arena l.page l.fn.row there l.colour l.from l.looked l.row l.arena)
+    × ((rows : List (Option PageRow)) → Together rows l.fn.arena → (there : row_at rows l.page ≡ Some l.fn.row) → SoFar rows l.fn.arena l.page l.fn.row there l.colour l.from l.looked l.row l.arena)
 
 abbrev pub decreases-loop-looked : goal.decreases-loop-looked
 decreases-loop-looked l = l.count - l.looked

@@ -3,7 +3,7 @@ use Rattle.std.proofs.lemmas.Result.{err_from_is_err_and}
 use Rattle.std.specs.List.{count_by}
 use Rattle.trace.specs.Streams.{given_by}
 use Rattle.trace.specs.TextLine.{Text}
-use Rattle.trace.proofs.GoingOver.{at_first, goes_on, ends_without, ends_over, ends_at}
+use Rattle.trace.proofs.LinesProcessed.{at_first, goes_on, ends_without, ends_over, ends_at}
 use Rattle.trace.proofs.Reading.{reading_at_first, reading_on}
 use Rattle.player.specs.Playing.{session, PlaysLine, is_event, StopsText}
 use Rattle.player.proofs.Behind.{behind_first, behind_fewer, behind_on, waited_or_written, handed}

@@ -1,7 +1,7 @@
 use Rattle.std.proofs.Common.{◌≡◌, true, false, ap, ◌∙◌, sym, arith}
 use Rattle.graph_heap.specs.declared.command.Limits.{Limits}
 use Rattle.nodes.specs.declared.heap_fields.HeapFields.{HeapFields}
-use Rattle.nodes.proofs.Standing.{are_grey}
+use Rattle.nodes.proofs.Representing.{are_grey}
 use Rattle.nodes.proofs.Threading.{buffers_none}
 use Rattle.satb_barrier.proofs.Listing.{are_grey_by, all_empty}
 use Rattle.satb_barrier.proofs.list.flush_all.Goals as goal

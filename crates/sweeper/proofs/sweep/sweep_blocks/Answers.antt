@@ -15,7 +15,7 @@ pub sweep-requires-clause-blocks : goal.sweep-requires-clause-blocks
 sweep-requires-clause-blocks c = in_use (page_at c.args.heap.now.nodes.pages c.args.page) c.args.block c.args.count c.requires.some c.requires.within
 
 pub overflow_add-block : goal.overflow_add-block
-overflow_add-block c = let f = blocks_few c.args.heap.now.nodes.pages c.requires.heap.heap.stands.pages c.args.page in omega (arith, c.requires.within, f)
+overflow_add-block c = let f = blocks_few c.args.heap.now.nodes.pages c.requires.heap.heap.represents.pages c.args.page in omega (arith, c.requires.within, f)
 
 pub returns-clause-acts : goal.returns-clause-acts
 returns-clause-acts c =

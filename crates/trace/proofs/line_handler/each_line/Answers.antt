@@ -5,7 +5,7 @@ use Rattle.trace.specs.declared.line_handler.InputEnd.{InputEnd}
 use Rattle.trace.specs.Handling.{HandlesLine, HandlerStops}
 use Rattle.trace.specs.LineReader.{Versions}
 use Rattle.trace.specs.TextLine.{Text}
-use Rattle.trace.proofs.GoingOver.{at_first, one_line, no_line, goes_on, ends_without, ends_over, ends_at}
+use Rattle.trace.proofs.LinesProcessed.{at_first, one_line, no_line, goes_on, ends_without, ends_over, ends_at}
 use Rattle.trace.proofs.Reading.{reading_at_first, reading_on}
 use Rattle.trace.proofs.line_handler.each_line.Goals as goal
 

@@ -8,9 +8,9 @@ commit-requires-clause-planned c g a = (_, c.copy.ensures g a)
 
 pub returns-in-Ok : goal.returns-in-Ok
 returns-in-Ok c =
-    admitted_steps (state_of c.self.inside.raw) c.args.self.now c.self.view_is c.args.mutator _ false refl c.admit.result c.admit.ensures.admitted
+    admitted_steps (state_of c.self.inside.fields) c.args.self.now c.self.view_is c.args.mutator _ false refl c.admit.result c.admit.ensures.admitted
     c.in-Ok.field-0 c.in-Ok.is c.copy.result c.copy.ensures c.commit.result c.commit.new.self c.commit.ensures
 
 pub returns-in-Err : goal.returns-in-Err
 returns-in-Err c =
-    refused_steps (state_of c.self.inside.raw) c.args.self.now c.self.view_is c.args.mutator _ false refl c.admit.result c.admit.ensures.admitted c.in-Err.refusal c.in-Err.is
+    refused_steps (state_of c.self.inside.fields) c.args.self.now c.self.view_is c.args.mutator _ false refl c.admit.result c.admit.ensures.admitted c.in-Err.refusal c.in-Err.is

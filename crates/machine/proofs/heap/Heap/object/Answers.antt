@@ -11,10 +11,10 @@ use Rattle.machine.proofs.Finding.{root_names, followed_some, null_object, objec
 use Rattle.machine.proofs.heap.Heap.object.Goals as goal
 
 pub follow-referent-requires-clause-block : goal.follow-referent-requires-clause-block
-follow-referent-requires-clause-block c = (root_follows (state_of c.self.inside.raw) c.self.invariant.heap c.args.root c.get-reference.result (subst (λ (x : HeapState). c.args.root < length x.roots) (sym c.self.view_is) c.requires) c.get-reference.ensures c.if-reference-eq0.false).0
+follow-referent-requires-clause-block c = (root_follows (state_of c.self.inside.fields) c.self.invariant.heap c.args.root c.get-reference.result (subst (λ (x : HeapState). c.args.root < length x.roots) (sym c.self.view_is) c.requires) c.get-reference.ensures c.if-reference-eq0.false).0
 
 pub follow-referent-requires-clause-main : goal.follow-referent-requires-clause-main
-follow-referent-requires-clause-main c = (root_follows (state_of c.self.inside.raw) c.self.invariant.heap c.args.root c.get-reference.result (subst (λ (x : HeapState). c.args.root < length x.roots) (sym c.self.view_is) c.requires) c.get-reference.ensures c.if-reference-eq0.false).1
+follow-referent-requires-clause-main c = (root_follows (state_of c.self.inside.fields) c.self.invariant.heap c.args.root c.get-reference.result (subst (λ (x : HeapState). c.args.root < length x.roots) (sym c.self.view_is) c.requires) c.get-reference.ensures c.if-reference-eq0.false).1
 
 pub shape-shape-requires : goal.shape-shape-requires
 shape-shape-requires c = object_allocated _ c.self.invariant.heap c.follow-referent.result (followed_some _ c.get-reference.result c.follow-referent.result c.if-reference-eq0.false c.follow-referent.ensures) _ (at_present (λ x g. Names x g (slice_index g.roots c.args.root) c.follow-referent.result) _ _ c.self.view_is c.self.invariant.heap (root_names _ _ c.self.view_is c.args.root c.get-reference.result c.requires c.get-reference.ensures c.follow-referent.result c.follow-referent.ensures))

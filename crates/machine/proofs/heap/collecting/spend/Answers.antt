@@ -37,18 +37,18 @@ loop-spent-smaller c =
 pub loop-spent-preserved : goal.loop-spent-preserved
 loop-spent-preserved c = ((on c).chain, (on c).within, (on c).heap, c.if-act.ensures.buffers ∙ c.loop-spent.invariant.3)
 
-pub returns-else-act-clause-raw : goal.returns-else-act-clause-raw
-returns-else-act-clause-raw c = subst AreHeapFields (sym c.if-act.ensures.acts.0) c.loop-spent.invariant.2
+pub returns-else-act-clause-fields : goal.returns-else-act-clause-fields
+returns-else-act-clause-fields c = subst AreHeapFields (sym c.if-act.ensures.acts.0) c.loop-spent.invariant.2
 
 pub returns-else-act-clause-turn : goal.returns-else-act-clause-turn
 returns-else-act-clause-turn c =
     let i = c.loop-spent.invariant in
     spent_most c.args.heap.now c.loop-spent.heap c.act.new.heap c.args.budget c.loop-spent.spent i.0 i.1 c.if-act.ensures.acts
 
-pub returns-after-loop-spent-clause-raw : goal.returns-after-loop-spent-clause-raw
-returns-after-loop-spent-clause-raw c = c.loop-spent.invariant.2
+pub returns-after-loop-spent-clause-fields : goal.returns-after-loop-spent-clause-fields
+returns-after-loop-spent-clause-fields c = c.loop-spent.invariant.2
 
 pub returns-after-loop-spent-clause-turn : goal.returns-after-loop-spent-clause-turn
 returns-after-loop-spent-clause-turn c =
     let i = c.loop-spent.invariant in
-    spent_all (state_of c.args.heap.now) (state_of c.loop-spent.heap) c.args.budget c.loop-spent.spent i.0 i.1 (omega (arith, c.loop-spent-test.false)) i.2.heap.stands.pages
+    spent_all (state_of c.args.heap.now) (state_of c.loop-spent.heap) c.args.budget c.loop-spent.spent i.0 i.1 (omega (arith, c.loop-spent-test.false)) i.2.heap.represents.pages

@@ -12,7 +12,7 @@ pub null_roots-requires-clause-within : goal.null_roots-requires-clause-within
 null_roots-requires-clause-within c =
     let h = state_of c.args.heap.now in
     subst (λ (l : Limits). c.args.mutator * l.slots + l.slots ≤ length h.roots) (sym c.limits-slots.ensures.limits)
-    (leave_within h c.args.mutator c.requires.heap.heap.stands.consistent.row (leaver_low h c.requires.heap.heap c.args.mutator c.requires.write))
+    (leave_within h c.args.mutator c.requires.heap.heap.represents.consistent.row (leaver_low h c.requires.heap.heap c.args.mutator c.requires.write))
 
 pub set_live-requires : goal.set_live-requires
 set_live-requires c =

@@ -2,7 +2,7 @@ use Rattle.std.proofs.Common.{◌≡◌, ℕ, ◌+◌, ◌≤◌, inl, inr, ◌+
 use Rattle.std.proofs.lemmas.Bool.{cases_eq}
 use Rattle.std.proofs.lemmas.List.{length_push}
 use Rattle.pages.specs.declared.bits.BitRow.{BitRow}
-use Rattle.pages.specs.declared.page.PageRecord.{PageRecord}
+use Rattle.pages.specs.declared.page.PageRow.{PageRow}
 use Rattle.size_classes.specs.declared.class.TheConstants.{CLASSES}
 use Rattle.pages.specs.BitRow.{has_bit, room_of}
 use Rattle.pages.specs.Index.{class_bit, room_of_class, IsIndex}
@@ -30,11 +30,11 @@ loop-page-preserved c = record {
 
 pub invariant_of-result : goal.invariant_of-result
 invariant_of-result c =
-    let e : c.rows.rows.items ≡ replicate {A = Option PageRecord} c.args.pages None = c.rows.invariant ∙ ap (λ n. replicate {A = Option PageRecord} n None) (omega arith) in
+    let e : c.rows.rows.items ≡ replicate {A = Option PageRow} c.args.pages None = c.rows.invariant ∙ ap (λ n. replicate {A = Option PageRow} n None) (omega arith) in
     let f : c.in_ok-free_blocks.free_blocks.items ≡ replicate CLASSES 0 = search rules in
     let all : c.classes.counter ≡ CLASSES = omega arith in
     let pages : c.loop-page.page ≡ c.args.pages = omega arith in
-    subst (λ (l : List (Option PageRecord)). IsIndex l c.classes.usable.items c.loop-page.free c.in_ok-free_blocks.free_blocks.items c.args.pages) (sym e)
+    subst (λ (l : List (Option PageRow)). IsIndex l c.classes.usable.items c.loop-page.free c.in_ok-free_blocks.free_blocks.items c.args.pages) (sym e)
     (subst (λ (l : List ℕ). IsIndex (replicate c.args.pages None) c.classes.usable.items c.loop-page.free l c.args.pages) (sym f)
     (fresh_book c.args.pages c.classes.usable.items c.loop-page.free c.requires (c.classes.invariant.long ∙ all)
     (λ x h. c.classes.invariant.wide x (omega (arith, all, h))) c.loop-page.invariant.room
@@ -43,4 +43,4 @@ invariant_of-result c =
     (λ k h. c.loop-page.invariant.past k (omega (arith, pages, h)))))
 
 pub returns : goal.returns
-returns c = c.rows.invariant ∙ ap (λ n. replicate {A = Option PageRecord} n None) (omega arith)
+returns c = c.rows.invariant ∙ ap (λ n. replicate {A = Option PageRow} n None) (omega arith)

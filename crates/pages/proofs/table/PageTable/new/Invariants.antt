@@ -1,11 +1,11 @@
 use Rattle.std.proofs.Common.{◌≡◌, ℕ, ◌<◌, ◌≤◌, length, replicate, Option, None}
-use Rattle.pages.specs.declared.page.PageRecord.{PageRecord}
+use Rattle.pages.specs.declared.page.PageRow.{PageRow}
 use Rattle.pages.specs.BitRow.{has_bit, room_of}
 use Rattle.pages.specs.Index.{class_bit, room_of_class}
 use Rattle.pages.proofs.table.PageTable.new.Given as goal
 
 abbrev pub invariant-rows : goal.invariant-rows
-invariant-rows l = l.rows.items ≡ replicate {A = Option PageRecord} l.counter None
+invariant-rows l = l.rows.items ≡ replicate {A = Option PageRow} l.counter None
 
 abbrev pub invariant-classes : goal.invariant-classes
 invariant-classes l = record {

@@ -4,7 +4,7 @@ use Rattle.trace.specs.declared.line.Line.{Line}
 use Rattle.trace.specs.Spelling.{Spells}
 use Rattle.trace.specs.TextLine.{Text, text_in}
 use Rattle.trace.proofs.Reading.{reading_at_first, reading_on}
-use Rattle.trace.proofs.GoingOver.{at_first, goes_on, ends_without, ends_over, ends_in, ends_at}
+use Rattle.trace.proofs.LinesProcessed.{at_first, goes_on, ends_without, ends_over, ends_in, ends_at}
 use Rattle.sizing.specs.declared.arrivals.keeping.Conformance.{Conformance}
 use Rattle.sizing.specs.Fitting.{load_in}
 use Rattle.sizing.specs.AllocationProfile.{SaysText}

@@ -1,6 +1,6 @@
 use Rattle.std.proofs.Common.{◌-◌, ◌^◌}
 use Rattle.trace.specs.Streams.{given_by}
-use Rattle.trace.proofs.GoingOver.{SoFar}
+use Rattle.trace.proofs.LinesProcessed.{SoFar}
 use Rattle.trace.proofs.Reading.{IsReading}
 use Rattle.sizing.specs.Fitting.{load_in}
 use Rattle.sizing.specs.AllocationProfile.{SaysText}

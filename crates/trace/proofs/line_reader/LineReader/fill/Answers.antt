@@ -3,7 +3,7 @@ use Rattle.trace.proofs.line_reader.LineReader.fill.Goals as goal
 
 pub invariant_of-self-2 : goal.invariant_of-self-2
 invariant_of-self-2 g c =
-    let few = g.met.S.Source.few c.read_behind.new.source in
+    let few = g.met.S.Source.few c.read_after.new.source in
     let behind = rw (← c.self.view_is) at c.requires.behind in
     let a = c.self.inside in
     record {

@@ -1,7 +1,7 @@
 use Rattle.std.proofs.Common.{[], ◌∷◌, ◌+◌, ap, ◌∙◌, sym, arith, refl, append-nil, length}
 use Rattle.std.proofs.lemmas.Result.{err_from_is_err_and}
 use Rattle.std.proofs.lemmas.List.{length_push}
-use Rattle.trace.proofs.GoingOver.{one_line, at_first, goes_on, ends_without, ends_over, ends_in, ends_at}
+use Rattle.trace.proofs.LinesProcessed.{one_line, at_first, goes_on, ends_without, ends_over, ends_in, ends_at}
 use Rattle.trace.specs.declared.transcripts.histories.Checked.{Checked}
 use Rattle.trace.specs.TextLine.{Text}
 use Rattle.trace.specs.LinesProcessed.{LineEffect}

@@ -1,6 +1,6 @@
 use Rattle.std.proofs.Common.{◌≡◌, ◌-◌, ◌≤◌, ◌^◌, length}
 use Rattle.trace.specs.Streams.{given_by}
-use Rattle.trace.proofs.GoingOver.{SoFar}
+use Rattle.trace.proofs.LinesProcessed.{SoFar}
 use Rattle.trace.specs.LinesProcessed.{LineEffect}
 use Rattle.trace.specs.Histories.{DoesNothing, DoesEntry}
 use Rattle.trace.proofs.Reading.{IsReading}

@@ -1,7 +1,7 @@
 use Rattle.std.proofs.Common.{◌∙◌, sym, ap, subst}
 use Rattle.heap_model.specs.State.{HeapState}
 use Rattle.nodes.specs.Copies.{copies_in}
-use Rattle.nodes.specs.declared.block_store.counting.Copies.{Copies}
+use Rattle.nodes.specs.declared.nodes.counting.Copies.{Copies}
 use Rattle.inspector.specs.declared.cycles.open.End.{End}
 use Rattle.inspector.specs.Log.{IsEnd}
 use Rattle.inspector.proofs.cycles.open.Open.end.Goals as goal

@@ -1,6 +1,6 @@
 use Rattle.std.proofs.Common.{◌∙◌, sym, ap, ℕ}
 use Rattle.heap_model.specs.State.{HeapState}
-use Rattle.nodes.specs.declared.block_store.counting.Copies.{Copies}
+use Rattle.nodes.specs.declared.nodes.counting.Copies.{Copies}
 use Rattle.inspector.specs.declared.cycles.open.End.{End}
 use Rattle.inspector.proofs.cycles.Stepping.{end_some, end_none, end_now, begins_on}
 use Rattle.inspector.proofs.cycles.open.Open.end_after.Goals as goal

@@ -1,0 +1,5 @@
+use Rattle.fragmentation.proofs.PageDemands.{page_demand_suffices as it}
+use Rattle.fragmentation.proofs.page_demand_suffices.Goals as goal
+
+pub returns : goal.returns
+returns c = it

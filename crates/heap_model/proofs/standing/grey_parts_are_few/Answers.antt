@@ -1,5 +1,0 @@
-use Rattle.heap_model.proofs.Grey.{are_grey}
-use Rattle.heap_model.proofs.standing.grey_parts_are_few.Goals as goal
-
-pub returns : goal.returns
-returns c = are_grey

@@ -1,5 +1,0 @@
-use Rattle.heap_model.proofs.Stood.{sweep_change as it}
-use Rattle.heap_model.proofs.standing.sweeps_end.Goals as goal
-
-pub returns : goal.returns
-returns c = it

@@ -1,0 +1,94 @@
+-- A heap and its history.
+use Rattle.std.specs.Prelude.{◌≡◌, ◌↔◌, ◌⊎◌, ℕ, ◌+◌, ◌-◌, ◌<◌, ◌≤◌, true, false, List, [], ◌∷◌, ◌++◌, map, Result, Ok, Err, vec_len, vec_capacity}
+use Rattle.graph_heap.specs.declared.command.Command.{Command}
+use Rattle.graph_heap.specs.declared.command.Entry.{Entry}
+use Rattle.graph_heap.specs.declared.no_memory.NoMemory.{NoMemory}
+use Rattle.heap_model.specs.declared.phase.Phase.TheVariants as phases
+use Rattle.heap_model.specs.declared.phase.Moving.{Moving}
+use Rattle.heap_model.specs.Pages.{page_at}
+use Rattle.heap_model.specs.State.{HeapState}
+use Rattle.heap_model.specs.Action.{Action, Chain}
+use Rattle.heap_model.specs.Swept.{IsSwept, IsKept, IsAllocated}
+use Rattle.heap_model.specs.Marks.{HasNoMark}
+use Rattle.heap_model.specs.Represents.{is_sweeping}
+use Rattle.heap_model.specs.Event as done
+use Rattle.heap_model.specs.Event.{Course, present_of, snapshot_of, Runs, HaveBudgets, quanta_in, OneIsLast}
+use Rattle.heap_model.specs.Bound.{most_quanta}
+use Rattle.machine.specs.declared.recorded.Recorded.TheInside.{Inside}
+use Rattle.machine.specs.declared.event.Event.{Event}
+use Rattle.machine.specs.declared.event.Event.TheVariants as events
+use Rattle.machine.specs.declared.collector.Busy.{Busy}
+use Rattle.machine.specs.declared.collector.BudgetOutOfRange.{BudgetOutOfRange}
+use Rattle.machine.specs.declared.collector.Spent.{Spent}
+
+-- the heap with its history and the place at which the last cycle began, and for how many more entries
+-- there is memory
+pub record RecordedHeap : Type 0 where
+  pub course : Course
+  pub room : ℕ
+
+-- the fields of a heap with its history, as contracts see them
+abbrev pub recorded_of : Inside → RecordedHeap
+recorded_of a = record {
+  course = record { heap = a.heap; history = a.history.items; place = a.place };
+  room = vec_capacity a.history - vec_len a.history;
+}
+
+-- what a caller gets for a command: its entry in the history, and the place of that entry, from 0
+pub record ReceiptView : Type 0 where
+  pub entry : Entry
+  pub place : ℕ
+
+-- what a call to begin a cycle, or to spend a budget, did
+abbrev pub begin_done : Result (Unit {0}) Busy → done.Event
+begin_done (Ok begun) = done.Cycle_begun
+begin_done (Err busy) = done.Begin_refused
+
+-- what a call to spend a budget did
+abbrev pub quantum_done : ℕ → Result Spent BudgetOutOfRange → done.Event
+quantum_done budget (Ok spent) = done.Quantum_done budget spent.units spent.phase
+quantum_done budget (Err refused) = done.Quantum_refused budget
+
+-- what was asked for, of an event that is done
+abbrev pub asked : done.Event → Event
+asked (done.Command_done m c reply) = events.Command m c
+asked done.Cycle_begun = events.Begin
+asked done.Begin_refused = events.Begin
+asked (done.Quantum_done budget units phase) = events.Quantum budget
+asked (done.Quantum_refused budget) = events.Quantum budget
+
+-- These events were asked for, and are done, one after the other; or memory was refused for a command,
+-- and only those before it are done.
+abbrev pub RunsFront : Course → List Event → Course → Result (Unit {0}) NoMemory → Type 0
+RunsFront old es new (Ok all) = (front : List done.Event) × Runs old front new × (es ≡ map asked front)
+RunsFront old es new (Err refused) =
+    (front : List done.Event) × (m : ℕ) × (c : Command) × (rest : List Event) × Runs old front new
+    × (es ≡ map asked front ++ events.Command m c ∷ rest)
+
+-- how many of the events are commands
+abbrev pub commands_in : List Event → ℕ
+commands_in [] = 0
+commands_in (events.Command m c ∷ es) = commands_in es + 1
+commands_in (e ∷ es) = commands_in es
+
+-- At each change out of sweeping, within a quantum too, exactly the blocks of what is kept are allocated, and no page
+-- is evacuating or a target.
+abbrev pub EachSweepEnds : Course → Type 0
+EachSweepEnds r =
+    (spent cost : ℕ) (h after : HeapState) → Chain r.heap spent h → Action h cost after → is_sweeping h.phase ≡ true
+    → is_sweeping after.phase ≡ false
+    → IsSwept after (present_of r) (snapshot_of r) × ((k : ℕ) → HasNoMark (page_at after.store.pages k))
+
+-- In idle, and while blocks are moved, within a quantum too, the allocated objects are exactly those that are kept.
+abbrev pub HoldsKept : Course → Type 0
+HoldsKept r =
+    (spent : ℕ) (h : HeapState) → Chain r.heap spent h → (h.phase ≡ phases.Idle)
+    ⊎ ((place : Moving) × (h.phase ≡ phases.Moving place))
+    → (id : ℕ) → 0 < id → IsAllocated h (present_of r) id ↔ IsKept (present_of r) (snapshot_of r) id
+
+-- After a cycle has begun, one of the first quanta of budgets of at least k ends in idle, for any k
+-- from 256 on, whatever comes between them.
+abbrev pub EndsSoon : Course → Type 0
+EndsSoon r =
+    (k : ℕ) (es : List done.Event) (new : Course) → 256 ≤ k → Runs r es new → HaveBudgets k es
+    → most_quanta r.heap k ≤ quanta_in es → OneIsLast es

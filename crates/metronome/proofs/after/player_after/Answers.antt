@@ -1,0 +1,38 @@
+use Rattle.std.proofs.Common.{inl, inr, refl, arith}
+use Rattle.player.specs.Playing.{session}
+use Rattle.trace.specs.Streams.{given_by}
+use Rattle.trace.specs.declared.fault.PlayFault.TheVariants as texts
+use Rattle.metronome.specs.declared.fault.RunFault.TheVariants as faults
+use Rattle.metronome.proofs.Alive.{played_settings}
+use Rattle.metronome.proofs.Finishing.{failed_so}
+use Rattle.metronome.proofs.Failing.{reads_text, writes_text, memory_unread, memory_unwritten}
+use Rattle.metronome.proofs.after.player_after.Goals as goal
+
+pub returns-in_err-player-clause-play : goal.returns-in_err-player-clause-play
+returns-in_err-player-clause-play g c = rw (failed_so c.from_residual.result (faults.Text texts.NoMemory) c.from_residual.ensures.1) (inl (refl, refl, refl))
+
+pub returns-in_err-play_silently-clause-play : goal.returns-in_err-play_silently-clause-play
+returns-in_err-play_silently-clause-play g c =
+    rw (failed_so c.from_residual-in_err-play_silently.result _ c.from_residual-in_err-play_silently.ensures.1)
+    (inr (c.in_ok-player.player, c.play_silently.new.player, c.in_err-play_silently.field-0.0, c.in_ok-player.ensures, c.in_err-play_silently.ensures.played, refl))
+
+pub returns-clause-play : goal.returns-clause-play
+returns-clause-play g c = (c.in_ok-player.player, c.in_ok-player.ensures, c.in_ok-play_silently.ensures.played)
+
+pub returns-clause-settings : goal.returns-clause-settings
+returns-clause-settings g c =
+    let given = given_by g.S.Source.given g.S.Source.ended c.args.source.now c.play_silently.new.source in
+    let new = session c.play_silently.new.player (g.K.Sink.taken c.play_silently.new.sink) in
+    played_settings c.args.config.now c.args.after given (session c.in_ok-player.player (g.K.Sink.taken c.args.sink.now)) new c.in_ok-player.ensures c.in_ok-play_silently.ensures.played
+
+pub returns-in_err-player-clause-reads : goal.returns-in_err-player-clause-reads
+returns-in_err-player-clause-reads g c = omega (arith, memory_unread c.from_residual.result c.from_residual.ensures.1)
+
+pub returns-in_err-player-clause-writes : goal.returns-in_err-player-clause-writes
+returns-in_err-player-clause-writes g c = omega (arith, memory_unwritten c.from_residual.result c.from_residual.ensures.1)
+
+pub returns-in_err-play_silently-clause-reads : goal.returns-in_err-play_silently-clause-reads
+returns-in_err-play_silently-clause-reads g c = reads_text c.from_residual-in_err-play_silently.result c.in_err-play_silently.field-0.0 _ _ c.from_residual-in_err-play_silently.ensures.1 c.in_err-play_silently.ensures.reads
+
+pub returns-in_err-play_silently-clause-writes : goal.returns-in_err-play_silently-clause-writes
+returns-in_err-play_silently-clause-writes g c = writes_text c.from_residual-in_err-play_silently.result c.in_err-play_silently.field-0.0 _ _ c.from_residual-in_err-play_silently.ensures.1 c.in_err-play_silently.ensures.writes

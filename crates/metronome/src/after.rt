@@ -1,0 +1,137 @@
+//! What is reported of a player after a trace.
+ghost use Rattle.std.specs.Prelude.{◌≡◌, ◌+◌, IfOk};
+ghost use Rattle.heap_model.specs.Event.{present_of};
+ghost use Rattle.heap_model.specs.Settings.{settings_of, settings_by};
+ghost use Rattle.player.specs.Playing.{session};
+ghost use Rattle.trace.specs.LinesProcessed.{reads_failed, writes_failed};
+ghost use Rattle.trace.specs.Streams.{given_by, taken_by};
+ghost use Rattle.metronome.specs.Faults.{failed_reads, failed_writes};
+ghost use Rattle.metronome.specs.After.{PlayedUpTo, PlayerAfter, AfterPlay};
+ghost use Rattle.metronome.specs.Telling.{Tells};
+
+mod graph;
+mod path;
+mod picture;
+mod report;
+mod windows;
+
+use crate::fault::{Ending, RunFault};
+use command_line::{Picture, Report};
+use graph::tell_graph;
+use graph_heap::{NoMemory, Reference};
+use path::tell_path;
+use picture::tell_picture;
+use pictures::present;
+use player::{Player, Style, play, play_first};
+use report::tell_report;
+use size_classes::Config;
+use std::alloc::Global;
+use trace::{PlayFault, Sink, Source};
+use windows::tell_windows;
+
+/// What is reported.
+#[derive(Clone, Copy)]
+pub enum Telling<'a> {
+    /// A report of the heap.
+    Report(Report),
+    /// A picture of the player.
+    Picture(Picture),
+    /// A picture of the objects that can be reached, at most this many, nearest to the roots first.
+    Graph(u32),
+    /// A shortest path from a root to an object; or that none leads to it, and whether blocks of it are still
+    /// allocated; or that it was never made.
+    Path(u64),
+    /// A line for each window.
+    Windows(&'a [u64]),
+}
+
+/// Plays a trace, or its first event lines, and writes nothing.
+fn play_silently<S: Source, K: Sink>(
+    source: &mut S,
+    sink: &mut K,
+    player: &mut Player,
+    after: Option<u32>,
+) -> Result<(), PlayFault>
+    ensures played { PlayedUpTo after (given_by S.given S.ended source.old source.new)
+        (session player.old (K.taken sink.old)) (session player.new (K.taken sink.new)) result }
+    ensures reads { S.failures source.new ≡ S.failures source.old + reads_failed result }
+    ensures writes { K.failures sink.new ≡ K.failures sink.old + writes_failed result }
+{
+    match after {
+        None => play(source, sink, player, Style::Nothing),
+        Some(events) => play_first(events, source, sink, player, Style::Nothing),
+    }
+}
+
+/// A new player after a trace, or after its first event lines; nothing was written of them.
+fn player_after<S: Source, K: Sink>(
+    alloc: Global,
+    config: &Config,
+    source: &mut S,
+    sink: &mut K,
+    after: Option<u32>,
+) -> Result<Player, RunFault>
+    ensures play { PlayerAfter after config.now (given_by S.given S.ended source.old source.new)
+        (taken_by K.taken sink.old sink.new) result }
+    ensures settings { IfOk result (λ player. settings_of player.course.heap ≡ settings_by config.now) }
+    ensures reads { S.failures source.new ≡ S.failures source.old + failed_reads result }
+    ensures writes { K.failures sink.new ≡ K.failures sink.old + failed_writes result }
+{
+    let mut player = Player::new(alloc, config)?;
+    play_silently(source, sink, &mut player, after)?;
+    Ok(player)
+}
+
+/// The graph heap to which the history of a player leads.
+fn graph_after(alloc: Global, config: &Config, player: &Player) -> Result<Reference, NoMemory>
+    requires { settings_of player.now.course.heap ≡ settings_by config.now }
+    ensures { IfOk result (λ graph. graph ≡ present_of player.now.course) }
+{
+    present(alloc, &config.limits(), player.recorded().history())
+}
+
+/// Tells what is asked of a player.
+fn tell<K: Sink>(
+    alloc: Global,
+    config: &Config,
+    player: &Player,
+    telling: Telling,
+    sink: &mut K,
+) -> Result<Ending, RunFault>
+    requires { settings_of player.now.course.heap ≡ settings_by config.now }
+    ensures told { Tells telling.entry config.now player.now (taken_by K.taken sink.old sink.new) result }
+    ensures reads { failed_reads result ≡ 0 }
+    ensures writes { K.failures sink.new ≡ K.failures sink.old + failed_writes result }
+{
+    match telling {
+        Telling::Report(by) => tell_report(player, by, sink),
+        Telling::Picture(picture) => tell_picture(config, player, picture, sink),
+        Telling::Graph(most) => {
+            let graph = graph_after(alloc, config, player)?;
+            tell_graph(alloc, &graph, most, sink)
+        }
+        Telling::Path(id) => {
+            let graph = graph_after(alloc, config, player)?;
+            tell_path(alloc, player.recorded().heap(), &graph, id, sink)
+        }
+        Telling::Windows(windows) => tell_windows(alloc, config, player, windows, sink),
+    }
+}
+
+/// Plays a trace, or its first event lines, on a new player, and then tells of the player.
+pub fn after_play<S: Source, K: Sink>(
+    alloc: Global,
+    config: &Config,
+    source: &mut S,
+    sink: &mut K,
+    after: Option<u32>,
+    telling: Telling,
+) -> Result<Ending, RunFault>
+    ensures done { AfterPlay (Tells telling.entry config.now) after config.now
+        (given_by S.given S.ended source.old source.new) (taken_by K.taken sink.old sink.new) result }
+    ensures reads { S.failures source.new ≡ S.failures source.old + failed_reads result }
+    ensures writes { K.failures sink.new ≡ K.failures sink.old + failed_writes result }
+{
+    let player = player_after(alloc, config, source, sink, after)?;
+    tell(alloc, config, &player, telling, sink)
+}

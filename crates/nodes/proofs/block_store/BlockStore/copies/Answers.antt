@@ -1,5 +1,0 @@
-use Rattle.nodes.proofs.Counting.{none_below}
-use Rattle.nodes.proofs.block_store.BlockStore.copies.Goals as goal
-
-pub loop-page-init : goal.loop-page-init
-loop-page-init c = none_below c.args.self.now

@@ -1,0 +1,16 @@
+use Rattle.nodes.proofs.Evacuating.{target_page_by, keeps_by, left_store_by}
+use Rattle.nodes.proofs.Joining.{same_headers}
+use Rattle.nodes.proofs.nodes.Nodes.leave.Goals as goal
+
+pub leave-requires-clause-is_target : goal.leave-requires-clause-is_target
+leave-requires-clause-is_target c = target_page_by _ _ _ c.self.view_is c.args.page c.requires.page c.requires.is_target
+
+pub invariant_of-self : goal.invariant_of-self
+invariant_of-self c = record {
+  whole = left_store_by _ _ c.self.view_is c.self.invariant.whole c.args.page c.requires.is_target _ (c.leave.ensures.mark _ c.self.invariant.together);
+  together = c.leave.ensures.together _ c.self.invariant.together;
+  headers = same_headers _ _ _ c.self.view_is c.self.invariant _ (keeps_by _ _ c.self.view_is c.self.invariant.whole c.args.page c.requires.is_target _ (c.leave.ensures.mark _ c.self.invariant.together));
+}
+
+pub returns-clause-kept : goal.returns-clause-kept
+returns-clause-kept c = keeps_by _ _ c.self.view_is c.self.invariant.whole c.args.page c.requires.is_target _ (c.leave.ensures.mark _ c.self.invariant.together)

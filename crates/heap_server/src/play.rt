@@ -15,7 +15,7 @@ use crate::tally::Tally;
 use crate::workers::{collect, play_seats};
 use graph_heap::{Command, NoMemory};
 use machine::Recorded;
-use size_classes::Config;
+use settings::Config;
 use std::alloc::Global;
 use std::marker::Brand;
 use std::sync::Wait;

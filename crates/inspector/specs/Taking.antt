@@ -1,6 +1,6 @@
 -- What it is to take the cycles of a run.
 use Rattle.std.specs.Prelude.{List, [], Result, Ok, Err}
-use Rattle.size_classes.specs.declared.config.Config.{Config}
+use Rattle.settings.specs.declared.config.Config.{Config}
 use Rattle.trace.specs.declared.fault.PlayFault.{PlayFault}
 use Rattle.trace.specs.Streams.{Given}
 use Rattle.player.specs.declared.style.Style.TheVariants.{Nothing}

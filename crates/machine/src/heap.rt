@@ -11,7 +11,7 @@ ghost use Rattle.machine.specs.Plan.{CanCommit, CommitsEach};
 
 use graph_heap::{Command, NoMemory, Reply, dispatch};
 use nodes::HeapFields;
-use size_classes::Config;
+use settings::Config;
 use std::alloc::Global;
 use std::marker::Model;
 

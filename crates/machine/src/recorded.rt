@@ -17,7 +17,7 @@ use crate::collector::{BudgetOutOfRange, Busy, Spent};
 use crate::event::Event;
 use crate::heap::Heap;
 use graph_heap::{Command, Entry, NoMemory};
-use size_classes::Config;
+use settings::Config;
 use std::alloc::Global;
 use std::marker::Model;
 

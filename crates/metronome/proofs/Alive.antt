@@ -4,7 +4,7 @@ use Rattle.graph_heap.specs.declared.command.Limits.{Limits}
 use Rattle.graph_heap.specs.declared.command.Entry.{Entry}
 use Rattle.graph_heap.specs.Graph.{Graph, opening}
 use Rattle.graph_heap.specs.History.{after, IsLegal}
-use Rattle.size_classes.specs.declared.config.Config.{Config}
+use Rattle.settings.specs.declared.config.Config.{Config}
 use Rattle.heap_model.specs.Event.{Course, Event, Runs, present_of}
 use Rattle.heap_model.specs.Settings.{settings_of, settings_by}
 use Rattle.machine.proofs.Space.{runs_settings}

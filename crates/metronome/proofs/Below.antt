@@ -1,7 +1,7 @@
 -- A source that reads from another.
 use Rattle.std.proofs.Common.{◌≡◌, ℕ, ◌+◌, Bool, List, inl, inr, ap, ◌∙◌, subst}
 use Rattle.std.specs.Prelude.{Result}
-use Rattle.size_classes.specs.declared.config.Config.{Config}
+use Rattle.settings.specs.declared.config.Config.{Config}
 use Rattle.command_line.specs.declared.job.Job.{Job}
 use Rattle.trace.specs.Streams.{Taken, given_by}
 use Rattle.metronome.specs.declared.fault.Ending.{Ending}

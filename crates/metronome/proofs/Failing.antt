@@ -4,8 +4,8 @@ use Rattle.std.specs.Prelude.{Result, Ok, Err}
 use Rattle.std.specs.Result.{IsErrAnd}
 use Rattle.graph_heap.specs.Graph.{Graph, opening}
 use Rattle.graph_heap.specs.declared.command.Entry.{Entry}
-use Rattle.size_classes.specs.declared.config.Config.{Config as Settings}
-use Rattle.size_classes.specs.Config.{limits_of}
+use Rattle.settings.specs.declared.config.Config.{Config as Settings}
+use Rattle.settings.specs.Config.{limits_of}
 use Rattle.trace.proofs.LinesProcessed.{reached_by}
 use Rattle.trace.specs.declared.fault.PlayFault.{PlayFault}
 use Rattle.trace.specs.declared.fault.PlayFault.TheVariants as texts
@@ -32,7 +32,7 @@ use Rattle.sizing.specs.AllocationProfile.{AllocationProfile}
 use Rattle.sizing.specs.declared.arrivals.keeping.Conformance.{Conformance}
 use Rattle.sizing.specs.Metering.{NoEvent}
 use Rattle.sizing.specs.Keeping.{LoadChecked}
-use Rattle.size_classes.specs.declared.fault.ConfigFault.{ConfigFault}
+use Rattle.settings.specs.declared.fault.ConfigFault.{ConfigFault}
 use Rattle.command_line.specs.declared.toml_table.ReadFault.{ReadFault}
 use Rattle.command_line.specs.declared.toml_table.ReadFault.TheVariants as settings
 use Rattle.metronome.specs.declared.fault.RunFault.{RunFault}

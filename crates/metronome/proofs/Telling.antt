@@ -4,7 +4,7 @@ use Rattle.std.specs.Prelude.{Result, Ok, Err, IfErr}
 use Rattle.std.specs.Result.{IsErrAnd}
 use Rattle.std.specs.List.{AllZip, concat}
 use Rattle.std.proofs.lemmas.List.Folds.{concat-append}
-use Rattle.size_classes.specs.declared.config.Config.{Config}
+use Rattle.settings.specs.declared.config.Config.{Config}
 use Rattle.quanta.specs.Timetable.{Timetable, with_reserved}
 use Rattle.trace.specs.declared.fault.PlayFault.TheVariants.{Write, NoMemory}
 use Rattle.trace.specs.Streams.{GrowsByPart}

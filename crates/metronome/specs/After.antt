@@ -1,6 +1,6 @@
 -- What is played before something is reported of the player.
 use Rattle.std.specs.Prelude.{◌≡◌, ℕ, ◌⊎◌, List, Option, Some, None, Result, Ok, Err}
-use Rattle.size_classes.specs.declared.config.Config.{Config}
+use Rattle.settings.specs.declared.config.Config.{Config}
 use Rattle.trace.specs.declared.fault.PlayFault.{PlayFault}
 use Rattle.trace.specs.declared.fault.PlayFault.TheVariants.{NoMemory}
 use Rattle.trace.specs.Streams.{Given, Taken}

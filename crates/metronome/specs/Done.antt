@@ -1,6 +1,6 @@
 -- What the job of a command line reads and writes.
 use Rattle.std.specs.Prelude.{true, false, None, Result}
-use Rattle.size_classes.specs.declared.config.Config.{Config}
+use Rattle.settings.specs.declared.config.Config.{Config}
 use Rattle.heap_model.specs.Event.{present_of}
 use Rattle.trace.specs.Streams.{Given, Taken}
 use Rattle.command_line.specs.declared.job.Job.{Job}

@@ -1,6 +1,6 @@
 -- The faults of the crates below, as faults of a run.
 use Rattle.std.specs.Prelude.{ℕ, ◌≡◌, ◌⊎◌, ◌+◌, Result, Err}
-use Rattle.size_classes.specs.declared.fault.ConfigFault.{ConfigFault}
+use Rattle.settings.specs.declared.fault.ConfigFault.{ConfigFault}
 use Rattle.command_line.specs.declared.toml_table.ReadFault.{ReadFault}
 use Rattle.command_line.specs.declared.toml_table.ReadFault.TheVariants as settings
 use Rattle.trace.specs.declared.fault.PlayFault.TheVariants.{Read, NoMemory}

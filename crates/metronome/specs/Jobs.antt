@@ -1,6 +1,6 @@
 -- What each subcommand reads and writes.
 use Rattle.std.specs.Prelude.{◌≡◌, ℕ, Bool, true, false, ◌⊎◌, ◌++◌, map, replicate, Result, Ok, Err}
-use Rattle.size_classes.specs.declared.config.Config.{Config}
+use Rattle.settings.specs.declared.config.Config.{Config}
 use Rattle.trace.specs.declared.fault.PlayFault.{PlayFault}
 use Rattle.trace.specs.declared.fault.PlayFault.TheVariants.{Write, NoMemory}
 use Rattle.trace.specs.declared.version.Version.{Version}

@@ -1,6 +1,6 @@
 -- What is drawn of a heap over a run.
 use Rattle.std.specs.Prelude.{ℕ, List, Result}
-use Rattle.size_classes.specs.declared.config.Config.{Config}
+use Rattle.settings.specs.declared.config.Config.{Config}
 use Rattle.trace.specs.declared.fault.PlayFault.{PlayFault}
 use Rattle.trace.specs.Streams.{Given, Taken}
 use Rattle.pictures.specs.declared.over_time.Scale.{Scale}

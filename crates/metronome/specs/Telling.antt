@@ -1,6 +1,6 @@
 -- What is reported of a player.
 use Rattle.std.specs.Prelude.{◌≡◌, ℕ, Bool, IsTrue, ◌↔◌, List, Result, Ok, Err}
-use Rattle.size_classes.specs.declared.config.Config.{Config}
+use Rattle.settings.specs.declared.config.Config.{Config}
 use Rattle.graph_heap.specs.Graph.{Graph}
 use Rattle.heap_model.specs.Event.{present_of}
 use Rattle.heap_model.specs.State.{HeapState}

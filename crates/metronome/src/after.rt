@@ -24,7 +24,7 @@ use picture::tell_picture;
 use pictures::present;
 use player::{Player, Style, play, play_first};
 use report::tell_report;
-use size_classes::Config;
+use settings::Config;
 use std::alloc::Global;
 use trace::{PlayFault, Sink, Source};
 use windows::tell_windows;

@@ -10,7 +10,7 @@ use crate::fault::{Ending, RunFault};
 use graph_heap::Reference;
 use inspector::pages_needed::{Scope, needed_report, pace_report};
 use inspector::{Layout, cycles_text, take_cycles};
-use size_classes::Config;
+use settings::Config;
 use sizing::{Measured, measure};
 use std::alloc::{AllocError, Global};
 use trace::transcripts::{Checked, check_entries};

@@ -7,7 +7,7 @@ ghost use Rattle.metronome.specs.Status.{ending_status, fault_status};
 
 use command_line::ReadFault;
 use graph_heap::NoMemory;
-use size_classes::ConfigFault;
+use settings::ConfigFault;
 use sizing::DocumentFault;
 use thiserror::Error;
 use trace::{PlayFault, WriteFailed};

@@ -12,7 +12,7 @@ use crate::fault::{Ending, RunFault};
 use graph_heap::{Command, Entry, NoMemory};
 use heap_server::{OpenGate, Outcome, play_threads};
 use player::{Player, Style, play};
-use size_classes::Config;
+use settings::Config;
 use std::alloc::Global;
 use std::sync::Wait;
 use std::thread::Threads;

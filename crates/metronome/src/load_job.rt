@@ -9,7 +9,7 @@ ghost use Rattle.metronome.specs.Loaded.{IsRest, LoadTold, TextMeasured, TextChe
 use crate::fault::{Ending, RunFault};
 use crate::files::{Opener, read_document};
 use inspector::load_kept::load_report;
-use size_classes::Config;
+use settings::Config;
 use sizing::arrivals::{AllocationProfile, Conformance, keeps_load};
 use sizing::{LoadFault, Measured, measure, read_load};
 use std::alloc::Global;

@@ -18,7 +18,7 @@ use crate::time_job::time_job;
 use command_line::{Job, Request, Sizing, WordsFault, read_config, read_words};
 use inspector::Layout;
 use player::Style;
-use size_classes::Config;
+use settings::Config;
 use std::alloc::Global;
 use std::convert::AsStr;
 use std::io::{Read, Write};

@@ -7,7 +7,7 @@ ghost use Rattle.metronome.specs.OverTime.{scale_of, TimeDrawn};
 use crate::fault::{Ending, RunFault};
 use pictures::timeline::{Samples, take_samples};
 use pictures::{Scale, draw_time};
-use size_classes::Config;
+use settings::Config;
 use std::alloc::Global;
 use trace::{Sink, Source};
 

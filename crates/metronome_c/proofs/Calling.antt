@@ -2,9 +2,9 @@
 use Rattle.std.proofs.Common.{◌≡◌, ◌∙◌, ℕ, List, [], ◌∷◌, ◌++◌, length, Ok, Err, Result, refl, ap, subst}
 use Rattle.std.specs.Prelude.{Option, Some, None}
 use Rattle.graph_heap.specs.declared.command.Command.{Command}
-use Rattle.size_classes.specs.declared.settings.Settings.{Settings}
-use Rattle.size_classes.specs.declared.fault.ConfigFault.{ConfigFault}
-use Rattle.size_classes.specs.Config.{fault_of}
+use Rattle.settings.specs.declared.settings.Settings.{Settings}
+use Rattle.settings.specs.declared.fault.ConfigFault.{ConfigFault}
+use Rattle.settings.specs.Config.{fault_of}
 use Rattle.heap_model.specs.State.{HeapState}
 use Rattle.heap_model.specs.Agreement.{Agrees}
 use Rattle.heap_model.specs.Event.{Course, Event, Command_done, Cycle_begun, Begin_refused, Quantum_done, Quantum_refused, IsCourse, Does, Runs, present_of, snapshot_of}

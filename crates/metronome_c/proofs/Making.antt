@@ -2,10 +2,10 @@
 use Rattle.std.proofs.Common.{◌≡◌, ◌==◌, ◌∙◌, ℕ, false, true, refl, sym, ap, subst}
 use Rattle.std.specs.Prelude.{Option, Some, None, Result, Err}
 use Rattle.std.specs.Option.{is_some}
-use Rattle.size_classes.specs.declared.settings.Settings.{Settings}
-use Rattle.size_classes.specs.declared.config.Config.{Config}
-use Rattle.size_classes.specs.declared.fault.ConfigFault.{ConfigFault}
-use Rattle.size_classes.specs.Config.{fault_of, IsOf}
+use Rattle.settings.specs.declared.settings.Settings.{Settings}
+use Rattle.settings.specs.declared.config.Config.{Config}
+use Rattle.settings.specs.declared.fault.ConfigFault.{ConfigFault}
+use Rattle.settings.specs.Config.{fault_of, IsOf}
 use Rattle.heap_model.specs.State.{HeapState}
 use Rattle.heap_model.specs.Opening.{IsOpening}
 use Rattle.heap_model.specs.Settings.{settings_of, settings_by}

@@ -1,9 +1,9 @@
 -- Heaps are made.
 use Rattle.std.specs.Prelude.{◌≡◌, ℕ, Option, Some, None, Result, Ok, Err}
-use Rattle.size_classes.specs.declared.settings.Settings.{Settings}
-use Rattle.size_classes.specs.declared.config.Config.{Config}
-use Rattle.size_classes.specs.declared.fault.ConfigFault.{ConfigFault}
-use Rattle.size_classes.specs.Config.{fault_of, IsOf}
+use Rattle.settings.specs.declared.settings.Settings.{Settings}
+use Rattle.settings.specs.declared.config.Config.{Config}
+use Rattle.settings.specs.declared.fault.ConfigFault.{ConfigFault}
+use Rattle.settings.specs.Config.{fault_of, IsOf}
 use Rattle.heap_model.specs.State.{HeapState}
 use Rattle.heap_model.specs.Opening.{IsOpening}
 use Rattle.heap_model.specs.Settings.{settings_of, settings_by}

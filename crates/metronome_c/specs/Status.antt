@@ -3,12 +3,12 @@ use Rattle.std.specs.Prelude.{ℕ, ◌+◌, ◌++◌, ◌==◌, List, [], ◌∷
 use Rattle.std.specs.List.{position_or_len}
 use Rattle.graph_heap.specs.declared.command.Refusal.TheVariants.{BadSlot, NullSlot, BadIndex, WrongKind, TooLarge, IdentitiesSpent, NoSpace, BadStatic, NotLive, AlreadyLive}
 use Rattle.graph_heap.specs.Refusal.{refusal_number}
-use Rattle.size_classes.specs.declared.key.Key.{Key}
-use Rattle.size_classes.specs.contracts.key.KeyPartialEq.TheImpl as same_key
-use Rattle.size_classes.specs.declared.key.TheConstants.Key.{ALL}
-use Rattle.size_classes.specs.Keys.{name_of}
-use Rattle.size_classes.specs.declared.fault.ConfigFault.{ConfigFault}
-use Rattle.size_classes.specs.declared.fault.ConfigFault.TheVariants as faults
+use Rattle.settings.specs.declared.key.Key.{Key}
+use Rattle.settings.specs.contracts.key.KeyPartialEq.TheImpl as same_key
+use Rattle.settings.specs.declared.key.TheConstants.Key.{ALL}
+use Rattle.settings.specs.Keys.{name_of}
+use Rattle.settings.specs.declared.fault.ConfigFault.{ConfigFault}
+use Rattle.settings.specs.declared.fault.ConfigFault.TheVariants as faults
 use Rattle.metronome_c.specs.declared.status.Status.{Status}
 use Rattle.metronome_c.specs.declared.status.Status.TheVariants as statuses
 use Rattle.metronome_c.specs.declared.status.TheConstants.Status.{BEFORE_SETTINGS}

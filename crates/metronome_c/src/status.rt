@@ -4,7 +4,7 @@ ghost use Rattle.metronome_c.specs.Status as statuses;
 ghost use Rattle.metronome_c.specs.Status.{status_number, status_numbered, fault_status};
 
 use graph_heap::Refusal;
-use size_classes::{ConfigFault, Key};
+use settings::{ConfigFault, Key};
 use std::iter::once;
 
 /// How a call ends.

@@ -1,7 +1,7 @@
 -- Over any sequence of calls.
 use Rattle.std.proofs.Common.{◌≡◌, ℕ, ◌*◌, List, [], ◌∷◌, ap, ◌∙◌, sym, subst, arith}
-use Rattle.size_classes.specs.declared.config.Config.{Config}
-use Rattle.size_classes.specs.Config.{limits_of}
+use Rattle.settings.specs.declared.config.Config.{Config}
+use Rattle.settings.specs.Config.{limits_of}
 use Rattle.heap_model.specs.Settings.{HeapSettings}
 use Rattle.heap_model.specs.Event.{Event, present_of}
 use Rattle.graph_heap.specs.Graph.{opening}

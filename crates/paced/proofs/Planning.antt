@@ -3,9 +3,9 @@ use Rattle.std.proofs.Common.{◌≡◌, ℕ, ◌+◌, ◌-◌, ◌*◌, ◌/◌
 use Rattle.std.proofs.lemmas.Nat.{le-div}
 use Rattle.std.proofs.Math.Nat.{div-mul-le_self, mul-le-mul_left, mul-le-mul_right, lt-div-mul-add}
 use Rattle.size_classes.specs.declared.class.TheConstants.{CLASSES, PAGE_WORDS}
-use Rattle.size_classes.specs.declared.config.Config.{Config}
-use Rattle.size_classes.specs.declared.config.TheConstants.{LEAST_BUDGET}
-use Rattle.size_classes.specs.Config.{cycle_limit_of}
+use Rattle.settings.specs.declared.config.Config.{Config}
+use Rattle.settings.specs.declared.config.TheConstants.{LEAST_BUDGET}
+use Rattle.settings.specs.Config.{cycle_limit_of}
 use Rattle.size_classes.specs.Sizes.{size_of, blocks_in}
 use Rattle.space.specs.Fitting.{swept_at, unmoved_quanta_at}
 use Rattle.fragmentation.specs.declared.flow.TheConstants.{LEAST_PAGE_FILL, PARTLY_FILLED_PAGES}

@@ -1,7 +1,7 @@
 -- A heap that keeps a flow by itself.
 use Rattle.std.specs.Prelude.{◌≡◌, ℕ, ◌+◌, ◌-◌, ◌*◌, ◌≤◌, true, ◌==◌, if◌then◌else◌, List, [], ◌∷◌}
-use Rattle.size_classes.specs.declared.config.Config.{Config}
-use Rattle.size_classes.specs.Config.{limits_of}
+use Rattle.settings.specs.declared.config.Config.{Config}
+use Rattle.settings.specs.Config.{limits_of}
 use Rattle.heap_model.specs.Event.{Course, Event, Does, Runs, present_of}
 use Rattle.heap_model.specs.Spent.{cycle_limit}
 use Rattle.space.specs.Tally.{awaits_sweep_end}

@@ -1,8 +1,8 @@
 -- Which plan is chosen.
 use Rattle.std.specs.Prelude.{◌≡◌, ℕ, ◌+◌, ◌-◌, ◌*◌, ◌/◌, ◌≤◌, Option, Some, None}
-use Rattle.size_classes.specs.declared.config.Config.{Config}
-use Rattle.size_classes.specs.declared.config.TheConstants.{LEAST_BUDGET}
-use Rattle.size_classes.specs.Config.{cycle_limit_of}
+use Rattle.settings.specs.declared.config.Config.{Config}
+use Rattle.settings.specs.declared.config.TheConstants.{LEAST_BUDGET}
+use Rattle.settings.specs.Config.{cycle_limit_of}
 use Rattle.fragmentation.specs.Configured.{FlowFitsIn}
 use Rattle.paced.specs.declared.plan.Plan.{Plan}
 use Rattle.paced.specs.Pacing.{planned_flow}

@@ -1,6 +1,6 @@
 //! The laws of a heap that keeps a flow. Each function does nothing: its contract is the law.
 ghost use Rattle.std.specs.Prelude.{ℕ, List};
-ghost use Rattle.size_classes.specs.declared.config.Config.{Config};
+ghost use Rattle.settings.specs.declared.config.Config.{Config};
 ghost use Rattle.heap_model.specs.Event.{Event};
 ghost use Rattle.fragmentation.specs.Configured.{MovesAll, FlowFitsIn};
 ghost use Rattle.paced.specs.declared.plan.Plan.{Plan};

@@ -15,7 +15,7 @@ pub use plan::{Plan, flow_fits, planned};
 mod tests {
     use super::*;
     use graph_heap::{Command, Reply, Shape};
-    use size_classes::{Config, Settings};
+    use settings::{Config, Settings};
 
     /// A plan of a configuration, and commands on its heap through some cycles; then one above the words of a cycle.
     #[test]

@@ -12,7 +12,7 @@ use crate::plan::Plan;
 use graph_heap::{Command, NoMemory};
 use heap_model::phase::Phase;
 use machine::{Receipt, Recorded};
-use size_classes::Config;
+use settings::Config;
 use std::alloc::Global;
 use std::marker::Model;
 use thiserror::Error;

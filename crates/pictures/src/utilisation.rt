@@ -14,7 +14,7 @@ use crate::measuring::put_shares;
 use crate::share::{Share, WINDOWS};
 use crate::writing::{write_line, write_lines};
 use quanta::Schedule;
-use size_classes::Config;
+use settings::Config;
 use trace::{Sink, WriteFailed};
 
 /// How far a window's place is along a logarithmic axis.

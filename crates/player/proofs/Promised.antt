@@ -2,7 +2,7 @@
 use Rattle.std.proofs.Common.{◌≡◌, ◌<◌, ℕ, ◌+◌, ◌⊎◌, inl, inr, true, List, [], ◌++◌, length, arith, ap, ◌∙◌, sym, subst, refl}
 use Rattle.std.specs.Prelude.{Option, None, Some, Result}
 use Rattle.graph_heap.specs.declared.command.Entry.{Entry}
-use Rattle.size_classes.specs.declared.config.Config.{Config}
+use Rattle.settings.specs.declared.config.Config.{Config}
 use Rattle.heap_model.specs.State.{HeapState}
 use Rattle.heap_model.specs.Settings.{HeapSettings}
 use Rattle.heap_model.specs.Event.{Course, Event, Runs, IsCourse}

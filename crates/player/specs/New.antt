@@ -1,6 +1,6 @@
 -- A player before its first line.
 use Rattle.std.specs.Prelude.{◌≡◌, ◌*◌, List, []}
-use Rattle.size_classes.specs.declared.config.Config.{Config}
+use Rattle.settings.specs.declared.config.Config.{Config}
 use Rattle.heap_model.specs.Event.{Course, Event, Runs}
 use Rattle.heap_model.specs.Opening.{IsOpening}
 use Rattle.heap_model.specs.Settings.{settings_of, settings_by}

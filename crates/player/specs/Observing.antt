@@ -1,7 +1,7 @@
 -- What an observer has seen of a run.
 use Rattle.std.specs.Prelude.{◌≡◌, ℕ, ◌<◌, ◌⊎◌, Bool, true, if◌then◌else◌, List, [], ◌∷◌, ◌++◌, length, Result, Ok, Err}
 use Rattle.graph_heap.specs.declared.no_memory.NoMemory.{NoMemory}
-use Rattle.size_classes.specs.declared.config.Config.{Config}
+use Rattle.settings.specs.declared.config.Config.{Config}
 use Rattle.heap_model.specs.Event.{Course, Event}
 use Rattle.heap_model.specs.State.{HeapState}
 use Rattle.trace.specs.declared.line.Line.{Line}

@@ -1,6 +1,6 @@
 //! A law of plays. The function does nothing: its contract is the law.
 ghost use Rattle.std.specs.Prelude.{Result};
-ghost use Rattle.size_classes.specs.declared.config.Config.{Config};
+ghost use Rattle.settings.specs.declared.config.Config.{Config};
 ghost use Rattle.machine.specs.Headline.{Holds};
 ghost use Rattle.machine.specs.Space.{SpaceSuffices};
 ghost use Rattle.trace.specs.Streams.{Given};

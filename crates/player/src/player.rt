@@ -15,7 +15,7 @@ use graph_heap::{Command, NoMemory};
 use heap_model::phase::Phase;
 use machine::{Receipt, Recorded};
 use quanta::{CLOCK_LIMIT, Schedule};
-use size_classes::Config;
+use settings::Config;
 use std::alloc::Global;
 use std::marker::Model;
 use trace::{LineFault, PlayFault};

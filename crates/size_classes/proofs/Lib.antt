@@ -1,5 +1,4 @@
 pub mod Closed
 pub mod Cutting
 mod Figures
-pub mod Ranges
 pub mod Table

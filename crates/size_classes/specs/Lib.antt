@@ -1,5 +1,3 @@
 pub mod Sizes
 pub mod Parts
 pub mod Need
-pub mod Keys
-pub mod Config

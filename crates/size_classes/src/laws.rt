@@ -1,13 +1,9 @@
-//! The laws of how objects are cut, and the constants of a heap. Each function does nothing: its
+//! The laws of how objects are cut, and the constants of sizes. Each function does nothing: its
 //! contract is the law.
-ghost use Rattle.std.specs.Prelude.{◌≡◌, ℕ, ◌+◌, ◌<◌, ◌≤◌, ◌⊎◌, [], ◌∷◌};
+ghost use Rattle.std.specs.Prelude.{◌≡◌, ℕ, ◌+◌, ◌<◌, ◌≤◌, ◌⊎◌};
 ghost use Rattle.graph_heap.specs.declared.command.TheConstants.{ARRAY_CELLS};
 ghost use Rattle.size_classes.specs.Parts.{parts_in, spines_of, run_of, part_in, column_in, spine_of, spine_cell_of};
 ghost use Rattle.size_classes.specs.declared.class.TheConstants.{CLASSES, MOST_BLOCKS, PAGE_WORDS};
-ghost use Rattle.size_classes.specs.declared.config.TheConstants.{LEAST_BUDGET, MOST_BUDGET, MOST_PAGES};
-ghost use Rattle.size_classes.specs.declared.key.Key.{Key};
-ghost use Rattle.size_classes.specs.declared.key.Key.TheVariants.{Pages, Mutators, Slots, Statics, Identities, DefragBelow, DefragPages, CollectorTicks, MutatorTicks, Rate, Live};
-ghost use Rattle.size_classes.specs.declared.key.TheConstants.Key.{ALL};
 ghost use Rattle.size_classes.specs.declared.parts.TheConstants.{PART_CELLS};
 
 /// No part has more than 252 cells, and there are at most 15938 parts.
@@ -44,17 +40,4 @@ pub fn sizes_are_fixed()
     ensures blocks { MOST_BLOCKS ≡ 512 }
     ensures classes { CLASSES ≡ 38 }
     ensures piece { PART_CELLS ≡ 252 }
-{}
-
-/// The most pages of a heap, and the least and the most units of a quantum.
-pub fn settings_are_bounded()
-    ensures pages { MOST_PAGES ≡ 4096 }
-    ensures least { LEAST_BUDGET ≡ 256 }
-    ensures most { MOST_BUDGET ≡ 1000000 }
-{}
-
-/// The order in which the keys of a configuration are checked.
-pub fn keys_are_in_order()
-    ensures { ALL ≡ Pages ∷ Mutators ∷ Slots ∷ Statics ∷ Identities ∷ DefragBelow ∷ DefragPages ∷ CollectorTicks
-        ∷ MutatorTicks ∷ Rate ∷ Live ∷ [] }
 {}

@@ -1,19 +1,11 @@
-//! Size classes, the parts that an object is cut into, and the checked configuration of a heap.
+//! Size classes, and the parts that an object is cut into.
 #![tactic(auto)]
 
 pub mod class;
-pub mod config;
-pub mod fault;
-pub mod key;
 pub mod laws;
 pub mod need;
 pub mod parts;
-mod settings;
 
 pub use class::{CLASSES, Class, MOST_BLOCKS, PAGE_WORDS, class_of};
-pub use config::{Config, LEAST_BUDGET, MOST_BUDGET, MOST_PAGES};
-pub use fault::ConfigFault;
-pub use key::{Key, KeyRange};
 pub use need::Need;
 pub use parts::{PART_CELLS, PartContents, Parts, Position, parts_of, spines_in};
-pub use settings::Settings;

@@ -2,7 +2,7 @@
 use Rattle.std.specs.Prelude.{◌≡◌, ℕ, ◌<◌, nat_lt, ℤ, pos, if◌then◌else◌, List, ◌∷◌, map, length, Option, Some, None, Result, Ok, Err}
 use Rattle.std.specs.Option.{unwrap_or}
 use Rattle.size_classes.specs.declared.class.TheConstants.{CLASSES}
-use Rattle.size_classes.specs.Keys.{is_between}
+use Rattle.settings.specs.Keys.{is_between}
 use Rattle.size_classes.specs.Sizes.{size_of}
 use Rattle.sizing.specs.declared.arrivals.load.AllocationProfile.{AllocationProfile as LoadTable}
 use Rattle.sizing.specs.Fitting.{load_in}

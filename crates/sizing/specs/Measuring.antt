@@ -1,6 +1,6 @@
 -- What it is to measure a trace.
 use Rattle.std.specs.Prelude.{◌≡◌, ◌<◌, [], Result, Ok, Err, length}
-use Rattle.size_classes.specs.declared.config.Config.{Config}
+use Rattle.settings.specs.declared.config.Config.{Config}
 use Rattle.heap_model.specs.Opening.{IsOpening}
 use Rattle.heap_model.specs.ReachedFrom.{opened}
 use Rattle.heap_model.specs.Event.{Runs}

@@ -2,8 +2,8 @@
 use Rattle.std.specs.Prelude.{ℕ, ◌*◌, List, Result}
 use Rattle.heap_model.specs.Event.{Event}
 use Rattle.graph_heap.specs.Graph.{opening}
-use Rattle.size_classes.specs.declared.config.Config.{Config}
-use Rattle.size_classes.specs.Config.{limits_of}
+use Rattle.settings.specs.declared.config.Config.{Config}
+use Rattle.settings.specs.Config.{limits_of}
 use Rattle.trace.specs.declared.fault.PlayFault.{PlayFault}
 use Rattle.trace.specs.declared.version.Version.{Version}
 use Rattle.trace.specs.LinesProcessed.{LinesDone}

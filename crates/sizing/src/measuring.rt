@@ -7,7 +7,7 @@ ghost use Rattle.sizing.specs.Measuring.{TraceMeasured};
 use crate::measured::Measured;
 use crate::meter::Meter;
 use player::{Observed, Player, observe};
-use size_classes::Config;
+use settings::Config;
 use std::alloc::Global;
 use trace::{PlayFault, Source};
 

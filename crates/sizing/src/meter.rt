@@ -2,7 +2,7 @@
 ghost use Rattle.std.specs.Prelude.{◌≡◌, ◌<◌, ◌≤◌, ◌^◌, ◌↔◌, ◌⊎◌, ℕ, true, false, List, [], ◌∷◌, ◌++◌, length, IfOk, OnOk, IfSome, IsNone, IsTrue};
 ghost use Rattle.graph_heap.specs.declared.command.Limits.{Limits as Bounds};
 ghost use Rattle.graph_heap.specs.Graph.{root_cells};
-ghost use Rattle.size_classes.specs.declared.config.TheConstants.{LEAST_BUDGET};
+ghost use Rattle.settings.specs.declared.config.TheConstants.{LEAST_BUDGET};
 ghost use Rattle.graph_heap.specs.History.{IsEntryOf, after_entry};
 ghost use Rattle.graph_heap.specs.Reaching.{AreReached};
 ghost use Rattle.heap_model.specs.Event.{Course, Event, Command_done, Cycle_begun, Enters, Begins, IsCourse};

@@ -1,7 +1,7 @@
 -- All lines of what was needed.
 use Rattle.std.proofs.Common.{◌≡◌, ℕ, List, [], ◌++◌, min, ap, ◌∙◌}
 use Rattle.size_classes.specs.declared.class.TheConstants.{CLASSES}
-use Rattle.size_classes.specs.declared.config.Config.{Config}
+use Rattle.settings.specs.declared.config.Config.{Config}
 use Rattle.fragmentation.specs.Suffice.{demand_pages}
 use Rattle.sizing.specs.declared.needed.Needed.{Needed}
 use Rattle.sizing.specs.Measured.{page_demand_in}

@@ -7,7 +7,7 @@ ghost use Rattle.inspector.specs.Taking.{CyclesTaken};
 use crate::cycles::cycle::Cycles;
 use crate::cycles::log::Log;
 use player::{Observed, Player, observe};
-use size_classes::Config;
+use settings::Config;
 use std::alloc::Global;
 use trace::{PlayFault, Source};
 

@@ -7,7 +7,7 @@ use crate::load_kept::covering::{covered_line, is_covered};
 use crate::load_kept::kept_text::kept_line;
 use crate::load_kept::live_text::live_told;
 use crate::pages_needed::{Scope, pace_report};
-use size_classes::Config;
+use settings::Config;
 use sizing::arrivals::{AllocationProfile, Conformance};
 use space::Pace;
 use std::alloc::{AllocError, Global};

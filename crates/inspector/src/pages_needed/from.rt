@@ -3,7 +3,7 @@ ghost use Rattle.std.specs.Prelude.{◌≤◌};
 ghost use Rattle.space.specs.Fitting.{pace_in};
 ghost use Rattle.inspector.specs.NeededReport.{IsFrom};
 
-use size_classes::{Config, MOST_PAGES};
+use settings::{Config, MOST_PAGES};
 use space::{Pace, pace_needs};
 
 /// The least number of pages from which on a pace fits in each number that a configuration may have, with all else as

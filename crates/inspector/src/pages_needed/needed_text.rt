@@ -1,12 +1,13 @@
 //! What is reported of what a run needed.
 ghost use Rattle.std.specs.Prelude.{◌≡◌, ◌≤◌, IfOk, string_bytes};
-ghost use Rattle.size_classes.specs.declared.config.TheConstants.{MOST_PAGES};
+ghost use Rattle.settings.specs.declared.config.TheConstants.{MOST_PAGES};
 ghost use Rattle.inspector.specs.NeededReport.{blocks_line, still_line, moved_line, gathered_line, page_demand_line, form_lines};
 ghost use Rattle.inspector.specs.NeededReport.{fewest_pages, keys_line, fewest_line, needed_report, needed_told};
 
 use crate::class_lines::class_lines;
 use crate::pages_needed::lines::{Scope, pages_line, too_many};
-use size_classes::{Class, Config, MOST_PAGES};
+use size_classes::Class;
+use settings::{Config, MOST_PAGES};
 use sizing::Needed;
 use space::pages_of_class;
 use std::alloc::{AllocError, Global};

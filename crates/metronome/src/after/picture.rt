@@ -8,7 +8,7 @@ use crate::fault::{Ending, RunFault};
 use command_line::Picture;
 use pictures::{draw_pages, draw_utilisation};
 use player::Player;
-use size_classes::Config;
+use settings::Config;
 use trace::{Sink, WriteFailed};
 
 /// Writes a picture of a player.

@@ -10,7 +10,7 @@ use graph_heap::NoMemory;
 use mmu_report::{bound, least_mutator, permille};
 use player::Player;
 use quanta::Schedule;
-use size_classes::Config;
+use settings::Config;
 use std::alloc::Global;
 use trace::{Sink, write_all};
 

@@ -7,7 +7,7 @@ ghost use Rattle.pictures.specs.Taking.{SamplesTaken};
 use crate::timeline::sampler::Sampler;
 use crate::timeline::samples::Samples;
 use player::{Observed, Player, observe};
-use size_classes::Config;
+use settings::Config;
 use std::alloc::Global;
 use trace::{PlayFault, Source};
 

@@ -3,8 +3,8 @@ use Rattle.std.proofs.Common.{◌≡◌, ℕ, ◌*◌, List, [], ap, ◌∙◌, 
 use Rattle.graph_heap.specs.Graph.{opening}
 use Rattle.graph_heap.specs.declared.command.Entry.{Entry}
 use Rattle.graph_heap.specs.declared.command.Limits.{Limits}
-use Rattle.size_classes.specs.declared.config.Config.{Config}
-use Rattle.size_classes.specs.Config.{limits_of}
+use Rattle.settings.specs.declared.config.Config.{Config}
+use Rattle.settings.specs.Config.{limits_of}
 use Rattle.heap_model.specs.State.{HeapState}
 use Rattle.heap_model.specs.Settings.{HeapSettings}
 use Rattle.heap_model.specs.Event.{Course, Event, Runs}

@@ -2,7 +2,7 @@
 use Rattle.std.proofs.Common.{◌≡◌, ℕ, zero, suc, ◌+◌, ◌*◌, ◌<◌, ◌≤◌, if◌then◌else◌, Option, Some, None, ap, ◌∙◌, sym, subst, arith, refl}
 use Rattle.std.specs.Prelude.{nat_le}
 use Rattle.size_classes.specs.declared.class.TheConstants.{CLASSES}
-use Rattle.size_classes.specs.declared.config.Config.{Config}
+use Rattle.settings.specs.declared.config.Config.{Config}
 use Rattle.space.specs.Demand.{blocks_for}
 use Rattle.space.specs.Space.{class_pages, pages_for, space_for}
 use Rattle.space.specs.Pace.{Pace, demand_of}

@@ -4,7 +4,7 @@ use Rattle.std.specs.Prelude.{ℤ, pos, negsuc, nat_abs}
 use Rattle.std.proofs.lemmas.Int.{ints}
 use Rattle.std.proofs.lemmas.Bool.Decides.{nat_tests}
 use Rattle.std.specs.Int.{FitsUnsignedBits}
-use Rattle.size_classes.specs.Keys.{is_between}
+use Rattle.settings.specs.Keys.{is_between}
 use Rattle.sizing.specs.declared.load_file.fault.FieldPath.{FieldPath}
 use Rattle.sizing.specs.declared.load_file.fault.DocumentFault.TheVariants as faults
 use Rattle.sizing.specs.Document.{number_fault}

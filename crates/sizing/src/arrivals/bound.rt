@@ -1,7 +1,7 @@
 //! The laws of the space bound by the clock. Each function does nothing: its contract is the law.
 ghost use Rattle.std.specs.Prelude.{◌≡◌, ◌↔◌, ◌++◌, ℕ, ◌≤◌, List};
 ghost use Rattle.graph_heap.specs.Graph.{opening};
-ghost use Rattle.size_classes.specs.declared.config.Config.{Config as Numbers};
+ghost use Rattle.settings.specs.declared.config.Config.{Config as Numbers};
 ghost use Rattle.heap_model.specs.Opening.{IsOpening};
 ghost use Rattle.heap_model.specs.Event.{Event};
 ghost use Rattle.quanta.specs.Timetable as timetables;

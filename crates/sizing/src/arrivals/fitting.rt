@@ -5,7 +5,7 @@ ghost use Rattle.sizing.specs.AllocationProfile.{pace_of};
 ghost use Rattle.sizing.specs.Fitting.{load_in};
 
 use crate::arrivals::load::AllocationProfile;
-use size_classes::Config;
+use settings::Config;
 
 /// Whether the pages of a configuration are as many as a load's pace takes, with the configuration's schedule.
 pub fn load_fits(config: &Config, load: &AllocationProfile) -> bool

@@ -10,7 +10,8 @@ ghost use Rattle.sizing.specs.Keeping.{LoadChecked};
 
 use crate::arrivals::load::AllocationProfile;
 use graph_heap::Command;
-use size_classes::{CLASSES, Class, Config, Need, parts_of};
+use size_classes::{CLASSES, Class, Need, parts_of};
+use settings::Config;
 use trace::{Line, LineReader, PlayFault, Source, TextLine, read_numbered};
 
 /// In which way a line breaks a load.

@@ -6,7 +6,7 @@ ghost use Rattle.sizing.specs.New.{PlayedNew};
 
 use graph_heap::NoMemory;
 use player::{Player, Style, play};
-use size_classes::Config;
+use settings::Config;
 use std::alloc::Global;
 use trace::{PlayFault, Sink, Source};
 

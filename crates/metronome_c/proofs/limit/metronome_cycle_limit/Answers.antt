@@ -1,7 +1,7 @@
 use Rattle.std.proofs.Common.{rules, ◌≡◌, ◌∙◌, sym, ap}
 use Rattle.std.specs.Prelude.{Some, None}
 use Rattle.std.specs.Result.{result_err}
-use Rattle.size_classes.specs.Config.{fault_of}
+use Rattle.settings.specs.Config.{fault_of}
 use Rattle.metronome_c.proofs.Limits.{limit_told, limit_refused}
 use Rattle.metronome_c.proofs.limit.metronome_cycle_limit.Goals as goal
 

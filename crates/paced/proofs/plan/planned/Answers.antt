@@ -1,5 +1,5 @@
 use Rattle.std.proofs.Common.{◌≡◌, ℕ, ◌+◌, ◌*◌, ◌/◌, ◌≤◌, ap, ◌∙◌, rules, arith}
-use Rattle.size_classes.specs.declared.config.Config.{Config}
+use Rattle.settings.specs.declared.config.Config.{Config}
 use Rattle.paced.proofs.Planning.{room_of, share_of, none_fits, fastest_fits}
 use Rattle.paced.proofs.plan.planned.Goals as goal
 

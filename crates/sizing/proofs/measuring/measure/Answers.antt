@@ -2,7 +2,7 @@ use Rattle.std.proofs.Common.{[], subst}
 use Rattle.std.proofs.lemmas.Result.{err_from_is_err_and}
 use Rattle.heap_model.specs.Event.{Runs}
 use Rattle.heap_model.specs.ReachedFrom.{opened}
-use Rattle.size_classes.specs.declared.config.TheConstants.{LEAST_BUDGET}
+use Rattle.settings.specs.declared.config.TheConstants.{LEAST_BUDGET}
 use Rattle.player.specs.Observing.{observed}
 use Rattle.player.specs.Playing.{session}
 use Rattle.player.proofs.LinesSeen.{events_brought, stops_new}

@@ -1,10 +1,10 @@
 use Rattle.std.proofs.Common.{◌∙◌, rules, tests, not}
 use Rattle.std.proofs.lemmas.Iterator.{YieldsList-from_slice}
 use Rattle.std.proofs.lemmas.Iterator.Search.{find_from_yields_List}
-use Rattle.size_classes.specs.declared.key.TheConstants.Key.{ALL}
-use Rattle.size_classes.specs.Keys.{is_allowed}
-use Rattle.size_classes.specs.Config.{setting}
-use Rattle.size_classes.proofs.settings.Settings.first_outside.Goals as goal
+use Rattle.settings.specs.declared.key.TheConstants.Key.{ALL}
+use Rattle.settings.specs.Keys.{is_allowed}
+use Rattle.settings.specs.Config.{setting}
+use Rattle.settings.proofs.settings.Settings.first_outside.Goals as goal
 
 pub returns : goal.returns
 returns c =

@@ -1,8 +1,8 @@
 -- The keys of the configuration.
 use Rattle.std.specs.Prelude.{ℕ, ℤ, pos, nat_abs, int_le, Bool, ◌&&◌, ◌+◌, ◌≤◌, List, Option, Some, None, codes}
-use Rattle.size_classes.specs.declared.config.TheConstants.{MOST_PAGES}
-use Rattle.size_classes.specs.declared.key.Key.{Key}
-use Rattle.size_classes.specs.declared.key.Key.TheVariants.{Pages, Mutators, Slots, Statics, Identities, DefragBelow, DefragPages, CollectorTicks, MutatorTicks, Rate, Live}
+use Rattle.settings.specs.declared.config.TheConstants.{MOST_PAGES}
+use Rattle.settings.specs.declared.key.Key.{Key}
+use Rattle.settings.specs.declared.key.Key.TheVariants.{Pages, Mutators, Slots, Statics, Identities, DefragBelow, DefragPages, CollectorTicks, MutatorTicks, Rate, Live}
 
 -- the name by which a file gives a key
 abbrev pub name_of : Key → List ℕ

@@ -1,6 +1,6 @@
 //! The keys of the configuration.
 ghost use Rattle.std.specs.Prelude.{◌≡◌, pos};
-ghost use Rattle.size_classes.specs.Keys.{name_of, row_of, is_allowed};
+ghost use Rattle.settings.specs.Keys.{name_of, row_of, is_allowed};
 
 use crate::config::MOST_PAGES;
 use crate::settings::Settings;

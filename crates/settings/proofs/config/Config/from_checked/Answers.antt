@@ -1,9 +1,9 @@
 use Rattle.std.proofs.Common.{◌≡◌, ℕ, ◌*◌, ◌≤◌, ◌<◌, pos, ◌*ℤ◌, true, false, refl, arith}
 use Rattle.std.proofs.lemmas.Int.{ints}
-use Rattle.size_classes.specs.declared.config.TheConstants.{LEAST_BUDGET, MOST_BUDGET}
-use Rattle.size_classes.specs.Keys.{is_between}
-use Rattle.size_classes.proofs.config.Config.from_checked.Goals as goal
-use Rattle.size_classes.proofs.config.Config.from_checked.Goals.{then-budget-from-via-then-budget-from, then-budget-from-via-else-budget-from+then-from-budget}
+use Rattle.settings.specs.declared.config.TheConstants.{LEAST_BUDGET, MOST_BUDGET}
+use Rattle.settings.specs.Keys.{is_between}
+use Rattle.settings.proofs.config.Config.from_checked.Goals as goal
+use Rattle.settings.proofs.config.Config.from_checked.Goals.{then-budget-from-via-then-budget-from, then-budget-from-via-else-budget-from+then-from-budget}
 
 within : (a b : ℕ) → LEAST_BUDGET ≤ a * b → a * b ≤ MOST_BUDGET → is_between LEAST_BUDGET (pos MOST_BUDGET) (pos a *ℤ pos b) ≡ true
 unfolding is_between

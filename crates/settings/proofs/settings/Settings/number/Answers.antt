@@ -1,8 +1,8 @@
 use Rattle.std.proofs.Common.{pos, nat_abs, ◌≤ℤ◌, w64, to_z, of_z, arith}
 use Rattle.std.proofs.lemmas.Int.{ints}
-use Rattle.size_classes.specs.Keys.{row_of}
-use Rattle.size_classes.proofs.Ranges.{in_range, below_abs}
-use Rattle.size_classes.proofs.settings.Settings.number.Goals as goal
+use Rattle.settings.specs.Keys.{row_of}
+use Rattle.settings.proofs.Ranges.{in_range, below_abs}
+use Rattle.settings.proofs.settings.Settings.number.Goals as goal
 
 pub overflow_cast-result : goal.overflow_cast-result
 overflow_cast-result c = let r = in_range c.args.self.now c.args.key c.requires in omega (arith, ints)

@@ -7,7 +7,7 @@ use Rattle.heap_model.specs.Pages.{Page, page_at}
 use Rattle.heap_model.specs.State.{HeapState}
 use Rattle.heap_model.specs.Store.{Store}
 use Rattle.nodes.specs.Wasted.{wasted_on}
-use Rattle.trace.specs.Streams.{text_of}
+use Rattle.trace.specs.Lines.{text_of}
 use Rattle.inspector.specs.declared.filling.Filling.{Filling}
 
 -- of no page

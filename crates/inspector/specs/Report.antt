@@ -10,7 +10,7 @@ use Rattle.pages.specs.declared.view.PageView.{PageView}
 use Rattle.roots.specs.Used.{used_in}
 use Rattle.nodes.specs.Copies.{copies_in}
 use Rattle.nodes.specs.declared.nodes.counting.Copies.{Copies}
-use Rattle.trace.specs.Streams.{text_of}
+use Rattle.trace.specs.Lines.{text_of}
 
 -- the name of a phase
 abbrev pub phase_name : Phase → List ℕ

@@ -8,7 +8,7 @@ use Rattle.settings.specs.declared.config.Config.{Config}
 use Rattle.heap_model.specs.Event.{Course, Event, Runs, present_of}
 use Rattle.heap_model.specs.Settings.{settings_of, settings_by}
 use Rattle.machine.proofs.Space.{runs_settings}
-use Rattle.trace.specs.Streams.{Given}
+use Rattle.streams.specs.Streams.{Given}
 use Rattle.player.specs.declared.style.Style.TheVariants.{Nothing}
 use Rattle.player.specs.New.{IsNew}
 use Rattle.player.specs.Playing.{Session, Played}

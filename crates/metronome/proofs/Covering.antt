@@ -8,7 +8,8 @@ use Rattle.graph_heap.specs.declared.command.Limits.{Limits}
 use Rattle.graph_heap.specs.Graph.{opening}
 use Rattle.heap_model.specs.Settings.{HeapSettings}
 use Rattle.heap_model.specs.Event.{Event, Command_done, Cycle_begun, Begin_refused, Quantum_done, Quantum_refused, HaveBudgets}
-use Rattle.trace.specs.Streams.{Given, NoLf, Splits}
+use Rattle.streams.specs.Streams.{Given}
+use Rattle.trace.specs.Lines.{NoLf, Splits}
 use Rattle.trace.specs.LinesProcessed.{LinesRead}
 use Rattle.trace.proofs.Cutting.{one_cutting}
 use Rattle.player.specs.declared.style.Style.TheVariants.{Nothing}

@@ -13,7 +13,7 @@ use Rattle.trace.specs.declared.version.Version.{Version}
 use Rattle.trace.specs.declared.version.Version.TheVariants.{First, Second}
 use Rattle.trace.specs.LinesProcessed.{Reached, ProcessingEnds, reads_failed, writes_failed}
 use Rattle.trace.specs.TextLine.{Text as LineText}
-use Rattle.trace.specs.Streams.{Given, Taken}
+use Rattle.streams.specs.Streams.{Given, Taken}
 use Rattle.trace.specs.declared.transcripts.histories.Checked.{Checked}
 use Rattle.trace.specs.Histories.{EntriesChecked, HistoryStops}
 use Rattle.trace.specs.Scripts.{ReadScripts, AreScripts, ScriptsRead, ScriptStops}

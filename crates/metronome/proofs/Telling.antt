@@ -7,7 +7,7 @@ use Rattle.std.proofs.lemmas.List.Folds.{concat-append}
 use Rattle.settings.specs.declared.config.Config.{Config}
 use Rattle.quanta.specs.Timetable.{Timetable, with_reserved}
 use Rattle.trace.specs.declared.fault.PlayFault.TheVariants.{Write, NoMemory}
-use Rattle.trace.specs.Streams.{GrowsByPart}
+use Rattle.streams.specs.Streams.{GrowsByPart}
 use Rattle.inspector.proofs.Parts.{part_after}
 use Rattle.metronome.specs.declared.fault.RunFault.{RunFault}
 use Rattle.metronome.specs.declared.fault.RunFault.TheVariants.{Text}

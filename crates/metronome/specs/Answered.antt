@@ -8,7 +8,7 @@ use Rattle.settings.specs.Config.{limits_of}
 use Rattle.graph_heap.specs.Graph.{Graph, opening}
 use Rattle.trace.specs.declared.fault.PlayFault.{PlayFault}
 use Rattle.trace.specs.declared.fault.PlayFault.TheVariants.{NoMemory}
-use Rattle.trace.specs.Streams.{Given, Taken}
+use Rattle.streams.specs.Streams.{Given, Taken}
 use Rattle.trace.specs.declared.transcripts.histories.Checked.{Checked}
 use Rattle.trace.specs.declared.transcripts.histories.Checked.TheVariants.{Good, Wrong}
 use Rattle.trace.specs.Histories.{EntriesChecked}

@@ -2,7 +2,7 @@
 use Rattle.std.specs.Prelude.{true, false, None, Result}
 use Rattle.settings.specs.declared.config.Config.{Config}
 use Rattle.heap_model.specs.Event.{present_of}
-use Rattle.trace.specs.Streams.{Given, Taken}
+use Rattle.streams.specs.Streams.{Given, Taken}
 use Rattle.command_line.specs.declared.job.Job.{Job}
 use Rattle.command_line.specs.declared.job.Sizing.TheVariants.{Demand, Pace, Load}
 use Rattle.command_line.specs.declared.job.Job.TheVariants.{Play, Check, Threads, Inspect, Cycles, Path, Mmu, Draw, DrawGraph, DrawTime, Pages}

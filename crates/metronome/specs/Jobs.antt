@@ -4,7 +4,7 @@ use Rattle.settings.specs.declared.config.Config.{Config}
 use Rattle.trace.specs.declared.fault.PlayFault.{PlayFault}
 use Rattle.trace.specs.declared.fault.PlayFault.TheVariants.{Write, NoMemory}
 use Rattle.trace.specs.declared.version.Version.{Version}
-use Rattle.trace.specs.Streams.{Given, Taken, GrowsByPart}
+use Rattle.streams.specs.Streams.{Given, Taken, GrowsByPart}
 use Rattle.trace.specs.Scripts.{ReadScripts, ScriptsRead}
 use Rattle.heap_server.specs.declared.play.Outcome.{Outcome}
 use Rattle.heap_model.specs.Settings.{settings_by}

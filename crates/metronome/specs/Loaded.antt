@@ -3,7 +3,7 @@ use Rattle.std.specs.Prelude.{◌≡◌, ℕ, ◌*◌, IsTrue, ◌⊎◌, List, 
 use Rattle.settings.specs.declared.config.Config.{Config}
 use Rattle.heap_model.specs.Event.{Event}
 use Rattle.trace.specs.declared.fault.PlayFault.{PlayFault}
-use Rattle.trace.specs.Streams.{Given, Taken, Begins}
+use Rattle.streams.specs.Streams.{Given, Taken, Begins}
 use Rattle.sizing.specs.declared.measured.Measured.{Measured}
 use Rattle.space.specs.Room.{AllHaveRoom}
 use Rattle.sizing.specs.Measuring.{TraceMeasured}

@@ -2,7 +2,7 @@
 use Rattle.std.specs.Prelude.{ℕ, List, Result}
 use Rattle.settings.specs.declared.config.Config.{Config}
 use Rattle.trace.specs.declared.fault.PlayFault.{PlayFault}
-use Rattle.trace.specs.Streams.{Given, Taken}
+use Rattle.streams.specs.Streams.{Given, Taken}
 use Rattle.pictures.specs.declared.over_time.Scale.{Scale}
 use Rattle.pictures.specs.OverTime.{time_picture}
 use Rattle.pictures.specs.declared.timeline.samples.Samples.{Samples}

@@ -7,7 +7,7 @@ use Rattle.heap_model.specs.State.{HeapState}
 use Rattle.nodes.specs.Copies.{HasBlock}
 use Rattle.quanta.specs.Timetable.{Timetable}
 use Rattle.trace.specs.declared.fault.PlayFault.{PlayFault}
-use Rattle.trace.specs.Streams.{Taken}
+use Rattle.streams.specs.Streams.{Taken}
 use Rattle.player.specs.Player.{PlayerState}
 use Rattle.pictures.specs.PathText.{PathTold}
 use Rattle.inspector.specs.Filling.{sizes_told}

@@ -4,7 +4,7 @@ ghost use Rattle.heap_model.specs.Event.{present_of};
 ghost use Rattle.heap_model.specs.Settings.{settings_of, settings_by};
 ghost use Rattle.player.specs.Playing.{session};
 ghost use Rattle.trace.specs.LinesProcessed.{reads_failed, writes_failed};
-ghost use Rattle.trace.specs.Streams.{given_by, taken_by};
+ghost use Rattle.streams.specs.Streams.{given_by, taken_by};
 ghost use Rattle.metronome.specs.Faults.{failed_reads, failed_writes};
 ghost use Rattle.metronome.specs.After.{PlayedUpTo, PlayerAfter, AfterPlay};
 ghost use Rattle.metronome.specs.Telling.{Tells};
@@ -26,7 +26,8 @@ use player::{Player, Style, play, play_first};
 use report::tell_report;
 use settings::Config;
 use std::alloc::Global;
-use trace::{PlayFault, Sink, Source};
+use trace::PlayFault;
+use streams::{Sink, Source};
 use windows::tell_windows;
 
 /// What is reported.

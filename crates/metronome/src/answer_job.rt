@@ -1,7 +1,7 @@
 //! Answering a question about an input.
 ghost use Rattle.std.specs.Prelude.{◌≡◌, ◌+◌, IfOk, string_bytes};
 ghost use Rattle.trace.specs.LinesProcessed.{reads_failed};
-ghost use Rattle.trace.specs.Streams.{given_by, taken_by};
+ghost use Rattle.streams.specs.Streams.{given_by, taken_by};
 ghost use Rattle.metronome.specs.Faults.{failed_reads, failed_writes};
 ghost use Rattle.metronome.specs.Told.{TextWritten};
 ghost use Rattle.metronome.specs.Answered.{EntriesTaken, verdict, told_of, TellsPages, Offers, IsAnswer, Answered};
@@ -14,7 +14,8 @@ use settings::Config;
 use sizing::{Measured, measure};
 use std::alloc::{AllocError, Global};
 use trace::transcripts::{Checked, check_entries};
-use trace::{PlayFault, Sink, Source, write_all};
+use trace::PlayFault;
+use streams::{Sink, Source, write_all};
 
 /// What is asked about an input.
 #[derive(Clone, Copy)]

@@ -10,7 +10,8 @@ use graph_heap::NoMemory;
 use settings::ConfigFault;
 use sizing::DocumentFault;
 use thiserror::Error;
-use trace::{PlayFault, WriteFailed};
+use trace::PlayFault;
+use streams::WriteFailed;
 
 /// How a run ends that meets no fault.
 #[derive(Clone, Copy, Debug, PartialEq, Eq)]

@@ -1,7 +1,7 @@
 //! What each subcommand does, from a source to a sink. Each ends in a failed read or write exactly where one failed.
 ghost use Rattle.std.specs.Prelude.{◌≡◌, ◌+◌, ◌≤◌, ◌++◌, length, map, replicate, IfOk, OnOk, OnErr};
 ghost use Rattle.heap_model.specs.Settings.{settings_by};
-ghost use Rattle.trace.specs.Streams.{failed, GrowsByPart, given_by, taken_by};
+ghost use Rattle.streams.specs.Streams.{failed, GrowsByPart, given_by, taken_by};
 ghost use Rattle.player.specs.declared.style.Style.TheVariants.{Entries};
 ghost use Rattle.player.specs.Playing.{written_of, written_version, text_written};
 ghost use Rattle.heap_server.specs.Played.{IsOutcome};
@@ -17,7 +17,8 @@ use std::alloc::Global;
 use std::sync::Wait;
 use std::thread::Threads;
 use trace::transcripts::read_scripts;
-use trace::{Sink, Source, Version, WriteFailed, end_line, write_all, write_entry};
+use trace::{Version, end_line, write_entry};
+use streams::{Sink, Source, WriteFailed, write_all};
 
 /// Plays a trace, and writes what the style says of each command.
 pub fn play_job<S: Source, K: Sink>(

@@ -1,7 +1,7 @@
 //! Telling what a load needs, and whether a trace keeps to it.
 ghost use Rattle.std.specs.Prelude.{◌≡◌, ◌+◌, IfErr, IfOk};
 ghost use Rattle.trace.specs.LinesProcessed.{reads_failed};
-ghost use Rattle.trace.specs.Streams.{given_by, taken_by};
+ghost use Rattle.streams.specs.Streams.{given_by, taken_by};
 ghost use Rattle.sizing.specs.Fitting.{load_in};
 ghost use Rattle.metronome.specs.Faults.{IsUnread, failed_reads, failed_writes, CountsReads};
 ghost use Rattle.metronome.specs.Loaded.{IsRest, LoadTold, TextMeasured, TextChecked, TextTold};
@@ -13,7 +13,8 @@ use settings::Config;
 use sizing::arrivals::{AllocationProfile, Conformance, keeps_load};
 use sizing::{LoadFault, Measured, measure, read_load};
 use std::alloc::Global;
-use trace::{MemorySource, PlayFault, Sink, Source, write_all};
+use trace::PlayFault;
+use streams::{MemorySource, Sink, Source, write_all};
 
 /// How many bytes of a source are asked for at a time.
 const PIECE: usize = 4096;

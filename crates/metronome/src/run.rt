@@ -2,7 +2,7 @@
 ghost use Rattle.std.specs.Prelude.{◌≡◌, ◌+◌, [], Result};
 ghost use Rattle.metronome.specs.declared.fault.Ending.{Ending};
 ghost use Rattle.metronome.specs.declared.fault.RunFault.{RunFault};
-ghost use Rattle.trace.specs.Streams.{given_by, taken_by};
+ghost use Rattle.streams.specs.Streams.{given_by, taken_by};
 ghost use Rattle.metronome.specs.Done.{JobDone};
 ghost use Rattle.metronome.specs.Faults.{failed_writes, CountsReads};
 ghost use Rattle.metronome.specs.Status.{status_of};
@@ -24,7 +24,8 @@ use std::convert::AsStr;
 use std::io::{Read, Write};
 use std::sync::Wait;
 use std::thread::Threads;
-use trace::{PlayFault, ReadSource, Sink, Source, WriteSink, write_all};
+use trace::PlayFault;
+use streams::{ReadSource, Sink, Source, WriteSink, write_all};
 
 /// What a run has of the machine: threads, memory, and files by their names.
 #[derive(Clone, Copy, Drop)]

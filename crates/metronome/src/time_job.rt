@@ -1,6 +1,6 @@
 //! Drawing a heap over a run.
 ghost use Rattle.std.specs.Prelude.{◌≡◌, ◌+◌};
-ghost use Rattle.trace.specs.Streams.{given_by, taken_by};
+ghost use Rattle.streams.specs.Streams.{given_by, taken_by};
 ghost use Rattle.metronome.specs.Faults.{failed_reads, failed_writes};
 ghost use Rattle.metronome.specs.OverTime.{scale_of, TimeDrawn};
 
@@ -9,7 +9,7 @@ use pictures::timeline::{Samples, take_samples};
 use pictures::{Scale, draw_time};
 use settings::Config;
 use std::alloc::Global;
-use trace::{Sink, Source};
+use streams::{Sink, Source};
 
 /// The scale of a picture of samples.
 fn scale(config: &Config, samples: &Samples) -> Scale

@@ -1,6 +1,6 @@
 -- A picture, as one part after the other is written.
 use Rattle.std.proofs.Common.{◌≡◌, ℕ, List, [], ◌∷◌, ◌++◌, ap, ◌∙◌, sym, append_assoc, refl}
-use Rattle.trace.specs.Streams.{GrowsByPart}
+use Rattle.streams.specs.Streams.{GrowsByPart}
 use Rattle.pictures.specs.declared.element.Element.{Element}
 use Rattle.pictures.specs.declared.element.Element.TheVariants.{Close}
 use Rattle.pictures.specs.Elements.{svg_text}

@@ -2,7 +2,7 @@
 use Rattle.std.proofs.Common.{◌≡◌, ℕ, ◌+◌, ◌<◌, List, [], ◌∷◌, ◌++◌, length, drop, get_or, map, ap, ◌∙◌, sym, refl}
 use Rattle.std.proofs.lemmas.Grind.{flat_map-append}
 use Rattle.std.proofs.lemmas.List.{drop_more, map-append}
-use Rattle.trace.specs.Streams.{text_of}
+use Rattle.trace.specs.Lines.{text_of}
 use Rattle.pictures.specs.Elements.{element_line, svg_text}
 use Rattle.pictures.specs.Lines.{each_from, lines_text}
 use Rattle.pictures.specs.Statements.{statement_line, dot_text}

@@ -1,6 +1,6 @@
 //! The picture of a heap over a run.
 ghost use Rattle.std.specs.Prelude.{◌≡◌, ◌<◌, ◌≤◌, ◌+◌, ◌++◌, length, slice_get, OnOk, OnErr};
-ghost use Rattle.trace.specs.Streams.{GrowsByPart, failed};
+ghost use Rattle.streams.specs.Streams.{GrowsByPart, failed};
 ghost use Rattle.pictures.specs.Elements.{svg_text};
 ghost use Rattle.pictures.specs.OverTime.{next_x, sample_marks, samples_from, time_axes, time_shown, time_chart, time_picture};
 
@@ -12,7 +12,7 @@ use crate::frame::{meaning, swatch, write_head};
 use crate::look::look_of;
 use crate::sample::Sample;
 use crate::writing::{write_line, write_lines};
-use trace::{Sink, WriteFailed};
+use streams::{Sink, WriteFailed};
 
 /// How many samples a picture has at most.
 pub const MOST_SAMPLES: usize = 1000;

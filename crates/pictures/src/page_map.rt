@@ -2,7 +2,7 @@
 ghost use Rattle.std.specs.Prelude.{◌≡◌, ◌<◌, ◌≤◌, ◌+◌, ◌++◌, OnOk, OnErr, IfSome};
 ghost use Rattle.heap_model.specs.Pages.{page_at};
 ghost use Rattle.pages.specs.View.{view_of};
-ghost use Rattle.trace.specs.Streams.{GrowsByPart, failed};
+ghost use Rattle.streams.specs.Streams.{GrowsByPart, failed};
 ghost use Rattle.pictures.specs.Elements.{svg_text};
 ghost use Rattle.pictures.specs.PageMap.{paper_of, row_number, free_square, used_square, page_square, square, map_shown, map_told, pages_picture};
 
@@ -15,7 +15,7 @@ use crate::squares::{Squares, height};
 use crate::writing::{write_line, write_lines};
 use machine::Heap;
 use pages::PageView;
-use trace::{Sink, WriteFailed};
+use streams::{Sink, WriteFailed};
 
 /// Writes the number of a page that is the first of a row.
 fn write_number<K: Sink>(

@@ -1,9 +1,11 @@
 //! Documents, written line by line.
 ghost use Rattle.std.specs.Prelude.{◌≡◌, ◌≤◌, ◌<◌, ◌+◌, ◌++◌, ◌∷◌, ℕ, List, [], length, take, OnOk, OnErr};
-ghost use Rattle.trace.specs.Streams.{GrowsByPart, failed};
+ghost use Rattle.streams.specs.Streams.{GrowsByPart, failed};
 ghost use Rattle.pictures.specs.Lines.{lines_text};
 
-use trace::{Sink, WriteFailed, end_line};
+use trace::end_line;
+
+use streams::{Sink, WriteFailed};
 
 /// What is a line of a document.
 pub(crate) trait DocumentLine: Copy {

@@ -5,7 +5,8 @@ use Rattle.trace.specs.declared.version.Version.{Version}
 use Rattle.trace.specs.declared.version.Version.TheVariants.{First}
 use Rattle.trace.specs.LinesProcessed.{LinesDone, No_lines}
 use Rattle.trace.specs.LineReader.{Lines, ReadsLine}
-use Rattle.trace.specs.Streams.{Given, Comes, text_of}
+use Rattle.streams.specs.Streams.{Given}
+use Rattle.trace.specs.Lines.{Comes, text_of}
 use Rattle.player.specs.declared.style.Style.{Style}
 use Rattle.player.specs.Playing.{Session, PlaysLine, IsWrittenUpTo}
 

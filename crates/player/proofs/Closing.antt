@@ -11,7 +11,7 @@ use Rattle.trace.specs.declared.fault.PlayFault.TheVariants.{Line as At_line, Re
 use Rattle.trace.specs.declared.version.Version.{Version}
 use Rattle.trace.specs.LinesProcessed.{Reached, NextThere, LinesDone, LinesProcessed, ProcessingEnds, writes_failed}
 use Rattle.trace.specs.LineReader.{Lines}
-use Rattle.trace.specs.Streams.{Given, GrowsByPart}
+use Rattle.streams.specs.Streams.{Given, GrowsByPart}
 use Rattle.trace.specs.TextLine.{Text}
 use Rattle.trace.proofs.LinesProcessed.{SoFar, reached_by}
 use Rattle.player.specs.declared.style.Style.{Style}

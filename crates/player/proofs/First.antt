@@ -14,7 +14,8 @@ use Rattle.graph_heap.specs.declared.command.Command.{Command}
 use Rattle.trace.specs.Numbered.{LineRead}
 use Rattle.trace.specs.Spelling.{version_line, Spells, is_skipped}
 use Rattle.trace.specs.TextLine.{Text, IsVersionLine}
-use Rattle.trace.specs.Streams.{Given, GrowsByPart, text_of}
+use Rattle.streams.specs.Streams.{Given, GrowsByPart}
+use Rattle.trace.specs.Lines.{text_of}
 use Rattle.trace.specs.declared.fault.PlayFault.{PlayFault}
 use Rattle.trace.specs.declared.fault.PlayFault.TheVariants.{Write}
 use Rattle.trace.proofs.Exact.{same_Some}

@@ -14,7 +14,7 @@ use Rattle.trace.specs.declared.version.Version.{Version}
 use Rattle.trace.specs.declared.version.Version.TheVariants.{Second}
 use Rattle.trace.specs.LinesProcessed.{Reached, LinesDone, No_lines, One_line_more, LinesProcessed, ProcessingEnds}
 use Rattle.trace.proofs.LinesProcessed.{next_told, next_same, reached_by}
-use Rattle.trace.specs.Streams.{Given}
+use Rattle.streams.specs.Streams.{Given}
 use Rattle.player.specs.Player.{PlayerState, QuantaDue, None_yet, One_more, DoesLine, Skips, Commands, Begins, Goes_on, Spends, Ticks, entries_in}
 use Rattle.player.specs.declared.style.Style.{Style}
 use Rattle.player.specs.declared.style.Style.TheVariants.{Nothing}

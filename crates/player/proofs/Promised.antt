@@ -18,7 +18,7 @@ use Rattle.trace.specs.declared.fault.PlayFault.TheVariants.{NoMemory}
 use Rattle.trace.specs.declared.line.Line.{Line}
 use Rattle.trace.specs.declared.line.Line.TheVariants as lines
 use Rattle.trace.specs.LinesProcessed.{Reached}
-use Rattle.trace.specs.Streams.{Given}
+use Rattle.streams.specs.Streams.{Given}
 use Rattle.player.specs.declared.style.Style.{Style}
 use Rattle.player.specs.New.{IsNew, StartsWithSpace}
 use Rattle.player.specs.Player.{PlayerState}

@@ -11,7 +11,7 @@ use Rattle.trace.specs.declared.fault.PlayFault.TheVariants.{NoMemory as Without
 use Rattle.trace.specs.declared.line_handler.InputEnd.{InputEnd}
 use Rattle.trace.specs.declared.version.Version.{Version}
 use Rattle.trace.specs.LinesProcessed.{LinesDone, No_lines, One_line_more}
-use Rattle.trace.specs.Streams.{Given}
+use Rattle.streams.specs.Streams.{Given}
 use Rattle.trace.specs.TextLine.{Text, text_after}
 use Rattle.player.specs.declared.observed.Observed.{Observed}
 use Rattle.player.specs.declared.observer.Mark.{Mark}

@@ -13,7 +13,8 @@ use Rattle.trace.specs.declared.version.Version.TheVariants.{Second}
 use Rattle.trace.specs.LinesProcessed.{Reached, NextThere, LineEffect, LinesDone, LinesProcessed, ProcessingEnds}
 use Rattle.trace.specs.Numbered.{IsNoEvent}
 use Rattle.trace.specs.Spelling.{version_line, Spells, is_skipped, reply_text, entry_line}
-use Rattle.trace.specs.Streams.{Given, GrowsByPart, text_of}
+use Rattle.streams.specs.Streams.{Given, GrowsByPart}
+use Rattle.trace.specs.Lines.{text_of}
 use Rattle.trace.specs.TextLine.{Text}
 use Rattle.heap_model.specs.Event.{Event, Runs}
 use Rattle.quanta.specs.declared.schedule.TheConstants.{CLOCK_LIMIT}

@@ -3,7 +3,7 @@ ghost use Rattle.std.specs.Prelude.{Result};
 ghost use Rattle.settings.specs.declared.config.Config.{Config};
 ghost use Rattle.machine.specs.Headline.{Holds};
 ghost use Rattle.machine.specs.Space.{SpaceSuffices};
-ghost use Rattle.trace.specs.Streams.{Given};
+ghost use Rattle.streams.specs.Streams.{Given};
 ghost use Rattle.trace.specs.declared.fault.PlayFault.{PlayFault};
 ghost use Rattle.player.specs.declared.style.Style.{Style};
 ghost use Rattle.player.specs.New.{IsNew};

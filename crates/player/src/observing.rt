@@ -1,13 +1,14 @@
 //! Playing a trace while something observes it.
 ghost use Rattle.std.specs.Prelude.{◌≡◌, ◌+◌};
 ghost use Rattle.trace.specs.LinesProcessed.{reads_failed};
-ghost use Rattle.trace.specs.Streams.{Stays, given_by};
+ghost use Rattle.streams.specs.Streams.{Stays, given_by};
 ghost use Rattle.player.specs.Observing.{run_from, IsObserved, TextObserved, RunObserved};
 
 use crate::line::{do_line, is_event};
 use crate::observed::Observed;
 use crate::observer::Observer;
-use trace::{InputEnd, LineHandler, PlayFault, Source, TextLine, each_line, read_numbered};
+use trace::{InputEnd, LineHandler, PlayFault, TextLine, each_line, read_numbered};
+use streams::Source;
 
 impl<O: Observer + Drop> LineHandler for Observed<O> {
     ghost is_ready = { IsObserved O.has_seen };

@@ -1,7 +1,7 @@
 //! Playing a trace.
 ghost use Rattle.std.specs.Prelude.{◌≡◌, ◌≢◌, ℕ, ◌+◌, ◌-◌, ◌<◌, ◌≤◌, ◌++◌, List, [], length, false, Some, Err, IsTrue, option_map, if◌then◌else◌};
 ghost use Rattle.trace.specs.LinesProcessed.{reads_failed, writes_failed};
-ghost use Rattle.trace.specs.Streams.{Stays, GrowsByPart, given_by};
+ghost use Rattle.streams.specs.Streams.{Stays, GrowsByPart, given_by};
 ghost use Rattle.machine.specs.Headline.{Holds, Follows};
 ghost use Rattle.player.specs.New.{StartsWithSpace};
 ghost use Rattle.player.specs.Playing.{session, Played, PlayedFirst, PlayedUpTo};
@@ -10,7 +10,8 @@ ghost use Rattle.player.specs.Closing.{Closes};
 use crate::line::play_line;
 use crate::player::Player;
 use crate::style::Style;
-use trace::{LineReader, PlayFault, Sink, Source, WriteBuffer};
+use trace::{LineReader, PlayFault, WriteBuffer};
+use streams::{Sink, Source};
 
 /// Writes what still waits when the lines have ended. Where that fails, it is what the play ends with.
 fn close<K: Sink>(

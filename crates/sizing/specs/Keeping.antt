@@ -7,7 +7,7 @@ use Rattle.trace.specs.declared.line.Line.TheVariants as lines
 use Rattle.trace.specs.declared.fault.PlayFault.{PlayFault}
 use Rattle.trace.specs.LinesProcessed.{Reached, NextLine, NextThere, LinesProcessed, ProcessingEnds}
 use Rattle.trace.specs.Spelling.{Spells}
-use Rattle.trace.specs.Streams.{Given}
+use Rattle.streams.specs.Streams.{Given}
 use Rattle.space.specs.Room.{asks}
 use Rattle.sizing.specs.declared.arrivals.keeping.Violation.{Violation}
 use Rattle.sizing.specs.declared.arrivals.keeping.Violation.TheVariants.{Asks, BeginsLate, SmallQuantum}

@@ -5,7 +5,7 @@ use Rattle.heap_model.specs.Opening.{IsOpening}
 use Rattle.heap_model.specs.ReachedFrom.{opened}
 use Rattle.heap_model.specs.Event.{Runs}
 use Rattle.trace.specs.declared.fault.PlayFault.{PlayFault}
-use Rattle.trace.specs.Streams.{Given}
+use Rattle.streams.specs.Streams.{Given}
 use Rattle.player.specs.declared.style.Style.TheVariants.{Nothing}
 use Rattle.player.specs.New.{IsNew}
 use Rattle.player.specs.Player.{PlayerState}

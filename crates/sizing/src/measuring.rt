@@ -1,7 +1,7 @@
 //! Measuring a trace.
 ghost use Rattle.std.specs.Prelude.{◌≡◌, ◌+◌};
 ghost use Rattle.trace.specs.LinesProcessed.{reads_failed};
-ghost use Rattle.trace.specs.Streams.{Stays, given_by};
+ghost use Rattle.streams.specs.Streams.{Stays, given_by};
 ghost use Rattle.sizing.specs.Measuring.{TraceMeasured};
 
 use crate::measured::Measured;
@@ -9,7 +9,8 @@ use crate::meter::Meter;
 use player::{Observed, Player, observe};
 use settings::Config;
 use std::alloc::Global;
-use trace::{PlayFault, Source};
+use trace::PlayFault;
+use streams::Source;
 
 /// What a trace needs on a new heap of a configuration: its lines are played, one after the other, and nothing
 /// is written. The run keeps to what is answered, and to nothing that is less in some number. Where the configuration

@@ -2,7 +2,7 @@
 use Rattle.std.proofs.Common.{◌≡◌, ℕ, ◌+◌, ◌≤◌, ◌<◌, List, [], ◌∷◌, ◌++◌, length, get_or, Some, arith, length-append, append_assoc, append-nil, ap, ◌∙◌, sym, refl}
 use Rattle.std.specs.List.{AllByRecursion}
 use Rattle.std.proofs.lemmas.List.{get_or_at}
-use Rattle.trace.specs.Streams.{NoLf, IsLine, text_of, Splits}
+use Rattle.trace.specs.Lines.{NoLf, IsLine, text_of, Splits}
 use Rattle.trace.specs.Reading.{cut_at}
 use Rattle.trace.proofs.Exact.{Lacks, same_Some, cut_at-Some, cut_at-spelled}
 

@@ -4,8 +4,8 @@ use Rattle.std.specs.Prelude.{IfSome, IsNone, min, slice_range}
 use Rattle.std.proofs.lemmas.Bool.{eqb-true, eq-eqb}
 use Rattle.std.proofs.lemmas.List.{drop-take, get_or_default, take_min}
 use Rattle.memchr.specs.Find.{IsFirstByte, is_byte}
-use Rattle.trace.specs.Streams.{NoLf, IsLine, Comes, FirstLf}
-use Rattle.trace.proofs.Cuts.{whole, parted}
+use Rattle.trace.specs.Lines.{NoLf, IsLine, Comes, FirstLf}
+use Rattle.streams.proofs.Cuts.{whole, parted}
 
 -- the first LF of the first 257 bytes is the first of all
 first_in : (bytes : List ℕ) (i : ℕ) → IsFirstByte (is_byte 10) (take 257 bytes) (Some i) → FirstLf bytes i

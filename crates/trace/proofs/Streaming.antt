@@ -1,11 +1,11 @@
--- What a read and a write add.
+-- What a read adds.
 use Rattle.std.proofs.Common.{◌≡◌, ℕ, ◌+◌, ◌-◌, ◌≤◌, List, ◌++◌, length, take, drop, arith, length-take, length-append, ap, ◌∙◌, sym}
 use Rattle.std.specs.Prelude.{Result, Ok, Err, IfOk}
 use Rattle.std.proofs.Math.Seq.{take-add, take-append-add}
 use Rattle.std.proofs.lemmas.List.{take-append-le}
 use borrow.Rule.Slice.PartMut.{put_mid, post_of}
-use Rattle.trace.specs.Streams.{Comes}
-use Rattle.trace.proofs.Cuts.{rest_of}
+use Rattle.trace.specs.Lines.{Comes}
+use Rattle.streams.proofs.Cuts.{rest_of}
 
 length_front : (n : ℕ) (xs : List ℕ) → n ≤ length xs → length (take n xs) ≡ n
 length_front n xs h = omega (arith, length-take n xs)
@@ -23,10 +23,6 @@ pub reads_behind : {E : Type 0} (r : Result ℕ E) (at len : ℕ) (xs ys given g
     → IfOk r (λ n. Comes given given' (take at xs) (take (at + n) (put_mid at len xs ys)))
 reads_behind (Ok n) at len xs ys given given' h k e = record { more = take n ys; given_more = e; makes = sym (front at len n xs ys h k) }
 reads_behind (Err e) at len xs ys given given' h k _ = tt
-
--- the first bytes, and the next ones behind them
-pub goes_on : (at n : ℕ) (bytes : List ℕ) → take at bytes ++ take n (take (length bytes - at) (drop at bytes)) ≡ take (at + n) bytes
-goes_on at n bytes = ap (λ l. take at bytes ++ take n l) (rest_of bytes at) ∙ sym (take-add at n bytes)
 
 -- how many bytes were given
 pub reads_so_many : {E : Type 0} (r : Result ℕ E) (ys given given' : List ℕ) → IfOk r (λ n. n ≤ length ys) → IfOk r (λ n. given' ≡ given ++ take n ys) → IfOk r (λ n. length given' ≡ length given + n)

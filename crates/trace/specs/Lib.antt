@@ -1,7 +1,7 @@
+pub mod Lines
 pub mod Spelling
 pub mod Numbers
 pub mod Reading
-pub mod Streams
 pub mod TextLine
 pub mod Numbered
 pub mod LinesProcessed
@@ -9,12 +9,5 @@ pub mod Handling
 pub mod LineReader
 pub mod Buffered
 pub mod Waiting
-pub mod Memory
-pub mod MemorySource
-pub mod MemorySink
-pub mod Standard
-pub mod WriteSink
-pub mod ReadSource
-pub mod FailAt
 pub mod Scripts
 pub mod Histories

@@ -4,7 +4,8 @@ use Rattle.trace.specs.declared.fault.PlayFault.{PlayFault}
 use Rattle.trace.specs.declared.version.Version.{Version}
 use Rattle.trace.specs.declared.version.Version.TheVariants.{First}
 use Rattle.trace.specs.LinesProcessed.{NoLine}
-use Rattle.trace.specs.Streams.{Given, IsLine, Comes}
+use Rattle.streams.specs.Streams.{Given}
+use Rattle.trace.specs.Lines.{IsLine, Comes}
 use Rattle.trace.specs.TextLine.{Text, IsNextVersion}
 
 -- the line handed out last, whose number is how many were; the bytes that came and aren't handed out yet; and the

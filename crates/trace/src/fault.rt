@@ -1,19 +1,9 @@
-//! What can be wrong with a read or a write, with a line, and with an input.
+//! What can be wrong with a line, and with an input.
 ghost use Rattle.std.specs.Prelude.{◌≡◌};
 ghost use Rattle.trace.specs.declared.fault.PlayFault.TheVariants as faults;
 
 use graph_heap::NoMemory;
 use thiserror::Error;
-
-/// A read failed.
-#[derive(Clone, Copy, Debug, PartialEq, Eq, Error)]
-#[error("cannot read")]
-pub struct ReadFailed;
-
-/// A write failed.
-#[derive(Clone, Copy, Debug, PartialEq, Eq, Error)]
-#[error("cannot write")]
-pub struct WriteFailed;
 
 /// What can be wrong with a line of a trace, of a history or of scripts.
 #[derive(Clone, Copy, Debug, PartialEq, Eq, Error)]

@@ -1,6 +1,6 @@
 //! Laws of texts and their lines. Each function does nothing: its contract is the law.
 ghost use Rattle.std.specs.Prelude.{◌≡◌, ℕ, ◌+◌, ◌≤◌, [], ◌∷◌, ◌++◌, List, length};
-ghost use Rattle.trace.specs.Streams.{NoLf, IsLine, Splits};
+ghost use Rattle.trace.specs.Lines.{NoLf, IsLine, Splits};
 
 /// A text has one cutting into lines and a rest without LF.
 pub fn one_cutting()

@@ -1,40 +1,28 @@
-//! Traces and histories as text: what lines and replies say, and the readers and writers that they
-//! come from and go to.
+//! Traces and histories as text: what lines and replies say, read from a source and written to a sink.
 #![tactic(auto)]
 
 mod commands;
 pub mod entry;
-pub mod fail_at;
 mod fault;
 mod field;
 mod laws;
 pub mod line;
 pub mod line_handler;
 pub mod line_reader;
-pub mod memory;
 mod replies;
-pub mod sink;
-pub mod source;
-pub mod standard;
 mod text;
 mod text_line;
-mod transcript;
 pub mod transcripts;
 mod version;
 pub mod write;
 pub mod write_buffer;
 
 pub use entry::{EntryLine, read_entry};
-pub use fail_at::FailAt;
-pub use fault::{LineFault, PlayFault, ReadFailed, WriteFailed};
+pub use fault::{LineFault, PlayFault};
 pub use laws::{one_cutting, one_more_line};
 pub use line::{Line, is_skipped, read_line, read_numbered};
 pub use line_handler::{InputEnd, LineHandler, each_line};
 pub use line_reader::LineReader;
-pub use memory::{MemorySink, MemorySource};
-pub use sink::{Sink, write_all};
-pub use source::Source;
-pub use standard::{ReadSource, WriteSink};
 pub use text::{end_line, put, put_named};
 pub use text_line::TextLine;
 pub use version::{Version, tells_version, version_line};

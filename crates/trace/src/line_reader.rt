@@ -1,15 +1,15 @@
 //! Cutting what a source gives into lines.
 ghost use Rattle.std.specs.Prelude.{true, false, ◌⊎◌, Ok, Err, ◌∷◌, ◌++◌, ◌≡◌, ◌==◌, ◌+◌, ◌-◌, ◌<◌, ◌≤◌, ◌^◌, [], length, take, slice_range, IfOk, IfSome, IsNone, OnOk, OnErr, IsTrue};
-ghost use Rattle.trace.specs.Streams.{failed, Comes, Stays, NoLf, IsLine, FirstLf, GrowsByPart, given_by};
+ghost use Rattle.streams.specs.Streams.{failed, Stays, GrowsByPart, given_by};
+ghost use Rattle.trace.specs.Lines.{Comes, NoLf, IsLine, FirstLf};
 
-use crate::fault::{LineFault, PlayFault, ReadFailed, WriteFailed};
-use crate::sink::Sink;
-use crate::source::Source;
+use crate::fault::{LineFault, PlayFault};
 use crate::text_line::TextLine;
 use crate::version::Version;
 use crate::write_buffer::WriteBuffer;
 use memchr::memchr;
 use std::marker::Model;
+use streams::{ReadFailed, Sink, Source, WriteFailed};
 
 /// How many bytes are read at once, at most.
 const CAPACITY: usize = 65536;

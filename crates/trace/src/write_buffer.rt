@@ -1,14 +1,13 @@
 //! Bytes that wait to be written.
 ghost use Rattle.std.specs.Prelude.{◌≡◌, ℕ, ◌+◌, ◌≤◌, ◌++◌, ◌∷◌, ◌↔◌, List, [], length, IsTrue, OnOk, OnErr};
 ghost use Rattle.trace.specs.Spelling.{reply_text};
-ghost use Rattle.trace.specs.Streams.{GrowsByPart, failed};
+ghost use Rattle.streams.specs.Streams.{GrowsByPart, failed};
 
-use crate::fault::WriteFailed;
-use crate::sink::{Sink, write_all};
 use crate::text::put;
 use crate::write::write_reply;
 use graph_heap::Reply;
 use std::marker::Model;
+use streams::{Sink, WriteFailed, write_all};
 
 /// How many bytes wait, at most.
 const CAPACITY: usize = 65536;

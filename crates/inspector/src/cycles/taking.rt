@@ -1,7 +1,7 @@
 //! Taking the cycles of a run.
 ghost use Rattle.std.specs.Prelude.{◌≡◌, ◌+◌};
 ghost use Rattle.trace.specs.LinesProcessed.{reads_failed};
-ghost use Rattle.trace.specs.Streams.{Stays, given_by};
+ghost use Rattle.streams.specs.Streams.{Stays, given_by};
 ghost use Rattle.inspector.specs.Taking.{CyclesTaken};
 
 use crate::cycles::cycle::Cycles;
@@ -9,7 +9,8 @@ use crate::cycles::log::Log;
 use player::{Observed, Player, observe};
 use settings::Config;
 use std::alloc::Global;
-use trace::{PlayFault, Source};
+use trace::PlayFault;
+use streams::Source;
 
 /// Plays the lines of a trace on a new heap of a configuration, one after the other, writes nothing of them, and
 /// answers the cycles of the run, with the figures of each. A fault is that with which playing the trace ends; or

@@ -1,6 +1,6 @@
 //! A picture of the player.
 ghost use Rattle.std.specs.Prelude.{◌≡◌, List, ℕ, ◌+◌, ◌++◌, OnOk, OnErr};
-ghost use Rattle.trace.specs.Streams.{failed, GrowsByPart, taken_by};
+ghost use Rattle.streams.specs.Streams.{failed, GrowsByPart, taken_by};
 ghost use Rattle.metronome.specs.Telling.{IsPicture, PictureDrawn};
 ghost use Rattle.metronome.specs.Faults.{failed_reads, failed_writes};
 
@@ -9,7 +9,7 @@ use command_line::Picture;
 use pictures::{draw_pages, draw_utilisation};
 use player::Player;
 use settings::Config;
-use trace::{Sink, WriteFailed};
+use streams::{Sink, WriteFailed};
 
 /// Writes a picture of a player.
 fn draw<K: Sink>(

@@ -1,6 +1,6 @@
 //! A report of the heap.
 ghost use Rattle.std.specs.Prelude.{◌≡◌, ◌+◌, ◌++◌, OnOk, OnErr};
-ghost use Rattle.trace.specs.Streams.{GrowsByPart, failed, taken_by};
+ghost use Rattle.streams.specs.Streams.{GrowsByPart, failed, taken_by};
 ghost use Rattle.metronome.specs.Faults.{failed_reads, failed_writes};
 ghost use Rattle.metronome.specs.declared.fault.Ending.TheVariants as endings;
 ghost use Rattle.metronome.specs.Telling.{report_by};
@@ -11,7 +11,7 @@ use command_line::Report;
 use inspector::{report, report_sizes};
 use machine::Heap;
 use player::Player;
-use trace::{Sink, WriteFailed};
+use streams::{Sink, WriteFailed};
 
 /// Writes a report of a heap, page by page or by size class.
 fn write_report<K: Sink>(heap: &Heap, by: Report, sink: &mut K) -> Result<(), WriteFailed>

@@ -1,6 +1,6 @@
 //! A line for each window.
 ghost use Rattle.std.specs.Prelude.{◌≡◌, ◌+◌, IfOk, IfErr, OnOk, string_bytes};
-ghost use Rattle.trace.specs.Streams.{taken_by};
+ghost use Rattle.streams.specs.Streams.{taken_by};
 ghost use Rattle.metronome.specs.Faults.{failed_reads, failed_writes};
 ghost use Rattle.metronome.specs.Telling.{WindowsTold};
 ghost use Rattle.metronome.specs.Windows.{IsWindowLine, AllTold, FirstTold};
@@ -12,7 +12,7 @@ use player::Player;
 use quanta::Schedule;
 use settings::Config;
 use std::alloc::Global;
-use trace::{Sink, write_all};
+use streams::{Sink, write_all};
 
 /// Writes a line for each window of the schedule of a player.
 pub(crate) fn tell_windows<K: Sink>(

@@ -1,7 +1,7 @@
 //! Taking samples of a run.
 ghost use Rattle.std.specs.Prelude.{◌≡◌, ◌+◌};
 ghost use Rattle.trace.specs.LinesProcessed.{reads_failed};
-ghost use Rattle.trace.specs.Streams.{Stays, given_by};
+ghost use Rattle.streams.specs.Streams.{Stays, given_by};
 ghost use Rattle.pictures.specs.Taking.{SamplesTaken};
 
 use crate::timeline::sampler::Sampler;
@@ -9,7 +9,8 @@ use crate::timeline::samples::Samples;
 use player::{Observed, Player, observe};
 use settings::Config;
 use std::alloc::Global;
-use trace::{PlayFault, Source};
+use trace::PlayFault;
+use streams::Source;
 
 /// Plays the lines of a trace on a new heap of a configuration, one after the other, writes nothing of
 /// them, and takes samples of the heap: the first of the new heap, and then one after each stride of

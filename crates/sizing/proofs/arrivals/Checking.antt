@@ -10,7 +10,7 @@ use Rattle.trace.specs.declared.version.Version.{Version}
 use Rattle.trace.specs.LinesProcessed.{One_line_more, LinesProcessed}
 use Rattle.trace.specs.Spelling.{Spells}
 use Rattle.trace.specs.TextLine.{Text, text_after}
-use Rattle.trace.specs.Streams.{Given}
+use Rattle.streams.specs.Streams.{Given}
 use Rattle.sizing.specs.declared.arrivals.keeping.Meter.{Meter}
 use Rattle.sizing.specs.declared.arrivals.keeping.Violation.{Violation}
 use Rattle.sizing.specs.declared.arrivals.keeping.Violation.TheVariants.{Asks, BeginsLate, SmallQuantum}

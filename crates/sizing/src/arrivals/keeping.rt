@@ -3,7 +3,7 @@ ghost use Rattle.std.specs.Prelude.{◌≡◌, ℕ, ◌+◌, ◌-◌, ◌*◌, �
 ghost use Rattle.space.specs.Room.{asks};
 ghost use Rattle.trace.specs.LinesProcessed.{reads_failed};
 ghost use Rattle.trace.specs.TextLine.{text_in};
-ghost use Rattle.trace.specs.Streams.{Stays, given_by};
+ghost use Rattle.streams.specs.Streams.{Stays, given_by};
 ghost use Rattle.sizing.specs.Fitting.{load_in};
 ghost use Rattle.sizing.specs.Metering.{levels_in, IsWithin, Overflows, Metered, TextMetered};
 ghost use Rattle.sizing.specs.Keeping.{LoadChecked};
@@ -12,7 +12,8 @@ use crate::arrivals::load::AllocationProfile;
 use graph_heap::Command;
 use size_classes::{CLASSES, Class, Need, parts_of};
 use settings::Config;
-use trace::{Line, LineReader, PlayFault, Source, TextLine, read_numbered};
+use trace::{Line, LineReader, PlayFault, TextLine, read_numbered};
+use streams::Source;
 
 /// In which way a line breaks a load.
 #[derive(Clone, Copy, Debug, PartialEq, Eq)]

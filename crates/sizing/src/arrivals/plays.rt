@@ -1,14 +1,15 @@
 //! Playing a trace on a new player.
 ghost use Rattle.std.specs.Prelude.{◌≡◌, ◌+◌, IfOk, OnErr};
 ghost use Rattle.trace.specs.LinesProcessed.{reads_failed, writes_failed};
-ghost use Rattle.trace.specs.Streams.{Stays, given_by, taken_by};
+ghost use Rattle.streams.specs.Streams.{Stays, given_by, taken_by};
 ghost use Rattle.sizing.specs.New.{PlayedNew};
 
 use graph_heap::NoMemory;
 use player::{Player, Style, play};
 use settings::Config;
 use std::alloc::Global;
-use trace::{PlayFault, Sink, Source};
+use trace::PlayFault;
+use streams::{Sink, Source};
 
 /// What was played on a new player: the player after it, and how the play ended.
 #[derive(Drop)]

@@ -1,6 +1,6 @@
 use Rattle.std.proofs.Common.{◌≡◌, ◌+◌, ◌*◌, ◌++◌, ap, sym, ◌∙◌, refl, arith, append-nil}
 use Rattle.size_classes.specs.declared.class.TheConstants.{CLASSES}
-use Rattle.trace.specs.Streams.{text_of}
+use Rattle.trace.specs.Lines.{text_of}
 use Rattle.inspector.specs.Filling.{filling_of, summed, classes_lines}
 use Rattle.inspector.proofs.Parts.{at_err}
 use Rattle.inspector.proofs.Fillings.{within_more, nothing_within, both_within, summed_none, one_more}

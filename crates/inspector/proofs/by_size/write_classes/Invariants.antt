@@ -1,5 +1,5 @@
 use Rattle.std.proofs.Common.{◌≡◌, ◌*◌, ◌++◌}
-use Rattle.trace.specs.Streams.{text_of}
+use Rattle.trace.specs.Lines.{text_of}
 use Rattle.inspector.specs.Filling.{IsWithin, filling_of, summed, classes_lines}
 use Rattle.inspector.proofs.by_size.write_classes.Given as goal
 

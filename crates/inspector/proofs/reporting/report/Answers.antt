@@ -1,4 +1,4 @@
-use Rattle.trace.specs.Streams.{text_of}
+use Rattle.trace.specs.Lines.{text_of}
 use Rattle.inspector.specs.Report.{head_lines, page_lines, tail_lines, report_of}
 use Rattle.inspector.proofs.Parts.{at_err, first_of_three, second_of_three, third_of_three, three}
 use Rattle.inspector.proofs.PageByPage.{text_three}

@@ -1,6 +1,6 @@
 use Rattle.std.proofs.Common.{inl, inr, refl, arith}
 use Rattle.player.specs.Playing.{session}
-use Rattle.trace.specs.Streams.{given_by}
+use Rattle.streams.specs.Streams.{given_by}
 use Rattle.trace.specs.declared.fault.PlayFault.TheVariants as texts
 use Rattle.metronome.specs.declared.fault.RunFault.TheVariants as faults
 use Rattle.metronome.proofs.Alive.{played_settings}

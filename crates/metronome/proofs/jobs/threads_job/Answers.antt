@@ -5,7 +5,7 @@ use Rattle.graph_heap.specs.declared.command.Command.{Command}
 use Rattle.graph_heap.specs.declared.command.Limits.{Limits}
 use Rattle.graph_heap.specs.declared.command.Entry.{Entry}
 use Rattle.heap_model.specs.Settings.{settings_by}
-use Rattle.trace.specs.Streams.{GrowsByPart, given_by}
+use Rattle.streams.specs.Streams.{GrowsByPart, given_by}
 use Rattle.trace.specs.Scripts.{ScriptsRead}
 use Rattle.heap_server.specs.Played.{IsOutcome}
 use Rattle.player.specs.declared.style.Style.TheVariants.{Entries}

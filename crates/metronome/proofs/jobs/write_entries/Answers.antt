@@ -1,5 +1,5 @@
 use Rattle.std.proofs.Common.{List, ℕ, [], ◌∷◌, ◌++◌, ap, ◌∙◌, subst, arith}
-use Rattle.trace.specs.Streams.{GrowsByPart}
+use Rattle.streams.specs.Streams.{GrowsByPart}
 use Rattle.player.specs.declared.style.Style.TheVariants.{Entries}
 use Rattle.player.specs.Playing.{written_line}
 use Rattle.metronome.proofs.Writing.{with_next, with_part, at_end}

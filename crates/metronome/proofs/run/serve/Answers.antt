@@ -1,4 +1,4 @@
-use Rattle.trace.specs.Streams.{taken_by}
+use Rattle.streams.specs.Streams.{taken_by}
 use Rattle.metronome.proofs.Below.{done_below, counts_below}
 use Rattle.metronome.proofs.run.serve.Goals as goal
 

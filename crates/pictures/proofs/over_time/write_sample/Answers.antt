@@ -1,6 +1,6 @@
 use Rattle.std.proofs.Common.{ℕ, ◌-◌, ◌≡◌, ◌++◌, List, [], ◌∷◌, arith, subst}
 use Rattle.std.specs.Prelude.{OnErr, OnOk}
-use Rattle.trace.specs.Streams.{GrowsByPart}
+use Rattle.streams.specs.Streams.{GrowsByPart}
 use Rattle.pictures.specs.declared.colour.Colour.TheVariants.{Blue}
 use Rattle.pictures.specs.declared.element.Element.{Element}
 use Rattle.pictures.specs.declared.element.Element.TheVariants.{Rectangle, Veil}

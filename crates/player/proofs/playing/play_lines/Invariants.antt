@@ -1,6 +1,6 @@
 use Rattle.std.proofs.Common.{◌≡◌, ◌-◌, ◌≤◌, ◌^◌, ◌++◌, length, Some}
 use Rattle.std.specs.List.{count_by}
-use Rattle.trace.specs.Streams.{given_by}
+use Rattle.streams.specs.Streams.{given_by}
 use Rattle.trace.proofs.LinesProcessed.{SoFar}
 use Rattle.trace.proofs.Reading.{IsReading}
 use Rattle.player.specs.Playing.{session, PlaysLine, IsWrittenUpTo, is_event, EndAtEvent}

@@ -1,6 +1,6 @@
 use Rattle.std.proofs.Common.{◌++◌, inl, inr, ap, ◌∙◌, refl, subst, arith}
 use Rattle.std.specs.Prelude.{string_bytes}
-use Rattle.trace.specs.Streams.{GrowsByPart}
+use Rattle.streams.specs.Streams.{GrowsByPart}
 use Rattle.trace.specs.declared.fault.PlayFault.TheVariants as texts
 use Rattle.metronome.specs.declared.fault.RunFault.TheVariants as faults
 use Rattle.metronome.proofs.Finishing.{failed_so}

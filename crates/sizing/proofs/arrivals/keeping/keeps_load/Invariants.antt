@@ -1,5 +1,5 @@
 use Rattle.std.proofs.Common.{◌-◌, ◌^◌}
-use Rattle.trace.specs.Streams.{given_by}
+use Rattle.streams.specs.Streams.{given_by}
 use Rattle.trace.proofs.LinesProcessed.{SoFar}
 use Rattle.trace.proofs.Reading.{IsReading}
 use Rattle.sizing.specs.Fitting.{load_in}

@@ -1,5 +1,5 @@
 use Rattle.std.proofs.Common.{◌≤◌, ◌∙◌, length, take, arith, refl, sym, subst, ap, Ok}
-use Rattle.trace.specs.Streams.{NoLf, IsLine, Comes}
+use Rattle.trace.specs.Lines.{NoLf, IsLine, Comes}
 use Rattle.trace.specs.LineReader.{Lines}
 use Rattle.trace.proofs.Feeds.{short_line, comes_on}
 use Rattle.trace.proofs.line_reader.LineReader.next_line.Goals as goal

@@ -1,5 +1,6 @@
 use Rattle.std.proofs.Common.{◌≡◌, ◌+◌, ◌-◌, ◌≤◌, length}
-use Rattle.trace.specs.Streams.{Comes, Stays}
+use Rattle.streams.specs.Streams.{Stays}
+use Rattle.trace.specs.Lines.{Comes}
 use Rattle.trace.proofs.line_reader.LineReader.next_line.Given as goal
 
 -- what came is kept, no line was handed out, and no read has failed

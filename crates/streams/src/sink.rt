@@ -1,0 +1,37 @@
+//! Writers of bytes.
+ghost use Rattle.std.specs.Prelude.{◌≡◌, ℕ, ◌+◌, ◌<◌, ◌≤◌, ◌++◌, List, length, take, IfOk, OnOk, OnErr};
+ghost use Rattle.streams.specs.Streams.{failed, GrowsByPart};
+
+use crate::fault::WriteFailed;
+
+/// What bytes are written to. Contracts see the bytes that it has taken so far, and how many of its
+/// calls have failed.
+pub trait Sink {
+    /// The bytes that it has taken so far.
+    ghost taken: { Self → List ℕ };
+
+    /// How many calls have failed.
+    ghost failures: { Self → ℕ };
+
+    /// Takes bytes, and answers how many of them, from the front, it took: of a piece that isn't empty
+    /// at least one.
+    fn write(&mut self, bytes: &[u8]) -> Result<usize, WriteFailed>
+        ensures within { IfOk result (λ n. n ≤ length bytes.now) }
+        ensures bytes { IfOk result (λ n. taken self.new ≡ taken self.old ++ take n bytes.now) }
+        ensures err { OnErr result (taken self.new ≡ taken self.old) }
+        ensures some { IfOk result (λ n. 0 < length bytes.now → 0 < n) }
+        ensures cause { failures self.new ≡ failures self.old + failed result };
+}
+
+/// Writes bytes, all of them. After an error the sink has taken a beginning of them.
+pub fn write_all<K: Sink>(sink: &mut K, bytes: &[u8]) -> Result<(), WriteFailed>
+    ensures ok { OnOk result (K.taken sink.new ≡ K.taken sink.old ++ bytes.now) }
+    ensures err { OnErr result (GrowsByPart (K.taken sink.old) (K.taken sink.new) bytes.now) }
+    ensures cause { K.failures sink.new ≡ K.failures sink.old + failed result }
+{
+    let mut at = 0;
+    while at < bytes.len() {
+        at += sink.write(&bytes[at..])?;
+    }
+    Ok(())
+}

@@ -18,7 +18,7 @@ width_by r refs = if r.spine then r.count else min r.count (refs - r.first)
 unfoldable pub width_in : ℕ → ℕ → ℕ → ℕ
 width_in refs words part = width_by (run_of (refs + words) part) refs
 
--- the same of an object's part
+-- how many reference cells a part of an object has
 abbrev pub width_of : Object → ℕ → ℕ
 width_of o part = width_in (length o.refs) (length o.words) part
 

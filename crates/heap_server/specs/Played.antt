@@ -33,7 +33,8 @@ pub record HasPlayed (s : SeatView) (script : List Command) : Type 0 where
   pub within : s.calls ≤ length script
   pub told : IsPart (take s.calls script) (commands_of (mine s.seen s.mutator))
 
--- the same, of the seat of a mutator that had made no call
+-- The calls made from the seat of a mutator that had made none are no more than the commands of its script, and it was
+-- told of as many of these, the first ones.
 pub record IsPlayed (script : List Command) (old new : SeatView) : Type 0 where
   pub mutator : new.mutator ≡ old.mutator
   pub within : new.calls ≤ length script

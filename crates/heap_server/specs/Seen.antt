@@ -37,7 +37,8 @@ abbrev pub FaultShows : ServerFault → List Entry → List Entry → Type 0
 FaultShows faults.NoMemory seen new = new ≡ seen
 FaultShows (faults.Torn found) seen new = found ≡ length new
 
--- The same, with the locked history: where another number was found, the log begins with the history.
+-- What a fault says of what the seat has seen, and of the locked history: where another number than its length was
+-- found, the log begins with the history, and goes on.
 abbrev pub FaultTells : ServerFault → List Entry → List Entry → List Entry → Type 0
 FaultTells faults.NoMemory history seen new = new ≡ seen
 FaultTells (faults.Torn found) history seen new = (found ≡ length new) × IsPrefix history new
@@ -57,7 +58,7 @@ pub record IsKnown (log : List Entry) (s : SeatView) : Type 0 where
   pub begins : IsPrefix s.seen log
   pub calls : s.calls ≤ length (mine s.seen s.mutator)
 
--- the same of each seat
+-- what each seat has seen begins a log, and has at least the seat's calls
 abbrev pub EachKnown : List Entry → List SeatView → Type 0
 EachKnown log [] = Unit {0}
 EachKnown log (s ∷ ss) = IsKnown log s × EachKnown log ss

@@ -41,7 +41,7 @@ live_line load measured class = if nat_lt (load.live class) (measured.live class
     ++ (codes ", the load has " ++ (decimal (load.live class) ++ codes "\n")))))
     else []
 
--- the same of what was measured, if a table has room for it
+-- the lines of the classes of which more blocks were live than the load has, if a table has room for what was measured
 abbrev pub live_told : AllocationProfile → Option PaceTable → List ℕ
 live_told load None = codes "more live blocks than can be counted\n"
 live_told load (Some measured) = class_lines (live_line load (pace_in measured)) CLASSES

@@ -95,7 +95,7 @@ needed_report c n =
 abbrev pub too_many : List ℕ
 too_many = codes "more blocks than can be counted: no number of pages is known to suffice\n"
 
--- the same where it can be stated
+-- the report of what was needed, where it can be stated
 abbrev pub needed_told : Config → Option Needed → List ℕ
 needed_told c None = too_many
 needed_told c (Some n) = needed_report c n

@@ -9,8 +9,8 @@ use crate::fault::WriteFault;
 use crate::filling::{Filling, both, filling_of, nothing};
 use machine::Heap;
 use size_classes::{CLASSES, Class, PAGE_WORDS};
-use trace::{end_line, put, put_named};
 use streams::{Sink, WriteFailed};
+use trace::{end_line, put, put_named};
 
 /// Puts the figures of pages at a place, after which there must be room for them, and answers the place after them.
 /// What stands before the place stays.

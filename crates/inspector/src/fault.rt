@@ -1,6 +1,6 @@
 //! Why a report could not be written.
-use thiserror::Error;
 use streams::WriteFailed;
+use thiserror::Error;
 
 /// The sink failed. It has taken a beginning of the report.
 #[derive(Clone, Copy, Debug, PartialEq, Eq, Error)]

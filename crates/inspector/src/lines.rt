@@ -11,8 +11,8 @@ use heap_model::phase::Phase;
 use machine::Heap;
 use nodes::Copies;
 use pages::PageView;
-use trace::{end_line, put, put_named};
 use streams::{Sink, WriteFailed};
+use trace::{end_line, put, put_named};
 
 /// The name of a phase.
 fn name(phase: Phase) -> &'static [u8]

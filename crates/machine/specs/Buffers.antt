@@ -21,7 +21,7 @@ abbrev pub AreOwn : ℕ → GreySet → GreySet → Type 0
 AreOwn mutator old new = (length new.buffers ≡ length old.buffers)
     × ((k : ℕ) → k ≢ mutator → buffer_of new k ≡ buffer_of old k)
 
--- and of a mutator that leaves, its own alone has what its slots held
+-- the buffers after a write of a mutator: where it leaves, none but its own has changed
 abbrev pub AreBuffersBy : HeapFields → ℕ → Write → GreySet → Type 0
 AreBuffersBy a mutator (writes.Leave m) grey = AreOwn m a.grey grey
 AreBuffersBy a mutator write grey = grey.buffers ≡ buffers_by a mutator write

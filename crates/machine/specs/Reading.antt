@@ -58,7 +58,7 @@ pub record IsWordCell (h : HeapState) (o : Object) (id i : ℕ) (at : Cell) : Ty
   pub index : at.index ≡ width_at (record_of h.store at.block) + column_in i
   pub within : at.index < length (record_of h.store at.block).cells
 
--- and the object can be reached
+-- a place of a reference cell of an object that can be reached
 abbrev pub IsRefPlace : HeapState → Graph → ℕ → ℕ → Cell → Type 0
 IsRefPlace h g id i at = Reaches g id × IsRefCell h (object_of g.objects id) id i at
 

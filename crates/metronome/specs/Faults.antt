@@ -25,7 +25,7 @@ abbrev pub failed_reads : {A : Type 0} → Result A RunFault → ℕ
 failed_reads (Err (Text why)) = reads_failed {A = Unit {0}} (Err why)
 failed_reads _ = 0
 
--- and how many writes
+-- how many writes have failed where a run ends so: it ends at the first
 abbrev pub failed_writes : {A : Type 0} → Result A RunFault → ℕ
 failed_writes (Err (Text why)) = writes_failed {A = Unit {0}} (Err why)
 failed_writes _ = 0

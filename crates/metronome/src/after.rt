@@ -26,8 +26,8 @@ use player::{Player, Style, play, play_first};
 use report::tell_report;
 use settings::Config;
 use std::alloc::Global;
-use trace::PlayFault;
 use streams::{Sink, Source};
+use trace::PlayFault;
 use windows::tell_windows;
 
 /// What is reported.

@@ -13,9 +13,9 @@ use inspector::{Layout, cycles_text, take_cycles};
 use settings::Config;
 use sizing::{Measured, measure};
 use std::alloc::{AllocError, Global};
-use trace::transcripts::{Checked, check_entries};
-use trace::PlayFault;
 use streams::{Sink, Source, write_all};
+use trace::PlayFault;
+use trace::transcripts::{Checked, check_entries};
 
 /// What is asked about an input.
 #[derive(Clone, Copy)]

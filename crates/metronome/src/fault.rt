@@ -9,9 +9,9 @@ use command_line::ReadFault;
 use graph_heap::NoMemory;
 use settings::ConfigFault;
 use sizing::DocumentFault;
+use streams::WriteFailed;
 use thiserror::Error;
 use trace::PlayFault;
-use streams::WriteFailed;
 
 /// How a run ends that meets no fault.
 #[derive(Clone, Copy, Debug, PartialEq, Eq)]

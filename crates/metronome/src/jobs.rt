@@ -16,9 +16,9 @@ use settings::Config;
 use std::alloc::Global;
 use std::sync::Wait;
 use std::thread::Threads;
+use streams::{Sink, Source, WriteFailed, write_all};
 use trace::transcripts::read_scripts;
 use trace::{Version, end_line, write_entry};
-use streams::{Sink, Source, WriteFailed, write_all};
 
 /// Plays a trace, and writes what the style says of each command.
 pub fn play_job<S: Source, K: Sink>(

@@ -13,8 +13,8 @@ use settings::Config;
 use sizing::arrivals::{AllocationProfile, Conformance, keeps_load};
 use sizing::{LoadFault, Measured, measure, read_load};
 use std::alloc::Global;
-use trace::PlayFault;
 use streams::{MemorySource, Sink, Source, write_all};
+use trace::PlayFault;
 
 /// How many bytes of a source are asked for at a time.
 const PIECE: usize = 4096;

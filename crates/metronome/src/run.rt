@@ -24,8 +24,8 @@ use std::convert::AsStr;
 use std::io::{Read, Write};
 use std::sync::Wait;
 use std::thread::Threads;
-use trace::PlayFault;
 use streams::{ReadSource, Sink, Source, WriteSink, write_all};
+use trace::PlayFault;
 
 /// What a run has of the machine: threads, memory, and files by their names.
 #[derive(Clone, Copy, Drop)]

@@ -51,7 +51,7 @@ abbrev pub shape_in : MetronomeShape → Reply → MetronomeShape
 shape_in before (replies.Described id shape) = shape_of shape
 shape_in before _ = before
 
--- the same, where there may be no reply
+-- the shape that a reply tells, or the one from before, where it tells none or there is no reply
 abbrev pub shape_told : MetronomeShape → Result Reply Status → MetronomeShape
 shape_told before (Ok reply) = shape_in before reply
 shape_told before (Err why) = before

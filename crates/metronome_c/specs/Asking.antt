@@ -13,12 +13,12 @@ abbrev pub Asks : {A : Type 0} → (HeapState → A → HeapState → Type 0) �
 Asks call (Err why) answer new = (answer ≡ Err why) × (new ≡ Err why)
 Asks {A} call (Ok h) answer new = (a : A) × (k : HeapState) × (answer ≡ Ok a) × (new ≡ Ok k) × call h a k
 
--- it is asked for a reply, which C is told
+-- a handle is asked for a reply, which C is told
 abbrev pub AsksTold : (HeapState → Reply → HeapState → Type 0) → Result HeapState Status → Result HeapState Status
     → Answer → Type 0
 AsksTold call old new told = (reply : Result Reply Status) × Asks call old reply new × (told ≡ answered reply)
 
--- and the shape that the reply tells
+-- a handle is asked for a reply, and C is told both the reply and the shape that it tells
 abbrev pub AsksToldWithShape : (HeapState → Reply → HeapState → Type 0) → Result HeapState Status
     → Result HeapState Status → Answer → MetronomeShape → MetronomeShape → Type 0
 AsksToldWithShape call old new told before after =

@@ -25,7 +25,7 @@ abbrev pub MakesUnless : Option ConfigFault → Settings → Result HeapState St
 MakesUnless (Some fault) s new status = (new ≡ Err Closed) × (status ≡ status_number (fault_status fault))
 MakesUnless None s new status = IsMade s new status
 
--- and where the handle is closed: else it stays as it is
+-- a heap is made where the settings have no fault and the handle is closed; another handle stays as it is
 abbrev pub Creates : Result HeapState Status → Settings → Result HeapState Status → ℕ → Type 0
 Creates (Ok h) s new status = (new ≡ Ok h) × (status ≡ status_number Open)
 Creates (Err Closed) s new status = MakesUnless (fault_of s) s new status

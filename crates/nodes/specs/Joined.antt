@@ -9,7 +9,7 @@ use Rattle.pages.specs.Together.{joined, Together}
 abbrev pub IsHeader : ℕ → Type 0
 IsHeader word = header_word (header_in word) ≡ word
 
--- they are a store, and go together, and word 1 of each allocated block is a header
+-- the records of pages and the words go together and are a store, and word 1 of each allocated block is a header
 pub record AreBlockRecords (rows : List (Option PageRow)) (words : List ℕ) : Type 0 where
   pub whole : IsStore (joined rows words)
   pub together : Together rows words

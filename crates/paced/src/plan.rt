@@ -6,8 +6,8 @@ ghost use Rattle.paced.specs.Pacing.{planned_flow};
 ghost use Rattle.paced.specs.Planning.{cycle_quanta, IsFastest};
 
 use fragmentation::{LEAST_PAGE_FILL, PARTLY_FILLED_PAGES};
-use size_classes::{CLASSES, Class, PAGE_WORDS};
 use settings::{Config, LEAST_BUDGET};
+use size_classes::{CLASSES, Class, PAGE_WORDS};
 
 /// How many words of blocks a heap lets be asked for while its collector works.
 #[derive(Clone, Copy, Debug, PartialEq, Eq)]

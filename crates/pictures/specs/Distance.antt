@@ -42,7 +42,7 @@ found_at found k = slice_index_or found k none_found
 abbrev pub AreOnce : List Found → Type 0
 AreOnce found = (k j : ℕ) → k < length found → j < length found → (found_at found k).id ≡ (found_at found j).id → k ≡ j
 
--- they stand nearest to the roots first
+-- the objects that were found stand nearest to the roots first
 abbrev pub AreInOrder : List Found → Type 0
 AreInOrder found = (k j : ℕ) → k ≤ j → j < length found → (found_at found k).distance ≤ (found_at found j).distance
 

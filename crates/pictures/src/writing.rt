@@ -3,9 +3,8 @@ ghost use Rattle.std.specs.Prelude.{◌≡◌, ◌≤◌, ◌<◌, ◌+◌, ◌+
 ghost use Rattle.streams.specs.Streams.{GrowsByPart, failed};
 ghost use Rattle.pictures.specs.Lines.{lines_text};
 
-use trace::end_line;
-
 use streams::{Sink, WriteFailed};
+use trace::end_line;
 
 /// What is a line of a document.
 pub(crate) trait DocumentLine: Copy {

@@ -113,16 +113,16 @@ module _ {O : Type 0} (HasSeen : Run → O → Type 0) where
   SeesSteps before more after old new =
       (run : Run) → HasSeen run old → run.now ≡ before → HasSeen (after_steps run more after) new
 
-  -- the same of one step
+  -- an observer that has seen a run that led to a step has seen this step, too
   abbrev pub SeesStep : Step → O → O → Type 0
   SeesStep s = SeesSteps s.before (s ∷ []) s.after
 
-  -- the same of a quantum of a budget
+  -- an observer has seen a quantum of this budget, which was done
   abbrev pub SeesQuantum : ℕ → Observed O → Observed O → Type 0
   SeesQuantum budget old new = (s : Step) → IsQuantum budget s → s.before ≡ old.player.course
       → s.after ≡ new.player.course → SeesStep s old.observer new.observer
 
-  -- the same of the quantum that is due, if one is
+  -- an observer has seen the quantum that was due, if one was
   abbrev pub SeesDue : Observed O → Observed O → Result Bool NoMemory → Type 0
   SeesDue old new (Ok true) = SeesQuantum old.player.budget old new
   SeesDue old new other = new.observer ≡ old.observer
@@ -148,7 +148,8 @@ module _ {O : Type 0} (HasSeen : Run → O → Type 0) where
       → Stops style fault line number (session old.player taken) (session new.player taken))
       ⊎ ((fault ≡ Without_memory) × Refuses)
 
-  -- the same of a line's text, and the observer has seen its moment
+  -- the outcome of a line, by its text: it is played, and the observer has seen its steps and its moment; or it stops
+  -- with a fault
   abbrev pub TextObserved : Text → Observed O → Observed O → Result (Unit {0}) PlayFault → Type 0
   TextObserved text old new (Ok done) =
       (es : List Event) × (goes : PlaysLine Nothing text (session old.player []) es (session new.player []))

@@ -64,7 +64,7 @@ Plays style line old events new = DoesLine old.player line events new.player
 abbrev pub PlaysText : Style → Version → List ℕ → Session → List Event → Session → Type 0
 PlaysText style version text old events new = (line : Line) × Spells version text line × Plays style line old events new
 
--- the same of a line that may tell the version
+-- a line of an input is played: it tells the version, or its text spells a line that does so
 abbrev pub PlaysLine : Style → Text → Session → List Event → Session → Type 0
 PlaysLine style = LineEffect (TellsVersionOf style) (PlaysText style)
 
@@ -81,7 +81,7 @@ Stops style NoMemory (lines.Tick n) number old new =
     × (new.player.timetable.due ≡ Some due) × (due < old.player.timetable.clock + n)) × (new.taken ≡ old.taken)
 Stops style fault line number old new = ⊥
 
--- the same of its text, which may spell no event, and then doesn't tell the version
+-- what a fault at a line is, of its text: it spells no event and doesn't tell the version, or a line that stops so
 abbrev pub StopsText : Style → PlayFault → Text → Session → Session → Type 0
 StopsText style fault text old new =
     (IsNoEvent fault text × (new ≡ old))
@@ -151,7 +151,7 @@ PlayedFirst n style given old new result =
     × (count_by is_event first.over.lines ≡ n) × EndAtEvent first.over.lines
     × ((result ≡ Ok tt) ⊎ (result ≡ Err Write)))
 
--- the same, where n may be none: then the whole input is played
+-- the first n events of an input are played, or, where n is none, all of them
 abbrev pub PlayedUpTo : Option ℕ → Style → Given → Session → Session → Result (Unit {0}) PlayFault → Type 0
 PlayedUpTo None = Played
 PlayedUpTo (Some n) = PlayedFirst n

@@ -62,7 +62,7 @@ steps_of line old text events new (Spends budget units phase course does) =
 steps_of line old text events new (Ticks n es q within quanta none) =
     steps_due line (old.timetable.clock + n) old es q quanta
 
--- the same of a line that may tell the version, which has none
+-- the steps of a line of an input: one that tells the version has none
 abbrev pub steps_in : (text : Text) (old : Session) (events : List Event) (new : Session)
     → PlaysLine Nothing text old events new → List Step
 steps_in text old events new (inl tells) = []

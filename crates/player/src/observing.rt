@@ -7,8 +7,8 @@ ghost use Rattle.player.specs.Observing.{run_from, IsObserved, TextObserved, Run
 use crate::line::{do_line, is_event};
 use crate::observed::Observed;
 use crate::observer::Observer;
-use trace::{InputEnd, LineHandler, PlayFault, TextLine, each_line, read_numbered};
 use streams::Source;
+use trace::{InputEnd, LineHandler, PlayFault, TextLine, each_line, read_numbered};
 
 impl<O: Observer + Drop> LineHandler for Observed<O> {
     ghost is_ready = { IsObserved O.has_seen };

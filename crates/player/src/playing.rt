@@ -10,8 +10,8 @@ ghost use Rattle.player.specs.Closing.{Closes};
 use crate::line::play_line;
 use crate::player::Player;
 use crate::style::Style;
-use trace::{LineReader, PlayFault, WriteBuffer};
 use streams::{Sink, Source};
+use trace::{LineReader, PlayFault, WriteBuffer};
 
 /// Writes what still waits when the lines have ended. Where that fails, it is what the play ends with.
 fn close<K: Sink>(

@@ -46,8 +46,8 @@ Arrives l clock [] = Unit {0}
 Arrives l clock (line ∷ rest) =
     AsksFrom l clock (λ class. 0) clock (line ∷ rest) × Arrives l (clock_after clock line) rest
 
--- The same as a bucket, in one pass: what commands ask for fills it, each tick drains it by the rate, and it
--- never holds more than the burst.
+-- Lines keep to a rate and a burst, by a bucket in one pass: what commands ask for fills it, each tick drains it by the
+-- rate, and it never holds more than the burst.
 abbrev pub StaysInBucket : AllocationProfile → (ℕ → ℕ) → List Line → Type 0
 StaysInBucket l level [] = Unit {0}
 StaysInBucket l level (lines.Skip ∷ rest) = StaysInBucket l level rest
@@ -81,7 +81,7 @@ SaysNothing old new = Unit {0}
 abbrev pub SaysLine : Version → List ℕ → Unit {0} → List Line → Unit {0} → Type 0
 SaysLine version bytes old said new = (line : Line) × Spells version bytes line × (said ≡ line ∷ [])
 
--- the same of a line that may tell the version
+-- a line of an input says nothing, since it tells the version, or what its text spells
 abbrev pub SaysText : Text → Unit {0} → List Line → Unit {0} → Type 0
 SaysText = LineEffect SaysNothing SaysLine
 

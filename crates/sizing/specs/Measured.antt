@@ -16,11 +16,11 @@ use Rattle.sizing.specs.declared.measured.Measured.{Measured}
 abbrev pub KeepTogether : (ℕ → ℕ) → Limits → List Event → Type 0
 KeepTogether blocks l es = (live : Lives) × AllKeep (WithinBlocks blocks live) live (opening_season l) es
 
--- They keep within this many pages, where each cycle gathers every class.
+-- Events keep within this many pages, where each cycle gathers every class.
 abbrev pub KeepGathered : ℕ → Limits → List Event → Type 0
 KeepGathered pages l es = (live : Lives) × AllKeep (WithinPages pages) live (opening_season l) es
 
--- They keep to a demand in pages, of what is live and of what is made.
+-- Events keep to a demand in pages, of what is live and of what is made.
 abbrev pub KeepPageDemand : PageDemand → Limits → List Event → Type 0
 KeepPageDemand b l es =
     (live : Lives) × ((n : ℕ) → pages_of (live n) ≤ b.live) × AllKeep (WithinPageDemand b) live (opening_season l) es

@@ -76,7 +76,7 @@ pub record Holds (s : Season) (b : Beat) (m : Meter) : Type 0 where
   pub swept : AreBlocks m.season.since_swept (made_since s.swept s)
   pub asked : AreBlocks m.asked b.asked
 
--- and what the events needed at most at their pace
+-- the meter holds what the events needed at most at their pace
 pub record Needs (l : Limits) (es : List Event) (m : Meter) : Type 0 where
   pub pace : Pace
   pub paces : IsLeastPace l es pace
@@ -85,7 +85,7 @@ pub record Needs (l : Limits) (es : List Event) (m : Meter) : Type 0 where
   pub idle : AreBlocks m.idle pace.idle
   pub budget : (k : ℕ) → HaveBudgets k es ↔ IfSome m.budget (λ budget. k ≤ budget)
 
--- the same is said to be live where each cycle up to this one begins
+-- two accounts of what is live agree where each cycle up to this one begins
 abbrev pub AgreeTo : ℕ → Lives → Lives → Type 0
 AgreeTo cycles lives live = (n : ℕ) → n ≤ cycles → live n ≡ lives n
 

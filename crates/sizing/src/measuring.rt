@@ -9,8 +9,8 @@ use crate::meter::Meter;
 use player::{Observed, Player, observe};
 use settings::Config;
 use std::alloc::Global;
-use trace::PlayFault;
 use streams::Source;
+use trace::PlayFault;
 
 /// What a trace needs on a new heap of a configuration: its lines are played, one after the other, and nothing
 /// is written. The run keeps to what is answered, and to nothing that is less in some number. Where the configuration

@@ -6,8 +6,8 @@ ghost use Rattle.space.specs.Pace.{demand_of};
 ghost use Rattle.space.specs.Space.{space_for};
 
 use crate::pace::{MOST_QUANTA, Pace};
-use size_classes::{CLASSES, Class, PAGE_WORDS};
 use settings::{Config, LEAST_BUDGET, MOST_PAGES};
+use size_classes::{CLASSES, Class, PAGE_WORDS};
 
 /// How many pages may be left sparse: as many as a cycle may empty, and none where blocks are never moved.
 pub fn spare(config: &Config) -> u32

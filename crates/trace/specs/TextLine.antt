@@ -11,7 +11,7 @@ pub record Text : Type 0 where
   pub number : ℕ
   pub version : Version
 
--- the same of a line that the program has
+-- a line that the program has: its bytes, number and version
 abbrev pub text_in : TextLine → Text
 text_in line = record { bytes = line.bytes.now; number = line.number; version = line.version }
 

@@ -5,8 +5,8 @@ use graph_heap::NoMemory;
 use player::{Player, Style, TickFault, play, play_first};
 use std::alloc::AllocGlobal;
 use std::test::Fail;
-use trace::{LineFault, PlayFault};
 use streams::{FailAt, MemorySink, MemorySource, ReadFailed, Sink, WriteFailed, WriteSink};
+use trace::{LineFault, PlayFault};
 
 /// Quanta of 260 units.
 const SLOW: Settings = Settings {

@@ -9,8 +9,8 @@ use crate::cycles::log::Log;
 use player::{Observed, Player, observe};
 use settings::Config;
 use std::alloc::Global;
-use trace::PlayFault;
 use streams::Source;
+use trace::PlayFault;
 
 /// Plays the lines of a trace on a new heap of a configuration, one after the other, writes nothing of them, and
 /// answers the cycles of the run, with the figures of each. A fault is that with which playing the trace ends; or

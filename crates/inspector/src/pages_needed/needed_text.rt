@@ -6,8 +6,8 @@ ghost use Rattle.inspector.specs.NeededReport.{fewest_pages, keys_line, fewest_l
 
 use crate::class_lines::class_lines;
 use crate::pages_needed::lines::{Scope, pages_line, too_many};
-use size_classes::Class;
 use settings::{Config, MOST_PAGES};
+use size_classes::Class;
 use sizing::Needed;
 use space::pages_of_class;
 use std::alloc::{AllocError, Global};

@@ -13,8 +13,8 @@ use crate::reachability::{Found, Holder, Search, holder, search};
 use crate::writing::{write_line, write_lines};
 use graph_heap::{Limits, Reference};
 use std::alloc::Global;
-use trace::PlayFault;
 use streams::{Sink, WriteFailed};
+use trace::PlayFault;
 
 /// The root at a place of the row of roots.
 fn root_at(limits: &Limits, place: usize) -> Root

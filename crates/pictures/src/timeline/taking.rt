@@ -9,8 +9,8 @@ use crate::timeline::samples::Samples;
 use player::{Observed, Player, observe};
 use settings::Config;
 use std::alloc::Global;
-use trace::PlayFault;
 use streams::Source;
+use trace::PlayFault;
 
 /// Plays the lines of a trace on a new heap of a configuration, one after the other, writes nothing of
 /// them, and takes samples of the heap: the first of the new heap, and then one after each stride of

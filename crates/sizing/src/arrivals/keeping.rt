@@ -10,10 +10,10 @@ ghost use Rattle.sizing.specs.Keeping.{LoadChecked};
 
 use crate::arrivals::load::AllocationProfile;
 use graph_heap::Command;
-use size_classes::{CLASSES, Class, Need, parts_of};
 use settings::Config;
-use trace::{Line, LineReader, PlayFault, TextLine, read_numbered};
+use size_classes::{CLASSES, Class, Need, parts_of};
 use streams::Source;
+use trace::{Line, LineReader, PlayFault, TextLine, read_numbered};
 
 /// In which way a line breaks a load.
 #[derive(Clone, Copy, Debug, PartialEq, Eq)]

@@ -4,9 +4,8 @@ ghost use Rattle.space.specs.Fitting.{pace_in};
 ghost use Rattle.sizing.specs.AllocationProfile.{pace_of};
 ghost use Rattle.sizing.specs.Fitting.{load_in, IsSamePace};
 
-use size_classes::CLASSES;
-
 use settings::Config;
+use size_classes::CLASSES;
 use space::Pace;
 
 /// Of each size class: how many blocks live objects need at most where a cycle begins, how many commands ask

@@ -8,8 +8,8 @@ use graph_heap::NoMemory;
 use player::{Player, Style, play};
 use settings::Config;
 use std::alloc::Global;
-use trace::PlayFault;
 use streams::{Sink, Source};
+use trace::PlayFault;
 
 /// What was played on a new player: the player after it, and how the play ended.
 #[derive(Drop)]

@@ -16,7 +16,7 @@ use Rattle.heap_model.specs.Taking.{Takes, Nothing_taken, Part_taken}
 use Rattle.heap_model.specs.Header.{ShapeFits}
 use Rattle.heap_model.specs.Making.{made, part_of, Making, MakesObject, Nothing_made, Part_made}
 use Rattle.heap_model.specs.Making.{Made as OneObject}
-use Rattle.heap_model.proofs.Seen.{allocated_pages}
+use Rattle.heap_model.proofs.State.{allocated_pages}
 use Rattle.nodes.specs.Links.{KeepsLinks}
 use Rattle.arraylets.specs.Made.{LinksPart}
 

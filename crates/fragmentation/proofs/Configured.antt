@@ -16,17 +16,17 @@ use Rattle.space.specs.Fitting.{spare_in, below_in, swept_at, unmoved_quanta_at}
 use Rattle.space.specs.Pace.{unmoved_quanta}
 use Rattle.space.specs.Tally.{EveryNewFindsRoom}
 use Rattle.space.specs.Room.{AllHaveRoom}
-use Rattle.space.proofs.Roomless.{all_have_room}
-use Rattle.space.proofs.Configured.{pages as same_pages, below as same_limit, defrag as same_defrag, some as has_some, same_spare, same_below}
+use Rattle.space.proofs.Rooms.{all_have_room}
+use Rattle.space.proofs.Fittings.Configured.{pages as same_pages, below as same_limit, defrag as same_defrag, some as has_some, same_spare, same_below}
 use Rattle.fragmentation.specs.Season.{Lives, opening_season, AllKeep}
 use Rattle.fragmentation.specs.Suffice.{GathersAll, WithinPages, WithinBlocks, pages_of, PageDemand, demand_pages, WithinPageDemand}
 use Rattle.fragmentation.specs.Flow.{Flow, opening_meter, KeepsFlow, AllMetered, traced_words, flow_pages, FlowFits}
 use Rattle.fragmentation.specs.Configured.{MovesAll, FitsTogether, FlowFitsIn}
-use Rattle.fragmentation.proofs.Joints.{joint_suffices, joint_suffices_unmoved}
-use Rattle.fragmentation.proofs.Sparses.{sparse_suffices}
-use Rattle.fragmentation.proofs.Moving.{moving_suffices}
-use Rattle.fragmentation.proofs.PageDemands.{page_demand_suffices}
-use Rattle.fragmentation.proofs.Flows.{flow_suffices}
+use Rattle.fragmentation.proofs.Suffice.Joints.{joint_suffices, joint_suffices_unmoved}
+use Rattle.fragmentation.proofs.Suffice.Sparses.{sparse_suffices}
+use Rattle.fragmentation.proofs.Suffice.Moving.{moving_suffices}
+use Rattle.fragmentation.proofs.Suffice.PageDemands.{page_demand_suffices}
+use Rattle.fragmentation.proofs.Flows.Suffices.{flow_suffices}
 
 -- a page of the smallest class has the most blocks
 most : blocks_in 0 ≡ MOST_BLOCKS

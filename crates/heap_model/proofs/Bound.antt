@@ -10,10 +10,10 @@ use Rattle.heap_model.specs.Settings.{HeapSettings}
 use Rattle.heap_model.specs.Bound.{Quantum, AreQuanta, most_quanta, OneEnds}
 use Rattle.heap_model.proofs.Settings.{action_rest}
 use Rattle.heap_model.proofs.Marks.{action_count}
-use Rattle.heap_model.proofs.Turns.{chain_units}
-use Rattle.heap_model.proofs.Costs.{turn_left}
-use Rattle.heap_model.proofs.Relinked.{relinked_count}
-use Rattle.heap_model.proofs.Stood.{represents_chain, represents_limit}
+use Rattle.heap_model.proofs.QuantumSpending.Quanta.{chain_units}
+use Rattle.heap_model.proofs.QuantumSpending.Costs.{turn_left}
+use Rattle.heap_model.proofs.Grey.Relinked.{relinked_count}
+use Rattle.heap_model.proofs.Represents.{represents_chain, represents_limit}
 
 pub same_limit : (h after : HeapState) → length after.roots ≡ length h.roots → length after.store.pages ≡ length h.store.pages → after.defrag_pages ≡ h.defrag_pages → cycle_limit after ≡ cycle_limit h
 same_limit h after r p d =

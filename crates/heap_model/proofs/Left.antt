@@ -10,13 +10,13 @@ use Rattle.heap_model.specs.State.{HeapState}
 use Rattle.heap_model.specs.Making.{made, Making, Nothing_made, Part_made}
 use Rattle.heap_model.specs.Change.{DoesChange, Does_nothing, Does_root, Does_ref, Does_word, Does_new, Does_join, Does_leave, Clears, Clears_none, Clears_next}
 use Rattle.heap_model.specs.Left.{LeavesCycle}
-use Rattle.heap_model.proofs.Seen.{allocated_pages}
-use Rattle.heap_model.proofs.Moved.{same_number}
+use Rattle.heap_model.proofs.State.{allocated_pages}
+use Rattle.heap_model.proofs.Action.Moving.{same_number}
 use Rattle.heap_model.proofs.Placed.{pages_then}
 use Rattle.heap_model.proofs.Bound.{same_limit}
-use Rattle.heap_model.proofs.Taken.{takes_keep, takes_count}
-use Rattle.heap_model.proofs.Changed.{same_pages}
-use Rattle.heap_model.proofs.Recording.{Stays, records_stay}
+use Rattle.heap_model.proofs.Taking.{takes_keep, takes_count}
+use Rattle.heap_model.proofs.Change.Changed.{same_pages}
+use Rattle.heap_model.proofs.Change.Recording.{Stays, records_stay}
 
 adds_allocated : (s t : Store) (a b : ℕ) → is_allocated s a ≡ false → ((b : ℕ) → b ≢ a → is_allocated t b ≡ is_allocated s b) → is_allocated s b ≡ true → is_allocated t b ≡ true
 adds_allocated s t a b free same allocated = by_here (b == a) refl

@@ -13,17 +13,17 @@ use Rattle.heap_model.specs.Block.{BlockRecord, new_record}
 use Rattle.heap_model.specs.Store.{Store, Adds, is_allocated, record_of}
 use Rattle.heap_model.specs.Core.{Name, null, Heap}
 use Rattle.heap_model.specs.Cut.{count_of, width_by, width_in, width_of, words_by, words_of}
-use Rattle.heap_model.proofs.Cut.{spine_in, spine_cell_in, spine_below}
+use Rattle.heap_model.proofs.Cut.Reaching.{spine_in, spine_cell_in, spine_below}
 use Rattle.heap_model.specs.State.{HeapState, seen, width_at, same_colour}
 use Rattle.heap_model.specs.Agreement.{IsWhole}
 use Rattle.heap_model.specs.Making.{made, Making, Nothing_made, Part_made, MakesObject}
-use Rattle.heap_model.proofs.Same.{SameBlocks}
-use Rattle.heap_model.proofs.Parts.{Parts, Makes, link_by, parts_of}
-use Rattle.heap_model.proofs.Edits.{set_cell}
-use Rattle.heap_model.proofs.Changes.{no_refs, parts_are}
-use Rattle.heap_model.proofs.Steps.{AreLinked, MakesFirst, block_made, first_none, first_root, first_more, first_all}
-use Rattle.heap_model.proofs.Written.{whole_cell, width_le}
-use Rattle.heap_model.proofs.Seen.{behind, allocated_put, cell_seen}
+use Rattle.heap_model.proofs.Core.Same.{SameBlocks}
+use Rattle.heap_model.proofs.Core.NewParts.{Parts, Makes, link_by, parts_of}
+use Rattle.heap_model.proofs.Core.Edits.{set_cell}
+use Rattle.heap_model.proofs.Cut.Changes.{no_refs, parts_are}
+use Rattle.heap_model.proofs.Core.LinkedParts.{AreLinked, MakesFirst, block_made, first_none, first_root, first_more, first_all}
+use Rattle.heap_model.proofs.Agreements.Written.{whole_cell, width_le}
+use Rattle.heap_model.proofs.State.{behind, allocated_put, cell_seen}
 
 -- a heap that shows the same blocks has the same parts made
 pub first_same : (h : Heap) (ps : Parts) (a : ℕ → ℕ) (k : ℕ) (h1 h2 : Heap) → MakesFirst h ps a k h1 → SameBlocks h1 h2 → MakesFirst h ps a k h2

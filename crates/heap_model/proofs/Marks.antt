@@ -12,9 +12,9 @@ use Rattle.heap_model.specs.State.{HeapState}
 use Rattle.heap_model.specs.Action.{Action, Scans_root, Ends_roots, Scans_header, Scans_cell, Ends_marking, Frees_block, Passes_block, Closes_page, Ends_sweep, Looks_at_page, Chooses_page, Chooses_none, Moves_block, Ends_moving, allocated_on, closed, is_sparse, is_choosable, is_chosen}
 use Rattle.heap_model.specs.Placed.{KeepsPages, IsPlaced}
 use Rattle.heap_model.specs.Marks.{HasNoMark, AreClosed}
-use Rattle.heap_model.proofs.Allocated.{set_page, set_page_here, page_within}
-use Rattle.heap_model.proofs.Moved.{same_number, usable_fits}
-use Rattle.heap_model.proofs.Spent.{shades_units}
+use Rattle.heap_model.proofs.Store.Allocated.{set_page, set_page_here, page_within}
+use Rattle.heap_model.proofs.Action.Moving.{same_number, usable_fits}
+use Rattle.heap_model.proofs.Spent.Actions.{shades_units}
 
 -- the pages with another in the place of one
 pub pages_put : (old new : List (Option Page)) (k : ℕ) (v : Option Page) → k < length old → new ≡ set old k v → ArePages old → ((p : Page) → v ≡ Some p → IsPage p) → ArePages new

@@ -13,9 +13,9 @@ use Rattle.heap_model.specs.Collector.{In_idle}
 use Rattle.heap_model.specs.State.{HeapState, seen, collector_of, progress_of}
 use Rattle.heap_model.specs.Agreement.{HasItsCells, Consistent}
 use Rattle.heap_model.specs.Opening.{IsOpening}
-use Rattle.heap_model.proofs.Kept.{kept_null, kept_cases, kept_reach, reach_induction, fresh_none}
-use Rattle.heap_model.proofs.Barrier.{staged}
-use Rattle.heap_model.proofs.Changes.{no_refs}
+use Rattle.heap_model.proofs.Core.Kept.{kept_null, kept_cases, kept_reach, reach_induction, fresh_none}
+use Rattle.heap_model.proofs.Collector.Barrier.{staged}
+use Rattle.heap_model.proofs.Cut.Changes.{no_refs}
 
 pub page_none : (n k : ℕ) → page_at (replicate n None) k ≡ None
 page_none n k = let l = length-replicate {A = Option Page} n None in grind (arith, get_or-replicate, get_or_past)

@@ -12,8 +12,8 @@ use Rattle.heap_model.specs.Store.{size_in}
 use Rattle.heap_model.specs.State.{is_target_page, is_evacuating, page_of, reference_of}
 use Rattle.heap_model.specs.Written.{KeepsPlace}
 use Rattle.heap_model.specs.Placed.{KeepsClass, KeepsPages, IsPlaced}
-use Rattle.heap_model.proofs.Allocated.{set_page}
-use Rattle.heap_model.proofs.Moved.{same_number}
+use Rattle.heap_model.proofs.Store.Allocated.{set_page}
+use Rattle.heap_model.proofs.Action.Moving.{same_number}
 
 pub pages_same : (pages : List (Option Page)) → KeepsPages pages pages
 pages_same pages = record { used = λ k p e. (p, e, record { class = refl; evacuating = refl; is_target = refl }); free = λ k q e f. absurd (let z : None ≡ Some q = sym e ∙ f in cc) }

@@ -8,10 +8,10 @@ use Rattle.heap_model.specs.Action.{Action, Chain, Nothing_done, Then, Shades, W
 use Rattle.heap_model.specs.Change.{Records, Records_nothing, Records_main, DoesChange, Does_nothing, Does_root, Does_ref, Does_word, Does_new, Does_join, Does_leave, Clears, Clears_none, Clears_next}
 use Rattle.heap_model.specs.Event.{Course, Event, Command_done, Cycle_begun, Begin_refused, Quantum_done, Quantum_refused, present_of, room_for, change_by, Does}
 use Rattle.heap_model.specs.Settings.{HeapSettings, settings_of}
-use Rattle.heap_model.proofs.Relinked.{relinked_settings}
-use Rattle.heap_model.proofs.Spent.{shades_units}
+use Rattle.heap_model.proofs.Grey.Relinked.{relinked_settings}
+use Rattle.heap_model.proofs.Spent.Actions.{shades_units}
 use Rattle.heap_model.proofs.Marks.{action_count}
-use Rattle.heap_model.proofs.Taken.{takes_count}
+use Rattle.heap_model.proofs.Taking.{takes_count}
 
 -- the settings but for how many pages there are
 abbrev pub others : HeapState → HeapSettings

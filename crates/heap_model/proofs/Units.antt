@@ -1,13 +1,14 @@
+-- What work is left in marking, and that each step takes as much of it as it costs.
 use Rattle.std.proofs.Common.{◌≡◌, ℕ, zero, suc, ◌+◌, ◌<◌, ◌≤◌, ◌≢◌, inl, inr, true, false, List, ◌∷◌, ◌++◌, arith, ap, subst, sym, ◌∙◌, ◌==◌, ◌||◌}
 use Rattle.std.proofs.lemmas.Bool.{cases_eq, cases_Bool}
 use Rattle.heap_model.specs.Core.{Heap}
 use Rattle.heap_model.specs.Collector.{Collector, contains, done_by, done_of, Greys}
-use Rattle.heap_model.proofs.Barrier.{made_done}
+use Rattle.heap_model.proofs.Collector.Barrier.{made_done}
 use Rattle.heap_model.specs.Units.{total, work, gone}
-use Rattle.heap_model.proofs.Parts.{Parts, Makes}
-use Rattle.heap_model.proofs.Edits.{move}
-use Rattle.heap_model.proofs.Acts.{shaded, cell_scanned}
-use Rattle.heap_model.proofs.Collector.{shaded_done, cell_done, header_done, contains-shaded, contains-middle}
+use Rattle.heap_model.proofs.Core.NewParts.{Parts, Makes}
+use Rattle.heap_model.proofs.Core.Edits.{move}
+use Rattle.heap_model.proofs.Collector.Acts.{shaded, cell_scanned}
+use Rattle.heap_model.proofs.Collector.Coherence.{shaded_done, cell_done, header_done, contains-shaded, contains-middle}
 
 -- blocks of some words each lie apart, in the first `words` words (references are addresses and one)
 pub record LieApart (h : Heap) (size : ℕ → ℕ) (words : ℕ) : Type 0 where

@@ -10,7 +10,7 @@ use Rattle.heap_model.specs.Event.{Course, Event, Command_done, Cycle_begun, Qua
 use Rattle.heap_model.specs.ReachedFrom.{IsReachedFrom, cycles_in, units_in, opened}
 use Rattle.heap_model.specs.Settings.{HeapSettings, settings_of}
 use Rattle.heap_model.proofs.Left.{change_left}
-use Rattle.heap_model.proofs.Leading.{reached_opening, reached_more, reached_course}
+use Rattle.heap_model.proofs.ReachedFrom.{reached_opening, reached_more, reached_course}
 use Rattle.heap_model.proofs.Settings.{does_settings}
 use Rattle.machine.proofs.Headline.{course_holds}
 use Rattle.machine.proofs.Space.{found_space}

@@ -8,8 +8,8 @@ use Rattle.heap_model.specs.Action.{Chain, Nothing_done, Then}
 use Rattle.heap_model.specs.Pages.{ArePages}
 use Rattle.heap_model.specs.Represents.{Represents}
 use Rattle.heap_model.specs.Event.{Course, present_of, snapshot_of, Collects, IsCourse}
-use Rattle.heap_model.proofs.Turns.{action_cost}
-use Rattle.heap_model.proofs.Stood.{represents_chain, idle_chain}
+use Rattle.heap_model.proofs.QuantumSpending.Quanta.{action_cost}
+use Rattle.heap_model.proofs.Represents.{represents_chain, idle_chain}
 use Rattle.machine.specs.declared.collector.Spent.{Spent}
 use Rattle.heap_server.specs.Views.{PacerView}
 use Rattle.heap_server.specs.Kept.{cycles_on}

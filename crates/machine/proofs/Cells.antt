@@ -16,10 +16,10 @@ use Rattle.heap_model.specs.Cut.{count_of, width_in}
 use Rattle.heap_model.specs.State.{HeapState, width_at}
 use Rattle.heap_model.specs.Agreement.{Agrees, IsWhole}
 use Rattle.heap_model.specs.Reading.{IsMainCopy, Refers, spine_at, block_of}
-use Rattle.heap_model.proofs.Hops.{root_to_spine, spine_to_part, part_reached}
-use Rattle.heap_model.proofs.Shown.{copy_main, shape_shown}
-use Rattle.heap_model.proofs.Written.{cells_sum}
-use Rattle.heap_model.proofs.Cut.{part_below, word_below}
+use Rattle.heap_model.proofs.Readings.Hops.{root_to_spine, spine_to_part, part_reached}
+use Rattle.heap_model.proofs.Readings.Shown.{copy_main, shape_shown}
+use Rattle.heap_model.proofs.Agreements.Written.{cells_sum}
+use Rattle.heap_model.proofs.Cut.Reaching.{part_below, word_below}
 use Rattle.arraylets.specs.declared.position.CellPosition.{CellPosition}
 use Rattle.arraylets.specs.CellPosition.{ref_position, word_position}
 use Rattle.machine.specs.declared.plan.Found.{Found}

@@ -9,13 +9,13 @@ use Rattle.heap_model.specs.Pages.{ArePages}
 use Rattle.heap_model.specs.Store.{Store}
 use Rattle.heap_model.specs.Written.{records}
 use Rattle.heap_model.specs.QuantumSpending.{QuantumSpends}
-use Rattle.heap_model.proofs.Agreements.{consistent_agrees}
-use Rattle.heap_model.proofs.Sameness.{told, agrees_alike}
+use Rattle.heap_model.proofs.Agreements.Implied.{consistent_agrees}
+use Rattle.heap_model.proofs.Alike.Sameness.{told, agrees_alike}
 use Rattle.heap_model.proofs.Bound.{same_limit}
-use Rattle.heap_model.proofs.Costs.{turn_left, some_cost}
-use Rattle.heap_model.proofs.Relinked.{relinked_count, represents_relinked}
-use Rattle.heap_model.proofs.Stood.{represents_chain, represents_begun}
-use Rattle.heap_model.proofs.Turns.{chain_units}
+use Rattle.heap_model.proofs.QuantumSpending.Costs.{turn_left, some_cost}
+use Rattle.heap_model.proofs.Grey.Relinked.{relinked_count, represents_relinked}
+use Rattle.heap_model.proofs.Represents.{represents_chain, represents_begun}
+use Rattle.heap_model.proofs.QuantumSpending.Quanta.{chain_units}
 use Rattle.nodes.specs.Acting.{Acts, ActsIn}
 use Rattle.nodes.proofs.Chains.{then_chain, heap_after_chain}
 use Rattle.nodes.proofs.Keeping.{relinked_twice}

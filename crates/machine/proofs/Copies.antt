@@ -14,11 +14,11 @@ use Rattle.heap_model.specs.Cut.{view}
 use Rattle.heap_model.specs.State.{HeapState, seen, is_left, is_evacuating, page_of, reference_of}
 use Rattle.heap_model.specs.Action.{Action, Scans_root, Ends_roots, Scans_header, Scans_cell, Ends_marking, Frees_block, Passes_block, Closes_page, Ends_sweep, Looks_at_page, Chooses_page, Chooses_none, Moves_block, Ends_moving, KeepsBlocks, MovesBlock, IsNext}
 use Rattle.heap_model.specs.Represents.{Represents}
-use Rattle.heap_model.proofs.Acting.{at_phase}
-use Rattle.heap_model.proofs.Collector.{left_main}
-use Rattle.heap_model.proofs.Allocated.{is_page, block_within, size_some, page_of_place, allocated_at}
-use Rattle.heap_model.proofs.Moved.{at_number, below_end, not_below}
-use Rattle.heap_model.proofs.Seen.{behind}
+use Rattle.heap_model.proofs.Action.Collecting.{at_phase}
+use Rattle.heap_model.proofs.Collector.Coherence.{left_main}
+use Rattle.heap_model.proofs.Store.Allocated.{is_page, block_within, size_some, page_of_place, allocated_at}
+use Rattle.heap_model.proofs.Action.Moving.{at_number, below_end, not_below}
+use Rattle.heap_model.proofs.State.{behind}
 use Rattle.nodes.specs.Copies.{is_main, is_old}
 use Rattle.machine.specs.Copies.{MakesOneOld}
 

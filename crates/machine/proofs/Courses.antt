@@ -9,7 +9,7 @@ use Rattle.heap_model.specs.Event as done
 use Rattle.heap_model.specs.Event.{Course, Cycle_begun, Begins, IsCourse, Does, Runs}
 use Rattle.heap_model.specs.declared.phase.Phase.TheVariants as phases
 use Rattle.heap_model.specs.Spent.{cycle_limit}
-use Rattle.heap_model.proofs.Course.{does_course, runs_end}
+use Rattle.heap_model.proofs.Event.Kept.{does_course, runs_end}
 use Rattle.machine.specs.declared.event.Event.{Event}
 use Rattle.machine.specs.declared.event.Event.TheVariants as events
 use Rattle.machine.specs.declared.collector.BudgetOutOfRange.{BudgetOutOfRange}

@@ -12,10 +12,10 @@ use Rattle.heap_model.specs.Agreement.{Agrees}
 use Rattle.heap_model.specs.Alike.{IsAlike, IsFounded}
 use Rattle.heap_model.specs.Written.{IsKnown}
 use Rattle.heap_model.specs.Change.{DoesChange}
-use Rattle.heap_model.proofs.Agreements.{consistent_agrees}
-use Rattle.heap_model.proofs.Sameness.{each_changed, reach_some, alike_back, alike_sym}
-use Rattle.heap_model.proofs.Changes.{put_each, object-append}
-use Rattle.heap_model.proofs.Changed.{represents_changed}
+use Rattle.heap_model.proofs.Agreements.Implied.{consistent_agrees}
+use Rattle.heap_model.proofs.Alike.Sameness.{each_changed, reach_some, alike_back, alike_sym}
+use Rattle.heap_model.proofs.Cut.Changes.{put_each, object-append}
+use Rattle.heap_model.proofs.Change.Changed.{represents_changed}
 use Rattle.heap_model.proofs.Left.{change_left}
 use Rattle.nodes.specs.HeapFields.{IsHeap}
 use Rattle.machine.specs.Plan.{IsPlanned}

@@ -6,7 +6,7 @@ use Rattle.graph_heap.specs.declared.command.Entry.{Entry}
 use Rattle.graph_heap.specs.declared.command.Reply.{Reply}
 use Rattle.heap_model.specs.State.{HeapState}
 use Rattle.heap_model.specs.Event.{Course, Command_done, Does, IsCourse, present_of, snapshot_of}
-use Rattle.heap_model.proofs.Agreements.{consistent_agrees}
+use Rattle.heap_model.proofs.Agreements.Implied.{consistent_agrees}
 use Rattle.machine.specs.declared.collector.BudgetOutOfRange.{BudgetOutOfRange}
 use Rattle.machine.specs.declared.collector.Busy.{Busy}
 use Rattle.machine.specs.declared.collector.Spent.{Spent}

@@ -17,9 +17,9 @@ use Rattle.heap_model.specs.State.{HeapState, seen}
 use Rattle.heap_model.specs.Agreement.{Agrees}
 use Rattle.heap_model.specs.Written.{IsKnown}
 use Rattle.heap_model.specs.Reading.{IsMainCopy}
-use Rattle.heap_model.proofs.Shown.{leads, copy_main, main_copy, root_reads, shape_shown, ref_shown, word_shown}
-use Rattle.heap_model.proofs.Sameness.{known_root, known_ref, known_reaches}
-use Rattle.heap_model.proofs.Cut.{count_some}
+use Rattle.heap_model.proofs.Readings.Shown.{leads, copy_main, main_copy, root_reads, shape_shown, ref_shown, word_shown}
+use Rattle.heap_model.proofs.Alike.Sameness.{known_root, known_ref, known_reaches}
+use Rattle.heap_model.proofs.Cut.Reaching.{count_some}
 use Rattle.nodes.specs.HeapFields.{IsHeap}
 use Rattle.machine.proofs.Doing.{present_agrees}
 use Rattle.nodes.proofs.Representing.{follows}

@@ -3,11 +3,11 @@ use Rattle.std.proofs.Common.{◌≡◌, List, [], ◌∷◌, ◌++◌, ap, sym,
 use Rattle.std.proofs.lemmas.List.{append_assoc, append-nil}
 use Rattle.graph_heap.specs.declared.command.Entry.{Entry}
 use Rattle.heap_model.specs.Event.{Course, Event, Command_done, Cycle_begun, Begin_refused, Quantum_done, Quantum_refused, IsCourse, Does, Runs, present_of, snapshot_of}
-use Rattle.heap_model.proofs.Agreements.{consistent_agrees}
-use Rattle.heap_model.proofs.Course.{runs_course}
-use Rattle.heap_model.proofs.Freed.{reached_allocated, runs_back}
-use Rattle.heap_model.proofs.Rest.{allocated_is_kept}
-use Rattle.heap_model.proofs.Stood.{represents_chain, represents_limit, sweep_change}
+use Rattle.heap_model.proofs.Agreements.Implied.{consistent_agrees}
+use Rattle.heap_model.proofs.Event.Kept.{runs_course}
+use Rattle.heap_model.proofs.Event.Freed.{reached_allocated, runs_back}
+use Rattle.heap_model.proofs.Swept.{allocated_is_kept}
+use Rattle.heap_model.proofs.Represents.{represents_chain, represents_limit, sweep_change}
 use Rattle.machine.specs.Headline.{Holds, AlwaysHolds}
 use Rattle.machine.proofs.Courses.{ends_soon}
 

@@ -15,7 +15,7 @@ use Rattle.heap_model.specs.State.{HeapState, seen}
 use Rattle.heap_model.specs.Agreement.{Agrees}
 use Rattle.heap_model.specs.Event.{room_for}
 use Rattle.heap_model.specs.Change.{Records, DoesChange, Does_root, Does_join, Does_leave, Clears, Clears_none, Clears_next}
-use Rattle.heap_model.proofs.Recording.{records_stay}
+use Rattle.heap_model.proofs.Change.Recording.{records_stay}
 use Rattle.nodes.specs.Grey.{GreySet, buffer_of, with_buffer}
 use Rattle.nodes.specs.HeapFields.{state_of, IsHeap}
 use Rattle.nodes.specs.declared.heap_fields.HeapFields.{HeapFields}

@@ -11,7 +11,7 @@ use Rattle.heap_model.specs.Settings.{HeapSettings, settings_of, settings_by}
 use Rattle.heap_model.proofs.Settings.{does_settings}
 use Rattle.space.specs.Tally.{opening_tally, AllKeepTo}
 use Rattle.space.specs.Pace.{opening_beat, AllKeepPace}
-use Rattle.space.proofs.Configured.{demand_configured, pace_configured}
+use Rattle.space.proofs.Fittings.Configured.{demand_configured, pace_configured}
 use Rattle.fragmentation.specs.Season.{opening_season, AllKeep}
 use Rattle.fragmentation.specs.Suffice.{WithinPages, WithinBlocks, WithinPageDemand}
 use Rattle.fragmentation.specs.Flow.{opening_meter, KeepsFlow, AllMetered}

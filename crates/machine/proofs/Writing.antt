@@ -11,7 +11,7 @@ use Rattle.heap_model.specs.Store.{Store, record_of, Writes}
 use Rattle.heap_model.specs.State.{HeapState, seen}
 use Rattle.heap_model.specs.Written.{records}
 use Rattle.heap_model.proofs.Left.{change_left}
-use Rattle.heap_model.proofs.Recording.{records_stay}
+use Rattle.heap_model.proofs.Change.Recording.{records_stay}
 use Rattle.nodes.specs.Grey.{GreySet, buffer_of, with_buffer}
 use Rattle.satb_barrier.specs.Recording.{with_room, shades, buffers_after}
 use Rattle.machine.specs.Buffers.{AreBuffersBy}
@@ -20,7 +20,7 @@ use Rattle.heap_model.specs.Making.{MakesObject}
 use Rattle.heap_model.specs.Taking.{Takes}
 use Rattle.heap_model.specs.Settings.{HeapSettings}
 use Rattle.heap_model.proofs.Settings.{change_settings}
-use Rattle.heap_model.proofs.Sameness.{told}
+use Rattle.heap_model.proofs.Alike.Sameness.{told}
 use Rattle.nodes.specs.Referent.{CanFollow}
 use Rattle.nodes.specs.declared.heap_fields.HeapFields.{HeapFields}
 use Rattle.nodes.specs.HeapFields.{state_of, IsHeap, AreHeapFields}

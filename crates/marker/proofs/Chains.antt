@@ -6,7 +6,7 @@ use Rattle.heap_model.specs.Block.{with_cell, with_colour}
 use Rattle.heap_model.specs.State.{HeapState, seen, width_at}
 use Rattle.heap_model.specs.Store.{Store, Writes, is_allocated, record_of}
 use Rattle.heap_model.specs.declared.phase.Phase.TheVariants as phases
-use Rattle.heap_model.proofs.Seen.{node_kept}
+use Rattle.heap_model.proofs.State.{node_kept}
 use Rattle.nodes.specs.declared.heap_fields.HeapFields.{HeapFields}
 use Rattle.nodes.specs.HeapFields.{state_of}
 use Rattle.nodes.proofs.Chains.{steps_on}

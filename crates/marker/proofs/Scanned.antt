@@ -5,8 +5,8 @@ use Rattle.heap_model.specs.Store.{is_allocated, record_of}
 use Rattle.heap_model.specs.Cut.{view}
 use Rattle.heap_model.specs.State.{HeapState, seen, width_at, collector_by}
 use Rattle.heap_model.specs.Collector.{Collector, Coherent}
-use Rattle.heap_model.proofs.Acting.{wide_within, scanned_allocated, scanned_cell_allocated, allocated_behind, at_phase}
-use Rattle.heap_model.proofs.Apart.{lie_apart}
+use Rattle.heap_model.proofs.Action.Collecting.{wide_within, scanned_allocated, scanned_cell_allocated, allocated_behind, at_phase}
+use Rattle.heap_model.proofs.Store.Apart.{lie_apart}
 use Rattle.nodes.specs.declared.nodes.Referent.{Referent}
 use Rattle.nodes.specs.Referent.{CanFollow, referent_of}
 use Rattle.nodes.proofs.Representing.{main_allocated}

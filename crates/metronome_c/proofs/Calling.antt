@@ -9,9 +9,9 @@ use Rattle.heap_model.specs.State.{HeapState}
 use Rattle.heap_model.specs.Agreement.{Agrees}
 use Rattle.heap_model.specs.Event.{Course, Event, Command_done, Cycle_begun, Begin_refused, Quantum_done, Quantum_refused, IsCourse, Does, Runs, present_of, snapshot_of}
 use Rattle.heap_model.specs.ReachedFrom.{opened}
-use Rattle.heap_model.proofs.Agreements.{consistent_agrees}
-use Rattle.heap_model.proofs.Course.{does_course, opening_course}
-use Rattle.space.proofs.Configured as configured
+use Rattle.heap_model.proofs.Agreements.Implied.{consistent_agrees}
+use Rattle.heap_model.proofs.Event.Kept.{does_course, opening_course}
+use Rattle.space.proofs.Fittings.Configured as configured
 use Rattle.machine.specs.declared.collector.Busy.{Busy}
 use Rattle.machine.specs.declared.collector.BudgetOutOfRange.{BudgetOutOfRange}
 use Rattle.machine.specs.declared.collector.Spent.{Spent}

@@ -14,7 +14,7 @@ use Rattle.heap_model.specs.Settings.{HeapSettings, settings_of, settings_by}
 use Rattle.heap_model.specs.Opening.{IsOpening}
 use Rattle.heap_model.specs.Spent.{cycle_limit}
 use Rattle.heap_model.specs.Bound.{most_quanta}
-use Rattle.space.proofs.Configured as configured
+use Rattle.space.proofs.Fittings.Configured as configured
 use Rattle.metronome_c.specs.declared.limit.CycleLimit.{CycleLimit}
 use Rattle.metronome_c.specs.declared.status.Status.TheVariants.{Done}
 use Rattle.metronome_c.specs.Limit.{limit_of, quanta_of, LimitsUnless, TellsLimit}

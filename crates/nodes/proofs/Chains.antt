@@ -6,10 +6,10 @@ use Rattle.heap_model.specs.Settings.{HeapSettings}
 use Rattle.heap_model.specs.State.{HeapState}
 use Rattle.heap_model.specs.Written.{records}
 use Rattle.heap_model.proofs.Bound.{chain_limit}
-use Rattle.heap_model.proofs.Grey.{rests_empty}
+use Rattle.heap_model.proofs.Grey.Few.{rests_empty}
 use Rattle.heap_model.proofs.Settings.{chain_settings}
-use Rattle.heap_model.proofs.Stood.{represents_chain}
-use Rattle.heap_model.proofs.Turns.{action_cost}
+use Rattle.heap_model.proofs.Represents.{represents_chain}
+use Rattle.heap_model.proofs.QuantumSpending.Quanta.{action_cost}
 use Rattle.nodes.specs.Acting.{Acts}
 use Rattle.nodes.specs.declared.heap_fields.HeapFields.{HeapFields}
 use Rattle.nodes.specs.HeapFields.{state_of, AreHeapFields}

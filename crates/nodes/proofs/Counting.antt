@@ -10,7 +10,7 @@ use Rattle.size_classes.specs.Sizes.{size_of, blocks_in}
 use Rattle.size_classes.proofs.Table.{size_low}
 use Rattle.heap_model.specs.Pages.{Page, IsPage, page_at}
 use Rattle.heap_model.specs.Store.{Store, IsStore, size_in, allocated_in, is_allocated, record_of, address_of}
-use Rattle.heap_model.proofs.Allocated.{is_page, store_pages}
+use Rattle.heap_model.proofs.Store.Allocated.{is_page, store_pages}
 use Rattle.nodes.specs.Copies.{count_below, is_main, is_old, is_object, copies_below}
 use Rattle.nodes.specs.declared.nodes.counting.Copies.{Copies}
 use Rattle.nodes.proofs.Blocks.{fit, allocated_is}

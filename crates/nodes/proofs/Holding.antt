@@ -5,7 +5,7 @@ use Rattle.std.proofs.lemmas.Option.{same_Some, slice_get_within}
 use Rattle.size_classes.specs.Sizes.{blocks_in}
 use Rattle.heap_model.specs.Pages.{Page, page_at}
 use Rattle.heap_model.specs.Store.{Store, IsStore, record_of, address_of}
-use Rattle.heap_model.proofs.Allocated.{allocated_block, page_within, is_page, store_pages}
+use Rattle.heap_model.proofs.Store.Allocated.{allocated_block, page_within, is_page, store_pages}
 use Rattle.nodes.specs.Copies.{HasBlock, HasNoBlockOn, HasNoBlockAt}
 
 -- at none of the first places of a page

@@ -4,7 +4,7 @@ use Rattle.heap_model.specs.Action.{Relinks}
 use Rattle.heap_model.specs.Block.{BlockRecord}
 use Rattle.heap_model.specs.Store.{Store, Writes, is_allocated}
 use Rattle.heap_model.specs.Written.{records}
-use Rattle.heap_model.proofs.Seen.{allocated_pages}
+use Rattle.heap_model.proofs.State.{allocated_pages}
 use Rattle.nodes.specs.Links.{KeepsLinks}
 use Rattle.nodes.specs.declared.heap_fields.HeapFields.{HeapFields}
 use Rattle.nodes.specs.Grey.{grey_in}

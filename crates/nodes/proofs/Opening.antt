@@ -10,7 +10,7 @@ use Rattle.heap_model.specs.Store.{Store}
 use Rattle.heap_model.specs.State.{HeapState}
 use Rattle.heap_model.specs.Opening.{IsOpening}
 use Rattle.heap_model.specs.Spent.{cycle_limit}
-use Rattle.heap_model.proofs.Stood.{represents_opening}
+use Rattle.heap_model.proofs.Represents.{represents_opening}
 use Rattle.nodes.specs.declared.heap_fields.HeapFields.{HeapFields}
 use Rattle.nodes.specs.HeapFields.{state_of, AreHeapFields}
 

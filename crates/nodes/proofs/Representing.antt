@@ -8,12 +8,12 @@ use Rattle.heap_model.specs.Grey.{AreGrey}
 use Rattle.heap_model.specs.Agree.{Reads}
 use Rattle.heap_model.specs.Core.{Name}
 use Rattle.heap_model.specs.Written.{records}
-use Rattle.heap_model.proofs.Agreements.{consistent_agrees}
-use Rattle.heap_model.proofs.Grey.{are_grey as are_grey_now}
-use Rattle.heap_model.proofs.Shown.{leads, root_reads}
+use Rattle.heap_model.proofs.Agreements.Implied.{consistent_agrees}
+use Rattle.heap_model.proofs.Grey.Few.{are_grey as are_grey_now}
+use Rattle.heap_model.proofs.Readings.Shown.{leads, root_reads}
 use Rattle.nodes.specs.declared.nodes.Referent.{Referent}
 use Rattle.nodes.specs.Referent.{CanFollow, referent_of}
-use Rattle.heap_model.proofs.Stood.{represents_limit}
+use Rattle.heap_model.proofs.Represents.{represents_limit}
 use Rattle.nodes.specs.declared.heap_fields.HeapFields.{HeapFields}
 use Rattle.nodes.specs.HeapFields.{state_of, AreHeapFields}
 

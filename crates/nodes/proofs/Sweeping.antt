@@ -7,7 +7,7 @@ use Rattle.heap_model.specs.Header.{header_in}
 use Rattle.heap_model.specs.Pages.{Page, page_at, with_allocated}
 use Rattle.heap_model.specs.State.{HeapState, seen, same_colour}
 use Rattle.heap_model.specs.Store.{Store, IsStore, is_allocated, record_of, address_of}
-use Rattle.heap_model.proofs.Seen.{behind}
+use Rattle.heap_model.proofs.State.{behind}
 use Rattle.pages.specs.Sweeping.{has_colour, LooksAt, It_stays, It_goes, Looks, No_look, Then_one}
 use Rattle.pages.specs.Together.{KeepsAllocated}
 use Rattle.nodes.specs.Joined.{IsHeader}

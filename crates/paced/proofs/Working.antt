@@ -8,17 +8,17 @@ use Rattle.heap_model.specs.declared.phase.Phase.TheVariants as phases
 use Rattle.heap_model.specs.State.{HeapState}
 use Rattle.heap_model.specs.Spent.{cycle_limit}
 use Rattle.heap_model.specs.Event.{Course, Event, Command_done, Cycle_begun, Begin_refused, Quantum_done, Enters, Begins, Collects, Does, IsBudget, IsCourse, present_of, snapshot_of, room_for, change_by}
-use Rattle.heap_model.proofs.Stood.{represents_limit}
-use Rattle.heap_model.proofs.Turns.{chain_units}
+use Rattle.heap_model.proofs.Represents.{represents_limit}
+use Rattle.heap_model.proofs.QuantumSpending.Quanta.{chain_units}
 use Rattle.heap_model.proofs.Left.{change_left}
-use Rattle.heap_model.proofs.Course.{enters_graph, begins_present, collects_present, does_course}
+use Rattle.heap_model.proofs.Event.Kept.{enters_graph, begins_present, collects_present, does_course}
 use Rattle.space.specs.Demand.{asked_for}
 use Rattle.space.specs.Tally.{awaits_sweep_end}
 use Rattle.space.specs.Pace.{in_cycle}
 use Rattle.space.specs.Room.{asks}
-use Rattle.space.proofs.Spending.{limit_stays}
+use Rattle.space.proofs.Paces.Spending.{limit_stays}
 use Rattle.fragmentation.specs.Flow.{words_of, FlowMeter, next_meter, Paces, AllMetered}
-use Rattle.fragmentation.proofs.Words.{words_more}
+use Rattle.fragmentation.proofs.Flows.Words.{words_more}
 use Rattle.machine.proofs.Courses.{runs_then}
 use Rattle.machine.specs.declared.collector.BudgetOutOfRange.{BudgetOutOfRange}
 use Rattle.machine.specs.declared.collector.Spent.{Spent}

@@ -7,7 +7,7 @@ use Rattle.heap_model.specs.State.{HeapState}
 use Rattle.heap_model.specs.Settings.{HeapSettings}
 use Rattle.heap_model.specs.Event.{Course, Event, Runs, IsCourse}
 use Rattle.heap_model.specs.ReachedFrom.{opened}
-use Rattle.heap_model.proofs.Course.{opening_course}
+use Rattle.heap_model.proofs.Event.Kept.{opening_course}
 use Rattle.machine.specs.Headline.{Holds, Follows, AlwaysHolds}
 use Rattle.machine.specs.Space.{SpaceSuffices}
 use Rattle.machine.proofs.Courses.{runs_then}

@@ -9,7 +9,7 @@ use Rattle.heap_model.specs.Grey.{AreGrey}
 use Rattle.heap_model.specs.Block.{BlockRecord}
 use Rattle.heap_model.specs.State.{same_colour}
 use Rattle.heap_model.specs.Store.{Store, is_allocated, record_of}
-use Rattle.heap_model.proofs.Seen.{allocated_pages}
+use Rattle.heap_model.proofs.State.{allocated_pages}
 use Rattle.nodes.specs.declared.heap_fields.HeapFields.{HeapFields}
 use Rattle.nodes.specs.Grey.{GreySet, grey_in, in_buffers, inserted, buffer_of, with_buffer}
 use Rattle.nodes.specs.HeapFields.{state_of}

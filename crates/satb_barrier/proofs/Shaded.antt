@@ -6,7 +6,7 @@ use Rattle.heap_model.specs.Collector.{contains}
 use Rattle.heap_model.specs.Grey.{AreGrey}
 use Rattle.heap_model.specs.State.{seen}
 use Rattle.heap_model.specs.Store.{Store, Writes, is_allocated, record_of}
-use Rattle.heap_model.proofs.Seen.{allocated_pages}
+use Rattle.heap_model.proofs.State.{allocated_pages}
 use Rattle.nodes.specs.Links.{KeepsLinks}
 use Rattle.nodes.specs.declared.heap_fields.HeapFields.{HeapFields}
 use Rattle.nodes.specs.Grey.{GreySet, grey_in, inserted, buffer_of, with_buffer}

@@ -17,10 +17,10 @@ use Rattle.size_classes.proofs.Table.{blocks_some}
 use Rattle.heap_model.specs.Pages.{Page, IsPage, ArePages, IsOpen, is_free, is_usable, first_of, page_of_class, fresh_page, with_allocated, TakesBlock, page_at, free_on, free_blocks, free_pages, whole_pages, pages_needed, has_room}
 use Rattle.heap_model.specs.State.{is_evacuating}
 use Rattle.heap_model.specs.Taking.{Takes, Nothing_taken, Part_taken}
-use Rattle.heap_model.proofs.Moved.{usable_fits}
+use Rattle.heap_model.proofs.Action.Moving.{usable_fits}
 use Rattle.heap_model.proofs.Placed.{page_for_within}
 use Rattle.heap_model.proofs.Rooms.{set_sum, no_blocks, more_needed}
-use Rattle.heap_model.proofs.Taken.{class_low, takes_pages}
+use Rattle.heap_model.proofs.Taking.{class_low, takes_pages}
 use Rattle.space.specs.Space.{class_sum, class_pages, pages_for}
 use Rattle.space.specs.Counts.{is_of, stays, main_on, main_blocks, used_pages, evacuating_pages, IsBounded}
 

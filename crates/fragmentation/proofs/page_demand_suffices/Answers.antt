@@ -1,4 +1,4 @@
-use Rattle.fragmentation.proofs.PageDemands.{page_demand_suffices as it}
+use Rattle.fragmentation.proofs.Suffice.PageDemands.{page_demand_suffices as it}
 use Rattle.fragmentation.proofs.page_demand_suffices.Goals as goal
 
 pub returns : goal.returns

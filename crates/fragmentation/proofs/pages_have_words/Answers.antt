@@ -1,4 +1,4 @@
-use Rattle.fragmentation.proofs.Words.{page_words_least, page_words_attained}
+use Rattle.fragmentation.proofs.Flows.Words.{page_words_least, page_words_attained}
 use Rattle.fragmentation.proofs.pages_have_words.Goals as goal
 
 pub returns-clause-least : goal.returns-clause-least

@@ -6,7 +6,7 @@ use Rattle.heap_model.specs.declared.phase.Phase.{Phase}
 use Rattle.heap_model.specs.declared.phase.Phase.TheVariants as phases
 use Rattle.heap_model.specs.Event.{Course, Event, Cycle_begun, Begin_refused, Quantum_done, Does}
 use Rattle.space.specs.Pace.{in_cycle}
-use Rattle.space.proofs.Pacing.{idle_phase}
+use Rattle.space.proofs.Paces.Pacing.{idle_phase}
 use Rattle.player.specs.Observing.{Run, after_steps}
 use Rattle.player.specs.Steps.{Step, IsCommand, IsBegin, IsQuantum}
 use Rattle.inspector.specs.declared.cycles.log.Log.{Log}

@@ -16,7 +16,7 @@ use Rattle.player.specs.Player.{PlayerState, timetable_after, after_quantum, Qua
 use Rattle.space.specs.Demand.{asked_for}
 use Rattle.space.specs.Room.{asks}
 use Rattle.space.specs.Pace.{Beat, next_beat, in_cycle, KeepsPace, AllKeepPace}
-use Rattle.space.proofs.Roomless.{asks_less}
+use Rattle.space.proofs.Rooms.{asks_less}
 use Rattle.sizing.specs.AllocationProfile.{AllocationProfile, clock_after, AsksFrom, Arrives, BeginsOften, AreBudgets, AllLive, pace_of}
 use Rattle.sizing.proofs.arrivals.Beats.{beats, beats_more, next_on, next_off, on_or_off, busy_phase}
 use Rattle.sizing.proofs.arrivals.Buckets.{from_here}

@@ -6,13 +6,13 @@ use Rattle.heap_model.specs.declared.phase.Phase.{Phase}
 use Rattle.heap_model.specs.declared.phase.Phase.TheVariants as phases
 use Rattle.heap_model.specs.State.{HeapState}
 use Rattle.heap_model.specs.Event.{Course, Event, Quantum_done, Collects, Does}
-use Rattle.heap_model.proofs.Stood.{idle_chain}
+use Rattle.heap_model.proofs.Represents.{idle_chain}
 use Rattle.quanta.specs.Timetable.{Timetable, start_after, due_below}
 use Rattle.quanta.specs.declared.interval.Interval.{Interval}
 use Rattle.quanta.proofs.Lasts.{last_or-append}
 use Rattle.player.specs.Player.{PlayerState, timetable_after, placed, after_quantum, QuantaDue, None_yet, One_more}
 use Rattle.space.specs.Pace.{Pace, Beat, next_beat, in_cycle, AllKeepPace}
-use Rattle.space.proofs.Pacing.{idle_phase}
+use Rattle.space.proofs.Paces.Pacing.{idle_phase}
 use Rattle.sizing.proofs.arrivals.Beats.{beats, beats_more, keep_more, next_on, on_or_off}
 
 -- a quantum's end, by its phase: the timetable goes on, or the cycle has ended

@@ -16,7 +16,7 @@ use Rattle.player.specs.Playing.{Session, PlaysLine}
 use Rattle.player.proofs.Lines.{lines_run}
 use Rattle.space.specs.Fitting.{FitsIn}
 use Rattle.space.specs.Room.{AllHaveRoom}
-use Rattle.space.proofs.Configured.{pace_configured}
+use Rattle.space.proofs.Fittings.Configured.{pace_configured}
 use Rattle.sizing.specs.AllocationProfile.{AllocationProfile, KeepsLoad, AllLive, pace_of}
 use Rattle.player.specs.New.{IsNew}
 use Rattle.sizing.proofs.arrivals.Playing.{load_keeps}

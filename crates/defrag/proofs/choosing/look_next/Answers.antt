@@ -3,7 +3,7 @@ use Rattle.heap_model.specs.declared.phase.Moving.TheVariants as moves
 use Rattle.heap_model.specs.declared.phase.Phase.TheVariants as phases
 use Rattle.heap_model.specs.Action.{Action, goes_to, candidate_after, is_chosen}
 use Rattle.heap_model.specs.State.{HeapState}
-use Rattle.heap_model.proofs.Grey.{passing}
+use Rattle.heap_model.proofs.Grey.Few.{passing}
 use Rattle.nodes.proofs.Keeping.{store_still}
 use Rattle.nodes.specs.declared.heap_fields.HeapFields.{HeapFields}
 use Rattle.nodes.specs.HeapFields.{state_of}

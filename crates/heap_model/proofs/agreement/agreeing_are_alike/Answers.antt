@@ -1,4 +1,4 @@
-use Rattle.heap_model.proofs.Sameness.{told as it}
+use Rattle.heap_model.proofs.Alike.Sameness.{told as it}
 use Rattle.heap_model.proofs.agreement.agreeing_are_alike.Goals as goal
 
 pub returns : goal.returns

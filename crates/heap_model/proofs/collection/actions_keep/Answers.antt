@@ -1,5 +1,5 @@
-use Rattle.heap_model.proofs.Allocated.{store_pages}
-use Rattle.heap_model.proofs.Actions.{action_kept as it}
+use Rattle.heap_model.proofs.Store.Allocated.{store_pages}
+use Rattle.heap_model.proofs.Action.Each.{action_kept as it}
 use Rattle.heap_model.proofs.collection.actions_keep.Goals as goal
 
 pub returns : goal.returns

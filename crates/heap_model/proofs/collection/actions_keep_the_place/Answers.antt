@@ -1,4 +1,4 @@
-use Rattle.heap_model.proofs.Allocated.{store_pages}
+use Rattle.heap_model.proofs.Store.Allocated.{store_pages}
 use Rattle.heap_model.proofs.Marks.{action_pages, action_count, action_placed, action_closed}
 use Rattle.heap_model.proofs.collection.actions_keep_the_place.Goals as goal
 

@@ -1,4 +1,4 @@
-use Rattle.heap_model.proofs.Rest.{allocated_is_kept as it}
+use Rattle.heap_model.proofs.Swept.{allocated_is_kept as it}
 use Rattle.heap_model.proofs.collection.allocated_is_kept.Goals as goal
 
 pub returns : goal.returns

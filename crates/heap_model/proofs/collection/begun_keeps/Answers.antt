@@ -1,4 +1,4 @@
-use Rattle.heap_model.proofs.Actions.{begun_kept as it}
+use Rattle.heap_model.proofs.Action.Each.{begun_kept as it}
 use Rattle.heap_model.proofs.collection.begun_keeps.Goals as goal
 
 pub returns : goal.returns

@@ -1,4 +1,4 @@
-use Rattle.heap_model.proofs.Rest.{swept as it}
+use Rattle.heap_model.proofs.Swept.{swept as it}
 use Rattle.heap_model.proofs.collection.sweep_ends.Goals as goal
 
 pub returns : goal.returns

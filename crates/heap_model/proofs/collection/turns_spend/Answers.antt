@@ -1,6 +1,6 @@
-use Rattle.heap_model.proofs.Allocated.{store_pages}
-use Rattle.heap_model.proofs.Turns.{action_cost as it0}
-use Rattle.heap_model.proofs.Turns.{chain_units as it1}
+use Rattle.heap_model.proofs.Store.Allocated.{store_pages}
+use Rattle.heap_model.proofs.QuantumSpending.Quanta.{action_cost as it0}
+use Rattle.heap_model.proofs.QuantumSpending.Quanta.{chain_units as it1}
 use Rattle.heap_model.proofs.collection.turns_spend.Goals as goal
 
 pub returns-clause-cost : goal.returns-clause-cost

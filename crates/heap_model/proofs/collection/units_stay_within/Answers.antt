@@ -1,7 +1,7 @@
-use Rattle.heap_model.proofs.Allocated.{store_pages}
-use Rattle.heap_model.proofs.Spent.{begun_within as it0}
-use Rattle.heap_model.proofs.Spent.{within_kept as it1}
-use Rattle.heap_model.proofs.Spent.{limit_kept as it2}
+use Rattle.heap_model.proofs.Store.Allocated.{store_pages}
+use Rattle.heap_model.proofs.Spent.Actions.{begun_within as it0}
+use Rattle.heap_model.proofs.Spent.Actions.{within_kept as it1}
+use Rattle.heap_model.proofs.Spent.Actions.{limit_kept as it2}
 use Rattle.heap_model.proofs.collection.units_stay_within.Goals as goal
 
 pub returns-clause-begun : goal.returns-clause-begun

@@ -1,4 +1,4 @@
-use Rattle.heap_model.proofs.Changed.{represents_changed}
+use Rattle.heap_model.proofs.Change.Changed.{represents_changed}
 use Rattle.heap_model.proofs.Left.{change_left}
 use Rattle.heap_model.proofs.events.changes_represent.Goals as goal
 

@@ -1,4 +1,4 @@
-use Rattle.heap_model.proofs.Course.{represents_command as it}
+use Rattle.heap_model.proofs.Event.Kept.{represents_command as it}
 use Rattle.heap_model.proofs.events.commands_represent.Goals as goal
 
 pub returns : goal.returns

@@ -1,7 +1,7 @@
 use Rattle.heap_model.specs.Event.{present_of, snapshot_of}
-use Rattle.heap_model.proofs.Agreements.{consistent_agrees}
-use Rattle.heap_model.proofs.Rest.{allocated_is_kept}
-use Rattle.heap_model.proofs.Stood.{represents_chain, represents_limit}
+use Rattle.heap_model.proofs.Agreements.Implied.{consistent_agrees}
+use Rattle.heap_model.proofs.Swept.{allocated_is_kept}
+use Rattle.heap_model.proofs.Represents.{represents_chain, represents_limit}
 use Rattle.heap_model.proofs.events.courses_hold.Goals as goal
 
 pub returns-clause-agrees : goal.returns-clause-agrees

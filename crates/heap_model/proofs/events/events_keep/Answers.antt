@@ -1,4 +1,4 @@
-use Rattle.heap_model.proofs.Course.{opening_course, does_course, runs_course}
+use Rattle.heap_model.proofs.Event.Kept.{opening_course, does_course, runs_course}
 use Rattle.heap_model.proofs.events.events_keep.Goals as goal
 
 pub returns : goal.returns

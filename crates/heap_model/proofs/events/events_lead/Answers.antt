@@ -1,4 +1,4 @@
-use Rattle.heap_model.proofs.Leading.{reached_opening, reached_more, reached_course}
+use Rattle.heap_model.proofs.ReachedFrom.{reached_opening, reached_more, reached_course}
 use Rattle.heap_model.proofs.events.events_lead.Goals as goal
 
 pub returns : goal.returns

@@ -1,5 +1,5 @@
 use Rattle.heap_model.specs.Event.{present_of, snapshot_of}
-use Rattle.heap_model.proofs.Freed.{reached_kept, reached_allocated, runs_back}
+use Rattle.heap_model.proofs.Event.Freed.{reached_kept, reached_allocated, runs_back}
 use Rattle.heap_model.proofs.events.freed_is_unreachable.Goals as goal
 
 pub returns-clause-kept : goal.returns-clause-kept

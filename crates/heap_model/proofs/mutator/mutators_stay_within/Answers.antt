@@ -1,4 +1,4 @@
-use Rattle.heap_model.proofs.Within.{more_within, root_more, word_more, ref_more, shade_more, new_more}
+use Rattle.heap_model.proofs.Spent.Mutators.{more_within, root_more, word_more, ref_more, shade_more, new_more}
 use Rattle.heap_model.proofs.mutator.mutators_stay_within.Goals as goal
 
 pub returns : goal.returns

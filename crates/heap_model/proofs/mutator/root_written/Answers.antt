@@ -1,4 +1,4 @@
-use Rattle.heap_model.proofs.Written.{root_written as it}
+use Rattle.heap_model.proofs.Agreements.Written.{root_written as it}
 use Rattle.heap_model.proofs.mutator.root_written.Goals as goal
 
 pub returns : goal.returns

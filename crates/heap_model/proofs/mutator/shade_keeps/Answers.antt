@@ -1,4 +1,4 @@
-use Rattle.heap_model.proofs.Shading.{shade_kept, shade_main, shade_records}
+use Rattle.heap_model.proofs.Action.Shading.{shade_kept, shade_main, shade_records}
 use Rattle.heap_model.proofs.mutator.shade_keeps.Goals as goal
 
 pub returns : goal.returns

@@ -1,5 +1,5 @@
-use Rattle.heap_model.proofs.Shown.{copy_main as it0}
-use Rattle.heap_model.proofs.Shown.{main_copy as it1}
+use Rattle.heap_model.proofs.Readings.Shown.{copy_main as it0}
+use Rattle.heap_model.proofs.Readings.Shown.{main_copy as it1}
 use Rattle.heap_model.proofs.reading.main_copies.Goals as goal
 
 pub returns-clause-there : goal.returns-clause-there

@@ -1,4 +1,4 @@
-use Rattle.heap_model.proofs.Hops as hops
+use Rattle.heap_model.proofs.Readings.Hops as hops
 use Rattle.heap_model.proofs.reading.part_reached.Goals as goal
 
 pub returns-clause-main : goal.returns-clause-main

@@ -1,5 +1,5 @@
-use Rattle.heap_model.proofs.Shown.{leads as it0}
-use Rattle.heap_model.proofs.Shown.{leads_back as it1}
+use Rattle.heap_model.proofs.Readings.Shown.{leads as it0}
+use Rattle.heap_model.proofs.Readings.Shown.{leads_back as it1}
 use Rattle.heap_model.proofs.reading.reference_leads.Goals as goal
 
 pub returns-clause-there : goal.returns-clause-there

@@ -1,6 +1,6 @@
-use Rattle.heap_model.proofs.Agreements.{consistent_agrees}
-use Rattle.heap_model.proofs.Sameness.{told, agrees_alike}
-use Rattle.heap_model.proofs.Stood.{represents_chain, represents_begun}
+use Rattle.heap_model.proofs.Agreements.Implied.{consistent_agrees}
+use Rattle.heap_model.proofs.Alike.Sameness.{told, agrees_alike}
+use Rattle.heap_model.proofs.Represents.{represents_chain, represents_begun}
 use Rattle.heap_model.specs.Action.{begun}
 use Rattle.heap_model.proofs.representing.collecting_shows_nothing.Goals as goal
 

@@ -1,4 +1,4 @@
-use Rattle.heap_model.proofs.Costs.{action_costs, one_cost, cost_high}
+use Rattle.heap_model.proofs.QuantumSpending.Costs.{action_costs, one_cost, cost_high}
 use Rattle.heap_model.proofs.representing.costs_are_told.Goals as goal
 
 pub returns-clause-action : goal.returns-clause-action

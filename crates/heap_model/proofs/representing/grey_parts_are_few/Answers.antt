@@ -1,4 +1,4 @@
-use Rattle.heap_model.proofs.Grey.{are_grey}
+use Rattle.heap_model.proofs.Grey.Few.{are_grey}
 use Rattle.heap_model.proofs.representing.grey_parts_are_few.Goals as goal
 
 pub returns : goal.returns

@@ -1,4 +1,4 @@
-use Rattle.heap_model.proofs.Stood.{represents_opening, represents_begun, represents_action, represents_chain, represents_limit}
+use Rattle.heap_model.proofs.Represents.{represents_opening, represents_begun, represents_action, represents_chain, represents_limit}
 use Rattle.heap_model.proofs.representing.heaps_represent.Goals as goal
 
 pub returns : goal.returns

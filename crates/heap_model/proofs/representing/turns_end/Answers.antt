@@ -1,5 +1,5 @@
-use Rattle.heap_model.proofs.Costs.{turn_left}
-use Rattle.heap_model.proofs.Stood.{represents_chain, idle_chain}
+use Rattle.heap_model.proofs.QuantumSpending.Costs.{turn_left}
+use Rattle.heap_model.proofs.Represents.{represents_chain, idle_chain}
 use Rattle.heap_model.proofs.representing.turns_end.Goals as goal
 
 pub returns-clause-idle : goal.returns-clause-idle

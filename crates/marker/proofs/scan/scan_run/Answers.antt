@@ -2,7 +2,7 @@ use Rattle.std.proofs.Common.{◌≡◌, ℕ, ◌+◌, ◌-◌, ◌<◌, ◌≤�
 use Rattle.std.proofs.lemmas.Bool.{cases_eq}
 use Rattle.heap_model.specs.State.{width_at}
 use Rattle.heap_model.specs.Store.{record_of}
-use Rattle.heap_model.proofs.Seen.{allocated_pages}
+use Rattle.heap_model.proofs.State.{allocated_pages}
 use Rattle.nodes.specs.declared.nodes.Referent.{Referent}
 use Rattle.nodes.specs.Referent.{CanFollow, referent_of}
 use Rattle.nodes.specs.declared.heap_fields.HeapFields.{HeapFields}

@@ -1,5 +1,5 @@
 use Rattle.std.proofs.Common.{◌≡◌, ◌∙◌, ap, get_or, length-set, arith}
-use Rattle.sizing.proofs.Counting.{one_more}
+use Rattle.sizing.proofs.Counts.Counting.{one_more}
 use Rattle.sizing.proofs.blocks.needed_by.Goals as goal
 
 pub loop-number-preserved : goal.loop-number-preserved

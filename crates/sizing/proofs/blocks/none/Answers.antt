@@ -1,4 +1,4 @@
-use Rattle.sizing.proofs.Counting.{none_of}
+use Rattle.sizing.proofs.Counts.Counting.{none_of}
 use Rattle.sizing.proofs.blocks.none.Goals as goal
 
 pub returns : goal.returns

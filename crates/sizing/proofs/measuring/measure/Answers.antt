@@ -8,8 +8,8 @@ use Rattle.player.specs.Playing.{session}
 use Rattle.player.proofs.LinesSeen.{events_brought, stops_new}
 use Rattle.sizing.specs.Measured.{IsMeasured}
 use Rattle.sizing.specs.Measuring.{HasMeasured}
-use Rattle.sizing.proofs.Promising.{run_budgets, promised}
-use Rattle.sizing.proofs.Seeing.{nothing_measured}
+use Rattle.sizing.proofs.Promises.{run_budgets, promised}
+use Rattle.sizing.proofs.Measurements.Seeing.{nothing_measured}
 use Rattle.sizing.proofs.measuring.measure.Goals as goal
 
 pub observe-requires : goal.observe-requires

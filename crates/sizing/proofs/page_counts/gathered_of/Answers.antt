@@ -2,7 +2,7 @@ use Rattle.std.proofs.Common.{◌≡◌, ◌≤◌, ◌<◌, Bool, true, false, 
 use Rattle.std.specs.Prelude.{nat_lt}
 use Rattle.size_classes.specs.Sizes.{blocks_in}
 use Rattle.space.specs.Space.{class_pages}
-use Rattle.sizing.proofs.Paging.{gathered_spared}
+use Rattle.sizing.proofs.Counts.Paging.{gathered_spared}
 use Rattle.sizing.proofs.page_counts.gathered_of.Goals as goal
 
 pub returns-clause-pages : goal.returns-clause-pages

@@ -3,7 +3,7 @@ use Rattle.size_classes.specs.declared.class.TheConstants.{CLASSES}
 use Rattle.heap_model.specs.Pages.{whole_pages}
 use Rattle.space.specs.Space.{class_sum}
 use Rattle.space.specs.declared.pages.TheConstants.{MOST_BLOCKS}
-use Rattle.sizing.proofs.Paging.{counted_pages}
+use Rattle.sizing.proofs.Counts.Paging.{counted_pages}
 use Rattle.sizing.proofs.page_counts.pages_of.Goals as goal
 
 pub returns : goal.returns

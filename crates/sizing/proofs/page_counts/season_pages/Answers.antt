@@ -4,7 +4,7 @@ use Rattle.heap_model.specs.Pages.{whole_pages}
 use Rattle.space.specs.Space.{class_sum}
 use Rattle.space.specs.declared.pages.TheConstants.{MOST_BLOCKS}
 use Rattle.fragmentation.specs.Suffice.{gathered_pages}
-use Rattle.sizing.proofs.Paging.{counted_gathered}
+use Rattle.sizing.proofs.Counts.Paging.{counted_gathered}
 use Rattle.sizing.proofs.page_counts.season_pages.Goals as goal
 
 pub returns : goal.returns

@@ -1,6 +1,6 @@
 use Rattle.std.proofs.Common.{◌≡◌, ap, ◌∙◌, arith}
 use Rattle.space.specs.Space.{class_pages}
-use Rattle.sizing.proofs.Paging.{unspared}
+use Rattle.sizing.proofs.Counts.Paging.{unspared}
 use Rattle.sizing.proofs.page_counts.whole_of.Goals as goal
 
 pub returns-clause-pages : goal.returns-clause-pages

@@ -1,4 +1,4 @@
-use Rattle.space.proofs.Roomless.{asks_less}
+use Rattle.space.proofs.Rooms.{asks_less}
 use Rattle.space.proofs.bound.commands_ask_for_their_shapes.Goals as goal
 
 pub returns : goal.returns

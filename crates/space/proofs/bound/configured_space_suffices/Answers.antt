@@ -1,4 +1,4 @@
-use Rattle.space.proofs.Configured.{demand_configured, pace_configured}
+use Rattle.space.proofs.Fittings.Configured.{demand_configured, pace_configured}
 use Rattle.space.proofs.bound.configured_space_suffices.Goals as goal
 
 pub returns-clause-demand : goal.returns-clause-demand

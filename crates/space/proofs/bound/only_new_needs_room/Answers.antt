@@ -1,4 +1,4 @@
-use Rattle.space.proofs.Roomless.{all_have_room}
+use Rattle.space.proofs.Rooms.{all_have_room}
 use Rattle.space.proofs.bound.only_new_needs_room.Goals as goal
 
 pub returns : goal.returns

@@ -1,6 +1,6 @@
 use Rattle.space.specs.Pace.{moved_quanta, demand_of}
-use Rattle.space.proofs.Moved.{pace_keeps}
-use Rattle.space.proofs.Running.{space_suffices}
+use Rattle.space.proofs.Paces.Moved.{pace_keeps}
+use Rattle.space.proofs.Tally.{space_suffices}
 use Rattle.space.proofs.bound.space_suffices_at_a_pace.Goals as goal
 
 pub returns : goal.returns

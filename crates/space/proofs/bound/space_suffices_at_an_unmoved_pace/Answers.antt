@@ -1,6 +1,6 @@
 use Rattle.std.proofs.Common.{arith}
 use Rattle.space.specs.Pace.{unmoved_quanta, demand_of}
-use Rattle.space.proofs.Unmoved.{unmoved_suffices, unmoved_keeps}
+use Rattle.space.proofs.Paces.Unmoved.{unmoved_suffices, unmoved_keeps}
 use Rattle.space.proofs.bound.space_suffices_at_an_unmoved_pace.Goals as goal
 
 pub returns-clause-demand : goal.returns-clause-demand

@@ -1,5 +1,5 @@
 use Rattle.space.specs.Fitting.{pace_in}
-use Rattle.space.proofs.Needed.{unmoved_takes, moved_takes, unmoved_needed, moved_needed}
+use Rattle.space.proofs.Fittings.Needed.{unmoved_takes, moved_takes, unmoved_needed, moved_needed}
 use Rattle.space.proofs.fitting.pace_needs.Goals as goal
 
 pub returns-then-unmoved-moved : goal.returns-then-unmoved-moved

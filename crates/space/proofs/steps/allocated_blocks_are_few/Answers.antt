@@ -1,4 +1,4 @@
-use Rattle.space.proofs.Census.{census}
+use Rattle.space.proofs.Placement.Census.{census}
 use Rattle.space.proofs.steps.allocated_blocks_are_few.Goals as goal
 
 pub returns : goal.returns

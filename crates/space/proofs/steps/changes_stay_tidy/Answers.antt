@@ -1,4 +1,4 @@
-use Rattle.space.proofs.Changing.{tidy_change, only_change, bounded_change}
+use Rattle.space.proofs.Placement.Changing.{tidy_change, only_change, bounded_change}
 use Rattle.space.proofs.steps.changes_stay_tidy.Goals as goal
 
 pub returns : goal.returns

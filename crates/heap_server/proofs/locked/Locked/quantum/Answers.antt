@@ -1,7 +1,7 @@
 use Rattle.std.proofs.Common.{◌≡◌, ◌∙◌, ℕ, ◌+◌, ap, sym, subst, refl, arith}
 use Rattle.heap_model.specs.Event.{Course, Collects}
 use Rattle.heap_model.specs.State.{HeapState}
-use Rattle.heap_model.proofs.Leading.{reached_course}
+use Rattle.heap_model.proofs.ReachedFrom.{reached_course}
 use Rattle.heap_server.specs.Views.{PacerView, LockedView}
 use Rattle.heap_server.specs.Kept.{cycles_on}
 use Rattle.heap_server.specs.Paced.{IsPaced}

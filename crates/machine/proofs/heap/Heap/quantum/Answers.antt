@@ -2,7 +2,7 @@ use Rattle.std.proofs.Common.{subst, sym, refl, arith}
 use Rattle.heap_model.specs.State.{HeapState}
 use Rattle.heap_model.specs.Agreement.{Agrees}
 use Rattle.heap_model.specs.QuantumSpending.{QuantumSpends}
-use Rattle.heap_model.proofs.Costs.{turn_left}
+use Rattle.heap_model.proofs.QuantumSpending.Costs.{turn_left}
 use Rattle.nodes.specs.HeapFields.{state_of}
 use Rattle.machine.proofs.Collecting.{chain_agrees, flushed_heap, flushed_turn}
 use Rattle.machine.proofs.heap.Heap.quantum.Goals as goal

@@ -1,7 +1,7 @@
 use Rattle.std.proofs.Common.{◌≤◌, subst}
 use Rattle.heap_model.specs.State.{HeapState}
 use Rattle.heap_model.specs.Spent.{cycle_limit}
-use Rattle.heap_model.proofs.Stood.{represents_limit}
+use Rattle.heap_model.proofs.Represents.{represents_limit}
 use Rattle.nodes.specs.HeapFields.{state_of}
 use Rattle.machine.proofs.heap.Heap.units.Goals as goal
 

@@ -1,13 +1,13 @@
 use Rattle.std.proofs.Common.{◌≡◌, ◌+◌, ◌<◌, ◌^◌, length, set, sym, subst, true, arith, refl}
 use Rattle.size_classes.specs.Need.{needed}
 use Rattle.heap_model.specs.Pages as page_list
-use Rattle.heap_model.proofs.Recording.{records_stay}
+use Rattle.heap_model.proofs.Change.Recording.{records_stay}
 use Rattle.nodes.specs.declared.heap_fields.HeapFields.{HeapFields}
 use Rattle.nodes.specs.HeapFields.{state_of}
 use Rattle.machine.proofs.Doing.{present_agrees}
 use Rattle.machine.proofs.Writing.{new_does}
 use Rattle.heap_model.specs.State.{HeapState}
-use Rattle.heap_model.proofs.Taken.{takes_count}
+use Rattle.heap_model.proofs.Taking.{takes_count}
 use Rattle.size_classes.specs.Parts.{cells_of, parts_in}
 use Rattle.machine.specs.Plan.{DoesEach}
 use Rattle.machine.specs.declared.plan.Write.TheVariants as writes

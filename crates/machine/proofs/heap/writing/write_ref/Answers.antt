@@ -1,5 +1,5 @@
 use Rattle.std.proofs.Common.{◌<◌, length, ap, ◌∙◌, sym, subst}
-use Rattle.heap_model.proofs.Recording.{records_cells, records_allocated}
+use Rattle.heap_model.proofs.Change.Recording.{records_cells, records_allocated}
 use Rattle.nodes.specs.HeapFields.{state_of}
 use Rattle.machine.proofs.Doing.{present_agrees}
 use Rattle.machine.proofs.Finding.{ref_allocated, ref_follows}

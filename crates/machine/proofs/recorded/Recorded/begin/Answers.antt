@@ -1,6 +1,6 @@
 use Rattle.std.proofs.Common.{refl, rules}
 use Rattle.heap_model.specs.Event.{Cycle_begun}
-use Rattle.heap_model.proofs.Course.{does_course}
+use Rattle.heap_model.proofs.Event.Kept.{does_course}
 use Rattle.machine.specs.Recorded.{recorded_of}
 use Rattle.machine.proofs.Courses.{ends_soon}
 use Rattle.machine.proofs.recorded.Recorded.begin.Goals as goal

@@ -1,8 +1,8 @@
 use Rattle.std.proofs.Common.{◌∷◌, ◌++◌, [], ◌∙◌, ap, subst, List}
 use Rattle.graph_heap.specs.declared.command.Entry.{Entry}
 use Rattle.heap_model.specs.Event.{Command_done, Enters, present_of, snapshot_of}
-use Rattle.heap_model.proofs.Agreements.{consistent_agrees}
-use Rattle.heap_model.proofs.Course.{does_course}
+use Rattle.heap_model.proofs.Agreements.Implied.{consistent_agrees}
+use Rattle.heap_model.proofs.Event.Kept.{does_course}
 use Rattle.machine.specs.Recorded.{RecordedHeap, recorded_of}
 use Rattle.machine.proofs.Replying.{enters}
 use Rattle.machine.proofs.recorded.Recorded.call.Goals as goal

@@ -1,6 +1,6 @@
 use Rattle.std.proofs.Common.{subst}
 use Rattle.heap_model.specs.Event.{IsCourse, present_of, snapshot_of}
-use Rattle.heap_model.proofs.Stood.{represents_limit}
+use Rattle.heap_model.proofs.Represents.{represents_limit}
 use Rattle.machine.specs.Recorded.{RecordedHeap}
 use Rattle.machine.proofs.Headline.{course_holds}
 use Rattle.machine.proofs.recorded.Recorded.heap.Goals as goal

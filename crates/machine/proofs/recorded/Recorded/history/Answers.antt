@@ -1,6 +1,6 @@
 use Rattle.std.proofs.Common.{subst}
 use Rattle.heap_model.specs.Event.{IsCourse, present_of, snapshot_of}
-use Rattle.heap_model.proofs.Agreements.{consistent_agrees}
+use Rattle.heap_model.proofs.Agreements.Implied.{consistent_agrees}
 use Rattle.machine.specs.Recorded.{RecordedHeap}
 use Rattle.machine.proofs.recorded.Recorded.history.Goals as goal
 

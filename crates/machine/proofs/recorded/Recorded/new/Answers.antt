@@ -3,7 +3,7 @@ use Rattle.graph_heap.specs.declared.command.Entry.{Entry}
 use Rattle.std.proofs.Common.{List, arith}
 use Rattle.heap_model.specs.Settings.{HeapSettings}
 use Rattle.heap_model.specs.Event.{IsCourse}
-use Rattle.heap_model.proofs.Course.{opening_course}
+use Rattle.heap_model.proofs.Event.Kept.{opening_course}
 use Rattle.machine.proofs.recorded.Recorded.new.Goals as goal
 
 pub invariant_of-result : goal.invariant_of-result

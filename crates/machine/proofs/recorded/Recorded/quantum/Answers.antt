@@ -1,7 +1,7 @@
 use Rattle.std.proofs.Common.{subst}
 use Rattle.heap_model.specs.Event.{Does, IsCourse, present_of, snapshot_of}
-use Rattle.heap_model.proofs.Course.{does_course}
-use Rattle.heap_model.proofs.Stood.{represents_chain, sweep_change}
+use Rattle.heap_model.proofs.Event.Kept.{does_course}
+use Rattle.heap_model.proofs.Represents.{represents_chain, sweep_change}
 use Rattle.machine.specs.Recorded.{RecordedHeap, recorded_of, quantum_done}
 use Rattle.machine.proofs.Courses.{quantum_does}
 use Rattle.machine.proofs.recorded.Recorded.quantum.Goals as goal

@@ -1,7 +1,7 @@
 use Rattle.std.proofs.Common.{◌+◌, rules, subst, sym, refl}
 use Rattle.heap_model.specs.Event.{Command_done, present_of}
-use Rattle.heap_model.proofs.Course.{does_course}
-use Rattle.space.proofs.Roomless.{asks_less}
+use Rattle.heap_model.proofs.Event.Kept.{does_course}
+use Rattle.space.proofs.Rooms.{asks_less}
 use Rattle.paced.specs.Pacing.{PacedView, Paced, Collected, MayAsk}
 use Rattle.paced.proofs.Working.{paced_then, collected_then, collected_none, command_works}
 use Rattle.paced.proofs.paced.PacedHeap.call.Goals as goal

@@ -1,5 +1,5 @@
 use Rattle.std.proofs.Common.{◌<◌, arith, rules, subst, refl}
-use Rattle.heap_model.proofs.Course.{does_course}
+use Rattle.heap_model.proofs.Event.Kept.{does_course}
 use Rattle.machine.specs.Recorded.{begin_done, quantum_done}
 use Rattle.paced.specs.Pacing.{PacedView, Collected, work_left}
 use Rattle.paced.proofs.Working.{begin_works, spent_works, spent_less}

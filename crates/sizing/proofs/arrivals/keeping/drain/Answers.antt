@@ -1,5 +1,5 @@
 use Rattle.std.proofs.Common.{◌≡◌, ◌-◌, ◌*◌, get_or, ap, arith}
-use Rattle.sizing.proofs.Counting.{one_more_holds, one_fewer}
+use Rattle.sizing.proofs.Counts.Counting.{one_more_holds, one_fewer}
 use Rattle.sizing.proofs.arrivals.keeping.drain.Goals as goal
 
 pub loop-number-preserved : goal.loop-number-preserved

@@ -1,8 +1,8 @@
 use Rattle.std.proofs.Common.{sym, ◌∙◌}
 use Rattle.size_classes.specs.Need.{needed}
 use Rattle.space.specs.Demand.{asked_for}
-use Rattle.sizing.proofs.Counting.{are_same}
-use Rattle.sizing.proofs.Making.{asks_none, asks_some}
+use Rattle.sizing.proofs.Counts.Counting.{are_same}
+use Rattle.sizing.proofs.Meters.Making.{asks_none, asks_some}
 use Rattle.sizing.proofs.meter.Meter.asked_by.Goals as goal
 
 pub returns-in-Some : goal.returns-in-Some

@@ -1,5 +1,5 @@
 use Rattle.std.proofs.Common.{refl}
-use Rattle.sizing.proofs.Cycles.{begin_fits, begun_measures}
+use Rattle.sizing.proofs.Meters.Cycles.{begin_fits, begun_measures}
 use Rattle.sizing.proofs.meter.Meter.begun.Goals as goal
 
 pub returns : goal.returns

@@ -1,4 +1,4 @@
-use Rattle.sizing.proofs.Metering.{not_more, allocated_measures, kept_measures}
+use Rattle.sizing.proofs.Meters.Events.{not_more, allocated_measures, kept_measures}
 use Rattle.sizing.proofs.meter.Meter.command.Goals as goal
 
 pub returns-then-branch : goal.returns-then-branch

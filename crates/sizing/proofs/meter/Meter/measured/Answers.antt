@@ -1,5 +1,5 @@
 use Rattle.std.proofs.Common.{refl}
-use Rattle.sizing.proofs.Summing.{needed_measured, pace_measured, budget_measured}
+use Rattle.sizing.proofs.Measures.Summing.{needed_measured, pace_measured, budget_measured}
 use Rattle.sizing.proofs.meter.Meter.measured.Goals as goal
 
 pub returns : goal.returns

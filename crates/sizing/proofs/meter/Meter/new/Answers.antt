@@ -1,6 +1,6 @@
 use Rattle.std.proofs.Common.{ap, ◌∙◌, sym, refl}
 use Rattle.graph_heap.specs.Graph.{opening}
-use Rattle.sizing.proofs.Metering.{opening_measures}
+use Rattle.sizing.proofs.Meters.Events.{opening_measures}
 use Rattle.sizing.proofs.meter.Meter.new.Goals as goal
 
 pub returns : goal.returns

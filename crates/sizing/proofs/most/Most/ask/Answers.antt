@@ -1,8 +1,8 @@
 use Rattle.std.proofs.Common.{◌+◌, max, refl}
 use Rattle.fragmentation.specs.Suffice.{pages_of}
 use Rattle.sizing.specs.Season.{pages_gathered}
-use Rattle.sizing.proofs.Counting.{are_sum, are_max}
-use Rattle.sizing.proofs.Paging.{are_pages_max, max_so}
+use Rattle.sizing.proofs.Counts.Counting.{are_sum, are_max}
+use Rattle.sizing.proofs.Counts.Paging.{are_pages_max, max_so}
 use Rattle.sizing.proofs.most.Most.ask.Goals as goal
 
 pub returns : goal.returns

@@ -1,6 +1,6 @@
 use Rattle.std.proofs.Common.{refl}
 use Rattle.fragmentation.specs.Suffice.{pages_of}
-use Rattle.sizing.proofs.Paging.{are_pages_max, max_so}
+use Rattle.sizing.proofs.Counts.Paging.{are_pages_max, max_so}
 use Rattle.sizing.proofs.most.Most.begin.Goals as goal
 
 pub returns : goal.returns

@@ -1,5 +1,5 @@
 use Rattle.std.proofs.lemmas.Result.{on_ok_weaker}
-use Rattle.sizing.proofs.Seeing.{on_err, command_measured}
+use Rattle.sizing.proofs.Measurements.Seeing.{on_err, command_measured}
 use Rattle.sizing.proofs.observing.MeterObserver.command_done.Goals as goal
 
 pub returns-clause-seen : goal.returns-clause-seen

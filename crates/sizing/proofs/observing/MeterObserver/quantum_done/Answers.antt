@@ -1,7 +1,7 @@
 use Rattle.std.proofs.Common.{◌∙◌, ap, sym}
 use Rattle.heap_model.specs.Event.{Course}
 use Rattle.heap_model.specs.State.{HeapState}
-use Rattle.sizing.proofs.Seeing.{quantum_measured}
+use Rattle.sizing.proofs.Measurements.Seeing.{quantum_measured}
 use Rattle.sizing.proofs.observing.MeterObserver.quantum_done.Goals as goal
 
 pub returns : goal.returns

@@ -1,0 +1,3 @@
+-- Lemmas about the definitions of specs/Change.antt.
+pub mod Recording
+pub mod Changed

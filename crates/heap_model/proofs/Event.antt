@@ -1,0 +1,3 @@
+-- Lemmas about the definitions of specs/Event.antt.
+pub mod Kept
+pub mod Freed

@@ -1,0 +1,3 @@
+-- Lemmas about the definitions of specs/QuantumSpending.antt.
+pub mod Quanta
+pub mod Costs

@@ -1,0 +1,3 @@
+-- Lemmas about the definitions of specs/Reading.antt.
+pub mod Hops
+pub mod Shown

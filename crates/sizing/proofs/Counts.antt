@@ -1,0 +1,3 @@
+-- Lemmas about the definitions of specs/Counts.antt.
+pub mod Counting
+pub mod Paging

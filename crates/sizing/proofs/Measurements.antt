@@ -1,0 +1,2 @@
+-- Lemmas about the definitions of specs/Measuring.antt.
+pub mod Seeing

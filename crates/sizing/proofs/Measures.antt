@@ -1,0 +1,3 @@
+-- Lemmas about the definitions of specs/Measured.antt.
+pub mod Events
+pub mod Summing

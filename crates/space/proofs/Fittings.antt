@@ -1,0 +1,3 @@
+-- Lemmas about the definitions of specs/Fitting.antt.
+pub mod Needed
+pub mod Configured

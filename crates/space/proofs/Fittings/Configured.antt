@@ -1,0 +1,105 @@
+-- The bound, in a configuration's numbers.
+use Rattle.std.proofs.Common.{◌≡◌, ℕ, ◌+◌, ◌-◌, ◌*◌, ◌/◌, ◌<◌, ◌≤◌, Bool, true, false, ◌==◌, if◌then◌else◌, List, length, ap, ◌∙◌, sym, subst, arith, refl}
+use Rattle.std.proofs.lemmas.List.{length-replicate}
+use Rattle.graph_heap.specs.Graph.{root_cells}
+use Rattle.size_classes.specs.declared.class.TheConstants.{CLASSES, MOST_BLOCKS, PAGE_WORDS}
+use Rattle.settings.specs.declared.config.TheConstants.{LEAST_BUDGET}
+use Rattle.settings.specs.declared.config.Config.{Config}
+use Rattle.settings.specs.Config.{limits_of}
+use Rattle.size_classes.specs.Sizes.{size_of, blocks_in}
+use Rattle.heap_model.specs.State.{HeapState}
+use Rattle.heap_model.specs.Settings.{HeapSettings, settings_of, settings_by}
+use Rattle.heap_model.specs.Opening.{IsOpening}
+use Rattle.heap_model.specs.Spent.{swept_units}
+use Rattle.heap_model.specs.Event.{Course, Event, Runs}
+use Rattle.heap_model.specs.ReachedFrom.{opened}
+use Rattle.space.specs.Demand.{Demand}
+use Rattle.space.specs.Tally.{opening_tally, AllKeepTo}
+use Rattle.space.specs.Space.{space_for, spare_of, below_of}
+use Rattle.space.specs.Pace.{Pace, opening_beat, AllKeepPace, moving_units, moved_quanta, unmoved_quanta, demand_of}
+use Rattle.space.specs.Fitting.{Fits, spare_in, below_in, swept_at, moving_at, quanta_at, unmoved_quanta_at, moved_pages, unmoved_pages, is_unmoved, FitsIn}
+use Rattle.space.specs.Room.{AllHaveRoom}
+use Rattle.space.proofs.Rooms.{all_have_room}
+use Rattle.space.proofs.Paces.Moved.{pace_keeps}
+use Rattle.space.proofs.Paces.Unmoved.{unmoved_suffices, unmoved_keeps}
+use Rattle.space.proofs.Tally.{space_suffices}
+
+-- a page of the smallest class has the most blocks
+most : blocks_in 0 ≡ MOST_BLOCKS
+unfolding size_of blocks_in
+most = refl
+
+swept_by : (roots pages : ℕ) (config : Config) → roots ≡ config.mutators * config.slots + config.statics → pages ≡ config.pages
+    → roots + PAGE_WORDS * pages + (MOST_BLOCKS + 1) * pages + (MOST_BLOCKS + 4) ≡ swept_at config config.pages
+swept_by roots pages config r p =
+    ap (λ z. z + PAGE_WORDS * pages + (MOST_BLOCKS + 1) * pages + (MOST_BLOCKS + 4)) r
+    ∙ ap (λ z. config.mutators * config.slots + config.statics + PAGE_WORDS * z + (MOST_BLOCKS + 1) * z + (MOST_BLOCKS + 4)) p
+    ∙ ap (λ b. config.mutators * config.slots + config.statics + PAGE_WORDS * config.pages + (b + 1) * config.pages + (b + 4)) (sym most)
+
+module _ (config : Config) (h : HeapState) (o : IsOpening h) (same : settings_of h ≡ settings_by config) where
+  limits : h.limits ≡ limits_of config
+  limits = ap (λ (s : HeapSettings). s.limits) same
+
+  pub pages : length h.store.pages ≡ config.pages
+  pages = ap (λ (s : HeapSettings). s.pages) same
+
+  pub below : h.defrag_below ≡ config.defrag_below
+  below = ap (λ (s : HeapSettings). s.defrag_below) same
+
+  pub defrag : h.defrag_pages ≡ config.defrag_pages
+  defrag = ap (λ (s : HeapSettings). s.defrag_pages) same
+
+  pub some : 1 ≤ config.pages → 0 < length h.store.pages
+  some one = let e = pages in omega (arith, e, one)
+
+  roots : length h.roots ≡ config.mutators * config.slots + config.statics
+  roots = ap length o.roots ∙ length-replicate (root_cells h.limits) 0 ∙ ap root_cells limits
+
+  same_swept : swept_units h ≡ swept_at config config.pages
+  same_swept = swept_by (length h.roots) (length h.store.pages) config roots pages
+
+  same_moving : moving_units h ≡ moving_at config config.pages
+  same_moving = ap (λ z. (z + CLASSES) * length h.store.pages + PAGE_WORDS * length h.store.pages + 1) defrag ∙ ap (λ z. (config.defrag_pages + CLASSES) * z + PAGE_WORDS * z + 1) pages
+
+  same_quanta : moved_quanta h (config.collector_ticks * config.rate) ≡ quanta_at config config.pages
+  same_quanta =
+      let k = config.collector_ticks * config.rate in
+      ap (λ z. (z + moving_units h + 255 * (moving_units h / (k - 255) + 1)) / k + 1) same_swept ∙ ap (λ z. (swept_at config config.pages + z + 255 * (z / (k - 255) + 1)) / k + 1) same_moving
+
+  same_unmoved : unmoved_quanta h (config.collector_ticks * config.rate) ≡ unmoved_quanta_at config config.pages
+  same_unmoved = ap (λ z. z / (config.collector_ticks * config.rate) + 1) same_swept
+
+  pub same_spare : spare_of h ≡ spare_in config
+  same_spare = ap (λ z. if z == 0 then 0 else h.defrag_pages) below ∙ ap (λ z. if config.defrag_below == 0 then 0 else z) defrag
+
+  pub same_below : below_of h ≡ below_in config
+  same_below = ap (λ z. if z == 0 then 0 else h.defrag_below) defrag ∙ ap (λ z. if config.defrag_pages == 0 then 0 else z) below
+
+  enough : (d : Demand) → Fits config d → space_for d (spare_of h) ≤ length h.store.pages
+  enough d f = subst (λ z. space_for d (spare_of h) ≤ z) (sym pages) (subst (λ z. space_for d z ≤ config.pages) (sym same_spare) f)
+
+  pub demand_configured : (es : List Event) (new : Course) (d : Demand) → 1 ≤ config.pages → Runs (opened h) es new → AllKeepTo d (opening_tally h.limits) es → Fits config d → AllHaveRoom es
+  demand_configured es new d one runs keeps fits = all_have_room es (opened h) new runs (space_suffices h es new d o (some one) runs keeps (enough d fits))
+
+  pub pace_configured : (es : List Event) (new : Course) (p : Pace) → 1 ≤ config.pages → LEAST_BUDGET ≤ config.collector_ticks * config.rate → Runs (opened h) es new
+      → AllKeepPace p (config.collector_ticks * config.rate) (opening_beat h.limits) es → FitsIn config p config.pages → AllHaveRoom es
+  pace_configured es new p one great runs keeps fits = by_way (is_unmoved config p config.pages) fits
+    where
+      k : ℕ
+      k = config.collector_ticks * config.rate
+
+      moved : moved_pages config p config.pages ≤ config.pages → AllHaveRoom es
+      moved fits = demand_configured es new (demand_of p (moved_quanta h k)) one runs (pace_keeps h es new p k great o (some one) runs keeps) (subst (λ z. Fits config (demand_of p z)) (sym same_quanta) fits)
+
+      unmoved : unmoved_pages config p config.pages ≤ config.pages → AllHaveRoom es
+      unmoved fits =
+          let enough : space_for (demand_of p (unmoved_quanta h k)) 0 + below_of h ≤ length h.store.pages =
+          subst (λ z. space_for (demand_of p z) 0 + below_of h ≤ length h.store.pages) (sym same_unmoved)
+          (subst (λ z. space_for (demand_of p (unmoved_quanta_at config config.pages)) 0 + z ≤ length h.store.pages) (sym same_below)
+          (subst (λ z. unmoved_pages config p config.pages ≤ z) (sym pages) fits)) in
+          all_have_room es (opened h) new runs
+          (unmoved_suffices h es new (demand_of p (unmoved_quanta h k)) o (some one) runs (unmoved_keeps h es new p k (omega (arith, great)) o (some one) runs keeps enough) enough)
+
+      by_way : (u : Bool) → (if u then unmoved_pages config p config.pages else moved_pages config p config.pages) ≤ config.pages → AllHaveRoom es
+      by_way true fits = unmoved fits
+      by_way false fits = moved fits

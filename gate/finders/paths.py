@@ -12,7 +12,7 @@ PATH = re.compile(rf"(?<![\w/.*-])((?:{FOLDERS})/[\w./-]*\w)(?![\w/*]*\*)")
 OF_CRATE = re.compile(rf"(?<![\w/.*-])((?:([a-z]\w*)/)?(?:{PARTS})/[\w./-]*\w)(?![\w/*]*\*)")
 
 # A path that stands for many, or for what is made.
-PATTERN = re.compile(r"crates/[A-Z]+\b|/out/|\b(?:src|proofs)/a\b")
+PATTERN = re.compile(r"\b(?:crates|specs|proofs)/[A-Z]{2,}\b|/out/|\b(?:src|proofs)/a\b")
 
 
 def is_in_a_crate(top, page, path, crate):

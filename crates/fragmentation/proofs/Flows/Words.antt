@@ -1,11 +1,11 @@
 -- How many pages words of blocks take.
-use Rattle.std.proofs.Common.{◌≡◌, ℕ, zero, suc, ◌+◌, ◌-◌, ◌*◌, ◌/◌, ◌<◌, ◌≤◌, ◌⊎◌, inl, inr, Bool, true, false, cond, leb, if◌then◌else◌, nat_lt, ap, ◌∙◌, sym, subst, arith, refl, mul-zero}
+use Rattle.std.proofs.Common.{◌≡◌, ℕ, zero, suc, ◌+◌, ◌-◌, ◌*◌, ◌/◌, ◌<◌, ◌≤◌, ◌⊎◌, inl, inr, Bool, true, false, leb, if◌then◌else◌, nat_lt, ap, ◌∙◌, sym, arith, refl, mul-zero}
 use Rattle.std.proofs.lemmas.Nat.{le-div}
 use Rattle.std.proofs.lemmas.Bool.{leb-true}
 use Rattle.std.proofs.Math.Nat.{div-mul-le_self, mul-le-mul_left}
 use Rattle.size_classes.specs.declared.class.TheConstants.{CLASSES}
 use Rattle.size_classes.specs.Sizes.{size_of, blocks_in}
-use Rattle.size_classes.proofs.Table.{blocks_some}
+use Rattle.size_classes.proofs.Table.{all_below_at, blocks_some}
 use Rattle.heap_model.specs.Pages.{whole_pages}
 use Rattle.space.specs.Space.{class_sum}
 use Rattle.space.proofs.Counts.{class_sum_le, class_sum_both, zeros}
@@ -13,24 +13,6 @@ use Rattle.fragmentation.specs.declared.flow.TheConstants.{LEAST_PAGE_FILL, PART
 use Rattle.fragmentation.specs.Suffice.{gathered_pages, pages_of}
 use Rattle.fragmentation.specs.Flow.{words_of, classes_made}
 use Rattle.fragmentation.proofs.Suffice.Paging.{whole_more, whole_none, whole_both}
-
--- each number below n passes
-abbrev all_below : (ℕ → Bool) → ℕ → Bool
-all_below p zero = true
-all_below p (suc n) = cond (p n) (all_below p n) false
-
-both : (a b : Bool) → cond a b false ≡ true → (a ≡ true) × (b ≡ true)
-both true b h = (refl, h)
-both false b h = absurd (cc)
-
-lt_or_eq : (k n : ℕ) → k < suc n → (n ≡ k) ⊎ (k < n)
-lt_or_eq k n h = grind arith
-
-all_below_at : (p : ℕ → Bool) (n k : ℕ) → all_below p n ≡ true → k < n → p k ≡ true
-all_below_at p zero k h l = absurd (omega arith)
-all_below_at p (suc n) k h l =
-    let parts = both (p n) (all_below p n) h in
-    elim (lt_or_eq k n (omega arith)) [ inl e ↦ subst (λ m. p m ≡ true) e parts.0 | inr b ↦ all_below_at p n k parts.1 b ]
 
 -- the blocks of a page have at least this many words
 pub page_words_least : (k : ℕ) → k < CLASSES → LEAST_PAGE_FILL ≤ size_of k * blocks_in k

@@ -2,3 +2,4 @@ mod Bytes
 mod Faults
 mod Members
 mod Values
+mod Found

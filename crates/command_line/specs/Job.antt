@@ -8,7 +8,7 @@ use Rattle.command_line.specs.declared.job.Picture.TheVariants as pictures
 use Rattle.command_line.specs.declared.job.Report.{Report}
 use Rattle.command_line.specs.declared.job.Report.TheVariants as reports
 use Rattle.command_line.specs.declared.job.Job.{Job}
-use Rattle.command_line.specs.declared.job.Job.TheVariants.{Play, Check, Threads, Inspect, Cycles, Path, Mmu, Draw, DrawGraph, DrawTime, Pages}
+use Rattle.command_line.specs.declared.job.Job.TheVariants.{Threads, Inspect, Path, Mmu, Draw, DrawGraph, DrawTime}
 
 -- a window has 1 to 1099511627776 ticks
 abbrev pub IsWindow : ℕ → Type 0
@@ -16,18 +16,13 @@ IsWindow ticks = (1 ≤ ticks) × (ticks ≤ 1099511627776)
 
 -- the numbers of a job lie in their ranges
 abbrev pub IsInRange : Job → Type 0
-IsInRange (Play config trace history) = Unit {0}
-IsInRange (Check config history) = Unit {0}
-IsInRange (Threads config scripts turns budget) = (turns ≤ 10000) × (LEAST_BUDGET ≤ budget) × (budget ≤ MOST_BUDGET)
-IsInRange (Inspect config trace by after) = IfSome after (λ lines. lines ≤ 4294967295)
-IsInRange (Draw config trace picture after) = IfSome after (λ lines. lines ≤ 4294967295)
-IsInRange (DrawGraph config trace after most) =
-    IfSome after (λ lines. lines ≤ 4294967295) × (1 ≤ most) × (most ≤ 4294967295)
-IsInRange (DrawTime config trace) = Unit {0}
-IsInRange (Cycles config trace csv) = Unit {0}
-IsInRange (Path config trace id after) = IfSome after (λ lines. lines ≤ 4294967295)
-IsInRange (Pages config trace by) = Unit {0}
-IsInRange (Mmu config trace windows) = (0 < length windows.items) × All IsWindow windows.items
+IsInRange (Threads turns budget) = (turns ≤ 10000) × (LEAST_BUDGET ≤ budget) × (budget ≤ MOST_BUDGET)
+IsInRange (Inspect by after) = IfSome after (λ lines. lines ≤ 4294967295)
+IsInRange (Draw picture after) = IfSome after (λ lines. lines ≤ 4294967295)
+IsInRange (DrawGraph after most) = IfSome after (λ lines. lines ≤ 4294967295) × (1 ≤ most) × (most ≤ 4294967295)
+IsInRange (Path id after) = IfSome after (λ lines. lines ≤ 4294967295)
+IsInRange (Mmu windows) = (0 < length windows.items) × All IsWindow windows.items
+IsInRange _ = Unit {0}
 
 -- the name of a picture of a heap
 abbrev pub picture_name : Picture → List ℕ
@@ -42,9 +37,9 @@ report_name reports.Sizes = codes "size"
 -- The job draws the picture of this name: of a heap after this many event lines; of at most this many objects of its
 -- graph; or over all events.
 abbrev pub IsDrawing : List ℕ → Option ℕ → Option ℕ → Job → Type 0
-IsDrawing name lines objects (Draw config trace picture after) =
+IsDrawing name lines objects (Draw picture after) =
     (name ≡ picture_name picture) × (lines ≡ after) × (objects ≡ None)
-IsDrawing name lines objects (DrawGraph config trace after most) =
+IsDrawing name lines objects (DrawGraph after most) =
     (name ≡ codes "graph") × (lines ≡ after) × (most ≡ unwrap_or objects 500)
-IsDrawing name lines objects (DrawTime config trace) = (name ≡ codes "time") × (lines ≡ None) × (objects ≡ None)
+IsDrawing name lines objects DrawTime = (name ≡ codes "time") × (lines ≡ None) × (objects ≡ None)
 IsDrawing name lines objects other = ⊥

@@ -1,3 +1,4 @@
 pub mod Document
 pub mod Job
 pub mod TomlTable
+pub mod Words

@@ -29,84 +29,63 @@ pub enum Sizing<'a> {
     Load(&'a str),
 }
 
-/// What the words of a command line ask for, with the names of its files. A file that is called `-`
-/// is standard input, but for the configuration.
+/// What is done with the other file than the configuration.
 #[derive(Debug, PartialEq, Eq, Drop)]
 pub enum Job<'a> {
     /// Play a trace, and write its replies, or with `history` its entries.
     Play {
-        config: &'a str,
-        trace: &'a str,
         history: bool,
     },
     /// Check the entries of a history.
-    Check {
-        config: &'a str,
-        history: &'a str,
-    },
+    Check,
     /// Run scripts on threads, beside this many quanta of the collector, each of this many units.
     Threads {
-        config: &'a str,
-        scripts: &'a str,
         turns: u32,
         budget: u32,
     },
     /// Play a trace, or its first event lines, and report the heap.
     Inspect {
-        config: &'a str,
-        trace: &'a str,
         by: Report,
         after: Option<u32>,
     },
     /// Play a trace, and write the utilisation of windows of some numbers of ticks.
     Mmu {
-        config: &'a str,
-        trace: &'a str,
         windows: Vec<u64>,
     },
     /// Play a trace, or its first event lines, and draw a picture.
     Draw {
-        config: &'a str,
-        trace: &'a str,
         picture: Picture,
         after: Option<u32>,
     },
     /// Play a trace, or its first event lines, and draw the objects that can be reached, at most this many.
     DrawGraph {
-        config: &'a str,
-        trace: &'a str,
         after: Option<u32>,
         most: u32,
     },
     /// Play a trace, and draw its heap over its events.
-    DrawTime {
-        config: &'a str,
-        trace: &'a str,
-    },
+    DrawTime,
     /// Play a trace, and tell of each cycle, with `csv` with commas between the figures.
     Cycles {
-        config: &'a str,
-        trace: &'a str,
         csv: bool,
     },
     /// Play a trace, or its first event lines, and tell why the object of an identity is alive.
     Path {
-        config: &'a str,
-        trace: &'a str,
         id: u64,
         after: Option<u32>,
     },
     /// Play a trace, and tell how many pages suffice.
     Pages {
-        config: &'a str,
-        trace: &'a str,
         by: Sizing<'a>,
     },
 }
 
-/// What the words of a command line ask for, and whether its progress is reported.
+/// What the words of a command line ask for, with the names of its files.
 #[derive(Debug, PartialEq, Eq, Drop)]
 pub struct Request<'a> {
+    /// The file of the configuration.
+    pub config: &'a str,
+    /// The other file; `-` is standard input.
+    pub file: &'a str,
     /// What is to be done.
     pub job: Job<'a>,
     /// Whether standard error is told how many lines were read.

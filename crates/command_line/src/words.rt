@@ -1,7 +1,11 @@
 //! The words of the command line.
 ghost use Rattle.std.specs.Prelude.{◌≡◌, ◌<◌, ◌≤◌, None, IfOk, OnOk, length};
 ghost use Rattle.std.specs.List.{All, Any};
+ghost use Rattle.std.specs.Prelude.{[], Some, codes, map, option_map, unwrap_or};
+ghost use Rattle.std.specs.List.{AllZip};
+ghost use Rattle.clap.specs.Words.{found_of, rows_of, first_of, one_of, all_of};
 ghost use Rattle.command_line.specs.Job.{IsDrawing, IsInRange, IsWindow, picture_name, report_name};
+ghost use Rattle.command_line.specs.Words.{Asks, AsksFor, file_argument, IsFlag, IsNumber, IsSizing, WordsAsk};
 
 use crate::commands::program;
 use crate::fault::WordsFault;
@@ -16,7 +20,8 @@ use std::fmt::Display;
 /// What the words ask for; the first is the program's name. Where they ask for help, or are refused, the
 /// answer is the text for the user.
 pub fn read_words<'a, S: AsStr>(alloc: Global, words: &'a [S]) -> Result<Request<'a>, WordsFault>
-    ensures { IfOk result (λ request. IsInRange request.job) }
+    ensures range { IfOk result (λ request. IsInRange request.job) }
+    ensures asked { IfOk result (WordsAsk (map S.text words.now)) }
 {
     let Ok(command) = program(alloc) else {
         return Err(WordsFault::NoMemory);
@@ -28,18 +33,45 @@ pub fn read_words<'a, S: AsStr>(alloc: Global, words: &'a [S]) -> Result<Request
     let Some((name, found)) = matches.subcommand() else {
         return Err(refused(alloc, "a subcommand is missing"));
     };
+    request_of(alloc, name, found)
+}
+
+/// What the words of a subcommand ask for, with the names of its files.
+fn request_of<'a>(
+    alloc: Global,
+    name: &str,
+    found: &ArgMatches<'a>,
+) -> Result<Request<'a>, WordsFault>
+    ensures range { IfOk result (λ request. IsInRange request.job) }
+    ensures asked { IfOk result (AsksFor name.now (rows_of (found_of found.now))) }
+{
+    let job = job_of(alloc, name, found)?;
     Ok(Request {
-        job: job_of(alloc, name, found)?,
-        progress: found.get_flag("progress"),
+        config: file(alloc, found, "CONFIG")?,
+        file: file(alloc, found, file_argument(&job))?,
+        job,
+        progress: flag(found, "progress"),
     })
+}
+
+/// The argument that has the name of a job's file.
+fn file_argument(job: &Job) -> &'static str
+    ensures { result.now ≡ file_argument job.now }
+{
+    match job {
+        Job::Check => "HISTORY",
+        Job::Threads { .. } => "SCRIPTS",
+        _ => "TRACE",
+    }
 }
 
 /// What the words of a subcommand ask for.
 fn job_of<'a>(alloc: Global, name: &str, found: &ArgMatches<'a>) -> Result<Job<'a>, WordsFault>
-    ensures { IfOk result IsInRange }
+    ensures range { IfOk result IsInRange }
+    ensures asked { IfOk result (Asks name.now (rows_of (found_of found.now))) }
 {
     match name {
-        "check" => check(alloc, found),
+        "check" => Ok(Job::Check),
         "threads" => threads(alloc, found),
         "inspect" | "path" | "draw" => heap_job(alloc, name, found),
         _ => run_job(alloc, name, found),
@@ -66,57 +98,37 @@ fn refused<T: Display + Drop>(alloc: Global, why: T) -> WordsFault {
     }
 }
 
-fn check<'a>(alloc: Global, found: &ArgMatches<'a>) -> Result<Job<'a>, WordsFault>
-    ensures { IfOk result IsInRange }
-{
-    Ok(Job::Check {
-        config: file(alloc, found, "CONFIG")?,
-        history: file(alloc, found, "HISTORY")?,
-    })
-}
-
+/// What the words of `threads` ask for.
 fn threads<'a>(alloc: Global, found: &ArgMatches<'a>) -> Result<Job<'a>, WordsFault>
-    ensures { IfOk result IsInRange }
+    ensures range { IfOk result IsInRange }
+    ensures asked { IfOk result (Asks (codes "threads") (rows_of (found_of found.now))) }
 {
     // (clap gives each its default where it isn't named)
-    let turns = found.get_one::<u32>("turns").unwrap_or_default();
-    let budget = found.get_one::<u32>("budget").unwrap_or_default();
+    let turns = number(found, "turns").unwrap_or(0);
+    let budget = number(found, "budget").unwrap_or(0);
     within(alloc, "--turns <N>", u64::from(turns), 0, 10000)?;
     let (least, most) = (u64::from(LEAST_BUDGET), u64::from(MOST_BUDGET));
     within(alloc, "--budget <B>", u64::from(budget), least, most)?;
-    Ok(Job::Threads {
-        config: file(alloc, found, "CONFIG")?,
-        scripts: file(alloc, found, "SCRIPTS")?,
-        turns,
-        budget,
-    })
+    Ok(Job::Threads { turns, budget })
 }
 
 /// What a subcommand over a whole trace asks for.
 fn run_job<'a>(alloc: Global, name: &str, found: &ArgMatches<'a>) -> Result<Job<'a>, WordsFault>
-    ensures { IfOk result IsInRange }
+    ensures range { IfOk result IsInRange }
+    ensures asked { IfOk result (Asks name.now (rows_of (found_of found.now))) }
 {
-    let (config, trace) = files(alloc, found)?;
     match name {
         "play" => Ok(Job::Play {
-            config,
-            trace,
-            history: found.get_flag("history"),
+            history: flag(found, "history"),
         }),
         "cycles" => Ok(Job::Cycles {
-            config,
-            trace,
-            csv: found.get_flag("csv"),
+            csv: flag(found, "csv"),
         }),
         "mmu" => Ok(Job::Mmu {
-            config,
-            trace,
             windows: windows_of(alloc, found.get_strs("WINDOW").unwrap_or(&[]))?,
         }),
         "pages" => Ok(Job::Pages {
-            config,
-            trace,
-            by: sizing(alloc, found.get_flag("pace"), found.get_str("load"))?,
+            by: sizing(alloc, flag(found, "pace"), word(found, "load"))?,
         }),
         _ => Err(refused(alloc, "a subcommand is missing")),
     }
@@ -124,29 +136,26 @@ fn run_job<'a>(alloc: Global, name: &str, found: &ArgMatches<'a>) -> Result<Job<
 
 /// What a subcommand over the heap after some event lines, or all, asks for.
 fn heap_job<'a>(alloc: Global, name: &str, found: &ArgMatches<'a>) -> Result<Job<'a>, WordsFault>
-    ensures { IfOk result IsInRange }
+    ensures range { IfOk result IsInRange }
+    ensures asked { IfOk result (Asks name.now (rows_of (found_of found.now))) }
 {
-    let (config, trace) = files(alloc, found)?;
-    let after = found.get_one("after");
+    let after = number(found, "after");
     match name {
         // (clap gives `by` its default where it isn't named)
         "inspect" => Ok(Job::Inspect {
-            config,
-            trace,
-            by: report(alloc, found.get_str("by").unwrap_or(""))?,
+            by: report(alloc, word(found, "by").unwrap_or(""))?,
             after,
         }),
         // (clap has refused what is no such number)
         "path" => Ok(Job::Path {
-            config,
-            trace,
-            id: found.get_one("ID").unwrap_or_default(),
+            id: long_number(found, "ID").unwrap_or(0),
             after,
         }),
-        _ => {
-            let picture = found.get_str("as").unwrap_or("");
-            drawing(alloc, config, trace, picture, after, found.get_one("most"))
+        "draw" => {
+            let picture = word(found, "as").unwrap_or("");
+            drawing(alloc, picture, after, number(found, "most"))
         }
+        _ => Err(refused(alloc, "a subcommand is missing")),
     }
 }
 
@@ -187,8 +196,6 @@ fn report(alloc: Global, name: &str) -> Result<Report, WordsFault>
 /// alone.
 fn drawing<'a>(
     alloc: Global,
-    config: &'a str,
-    trace: &'a str,
     name: &str,
     after: Option<u32>,
     most: Option<u32>,
@@ -199,25 +206,15 @@ fn drawing<'a>(
     if name == "graph" {
         let most = most.unwrap_or(500);
         within(alloc, "--most <N>", u64::from(most), 1, 4294967295)?;
-        return Ok(Job::DrawGraph {
-            config,
-            trace,
-            after,
-            most,
-        });
+        return Ok(Job::DrawGraph { after, most });
     }
     without(alloc, most, "--most <N>", name)?;
     if name == "time" {
         without(alloc, after, "--after <N>", name)?;
-        return Ok(Job::DrawTime { config, trace });
+        return Ok(Job::DrawTime);
     }
     let picture = picture(alloc, name)?;
-    Ok(Job::Draw {
-        config,
-        trace,
-        picture,
-        after,
-    })
+    Ok(Job::Draw { picture, after })
 }
 
 /// Refuses a number that isn't for the picture of a name, as `clap` does.
@@ -232,7 +229,9 @@ fn without(alloc: Global, number: Option<u32>, argument: &str, name: &str) -> Re
 }
 
 /// What the pages are reckoned from: one way at most is asked for.
-fn sizing<'a>(alloc: Global, pace: bool, load: Option<&'a str>) -> Result<Sizing<'a>, WordsFault> {
+fn sizing<'a>(alloc: Global, pace: bool, load: Option<&'a str>) -> Result<Sizing<'a>, WordsFault>
+    ensures { IfOk result (IsSizing pace (option_map (λ file. file.now) load.entry)) }
+{
     match (pace, load) {
         (false, None) => Ok(Sizing::Demand),
         (true, None) => Ok(Sizing::Pace),
@@ -258,7 +257,9 @@ fn picture(alloc: Global, name: &str) -> Result<Picture, WordsFault>
 
 /// The ticks of each window: there is at least one.
 fn windows_of(alloc: Global, words: &[&str]) -> Result<Vec<u64>, WordsFault>
-    ensures { IfOk result (λ windows. (0 < length windows.items) × All IsWindow windows.items) }
+    ensures range { IfOk result (λ windows. (0 < length windows.items) × All IsWindow windows.items) }
+    ensures each { IfOk result (λ windows. AllZip (λ word ticks. IsNumber 64 (Some word) (Some ticks))
+        (map (λ word. word.now) words.now) windows.items) }
 {
     let mut windows = Vec::new(alloc);
     for word in words {
@@ -276,17 +277,42 @@ fn windows_of(alloc: Global, words: &[&str]) -> Result<Vec<u64>, WordsFault>
     Ok(windows)
 }
 
-/// The names of the configuration and the trace.
-fn files<'a>(alloc: Global, found: &ArgMatches<'a>) -> Result<(&'a str, &'a str), WordsFault> {
-    Ok((file(alloc, found, "CONFIG")?, file(alloc, found, "TRACE")?))
-}
-
 /// The name of a file.
-fn file<'a>(alloc: Global, found: &ArgMatches<'a>, name: &str) -> Result<&'a str, WordsFault> {
-    match found.get_str(name) {
+fn file<'a>(alloc: Global, found: &ArgMatches<'a>, name: &str) -> Result<&'a str, WordsFault>
+    ensures { IfOk result (λ file. first_of name.now (rows_of (found_of found.now)) ≡ Some file.now) }
+{
+    match word(found, name) {
         Some(word) => Ok(word),
         None => Err(refused(alloc, "a file is missing")),
     }
+}
+
+/// The first word of an argument.
+fn word<'a>(found: &ArgMatches<'a>, name: &str) -> Option<&'a str>
+    ensures { option_map (λ word. word.now) result ≡ first_of name.now (rows_of (found_of found.now)) }
+{
+    found.get_str(name)
+}
+
+/// Whether a flag is set.
+fn flag(found: &ArgMatches, name: &str) -> bool
+    ensures { IsFlag (one_of name.now (rows_of (found_of found.now))) result }
+{
+    found.get_flag(name)
+}
+
+/// The number of an argument.
+fn number(found: &ArgMatches, name: &str) -> Option<u32>
+    ensures { IsNumber 32 (one_of name.now (rows_of (found_of found.now))) result }
+{
+    found.get_one(name)
+}
+
+/// The number of an argument that may be long.
+fn long_number(found: &ArgMatches, name: &str) -> Option<u64>
+    ensures { IsNumber 64 (one_of name.now (rows_of (found_of found.now))) result }
+{
+    found.get_one(name)
 }
 
 /// Refuses a number outside its range, as `clap` does.

@@ -6,8 +6,10 @@ use Rattle.command_line.specs.declared.job.Job.{Job}
 use Rattle.streams.specs.Streams.{Taken, given_by}
 use Rattle.metronome.specs.declared.fault.Ending.{Ending}
 use Rattle.metronome.specs.declared.fault.RunFault.{RunFault}
-use Rattle.metronome.specs.Faults.{failed_reads, CountsReads}
-use Rattle.metronome.specs.Done.{JobDone}
+use Rattle.command_line.specs.declared.job.Job.TheVariants.{Pages}
+use Rattle.command_line.specs.declared.job.Sizing.TheVariants.{Load}
+use Rattle.metronome.specs.Faults.{failed_reads}
+use Rattle.metronome.specs.Done.{JobDone, JobCountsReads}
 
 module _ {T S : Type 0} (old new : T) (source : T → S) (first : S) (is : source old ≡ first) where
   -- a job from it is a job from the other
@@ -16,6 +18,7 @@ module _ {T S : Type 0} (old new : T) (source : T → S) (first : S) (is : sourc
   done_below given ended job config taken r done = subst (λ (s : S). JobDone job config (given_by given ended s (source new)) taken r) is done
 
   -- and so it counts its failed reads
-  pub counts_below : {A : Type 0} (failures : S → ℕ) (r : Result A RunFault) → CountsReads (λ t. failures (source t)) old new r → CountsReads failures first (source new) r
-  counts_below failures r (inl e) = inl (e ∙ ap (λ s. failures s + failed_reads r) is)
-  counts_below failures r (inr (fault, so, unread, same)) = inr (fault, so, unread, ap source same ∙ is)
+  pub counts_below : (failures : S → ℕ) (job : Job) (r : Result Ending RunFault) → JobCountsReads job (λ t. failures (source t)) old new r → JobCountsReads job failures first (source new) r
+  counts_below failures (Pages (Load file)) r (inl e) = inl (e ∙ ap (λ s. failures s + failed_reads r) is)
+  counts_below failures (Pages (Load file)) r (inr (fault, so, unread, same)) = inr (fault, so, unread, ap source same ∙ is)
+  counts_below failures job r e = e ∙ ap (λ s. failures s + failed_reads r) is

@@ -37,7 +37,7 @@ use Rattle.command_line.specs.declared.toml_table.ReadFault.{ReadFault}
 use Rattle.command_line.specs.declared.toml_table.ReadFault.TheVariants as settings
 use Rattle.metronome.specs.declared.fault.RunFault.{RunFault}
 use Rattle.metronome.specs.declared.fault.RunFault.TheVariants.{Text}
-use Rattle.metronome.specs.Faults.{of_settings, IsUnread, failed_reads, failed_writes}
+use Rattle.metronome.specs.Faults.{of_settings, IsUnread, IsUnreadable, failed_reads, failed_writes}
 use Rattle.metronome.specs.Jobs.{finish}
 use Rattle.metronome.specs.declared.answer_job.Answer.{Answer}
 use Rattle.metronome.specs.declared.answer_job.Question.{Question}
@@ -58,6 +58,13 @@ reads_on r fault old new h e = e ∙ ap (λ n. old + n) (sym (reads_so r fault h
 
 pub writes_on : {A : Type 0} (r : Result A RunFault) (fault : RunFault) (old new : ℕ) → IsErrAnd r (λ e. e ≡ fault) → new ≡ old + failed_writes {A = Unit {0}} (Err fault) → new ≡ old + failed_writes r
 writes_on r fault old new h e = e ∙ ap (λ n. old + n) (sym (writes_so r fault h))
+
+-- what holds unless a read failed, where a fault is handed on
+pub input_on : {A : Type 0} (r : Result A RunFault) (fault : RunFault) (P : Type 0) → IsErrAnd r (λ e. e ≡ fault) → (failed_reads {A = Unit {0}} (Err fault) ≡ 0 → P) → failed_reads r ≡ 0 → P
+input_on r fault P h f none = f (sym (reads_so r fault h) ∙ none)
+
+pub input_text : {A : Type 0} (r : Result A RunFault) (fault : PlayFault) (P : Type 0) → IsErrAnd r (λ e. e ≡ Text fault) → (reads_failed {A = Unit {0}} (Err fault) ≡ 0 → P) → failed_reads r ≡ 0 → P
+input_text r fault P h f none = input_on r (Text fault) P h f none
 
 -- so is that of a text
 pub reads_text : {A : Type 0} (r : Result A RunFault) (fault : PlayFault) (old new : ℕ) → IsErrAnd r (λ e. e ≡ Text fault) → new ≡ old + reads_failed {A = Unit {0}} (Err fault) → new ≡ old + failed_reads r
@@ -108,6 +115,13 @@ none_written fault u = refl
 
 pub unread_unwritten : {A : Type 0} (r : Result A RunFault) (fault : RunFault) → IsErrAnd r (λ e. e ≡ fault) → IsUnread fault → failed_writes r ≡ 0
 unread_unwritten r fault h u = writes_so r fault h ∙ none_written fault u
+
+unreadable_written : (fault : RunFault) → IsUnreadable fault → failed_writes {A = Unit {0}} (Err fault) ≡ 0
+unreadable_written (Text texts.Write) u = elim u [ ]
+unreadable_written fault u = refl
+
+pub unreadable_unwritten : {A : Type 0} (r : Result A RunFault) (fault : RunFault) → IsErrAnd r (λ e. e ≡ fault) → IsUnreadable fault → failed_writes r ≡ 0
+unreadable_unwritten r fault h u = writes_so r fault h ∙ unreadable_written fault u
 
 settings_written : (why : ReadFault ConfigFault) → failed_writes {A = Unit {0}} (Err (of_settings why)) ≡ 0
 settings_written (settings.Refused why) = refl

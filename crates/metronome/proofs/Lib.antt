@@ -7,3 +7,4 @@ pub mod Covering
 pub mod Failing
 pub mod Below
 pub mod Alive
+mod Obeying

@@ -6,12 +6,24 @@ use Rattle.command_line.specs.declared.toml_table.ReadFault.TheVariants as setti
 use Rattle.trace.specs.declared.fault.PlayFault.TheVariants.{Read, NoMemory}
 use Rattle.trace.specs.LinesProcessed.{reads_failed, writes_failed}
 use Rattle.metronome.specs.declared.fault.RunFault.{RunFault}
-use Rattle.metronome.specs.declared.fault.RunFault.TheVariants.{Config, Load, Text}
+use Rattle.metronome.specs.declared.fault.RunFault.TheVariants.{Words, Config, Load, Text}
 
 -- the fault of a run whose settings can't be read
 abbrev pub of_settings : ReadFault ConfigFault → RunFault
 of_settings (settings.Refused why) = Config why
 of_settings settings.NoMemory = Text NoMemory
+
+-- the faults of words that give no request
+abbrev pub IsOfWords : RunFault → Type 0
+IsOfWords (Words text) = Unit {0}
+IsOfWords (Text NoMemory) = Unit {0}
+IsOfWords fault = ⊥
+
+-- the faults of a file that can't be read into memory
+abbrev pub IsUnreadable : RunFault → Type 0
+IsUnreadable (Text Read) = Unit {0}
+IsUnreadable (Text NoMemory) = Unit {0}
+IsUnreadable fault = ⊥
 
 -- the faults of a load or a trace that can't be read into memory
 abbrev pub IsUnread : RunFault → Type 0
@@ -30,8 +42,11 @@ abbrev pub failed_writes : {A : Type 0} → Result A RunFault → ℕ
 failed_writes (Err (Text why)) = writes_failed {A = Unit {0}} (Err why)
 failed_writes _ = 0
 
--- a run counts the failed reads of its source; where something else can't be read, its source was asked for nothing
+-- a run counts the failed reads of its source
 abbrev pub CountsReads : {S A : Type 0} → (S → ℕ) → S → S → Result A RunFault → Type 0
-CountsReads failures old new result =
-    (failures new ≡ failures old + failed_reads result)
+CountsReads failures old new result = failures new ≡ failures old + failed_reads result
+
+-- one by a load does so too, or the load can't be read, and its source was asked for nothing
+abbrev pub LoadCountsReads : {S A : Type 0} → (S → ℕ) → S → S → Result A RunFault → Type 0
+LoadCountsReads failures old new result = CountsReads failures old new result
     ⊎ ((fault : RunFault) × (result ≡ Err fault) × IsUnread fault × (new ≡ old))

@@ -10,3 +10,4 @@ pub mod Progress
 pub mod Answered
 pub mod Loaded
 pub mod Done
+pub mod Run

@@ -4,7 +4,7 @@ ghost use Rattle.heap_model.specs.Event.{present_of};
 ghost use Rattle.heap_model.specs.Settings.{settings_of, settings_by};
 ghost use Rattle.player.specs.Playing.{session};
 ghost use Rattle.trace.specs.LinesProcessed.{reads_failed, writes_failed};
-ghost use Rattle.streams.specs.Streams.{given_by, taken_by};
+ghost use Rattle.streams.specs.Streams.{given_by, taken_by, Stays};
 ghost use Rattle.metronome.specs.Faults.{failed_reads, failed_writes};
 ghost use Rattle.metronome.specs.After.{PlayedUpTo, PlayerAfter, AfterPlay};
 ghost use Rattle.metronome.specs.Telling.{Tells};
@@ -56,6 +56,7 @@ fn play_silently<S: Source, K: Sink>(
     ensures played { PlayedUpTo after (given_by S.given S.ended source.old source.new)
         (session player.old (K.taken sink.old)) (session player.new (K.taken sink.new)) result }
     ensures reads { S.failures source.new ≡ S.failures source.old + reads_failed result }
+    ensures input { reads_failed result ≡ 0 → Stays (S.input source.old) (S.input source.new) }
     ensures writes { K.failures sink.new ≡ K.failures sink.old + writes_failed result }
 {
     match after {
@@ -76,6 +77,7 @@ fn player_after<S: Source, K: Sink>(
         (taken_by K.taken sink.old sink.new) result }
     ensures settings { IfOk result (λ player. settings_of player.course.heap ≡ settings_by config.now) }
     ensures reads { S.failures source.new ≡ S.failures source.old + failed_reads result }
+    ensures input { failed_reads result ≡ 0 → Stays (S.input source.old) (S.input source.new) }
     ensures writes { K.failures sink.new ≡ K.failures sink.old + failed_writes result }
 {
     let mut player = Player::new(alloc, config)?;
@@ -131,6 +133,7 @@ pub fn after_play<S: Source, K: Sink>(
     ensures done { AfterPlay (Tells telling.entry config.now) after config.now
         (given_by S.given S.ended source.old source.new) (taken_by K.taken sink.old sink.new) result }
     ensures reads { S.failures source.new ≡ S.failures source.old + failed_reads result }
+    ensures input { failed_reads result ≡ 0 → Stays (S.input source.old) (S.input source.new) }
     ensures writes { K.failures sink.new ≡ K.failures sink.old + failed_writes result }
 {
     let player = player_after(alloc, config, source, sink, after)?;

@@ -1,7 +1,7 @@
 //! Answering a question about an input.
 ghost use Rattle.std.specs.Prelude.{◌≡◌, ◌+◌, IfOk, string_bytes};
 ghost use Rattle.trace.specs.LinesProcessed.{reads_failed};
-ghost use Rattle.streams.specs.Streams.{given_by, taken_by};
+ghost use Rattle.streams.specs.Streams.{given_by, taken_by, Stays};
 ghost use Rattle.metronome.specs.Faults.{failed_reads, failed_writes};
 ghost use Rattle.metronome.specs.Told.{TextWritten};
 ghost use Rattle.metronome.specs.Answered.{EntriesTaken, verdict, told_of, TellsPages, Offers, IsAnswer, Answered};
@@ -41,6 +41,7 @@ pub struct Answer {
 fn check<S: Source>(alloc: Global, config: &Config, source: &mut S) -> Result<Checked, PlayFault>
     ensures checked { EntriesTaken config.now (given_by S.given S.ended source.old source.new) result }
     ensures reads { S.failures source.new ≡ S.failures source.old + reads_failed result }
+    ensures input { reads_failed result ≡ 0 → Stays (S.input source.old) (S.input source.new) }
 {
     let mut reference = Reference::new(alloc, &config.limits())?;
     check_entries(source, &mut reference)
@@ -106,6 +107,7 @@ fn answer_to<S: Source>(
 ) -> Result<Answer, PlayFault>
     ensures answer { IsAnswer question config.now (given_by S.given S.ended source.old source.new) result }
     ensures reads { S.failures source.new ≡ S.failures source.old + reads_failed result }
+    ensures input { reads_failed result ≡ 0 → Stays (S.input source.old) (S.input source.new) }
 {
     match question {
         Question::History => {
@@ -148,6 +150,7 @@ pub fn answer_job<S: Source, K: Sink>(
     ensures done { Answered question config.now (given_by S.given S.ended source.old source.new)
         (taken_by K.taken sink.old sink.new) result }
     ensures reads { S.failures source.new ≡ S.failures source.old + failed_reads result }
+    ensures input { failed_reads result ≡ 0 → Stays (S.input source.old) (S.input source.new) }
     ensures writes { K.failures sink.new ≡ K.failures sink.old + failed_writes result }
 {
     let answer = answer_to(alloc, config, source, question)?;

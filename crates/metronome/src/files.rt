@@ -1,6 +1,8 @@
 //! Files by name.
-ghost use Rattle.std.specs.Prelude.{IfErr};
-ghost use Rattle.metronome.specs.Faults.{IsUnread};
+ghost use Rattle.std.specs.Prelude.{◌≡◌, List, ℕ, Option, None, IfOk, IfErr, IfSome};
+ghost use Rattle.streams.specs.Streams.{Stays};
+ghost use Rattle.metronome.specs.Faults.{IsUnreadable};
+ghost use Rattle.metronome.specs.Run.{document_bytes};
 
 use crate::fault::RunFault;
 use std::alloc::Global;
@@ -16,8 +18,12 @@ pub trait Opener {
     /// A reader of a file.
     type File: Read + Drop;
 
+    /// The bytes of the file of each name, where they are known.
+    ghost contents: { Self → List ℕ → Option (List ℕ) };
+
     /// A reader of the file of this name, from its beginning.
-    fn open(&self, name: &str) -> io::Result<Self::File>;
+    fn open(&self, name: &str) -> io::Result<Self::File>
+        ensures { IfOk result (λ file. Stays (contents self.now name.now) (Self.File.remaining file)) };
 }
 
 /// The files of the machine.
@@ -29,6 +35,9 @@ pub struct HostFiles<'a, R: Files> {
 impl<'a, R: Files> Opener for HostFiles<'a, R> {
     type File = R::File;
 
+    // What a file of the machine holds isn't known to any contract.
+    ghost contents = { λ _ _. None };
+
     fn open(&self, name: &str) -> io::Result<R::File> {
         fs::open(self.files, name)
     }
@@ -36,7 +45,8 @@ impl<'a, R: Files> Opener for HostFiles<'a, R> {
 
 /// A reader of the file of this name.
 pub fn open_file<O: Opener>(opener: &O, name: &str) -> Result<O::File, RunFault>
-    ensures { IfErr result IsUnread }
+    ensures file { IfOk result (λ file. Stays (O.contents opener.now name.now) (O.File.remaining file)) }
+    ensures err { IfErr result IsUnreadable }
 {
     match opener.open(name) {
         Ok(file) => Ok(file),
@@ -46,7 +56,9 @@ pub fn open_file<O: Opener>(opener: &O, name: &str) -> Result<O::File, RunFault>
 
 /// The bytes of a configuration or a load.
 pub fn read_document<O: Opener>(alloc: Global, opener: &O, name: &str) -> Result<Vec<u8>, RunFault>
-    ensures { IfErr result IsUnread }
+    ensures bytes { IfOk result (λ bytes. IfSome (O.contents opener.now name.now)
+        (λ all. bytes.items ≡ document_bytes all)) }
+    ensures err { IfErr result IsUnreadable }
 {
     let mut bytes = Vec::new(alloc);
     let mut file = open_file(opener, name)?.take(DOCUMENT_BYTES);

@@ -1,7 +1,7 @@
 //! What each subcommand does, from a source to a sink. Each ends in a failed read or write exactly where one failed.
 ghost use Rattle.std.specs.Prelude.{◌≡◌, ◌+◌, ◌≤◌, ◌++◌, length, map, replicate, IfOk, OnOk, OnErr};
 ghost use Rattle.heap_model.specs.Settings.{settings_by};
-ghost use Rattle.streams.specs.Streams.{failed, GrowsByPart, given_by, taken_by};
+ghost use Rattle.streams.specs.Streams.{failed, GrowsByPart, given_by, taken_by, Stays};
 ghost use Rattle.player.specs.declared.style.Style.TheVariants.{Entries};
 ghost use Rattle.player.specs.Playing.{written_of, written_version, text_written};
 ghost use Rattle.heap_server.specs.Played.{IsOutcome};
@@ -31,6 +31,7 @@ pub fn play_job<S: Source, K: Sink>(
     ensures done { TracePlayed style config.now (given_by S.given S.ended source.old source.new)
         (taken_by K.taken sink.old sink.new) result }
     ensures reads { S.failures source.new ≡ S.failures source.old + failed_reads result }
+    ensures input { failed_reads result ≡ 0 → Stays (S.input source.old) (S.input source.new) }
     ensures writes { K.failures sink.new ≡ K.failures sink.old + failed_writes result }
 {
     let mut player = Player::new(alloc, config)?;
@@ -79,6 +80,7 @@ pub fn threads_job<S: Source, K: Sink, T: Threads + Wait + Sync>(
     ensures done { ScriptsRun turns budget config.now (given_by S.given S.ended source.old source.new)
         (taken_by K.taken sink.old sink.new) result }
     ensures reads { S.failures source.new ≡ S.failures source.old + failed_reads result }
+    ensures input { failed_reads result ≡ 0 → Stays (S.input source.old) (S.input source.new) }
     ensures writes { K.failures sink.new ≡ K.failures sink.old + failed_writes result }
 {
     let (version, scripts) = read_scripts(alloc, source, &config.limits())?;

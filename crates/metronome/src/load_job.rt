@@ -1,9 +1,9 @@
 //! Telling what a load needs, and whether a trace keeps to it.
 ghost use Rattle.std.specs.Prelude.{◌≡◌, ◌+◌, IfErr, IfOk};
 ghost use Rattle.trace.specs.LinesProcessed.{reads_failed};
-ghost use Rattle.streams.specs.Streams.{given_by, taken_by};
+ghost use Rattle.streams.specs.Streams.{given_by, taken_by, Stays};
 ghost use Rattle.sizing.specs.Fitting.{load_in};
-ghost use Rattle.metronome.specs.Faults.{IsUnread, failed_reads, failed_writes, CountsReads};
+ghost use Rattle.metronome.specs.Faults.{IsUnread, failed_reads, failed_writes, LoadCountsReads};
 ghost use Rattle.metronome.specs.Loaded.{IsRest, LoadTold, TextMeasured, TextChecked, TextTold};
 
 use crate::fault::{Ending, RunFault};
@@ -36,6 +36,7 @@ fn rest_of<S: Source>(alloc: Global, source: &mut S) -> Result<Vec<u8>, RunFault
     ensures rest { IfOk result (λ text. IsRest (given_by S.given S.ended source.old source.new) text.items) }
     ensures unread { IfErr result IsUnread }
     ensures reads { S.failures source.new ≡ S.failures source.old + failed_reads result }
+    ensures input { failed_reads result ≡ 0 → Stays (S.input source.old) (S.input source.new) }
 {
     let mut text = Vec::new(alloc);
     let mut piece = [0; PIECE];
@@ -108,7 +109,8 @@ pub fn load_job<O: Opener, S: Source, K: Sink>(
 ) -> Result<Ending, RunFault>
     ensures done { LoadTold config.now (given_by S.given S.ended source.old source.new)
         (taken_by K.taken sink.old sink.new) result }
-    ensures reads { CountsReads S.failures source.old source.new result }
+    ensures reads { LoadCountsReads S.failures source.old source.new result }
+    ensures input { failed_reads result ≡ 0 → Stays (S.input source.old) (S.input source.new) }
     ensures writes { K.failures sink.new ≡ K.failures sink.old + failed_writes result }
 {
     let load = load_of(alloc, opener, name)?;

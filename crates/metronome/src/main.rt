@@ -18,6 +18,7 @@ use run::{run, tell};
 use std::env;
 use std::io::{self, ErrorKind};
 use std::process::ExitCode;
+use streams::WriteSink;
 
 /// The words of the command line; the first is the program's name.
 fn words_of(rt: &HostRuntime) -> Result<Vec<String>, RunFault> {
@@ -39,7 +40,7 @@ fn main(rt: HostRuntime) -> ExitCode {
             words.as_slice(),
             &HostFiles { files: &rt },
             rt.reader(),
-            io::writer(&rt),
+            &mut WriteSink::new(io::writer(&rt)),
             &mut rt.stderr(),
         ),
         Err(fault) => {

@@ -1,10 +1,12 @@
 //! A run of the program.
-ghost use Rattle.std.specs.Prelude.{◌≡◌, ◌+◌, [], Result};
+ghost use Rattle.std.specs.Prelude.{◌≡◌, ◌+◌, [], map, Result};
 ghost use Rattle.metronome.specs.declared.fault.Ending.{Ending};
 ghost use Rattle.metronome.specs.declared.fault.RunFault.{RunFault};
-ghost use Rattle.streams.specs.Streams.{given_by, taken_by};
-ghost use Rattle.metronome.specs.Done.{JobDone};
-ghost use Rattle.metronome.specs.Faults.{failed_writes, CountsReads};
+ghost use Rattle.streams.specs.Streams.{given_by, taken_by, Stays};
+ghost use Rattle.command_line.specs.declared.job.Job.TheVariants as jobs;
+ghost use Rattle.metronome.specs.Done.{JobDone, JobCountsReads, style_of, layout_of};
+ghost use Rattle.metronome.specs.Faults.{failed_reads, failed_writes};
+ghost use Rattle.metronome.specs.Run.{IsGivenOf, Obeyed, RunDone};
 ghost use Rattle.metronome.specs.Status.{status_of};
 
 use crate::after::{Telling, after_play};
@@ -24,7 +26,7 @@ use std::convert::AsStr;
 use std::io::{Read, Write};
 use std::sync::Wait;
 use std::thread::Threads;
-use streams::{ReadSource, Sink, Source, WriteSink, write_all};
+use streams::{ReadSource, Sink, Source, write_all};
 use trace::PlayFault;
 
 /// What a run has of the machine: threads, memory, and files by their names.
@@ -38,26 +40,28 @@ struct Host<'a, O: Opener, T: Threads + Wait + Sync> {
 /// Runs the program: does what the words ask for, after the first, which is the program's name, writes the fault
 /// to the error stream if there is one, and answers the exit status. A failed write to the error stream changes
 /// no status.
-pub fn run<S, O, R, W, E, T>(
+pub fn run<S, O, R, K, E, T>(
     rt: &T,
     alloc: Global,
     words: &[S],
     opener: &O,
     input: R,
-    output: W,
+    sink: &mut K,
     errors: &mut E,
 ) -> u8
 where
     S: AsStr,
     O: Opener,
     R: Read + Drop,
-    W: Write + Drop,
+    K: Sink,
     E: Write,
     T: Threads + Wait + Sync,
-    ensures { (how : Result Ending RunFault) × (result ≡ status_of how) }
+    ensures { (how : Result Ending RunFault) × (result ≡ status_of how)
+        × RunDone (O.contents opener.now) (R.remaining input) (map S.text words.now)
+        (taken_by K.taken sink.old sink.new) how
+        × (K.failures sink.new ≡ K.failures sink.old + failed_writes how) }
 {
-    let mut sink = WriteSink::new(output);
-    match perform(rt, alloc, words, opener, input, &mut sink, errors) {
+    match perform(rt, alloc, words, opener, input, sink, errors) {
         Ok(ending) => ending.status(),
         Err(fault) => {
             tell(errors, &fault);
@@ -91,7 +95,9 @@ where
     K: Sink,
     E: Write,
     T: Threads + Wait + Sync,
-    ensures { K.failures sink.new ≡ K.failures sink.old + failed_writes result }
+    ensures done { RunDone (O.contents opener.now) (R.remaining input) (map S.text words.now)
+        (taken_by K.taken sink.old sink.new) result }
+    ensures writes { K.failures sink.new ≡ K.failures sink.old + failed_writes result }
 {
     let request = match read_words(alloc, words) {
         Ok(request) => request,
@@ -114,37 +120,17 @@ fn obey<O: Opener, R: Read + Drop, K: Sink, E: Write, T: Threads + Wait + Sync>(
     sink: &mut K,
     errors: &mut E,
 ) -> Result<Ending, RunFault>
-    ensures { K.failures sink.new ≡ K.failures sink.old + failed_writes result }
+    ensures done { Obeyed (O.contents host.now.opener.now) (R.remaining input) request.now
+        (taken_by K.taken sink.old sink.new) result }
+    ensures writes { K.failures sink.new ≡ K.failures sink.old + failed_writes result }
 {
-    let (settings, name) = files_of(&request.job);
-    let bytes = read_document(host.alloc, host.opener, settings)?;
+    let bytes = read_document(host.alloc, host.opener, request.config)?;
     let config = read_config(host.alloc, bytes.as_slice())?;
-    if name == "-" {
+    if request.file == "-" {
         return serve(host, request, &config, ReadSource::new(input), sink, errors);
     }
-    let file = open_file(host.opener, name)?;
+    let file = open_file(host.opener, request.file)?;
     serve(host, request, &config, ReadSource::new(file), sink, errors)
-}
-
-/// The names of the configuration and of the other file.
-fn files_of<'a>(job: &Job<'a>) -> (&'a str, &'a str) {
-    match *job {
-        Job::Play { config, trace, .. } => (config, trace),
-        Job::Check { config, history } => (config, history),
-        Job::Threads {
-            config,
-            scripts,
-            ..
-        } => (config, scripts),
-        Job::Inspect { config, trace, .. } => (config, trace),
-        Job::Cycles { config, trace, .. } => (config, trace),
-        Job::Path { config, trace, .. } => (config, trace),
-        Job::Mmu { config, trace, .. } => (config, trace),
-        Job::Draw { config, trace, .. } => (config, trace),
-        Job::DrawGraph { config, trace, .. } => (config, trace),
-        Job::DrawTime { config, trace } => (config, trace),
-        Job::Pages { config, trace, .. } => (config, trace),
-    }
 }
 
 /// Does the job of a request, from the source of the other file. Where progress is asked for, the lines that are read
@@ -159,7 +145,8 @@ fn serve<S: Source + Drop, K: Sink, E: Write, O: Opener, T: Threads + Wait + Syn
 ) -> Result<Ending, RunFault>
     requires { S.given source ≡ [] }
     ensures done { (after : S) × JobDone request.now.job config.now (given_by S.given S.ended source after)
-        (taken_by K.taken sink.old sink.new) result × CountsReads S.failures source after result }
+        (taken_by K.taken sink.old sink.new) result × JobCountsReads request.now.job S.failures source after result
+        × IsGivenOf (S.input source) (given_by S.given S.ended source after) result }
     ensures writes { K.failures sink.new ≡ K.failures sink.old + failed_writes result }
 {
     let job = &request.job;
@@ -181,64 +168,85 @@ fn work<S: Source, K: Sink, O: Opener, T: Threads + Wait + Sync>(
 ) -> Result<Ending, RunFault>
     ensures done { JobDone job.now config.now (given_by S.given S.ended source.old source.new)
         (taken_by K.taken sink.old sink.new) result }
-    ensures reads { CountsReads S.failures source.old source.new result }
+    ensures reads { JobCountsReads job.now S.failures source.old source.new result }
+    ensures input { failed_reads result ≡ 0 → Stays (S.input source.old) (S.input source.new) }
     ensures writes { K.failures sink.new ≡ K.failures sink.old + failed_writes result }
 {
     let alloc = host.alloc;
     match job {
-        Job::Play { history: true, .. } => play_job(alloc, config, source, sink, Style::Entries),
-        Job::Play { history: false, .. } => play_job(alloc, config, source, sink, Style::Replies),
-        Job::Check { .. } => answer_job(alloc, config, source, sink, Question::History),
-        Job::Threads { turns, budget, .. } => {
+        Job::Play { history } => play_job(alloc, config, source, sink, style_of(*history)),
+        Job::Check => answer_job(alloc, config, source, sink, Question::History),
+        Job::Threads { turns, budget } => {
             threads_job(host.rt, alloc, config, source, sink, *turns, *budget)
         }
-        Job::Inspect { by, after, .. } => {
+        Job::Inspect { by, after } => {
             after_play(alloc, config, source, sink, *after, Telling::Report(*by))
         }
-        Job::Cycles { csv: false, .. } => {
-            answer_job(
-                alloc,
-                config,
-                source,
-                sink,
-                Question::Cycles(Layout::Columns),
-            )
+        Job::Cycles { csv } => {
+            let question = Question::Cycles(layout_of(*csv));
+            answer_job(alloc, config, source, sink, question)
         }
-        Job::Cycles { csv: true, .. } => {
-            answer_job(
-                alloc,
-                config,
-                source,
-                sink,
-                Question::Cycles(Layout::Commas),
-            )
-        }
-        Job::Path { id, after, .. } => {
+        Job::Path { id, after } => {
             after_play(alloc, config, source, sink, *after, Telling::Path(*id))
         }
-        Job::Mmu { windows, .. } => {
+        Job::Mmu { windows } => {
             let telling = Telling::Windows(windows.as_slice());
             after_play(alloc, config, source, sink, None, telling)
         }
-        Job::Draw { picture, after, .. } => {
-            let telling = Telling::Picture(*picture);
-            after_play(alloc, config, source, sink, *after, telling)
+        Job::Draw { picture, after } => {
+            after_play(
+                alloc,
+                config,
+                source,
+                sink,
+                *after,
+                Telling::Picture(*picture),
+            )
         }
-        Job::DrawGraph { after, most, .. } => {
+        Job::DrawGraph { after, most } => {
             after_play(alloc, config, source, sink, *after, Telling::Graph(*most))
         }
-        Job::DrawTime { .. } => time_job(alloc, config, source, sink),
-        Job::Pages {
-            by: Sizing::Demand,
-            ..
-        } => answer_job(alloc, config, source, sink, Question::Pages { pace: false }),
-        Job::Pages {
-            by: Sizing::Pace,
-            ..
-        } => answer_job(alloc, config, source, sink, Question::Pages { pace: true }),
-        Job::Pages {
-            by: Sizing::Load(file),
-            ..
-        } => load_job(alloc, config, source, sink, host.opener, file),
+        Job::DrawTime => time_job(alloc, config, source, sink),
+        Job::Pages { by } => pages_job(host, config, source, sink, *by),
+    }
+}
+
+/// What is written of each command.
+fn style_of(history: bool) -> Style
+    ensures { result ≡ style_of history }
+{
+    if history {
+        Style::Entries
+    } else {
+        Style::Replies
+    }
+}
+
+/// How the figures of cycles are laid out.
+fn layout_of(csv: bool) -> Layout
+    ensures { result ≡ layout_of csv }
+{
+    if csv { Layout::Commas } else { Layout::Columns }
+}
+
+/// Tells how many pages suffice for a trace.
+fn pages_job<S: Source, K: Sink, O: Opener, T: Threads + Wait + Sync>(
+    host: &Host<O, T>,
+    config: &Config,
+    source: &mut S,
+    sink: &mut K,
+    by: Sizing,
+) -> Result<Ending, RunFault>
+    ensures done { JobDone (jobs.Pages by.entry) config.now (given_by S.given S.ended source.old source.new)
+        (taken_by K.taken sink.old sink.new) result }
+    ensures reads { JobCountsReads (jobs.Pages by.entry) S.failures source.old source.new result }
+    ensures input { failed_reads result ≡ 0 → Stays (S.input source.old) (S.input source.new) }
+    ensures writes { K.failures sink.new ≡ K.failures sink.old + failed_writes result }
+{
+    let alloc = host.alloc;
+    match by {
+        Sizing::Demand => answer_job(alloc, config, source, sink, Question::Pages { pace: false }),
+        Sizing::Pace => answer_job(alloc, config, source, sink, Question::Pages { pace: true }),
+        Sizing::Load(file) => load_job(alloc, config, source, sink, host.opener, file),
     }
 }

@@ -1,6 +1,6 @@
 //! Drawing a heap over a run.
 ghost use Rattle.std.specs.Prelude.{◌≡◌, ◌+◌};
-ghost use Rattle.streams.specs.Streams.{given_by, taken_by};
+ghost use Rattle.streams.specs.Streams.{given_by, taken_by, Stays};
 ghost use Rattle.metronome.specs.Faults.{failed_reads, failed_writes};
 ghost use Rattle.metronome.specs.OverTime.{scale_of, TimeDrawn};
 
@@ -33,6 +33,7 @@ pub fn time_job<S: Source, K: Sink>(
     ensures done { TimeDrawn config.now (given_by S.given S.ended source.old source.new)
         (taken_by K.taken sink.old sink.new) result }
     ensures reads { S.failures source.new ≡ S.failures source.old + failed_reads result }
+    ensures input { failed_reads result ≡ 0 → Stays (S.input source.old) (S.input source.new) }
     ensures writes { K.failures sink.new ≡ K.failures sink.old + failed_writes result }
 {
     let samples = take_samples(alloc, config, source)?;

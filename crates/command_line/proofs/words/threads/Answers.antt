@@ -1,5 +1,5 @@
-use Rattle.std.proofs.Common.{arith}
+use Rattle.std.proofs.Common.{rules, arith}
 use Rattle.command_line.proofs.words.threads.Goals as goal
 
-pub returns : goal.returns
-returns c = (omega arith, omega arith, omega arith)
+pub returns-clause-range : goal.returns-clause-range
+returns-clause-range c = (omega arith, omega arith, omega arith)

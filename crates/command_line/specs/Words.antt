@@ -1,0 +1,75 @@
+-- Which job the words of a command line ask for: what clap finds in them, and what that says.
+use Rattle.std.specs.Prelude.{◌≡◌, ℕ, Bool, true, false, List, [], Option, Some, None, Ok, Err, unwrap_or, codes}
+use Rattle.std.specs.List.{AllZip}
+use Rattle.std.specs.Str.Parse.{ParsesUnsigned}
+use Rattle.clap.specs.Words.{Text, Row, first_of, one_of, all_of}
+use Rattle.command_line.specs.declared.job.Job.{Job}
+use Rattle.command_line.specs.declared.job.Job.TheVariants.{Play, Check, Threads, Inspect, Cycles, Path, Mmu, Pages}
+use Rattle.command_line.specs.declared.job.Request.{Request}
+use Rattle.command_line.specs.declared.job.Sizing.{Sizing}
+use Rattle.command_line.specs.declared.job.Sizing.TheVariants.{Demand, Pace, Load}
+use Rattle.command_line.specs.Job.{IsDrawing, report_name}
+
+-- the number below 2 ^ bits in a text, where there is a text with one
+abbrev pub IsNumber : ℕ → Option Text → Option ℕ → Type 0
+IsNumber bits None n = n ≡ None
+IsNumber bits (Some text) (Some n) = ParsesUnsigned {E = Unit {0}} bits 10 text (Ok n)
+IsNumber bits (Some text) None = ParsesUnsigned {E = Unit {0}} bits 10 text (Err tt)
+
+-- a number that is 0 where it isn't said
+abbrev pub IsNumberOrZero : ℕ → Option Text → ℕ → Type 0
+IsNumberOrZero bits text n = (said : Option ℕ) × IsNumber bits text said × (n ≡ unwrap_or said 0)
+
+-- a flag is set where its text is true, and isn't where it is false or there is none
+abbrev pub IsFlag : Option Text → Bool → Type 0
+IsFlag None set = set ≡ false
+IsFlag (Some text) set = (text ≡ codes "true" → set ≡ true) × (text ≡ codes "false" → set ≡ false)
+
+-- what the pages are reckoned from, by the flag for the pace and the name of a load's file
+abbrev pub IsSizing : Bool → Option Text → Sizing → Type 0
+IsSizing pace load Demand = (pace ≡ false) × (load ≡ None)
+IsSizing pace load Pace = (pace ≡ true) × (load ≡ None)
+IsSizing pace load (Load file) = (pace ≡ false) × (load ≡ Some file.now)
+
+-- what is drawn, by the name of its picture
+abbrev pub IsDrawn : List Row → Job → Type 0
+IsDrawn rows job = (after : Option ℕ) × (most : Option ℕ) × IsNumber 32 (one_of (codes "after") rows) after
+    × IsNumber 32 (one_of (codes "most") rows) most
+    × IsDrawing (unwrap_or (first_of (codes "as") rows) []) after most job
+
+-- a subcommand and its arguments ask for a job
+abbrev pub Asks : Text → List Row → Job → Type 0
+Asks name rows (Play history) = (name ≡ codes "play") × IsFlag (one_of (codes "history") rows) history
+Asks name rows Check = name ≡ codes "check"
+Asks name rows (Threads turns budget) = (name ≡ codes "threads")
+    × IsNumberOrZero 32 (one_of (codes "turns") rows) turns
+    × IsNumberOrZero 32 (one_of (codes "budget") rows) budget
+Asks name rows (Inspect by after) = (name ≡ codes "inspect")
+    × (unwrap_or (first_of (codes "by") rows) [] ≡ report_name by)
+    × IsNumber 32 (one_of (codes "after") rows) after
+Asks name rows (Cycles csv) = (name ≡ codes "cycles") × IsFlag (one_of (codes "csv") rows) csv
+Asks name rows (Path id after) = (name ≡ codes "path") × IsNumberOrZero 64 (one_of (codes "ID") rows) id
+    × IsNumber 32 (one_of (codes "after") rows) after
+Asks name rows (Mmu windows) = (name ≡ codes "mmu")
+    × AllZip (λ word ticks. IsNumber 64 (Some word) (Some ticks)) (unwrap_or (all_of (codes "WINDOW") rows) [])
+    windows.items
+Asks name rows (Pages by) = (name ≡ codes "pages")
+    × (pace : Bool) × IsFlag (one_of (codes "pace") rows) pace × IsSizing pace (first_of (codes "load") rows) by
+Asks name rows drawing = (name ≡ codes "draw") × IsDrawn rows drawing
+
+-- the argument that has the name of a job's file
+abbrev pub file_argument : Job → Text
+file_argument Check = codes "HISTORY"
+file_argument (Threads turns budget) = codes "SCRIPTS"
+file_argument _ = codes "TRACE"
+
+-- a subcommand and its arguments ask for a request: they name its files, and ask for its job
+pub record AsksFor (name : Text) (rows : List Row) (request : Request) : Type 0 where
+  pub config : first_of (codes "CONFIG") rows ≡ Some request.config.now
+  pub file : first_of (file_argument request.job) rows ≡ Some request.file.now
+  pub job : Asks name rows request.job
+  pub progress : IsFlag (one_of (codes "progress") rows) request.progress
+
+-- words ask for a request: by the name and the arguments of a subcommand
+abbrev pub WordsAsk : List Text → Request → Type 0
+WordsAsk words request = (name : Text) × (rows : List Row) × AsksFor name rows request

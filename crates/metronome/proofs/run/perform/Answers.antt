@@ -1,0 +1,16 @@
+use Rattle.std.proofs.Common.{inl, inr, refl}
+use Rattle.streams.specs.Streams.{taken_by}
+use Rattle.trace.specs.declared.fault.PlayFault.TheVariants as texts
+use Rattle.metronome.specs.declared.fault.Ending.TheVariants.{Done}
+use Rattle.metronome.specs.declared.fault.RunFault.TheVariants as faults
+use Rattle.metronome.specs.Told.{TextWritten}
+use Rattle.metronome.proofs.Finishing.{failed_so}
+use Rattle.metronome.proofs.run.perform.Goals as goal
+
+pub returns-in_err-write_all-in-Err-Help-clause-done : goal.returns-in_err-write_all-in-Err-Help-clause-done
+returns-in_err-write_all-in-Err-Help-clause-done g c =
+    let help = c.as_bytes.result.now in
+    let taken = taken_by g.K.Sink.taken c.args.sink.now c.write_all.new.sink in
+    let told : TextWritten Done help taken c.from_residual.result =
+    rw (failed_so c.from_residual.result (faults.Text texts.Write) c.from_residual.ensures.1) (refl, c.in_err-write_all-in-Err-Help.ensures.err) in
+    inr (inl (help, told))

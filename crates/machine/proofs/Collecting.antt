@@ -37,47 +37,57 @@ pub chain_agrees : (h after : HeapState) → IsHeap h → (units : ℕ) → Chai
 chain_agrees h after w units chain g a =
     agrees_alike after w.present g (consistent_agrees after w.present w.snapshot (represents_chain h after units w.present w.snapshot w.represents chain).consistent) (told h w.present g (present_agrees h w) a)
 
--- Actions were done, and a step does further ones: what was spent in all is what the units rose by.
-module _ (a b d : HeapFields) (budget spent : ℕ) (first : Chain (state_of a) spent (state_of b)) where
-  pub record SpendsOn : Type 0 where
-    pub more : a.units ≤ d.units
-    pub rises : spent < d.units - a.units
-    pub within : d.units - a.units ≤ budget
-    pub chain : Chain (state_of a) (d.units - a.units) (state_of d)
-    pub heap : AreHeapFields d
+-- actions were done within a budget, and cost what the units rose by
+pub record HasSpent (a b : HeapFields) (budget : ℕ) : Type 0 where
+  pub more : a.units ≤ b.units
+  pub within : b.units ≤ a.units + budget
+  pub chain : Chain (state_of a) (b.units - a.units) (state_of b)
+  pub heap : AreHeapFields b
+  pub buffers : b.grey.buffers ≡ a.grey.buffers
 
-  pub spends_on : AreHeapFields b → spent < budget → Acts b (budget - spent) d → d.grey.buffers ≡ b.grey.buffers → SpendsOn
-  spends_on w left acts same =
+pub spent_nothing : (a : HeapFields) (budget : ℕ) → AreHeapFields a → HasSpent a a budget
+spent_nothing a budget w = record {
+  more = omega arith;
+  within = omega arith;
+  chain = subst (λ n. Chain (state_of a) n (state_of a)) (let e : 0 ≡ a.units - a.units = omega arith in e) Nothing_done;
+  heap = w;
+  buffers = refl;
+}
+
+module _ (a b d : HeapFields) (budget : ℕ) (s : HasSpent a b budget) where
+  -- and a step does further ones
+  pub spends_on : Acts b (a.units + budget - b.units) d → d.grey.buffers ≡ b.grey.buffers → HasSpent a d budget × (b.units < d.units)
+  spends_on acts same =
       let cost = acts.0 in
       let some = acts.2 in
       let room = acts.3 in
-      let whole = then_chain (state_of a) (state_of b) (state_of d) spent cost first acts.1 in
-      let units : d.units ≡ a.units + (spent + cost) = chain_units (state_of a) (state_of d) (spent + cost) whole in
-      let is : spent + cost ≡ d.units - a.units = omega (arith, units) in
-      record {
-        more = omega (arith, units);
-        rises = omega (arith, is, some);
-        within = omega (arith, is, room, left);
-        chain = subst (λ n. Chain (state_of a) n (state_of d)) is whole;
-        heap = heap_after_chain b d w cost acts.1 (ap length same);
-      }
+      let more = s.more in
+      let whole = then_chain (state_of a) (state_of b) (state_of d) (b.units - a.units) cost s.chain acts.1 in
+      let units : d.units ≡ b.units + cost = chain_units (state_of b) (state_of d) cost acts.1 in (
+        record {
+          more = omega (arith, units, more);
+          within = omega (arith, units, some, room);
+          chain = subst (λ n. Chain (state_of a) n (state_of d)) (let e : b.units - a.units + cost ≡ d.units - a.units = omega (arith, units, more) in e) whole;
+          heap = heap_after_chain b d s.heap cost acts.1 (ap length same);
+          buffers = same ∙ s.buffers;
+        },
+        omega (arith, units, some),
+      )
 
--- a turn ends where nothing is left of its budget, or where the next action doesn't fit in what is left
-pub spent_all : (h after : HeapState) (budget spent : ℕ) → Chain h spent after → spent ≤ budget → budget ≤ spent → ArePages after.store.pages → QuantumSpends h budget after spent
-spent_all h after budget spent chain within all w = record {
-  chain = chain;
-  within = within;
-  ends = elim (some_cost after w) [ inl e ↦ inl e | inr n ↦ inr (n.0, n.1, (let some = n.2 in omega (arith, some, all))) ];
-}
+  -- a turn ends where nothing is left of its budget, or where the next action doesn't fit in what is left
+  pub spent_all : a.units + budget ≤ b.units → QuantumSpends (state_of a) budget (state_of b) (b.units - a.units)
+  spent_all all = record {
+    chain = s.chain;
+    within = (let within = s.within in omega (arith, within));
+    ends = elim (some_cost (state_of b) s.heap.heap.represents.pages) [ inl e ↦ inl e | inr n ↦ inr (n.0, n.1, (let some = n.2 in omega (arith, some, all))) ];
+  }
 
-pub spent_most : (a b d : HeapFields) (budget spent : ℕ) → Chain (state_of a) spent (state_of b) → spent ≤ budget → ActsIn b (budget - spent) d false → QuantumSpends (state_of a) budget (state_of d) spent
-spent_most a b d budget spent chain within none =
-    subst (λ (x : HeapFields). QuantumSpends (state_of a) budget (state_of x) spent) (sym none.0)
-    (record {
-      chain = chain;
-      within = within;
-      ends = elim none.1 [ inl e ↦ inl e | inr n ↦ inr (n.0, n.1, (let dear = n.2 in omega (arith, dear, within))) ];
-    })
+  pub spent_most : ActsIn b (a.units + budget - b.units) d false → QuantumSpends (state_of a) budget (state_of b) (b.units - a.units)
+  spent_most none = record {
+    chain = s.chain;
+    within = (let within = s.within in omega (arith, within));
+    ends = elim none.1 [ inl e ↦ inl e | inr n ↦ inr (n.0, n.1, (let dear = n.2 in let more = s.more in let within = s.within in omega (arith, dear, more, within))) ];
+  }
 
 -- a heap whose blocks are threaded anew stays one
 pub relinked_heap : (h : HeapState) (s : Store) → IsHeap h → Relinks h.store s → IsHeap (record h { store = s })

@@ -49,6 +49,7 @@ fn scan_root(heap: &mut HeapFields, next: usize)
 
 /// Scans root cells in order, from one on, as many as are left or as there is room for; where none is left, marking
 /// begins.
+#[inline(never)]
 pub fn scan_roots(heap: &mut HeapFields, next: usize, room: u32)
     requires heap { AreHeapFields heap.old }
     requires phase { heap.old.phase ≡ phases.Roots next }

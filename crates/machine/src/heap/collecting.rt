@@ -49,11 +49,9 @@ fn spend(heap: &mut HeapFields, budget: u32) -> u32
     ensures turn { QuantumSpends (state_of heap.old) budget (state_of heap.new) result }
 {
     let before = heap.units;
-    let mut spent = 0;
-    while spent < budget && act(heap, budget - spent) {
-        spent = (heap.units - before) as u32;
-    }
-    spent
+    let end = before + budget as u64;
+    while heap.units < end && act(heap, (end - heap.units) as u32) {}
+    (heap.units - before) as u32
 }
 
 impl Heap {

@@ -1,54 +1,67 @@
-use Rattle.std.proofs.Common.{◌-◌, ◌<◌, refl, ap, ◌∙◌, subst, sym, arith}
-use Rattle.heap_model.specs.Action.{Nothing_done}
+use Rattle.std.proofs.Common.{◌≡◌, ◌+◌, ◌-◌, ◌<◌, ap, ◌∙◌, sym, subst, arith}
+use Rattle.heap_model.specs.QuantumSpending.{QuantumSpends}
 use Rattle.nodes.specs.Grey.{in_buffers}
-use Rattle.nodes.specs.HeapFields.{state_of, AreHeapFields}
+use Rattle.nodes.specs.HeapFields.{state_of}
 use Rattle.nodes.specs.declared.heap_fields.HeapFields.{HeapFields}
-use Rattle.machine.proofs.Collecting.{SpendsOn, spends_on, spent_all, spent_most}
+use Rattle.nodes.proofs.Representing.{units_small}
+use Rattle.machine.proofs.Collecting.{HasSpent, spent_nothing, spends_on, spent_all, spent_most}
+use Rattle.machine.proofs.heap.collecting.spend.Goals.{then-loop-heap-test+else-act, else-loop-heap-test}
 use Rattle.machine.proofs.heap.collecting.spend.Goals as goal
 
-pub loop-spent-init : goal.loop-spent-init
-loop-spent-init c = (Nothing_done, omega arith, c.requires.heap, refl)
+pub overflow_add-end : goal.overflow_add-end
+overflow_add-end c = let u = units_small c.args.heap.now c.requires.heap in omega (arith, u, c.ranges.budget.fits)
+
+pub loop-heap-init : goal.loop-heap-init
+loop-heap-init c = spent_nothing c.args.heap.now c.args.budget c.requires.heap
+
+pub overflow_cast-end-in-loop-heap : goal.overflow_cast-end-in-loop-heap
+overflow_cast-end-in-loop-heap c = let more = c.loop-heap.invariant.more in omega (arith, more, c.ranges.budget.fits)
 
 pub act-requires-clause-heap : goal.act-requires-clause-heap
-act-requires-clause-heap c = c.loop-spent.invariant.2
+act-requires-clause-heap c = c.loop-heap.invariant.heap
 
 pub act-requires-clause-buffers : goal.act-requires-clause-buffers
-act-requires-clause-buffers c = ap in_buffers c.loop-spent.invariant.3 ∙ c.requires.buffers
+act-requires-clause-buffers c = ap in_buffers c.loop-heap.invariant.buffers ∙ c.requires.buffers
 
-pub overflow_sub-spent : goal.overflow_sub-spent
-overflow_sub-spent c =
-    let i = c.loop-spent.invariant in
-    (spends_on c.args.heap.now c.loop-spent.heap c.act.new.heap c.args.budget c.loop-spent.spent i.0 i.2 c.loop-spent-test.true c.if-act.ensures.acts c.if-act.ensures.buffers).more
+-- after one more step
+on : (c : goal.Then-act) → HasSpent c.args.heap.now c.act.new.heap c.args.budget × (c.loop-heap.heap.units < c.act.new.heap.units)
+on c = spends_on c.args.heap.now c.loop-heap.heap c.act.new.heap c.args.budget c.loop-heap.invariant c.if-act.ensures.acts c.if-act.ensures.buffers
 
--- what was spent after one more step
-on : (c : goal.After-row_known-1) → SpendsOn c.args.heap.now c.loop-spent.heap c.act.new.heap c.args.budget c.loop-spent.spent c.loop-spent.invariant.0
-on c =
-    let i = c.loop-spent.invariant in
-    spends_on c.args.heap.now c.loop-spent.heap c.act.new.heap c.args.budget c.loop-spent.spent i.0 i.2 c.loop-spent-test.true c.if-act.ensures.acts c.if-act.ensures.buffers
+pub loop-heap-smaller : goal.loop-heap-smaller
+loop-heap-smaller c =
+    let rises = (on c).1 in let within = (on c).0.within in
+    let l : c.args.heap.now.units + c.args.budget - c.act.new.heap.units < c.args.heap.now.units + c.args.budget - c.loop-heap.heap.units = omega (arith, rises, within) in l
 
-pub overflow_cast-spent : goal.overflow_cast-spent
-overflow_cast-spent c = let w = (on c).within in omega (arith, w, c.ranges.budget.fits)
+pub loop-heap-preserved : goal.loop-heap-preserved
+loop-heap-preserved c = (on c).0
 
-pub loop-spent-smaller : goal.loop-spent-smaller
-loop-spent-smaller c =
-    let r = (on c).rises in let w = (on c).within in
-    let l : c.args.budget - (c.act.new.heap.units - c.args.heap.now.units) < c.args.budget - c.loop-spent.spent = omega (arith, r, w) in l
+pub overflow_sub-result : goal.overflow_sub-result
+overflow_sub-result c = elim c.loop-heap-test.branch [
+  | then-loop-heap-test+else-act w ↦ let e : c.loop-heap.heap ≡ c.loop-heap-test.heap = cc (w.heap-is, w.if-act.ensures.acts.0) in
+      (subst (λ (x : HeapFields). HasSpent c.args.heap.now x c.args.budget) e c.loop-heap.invariant).more
+  | else-loop-heap-test w ↦ let e : c.loop-heap.heap ≡ c.loop-heap-test.heap = cc (w.heap-is) in
+      (subst (λ (x : HeapFields). HasSpent c.args.heap.now x c.args.budget) e c.loop-heap.invariant).more
+]
 
-pub loop-spent-preserved : goal.loop-spent-preserved
-loop-spent-preserved c = ((on c).chain, (on c).within, (on c).heap, c.if-act.ensures.buffers ∙ c.loop-spent.invariant.3)
+-- when the turn is over
+over : (c : goal.After-row_known-2-1) → HasSpent c.args.heap.now c.loop-heap-test.heap c.args.budget
+    × QuantumSpends (state_of c.args.heap.now) c.args.budget (state_of c.loop-heap-test.heap) (c.loop-heap-test.heap.units - c.args.heap.now.units)
+over c = elim c.loop-heap-test.branch [
+  | then-loop-heap-test+else-act w ↦ by_heap c.loop-heap-test.heap (let e : c.loop-heap.heap ≡ c.loop-heap-test.heap = cc (w.heap-is, w.if-act.ensures.acts.0) in e)
+      (spent_most c.args.heap.now c.loop-heap.heap w.act.new.heap c.args.budget c.loop-heap.invariant w.if-act.ensures.acts)
+  | else-loop-heap-test w ↦ by_heap c.loop-heap-test.heap (let e : c.loop-heap.heap ≡ c.loop-heap-test.heap = cc (w.heap-is) in e)
+      (spent_all c.args.heap.now c.loop-heap.heap c.loop-heap.heap c.args.budget c.loop-heap.invariant (omega (arith, w.loop-heap-test.false)))
+]
+  where
+    by_heap : (x : HeapFields) → c.loop-heap.heap ≡ x → QuantumSpends (state_of c.args.heap.now) c.args.budget (state_of c.loop-heap.heap) (c.loop-heap.heap.units - c.args.heap.now.units)
+        → HasSpent c.args.heap.now x c.args.budget × QuantumSpends (state_of c.args.heap.now) c.args.budget (state_of x) (x.units - c.args.heap.now.units)
+    by_heap x e turn = subst (λ (x : HeapFields). HasSpent c.args.heap.now x c.args.budget × QuantumSpends (state_of c.args.heap.now) c.args.budget (state_of x) (x.units - c.args.heap.now.units)) e (c.loop-heap.invariant, turn)
 
-pub returns-else-act-clause-fields : goal.returns-else-act-clause-fields
-returns-else-act-clause-fields c = subst AreHeapFields (sym c.if-act.ensures.acts.0) c.loop-spent.invariant.2
+pub overflow_cast-result : goal.overflow_cast-result
+overflow_cast-result c = let within = (over c).0.within in omega (arith, within, c.ranges.budget.fits)
 
-pub returns-else-act-clause-turn : goal.returns-else-act-clause-turn
-returns-else-act-clause-turn c =
-    let i = c.loop-spent.invariant in
-    spent_most c.args.heap.now c.loop-spent.heap c.act.new.heap c.args.budget c.loop-spent.spent i.0 i.1 c.if-act.ensures.acts
+pub returns-clause-fields : goal.returns-clause-fields
+returns-clause-fields c = (over c).0.heap
 
-pub returns-after-loop-spent-clause-fields : goal.returns-after-loop-spent-clause-fields
-returns-after-loop-spent-clause-fields c = c.loop-spent.invariant.2
-
-pub returns-after-loop-spent-clause-turn : goal.returns-after-loop-spent-clause-turn
-returns-after-loop-spent-clause-turn c =
-    let i = c.loop-spent.invariant in
-    spent_all (state_of c.args.heap.now) (state_of c.loop-spent.heap) c.args.budget c.loop-spent.spent i.0 i.1 (omega (arith, c.loop-spent-test.false)) i.2.heap.represents.pages
+pub returns-clause-turn : goal.returns-clause-turn
+returns-clause-turn c = (over c).1

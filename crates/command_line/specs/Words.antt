@@ -1,4 +1,5 @@
--- Which job the words of a command line ask for: what clap finds in them, and what that says.
+-- Which job a subcommand and the values of its arguments ask for. Which these are in the words of a command line is what
+-- clap finds.
 use Rattle.std.specs.Prelude.{◌≡◌, ℕ, Bool, true, false, List, [], Option, Some, None, Ok, Err, unwrap_or, codes}
 use Rattle.std.specs.List.{AllZip}
 use Rattle.std.specs.Str.Parse.{ParsesUnsigned}
@@ -70,6 +71,6 @@ pub record AsksFor (name : Text) (rows : List Row) (request : Request) : Type 0 
   pub job : Asks name rows request.job
   pub progress : IsFlag (one_of (codes "progress") rows) request.progress
 
--- words ask for a request: by the name and the arguments of a subcommand
-abbrev pub WordsAsk : List Text → Request → Type 0
-WordsAsk words request = (name : Text) × (rows : List Row) × AsksFor name rows request
+-- some subcommand and some values of its arguments ask for a request
+abbrev pub IsAskedFor : Request → Type 0
+IsAskedFor request = (name : Text) × (rows : List Row) × AsksFor name rows request

@@ -5,7 +5,7 @@ ghost use Rattle.std.specs.Prelude.{[], Some, codes, map, option_map, unwrap_or}
 ghost use Rattle.std.specs.List.{AllZip};
 ghost use Rattle.clap.specs.Words.{found_of, rows_of, first_of, one_of, all_of};
 ghost use Rattle.command_line.specs.Job.{IsDrawing, IsInRange, IsWindow, picture_name, report_name};
-ghost use Rattle.command_line.specs.Words.{Asks, AsksFor, file_argument, IsFlag, IsNumber, IsSizing, WordsAsk};
+ghost use Rattle.command_line.specs.Words.{Asks, AsksFor, file_argument, IsFlag, IsNumber, IsSizing, IsAskedFor};
 
 use crate::commands::program;
 use crate::fault::WordsFault;
@@ -21,7 +21,7 @@ use std::fmt::Display;
 /// answer is the text for the user.
 pub fn read_words<'a, S: AsStr>(alloc: Global, words: &'a [S]) -> Result<Request<'a>, WordsFault>
     ensures range { IfOk result (λ request. IsInRange request.job) }
-    ensures asked { IfOk result (WordsAsk (map S.text words.now)) }
+    ensures asked { IfOk result IsAskedFor }
 {
     let Ok(command) = program(alloc) else {
         return Err(WordsFault::NoMemory);

@@ -1,10 +1,10 @@
--- What a run of the program does, by its words and the bytes of its files.
+-- What a run of the program does, by the request that its words give and the bytes of its files.
 use Rattle.std.specs.Prelude.{◌≡◌, ℕ, ◌⊎◌, if◌then◌else◌, List, [], take, codes, Option, IfSome, Result, Ok, Err}
 use Rattle.std.specs.Str.{bytes_eq}
 use Rattle.settings.specs.declared.config.Config.{Config}
 use Rattle.settings.specs.declared.fault.ConfigFault.{ConfigFault}
 use Rattle.command_line.specs.Document.{IsRead}
-use Rattle.command_line.specs.Words.{WordsAsk}
+use Rattle.command_line.specs.Words.{IsAskedFor}
 use Rattle.command_line.specs.declared.job.Job.{Job}
 use Rattle.command_line.specs.declared.job.Request.{Request}
 use Rattle.command_line.specs.declared.toml_table.ReadFault.{ReadFault}
@@ -53,10 +53,10 @@ module _ (contents : List ℕ → Option (List ℕ)) (input : Option (List ℕ))
       × NothingDone (of_settings why) taken how)
       ⊎ ((fault : RunFault) × IsUnreadable fault × NothingDone fault taken how))
 
-  -- The words ask for a request, which was obeyed; or they ask for help, which was written; or they were refused; or
-  -- memory was.
-  abbrev pub RunDone : List (List ℕ) → Taken → Result Ending RunFault → Type 0
-  RunDone words taken how =
-      ((request : Request) × WordsAsk words request × Obeyed request taken how)
+  -- A subcommand and the values of its arguments ask for a request, which was obeyed; or help was asked for, and was
+  -- written; or the words were refused; or memory was.
+  abbrev pub RunDone : Taken → Result Ending RunFault → Type 0
+  RunDone taken how =
+      ((request : Request) × IsAskedFor request × Obeyed request taken how)
       ⊎ (((help : List ℕ) × TextWritten Done help taken how)
       ⊎ ((fault : RunFault) × IsOfWords fault × NothingDone fault taken how))

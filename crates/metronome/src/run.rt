@@ -1,5 +1,5 @@
 //! A run of the program.
-ghost use Rattle.std.specs.Prelude.{◌≡◌, ◌+◌, [], map, Result};
+ghost use Rattle.std.specs.Prelude.{◌≡◌, ◌+◌, [], Result};
 ghost use Rattle.metronome.specs.declared.fault.Ending.{Ending};
 ghost use Rattle.metronome.specs.declared.fault.RunFault.{RunFault};
 ghost use Rattle.streams.specs.Streams.{given_by, taken_by, Stays};
@@ -57,8 +57,7 @@ where
     E: Write,
     T: Threads + Wait + Sync,
     ensures { (how : Result Ending RunFault) × (result ≡ status_of how)
-        × RunDone (O.contents opener.now) (R.remaining input) (map S.text words.now)
-        (taken_by K.taken sink.old sink.new) how
+        × RunDone (O.contents opener.now) (R.remaining input) (taken_by K.taken sink.old sink.new) how
         × (K.failures sink.new ≡ K.failures sink.old + failed_writes how) }
 {
     match perform(rt, alloc, words, opener, input, sink, errors) {
@@ -95,8 +94,7 @@ where
     K: Sink,
     E: Write,
     T: Threads + Wait + Sync,
-    ensures done { RunDone (O.contents opener.now) (R.remaining input) (map S.text words.now)
-        (taken_by K.taken sink.old sink.new) result }
+    ensures done { RunDone (O.contents opener.now) (R.remaining input) (taken_by K.taken sink.old sink.new) result }
     ensures writes { K.failures sink.new ≡ K.failures sink.old + failed_writes result }
 {
     let request = match read_words(alloc, words) {
